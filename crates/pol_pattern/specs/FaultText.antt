@@ -1,0 +1,23 @@
+-- How a fault is numbered and printed.
+use Rattle.std.specs.Prelude.{ℕ, List, ◌++◌, codes}
+use Rattle.std.specs.Fmt.{decimal}
+use Rattle.pol_pattern.specs.declared.fault.PatternFault.{PatternFault}
+use Rattle.pol_pattern.specs.declared.fault.PatternFault.TheVariants.{TooLong, Unprintable, Unopened, NothingToRepeat, Memory, NotYet}
+
+-- the number of each kind
+abbrev pub fault_number : PatternFault → ℕ
+fault_number TooLong = 1
+fault_number (Unprintable place) = 2
+fault_number (Unopened place) = 4
+fault_number (NothingToRepeat place) = 5
+fault_number Memory = 10
+fault_number (NotYet place) = 99
+
+-- the kind's number and name, and the place where it has one
+abbrev pub fault_text : PatternFault → List ℕ
+fault_text TooLong = codes "1 TooLong"
+fault_text (Unprintable place) = codes "2 Unprintable at " ++ decimal place
+fault_text (Unopened place) = codes "4 Unopened at " ++ decimal place
+fault_text (NothingToRepeat place) = codes "5 NothingToRepeat at " ++ decimal place
+fault_text Memory = codes "10 Memory"
+fault_text (NotYet place) = codes "99 NotYet at " ++ decimal place

@@ -1,0 +1,3 @@
+pub mod ReplyFacts
+pub mod ArgumentFacts
+pub mod RequestFacts

@@ -1,0 +1,11 @@
+use Rattle.std.proofs.Common.{ap, ◌∙◌, subst}
+use Rattle.tac_wire.specs.Body.{Gives}
+use Rattle.tac_request.specs.AuthorRequest.{author_request_of}
+use Rattle.tac_request.proofs.RequestFacts.{author_request_of-author_request, is_found}
+use Rattle.tac_request.proofs.author_request.read_author_request.Goals as goal
+
+pub returns-clause-found : goal.returns-clause-found
+returns-clause-found c = is_found c.args.body.now c.read_fields.result c.read_fields.ensures
+
+pub returns-clause-only : goal.returns-clause-only
+returns-clause-only c = λ request e. subst (Gives c.read_fields.result) (ap author_request_of e ∙ author_request_of-author_request request) c.read_fields.ensures

@@ -1,0 +1,5 @@
+pub mod LineFacts
+pub mod PolicyFacts
+pub mod PolicyTextFacts
+pub mod ScriptFacts
+pub mod EventFacts

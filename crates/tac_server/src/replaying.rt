@@ -1,0 +1,171 @@
+//! The replay of a script, from bytes to bytes.
+
+ghost use Rattle.std.specs.Prelude.{◌≡◌, ◌≢◌, ◌≤◌, ◌<◌, ℕ, length, take, codes, IfOk, IfErr, OnOk, IfSome, IsErrOf, MatchResult, MatchOption, string_bytes, vec_len};
+ghost use Rattle.std.specs.Io.KnownBytes.{Appends, Consumes, IsAtEnd, Keeps};
+ghost use Rattle.tac_server.specs.Script.{output_of, end_of};
+ghost use Rattle.tac_server.specs.declared.replaying.ReplayFault.TheVariants.{Memory};
+
+use crate::script::run_script;
+use crate::script_fault::Stop;
+use basics::send;
+use std::alloc::{AllocError, AllocFailed, Global};
+use std::fmt::Write as _;
+use std::io::{ErrorKind, Read, Write};
+use thiserror::Error;
+
+/// The most bytes that a script has.
+const MAX_SCRIPT: usize = 268_435_456;
+
+/// What is read at once.
+const CHUNK: usize = 8192;
+
+/// How a replay ended.
+#[derive(Clone, Copy, Debug, PartialEq, Eq)]
+pub enum ReplayEnd {
+    /// All lines were done.
+    Done,
+    /// The fault of a line was printed.
+    Refused,
+}
+
+/// Why a replay came to no end.
+#[derive(Clone, Copy, Debug, PartialEq, Eq, Error)]
+pub enum ReplayFault {
+    /// The script could not be read, or is too long. Nothing was written.
+    #[error("the script could not be read, or is over 268435456 bytes long")]
+    ReadFault,
+    /// The output could not be written whole.
+    #[error("the output could not be written")]
+    WriteFault,
+    /// Memory ran out.
+    #[error("memory ran out")]
+    Memory,
+}
+
+impl From<AllocError> for ReplayFault {
+    ghost from_gives = { λ _ fault. fault ≡ Memory };
+
+    fn from(_error: AllocError) -> ReplayFault {
+        ReplayFault::Memory
+    }
+}
+
+impl<T: Drop> From<AllocFailed<T>> for ReplayFault {
+    ghost from_gives = { λ _ fault. fault ≡ Memory };
+
+    fn from(_error: AllocFailed<T>) -> ReplayFault {
+        ReplayFault::Memory
+    }
+}
+
+// One read into the chunk; nothing where it was interrupted.
+fn read_piece<R: Read>(reader: &mut R, chunk: &mut [u8]) -> Result<Option<usize>, ReplayFault>
+    requires { 0 < length chunk.old }
+    ensures bound { IfOk result (λ piece. IfSome piece (λ n. n ≤ length chunk.new)) }
+    ensures bytes { IfOk result (λ piece. MatchOption piece (Keeps (R.remaining reader.old) (R.remaining reader.new))
+        (λ n. Consumes (R.remaining reader.old) (R.remaining reader.new) (take n chunk.new) × (n ≡ 0 → IsAtEnd (R.remaining reader.new)))) }
+    ensures fault { IfErr result (λ fault. fault ≡ ReplayFault.ReadFault) }
+{
+    match reader.read(chunk) {
+        Ok(n) => Ok(Some(n)),
+        Err(e) => {
+            if e.kind() == ErrorKind::Interrupted {
+                return Ok(None);
+            }
+            Err(ReplayFault::ReadFault)
+        }
+    }
+}
+
+// The whole script.
+fn read_script<R: Read>(alloc: Global, reader: &mut R) -> Result<Vec<u8>, ReplayFault>
+    ensures bytes { IfOk result (λ script. Consumes (R.remaining reader.old) (R.remaining reader.new) script.items) }
+    ensures end { OnOk result (IsAtEnd (R.remaining reader.new)) }
+    ensures bound { IfOk result (λ script. vec_len script ≤ 268435456) }
+    ensures fault { IfErr result (λ fault. fault ≢ ReplayFault.WriteFault) }
+{
+    let mut script = Vec::new(alloc);
+    let mut chunk = [0; CHUNK];
+    'reads: for _ in 0..u64::MAX {
+        let Some(n) = read_piece(reader, &mut chunk)? else {
+            continue;
+        };
+        if n == 0 {
+            return Ok(script);
+        }
+        if n > MAX_SCRIPT - script.len() {
+            return Err(ReplayFault::ReadFault);
+        }
+        script.extend_from_slice(&chunk[..n])?;
+    }
+    Err(ReplayFault::ReadFault)
+}
+
+// What a script prints, and how its replay ends.
+fn output(alloc: Global, script: &[u8]) -> Result<(String, ReplayEnd), AllocError>
+    ensures { IfOk result (λ output. (string_bytes output.0 ≡ output_of script.now) × (output.1 ≡ end_of script.now)) }
+{
+    let mut text = String::new(alloc);
+    match run_script(alloc, script, &mut text) {
+        Ok(()) => Ok((text, ReplayEnd::Done)),
+        Err(Stop::Fault(at)) => {
+            writeln!(text, "{at}")?;
+            Ok((text, ReplayEnd::Refused))
+        }
+        Err(Stop::Memory) => Err(AllocError),
+    }
+}
+
+// Reads a script, and works out what it prints.
+fn answer<R: Read>(alloc: Global, reader: &mut R) -> Result<(String, ReplayEnd), ReplayFault>
+    ensures end { OnOk result (IsAtEnd (R.remaining reader.new)) }
+    ensures output { IfOk result (λ output. IfSome (R.remaining reader.old) (λ script.
+        (length script ≤ 268435456) × (string_bytes output.0 ≡ output_of script) × (output.1 ≡ end_of script))) }
+    ensures fault { IfErr result (λ fault. fault ≢ ReplayFault.WriteFault) }
+{
+    let script = read_script(alloc, reader)?;
+    let (text, end) = output(alloc, script.as_slice())?;
+    Ok((text, end))
+}
+
+/// The line that is written where memory runs out.
+const MEMORY_LINE: &[u8] = b"fault Memory\n";
+
+/// Runs the script that the reader gives, and writes what that prints (docs/SCRIPT.md). The whole
+/// script is read first; time and memory are linear in it.
+pub fn replay<R: Read, W: Write>(
+    alloc: Global,
+    reader: &mut R,
+    writer: &mut W,
+) -> Result<ReplayEnd, ReplayFault>
+    // The whole input was read, and it is no longer than a script may be.
+    ensures read { OnOk result (IsAtEnd (R.remaining reader.new)) }
+    ensures bound { OnOk result (IfSome (R.remaining reader.old) (λ script. length script ≤ 268435456)) }
+
+    // What was written is exactly the script's output, and the end is the script's.
+    ensures output { OnOk result (IfSome (R.remaining reader.old) (λ script.
+        Appends (W.contents writer.old) (W.contents writer.new) (output_of script))) }
+    ensures end { IfOk result (λ end. IfSome (R.remaining reader.old) (λ script. end ≡ end_of script)) }
+
+    // What a fault leaves: nothing, a beginning of the output, or of the line that says Memory.
+    ensures read_fault { IsErrOf result ReplayFault.ReadFault → Keeps (W.contents writer.old) (W.contents writer.new) }
+    ensures write_fault { IsErrOf result ReplayFault.WriteFault → IfSome (R.remaining reader.old) (λ script.
+        (n : ℕ) × Appends (W.contents writer.old) (W.contents writer.new) (take n (output_of script))) }
+    ensures memory { IsErrOf result ReplayFault.Memory
+        → (n : ℕ) × Appends (W.contents writer.old) (W.contents writer.new) (take n MEMORY_LINE.now) }
+{
+    match answer(alloc, reader) {
+        Ok((text, end)) => {
+            let (_, sent) = send(writer, text.as_bytes());
+            match sent {
+                Ok(()) => Ok(end),
+                Err(_) => Err(ReplayFault::WriteFault),
+            }
+        }
+        Err(ReplayFault::Memory) => {
+            let (_, _) = send(writer, MEMORY_LINE);
+            Err(ReplayFault::Memory)
+        }
+        Err(fault) => Err(fault),
+    }
+}

@@ -1,0 +1,79 @@
+//! What can be wrong with a script, and at which line.
+
+ghost use Rattle.std.specs.Prelude.{◌≡◌};
+ghost use Rattle.tac_server.specs.declared.script_fault.Stop.TheVariants.{Memory};
+
+use crate::policy_fault::PolicyFault;
+use std::alloc::{AllocError, AllocFailed};
+use std::fmt;
+
+#[derive(Clone, Copy, Debug, PartialEq, Eq)]
+pub(crate) enum ScriptFault {
+    BadKey,
+    NoRun,
+    BadPolicy(PolicyFault),
+    BadCommand,
+    NoConnection,
+    AlreadyOpen,
+}
+
+/// A fault with its line, counted from 1.
+#[derive(Clone, Copy, Debug, PartialEq, Eq)]
+pub(crate) struct Located {
+    pub(crate) line: usize,
+    pub(crate) fault: ScriptFault,
+}
+
+/// Why a replay goes no further.
+#[derive(Clone, Copy, Debug, PartialEq, Eq)]
+pub(crate) enum Stop {
+    Memory,
+    Fault(Located),
+}
+
+impl fmt::Display for ScriptFault {
+    ghost use Rattle.std.specs.Prelude.{Some};
+    ghost use Rattle.tac_server.specs.FaultText.{script_fault_text};
+
+    ghost output = { λ fault. Some (script_fault_text fault) };
+
+    fn fmt<W: fmt::Write>(&self, f: &mut fmt::Formatter<W>) -> fmt::Result {
+        match self {
+            ScriptFault::BadKey => write!(f, "BadKey"),
+            ScriptFault::NoRun => write!(f, "NoRun"),
+            ScriptFault::BadPolicy(fault) => write!(f, "{fault}"),
+            ScriptFault::BadCommand => write!(f, "BadCommand"),
+            ScriptFault::NoConnection => write!(f, "NoConnection"),
+            ScriptFault::AlreadyOpen => write!(f, "AlreadyOpen"),
+        }
+    }
+}
+
+impl fmt::Display for Located {
+    ghost use Rattle.std.specs.Prelude.{Some};
+    ghost use Rattle.tac_server.specs.FaultText.{located_text};
+
+    ghost output = { λ at. Some (located_text at) };
+
+    fn fmt<W: fmt::Write>(&self, f: &mut fmt::Formatter<W>) -> fmt::Result {
+        let line = self.line;
+        let fault = self.fault;
+        write!(f, "fault line {line} {fault}")
+    }
+}
+
+impl From<AllocError> for Stop {
+    ghost from_gives = { λ _ stop. stop ≡ Memory };
+
+    fn from(_error: AllocError) -> Stop {
+        Stop::Memory
+    }
+}
+
+impl<T: Drop> From<AllocFailed<T>> for Stop {
+    ghost from_gives = { λ _ stop. stop ≡ Memory };
+
+    fn from(_error: AllocFailed<T>) -> Stop {
+        Stop::Memory
+    }
+}

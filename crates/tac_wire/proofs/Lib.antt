@@ -1,0 +1,3 @@
+pub mod HeaderFacts
+pub mod PadFacts
+pub mod CutFacts

@@ -1,0 +1,5 @@
+pub mod Header
+pub mod Key
+pub mod Pad
+pub mod Body
+pub mod Cut

@@ -1,0 +1,51 @@
+//! What the readers of bodies share.
+
+ghost use Rattle.std.specs.Prelude.{◌≡◌, ◌≤◌, length, sum, IfOk};
+ghost use Rattle.tac_wire.specs.declared.body.BodyFault.TheVariants.{Memory};
+ghost use Rattle.tac_wire.specs.Cut.{cut as fields_of};
+
+use basics::{Bytes, Sequence};
+use std::alloc::{AllocError, AllocFailed, Global};
+
+/// Why a body could not be read.
+#[derive(Clone, Copy, Debug, PartialEq, Eq)]
+pub enum BodyFault {
+    /// The fixed part isn't whole.
+    Short,
+    /// The lengths of the fields don't add up to the length of the body.
+    LengthSum,
+    Memory,
+    /// A reply that this server never sends: more text or data than it has room for.
+    TooLong,
+}
+
+impl From<AllocError> for BodyFault {
+    ghost from_gives = { λ _ fault. fault ≡ Memory };
+
+    fn from(_error: AllocError) -> BodyFault {
+        BodyFault::Memory
+    }
+}
+
+impl<T: Drop> From<AllocFailed<T>> for BodyFault {
+    ghost from_gives = { λ _ fault. fault ≡ Memory };
+
+    fn from(_error: AllocFailed<T>) -> BodyFault {
+        BodyFault::Memory
+    }
+}
+
+/// Copies the fields of these lengths that the bytes begin with, one after another.
+pub fn cut(alloc: Global, lengths: &[u8], bytes: &[u8]) -> Result<Sequence<Bytes>, AllocError>
+    requires { sum lengths.now ≤ length bytes.now }
+    ensures { IfOk result (λ fields. fields ≡ fields_of lengths.now bytes.now) }
+{
+    let mut fields = Sequence::new(alloc);
+    let mut rest = bytes;
+    for len in lengths {
+        let (field, after) = rest.split_at(*len as usize);
+        fields.push(Bytes::from_slice(alloc, field)?)?;
+        rest = after;
+    }
+    Ok(fields)
+}
