@@ -1,5 +1,6 @@
 -- What the reading of a source says of its pattern.
-use Rattle.std.proofs.Common.{◌≡◌, ◌↔◌, ℕ, true, List, Result, Ok, Err, sym, ap, subst, ◌∙◌}
+use Rattle.std.proofs.Common.{◌≡◌, ◌↔◌, ℕ, true, false, List, Result, Ok, Err, sym, ap, subst, refl, ◌∙◌}
+use Rattle.std.proofs.lemmas.Bool.{false≢true}
 use Rattle.pol_pattern.specs.declared.flat.Factor.{Factor}
 use Rattle.pol_pattern.specs.declared.fault.PatternFault.{PatternFault}
 use Rattle.pol_pattern.specs.declared.fault.PatternFault.TheVariants as faults
@@ -43,3 +44,18 @@ fails_as (faults.Unprintable place) read e = e
 fails_as (faults.Unopened place) read e = e
 fails_as (faults.NothingToRepeat place) read e = e
 fails_as (faults.NotYet place) read e = e
+
+refused_test : (source : List ℕ) (fault : PatternFault) (text : List ℕ) → reading source ≡ Err fault → matches source text ≡ false
+unfolding matches
+refused_test source fault text e = ap (λ (r : Result (List Factor) PatternFault). matches_reading r text) e
+
+refused_set : (source : List ℕ) (fault : PatternFault) (text : List ℕ) → reading source ≡ Err fault → Holds source text → ⊥
+refused_set source fault text e h = let again = reading_again source h.0 h.1 in cc
+
+-- the test is that of the set, also where the source spells no pattern
+pub test_is_set : (source text : List ℕ) → (matches source text ≡ true) ↔ Holds source text
+test_is_set source text = by (reading source) refl
+  where
+    by : (r : Result (List Factor) PatternFault) → reading source ≡ r → (matches source text ≡ true) ↔ Holds source text
+    by (Ok flat) e = rw (matches_is source flat text e) (holds_text source flat text e)
+    by (Err fault) e = (λ h. absurd (false≢true (sym (refused_test source fault text e) ∙ h)), λ h. absurd (refused_set source fault text e h))

@@ -42,7 +42,7 @@ units_from place (byte ∷ after ∷ rest) =
     then (atom_at place byte >>= λ class. units_from (place + 2) rest >>= λ others. Ok (factors.Star class ∷ others))
     else (atom_at place byte >>= λ class. units_from (place + 1) (after ∷ rest) >>= λ others. Ok (factors.Class class ∷ others))
 
--- the place of the first byte that is no symbol
+-- the byte is no symbol
 abbrev pub is_unprintable : ℕ → Bool
 is_unprintable byte = not (is_symbol byte)
 

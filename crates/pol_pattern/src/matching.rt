@@ -10,7 +10,7 @@ ghost use Rattle.pol_pattern.specs.Marks.{AreMarks};
 
 use crate::flat::Factor;
 
-/// One mark more than a pattern has factors.
+/// One mark more than a pattern has factors at most.
 const MARKS: usize = 201;
 
 /// The marks before the first symbol.

@@ -1,6 +1,6 @@
 //! A pattern: a set of texts, by the bytes that spell it.
 
-ghost use Rattle.std.specs.Prelude.{◌≡◌, ◌↔◌, List, IsTrue, IfOk, Ok};
+ghost use Rattle.std.specs.Prelude.{◌≡◌, ◌↔◌, ℕ, List, IsTrue, IfOk, Ok};
 ghost use Rattle.pol_pattern.specs.declared.flat.Factor.{Factor as FactorValue};
 ghost use Rattle.pol_pattern.specs.Spelling.{Spells, Holds};
 ghost use Rattle.pol_pattern.specs.Reading.{ReadsAs, IsUnlessMemory, matches};
@@ -63,8 +63,9 @@ impl Pattern {
         // The set.
         ensures set { IsTrue result ↔ Holds self.now text.now }
 
-        // The same, as a test.
+        // The same, as a test, and that the test is the set's for every source.
         ensures test { result ≡ matches self.now text.now }
+        ensures law { (source bytes : List ℕ) → IsTrue (matches source bytes) ↔ Holds source bytes }
     {
         matching::holds(&self.factors, text)
     }

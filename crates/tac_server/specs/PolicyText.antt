@@ -49,11 +49,12 @@ unfoldable pub user_ids : List ℕ → Option (List ℕ × List ℕ) → Result 
 user_ids rest None = named kinds.User rest >>= λ id. Ok (id, None)
 user_ids rest (Some parts) = member_ids parts.0 parts.1
 
--- the last of a list, and those before it
+-- one more before the first of those
 abbrev pub behind_first : {A : Type 0} → A → Option (List A × A) → Option (List A × A)
 behind_first x None = Some ([], x)
 behind_first x (Some parts) = Some (x ∷ parts.0, parts.1)
 
+-- the last of a list, and those before it
 abbrev pub split_last : {A : Type 0} → List A → Option (List A × A)
 split_last [] = None
 split_last (x ∷ xs) = behind_first x (split_last xs)

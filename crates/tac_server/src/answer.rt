@@ -1,7 +1,6 @@
 //! The answer to an authorisation request.
 
 ghost use Rattle.std.specs.Prelude.{◌≡◌, ◌+◌, ◌≤◌, ◌++◌, length, IfOk};
-ghost use Rattle.std.specs.Option.{option_copied};
 ghost use Rattle.std.specs.Fmt.{decimal};
 ghost use Rattle.arrayvec.specs.ArrayVec.{array_vec_len};
 ghost use Rattle.tac_server.specs.Answer.{refusal as refusal_value, permission as permission_value, bad_body as bad_body_value, user_named, parent_name as parent_text, denial as denial_text, decided as decided_value, answer_to_user as user_answer, author_answer as author_answer_value};

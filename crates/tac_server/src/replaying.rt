@@ -1,6 +1,6 @@
 //! The replay of a script, from bytes to bytes.
 
-ghost use Rattle.std.specs.Prelude.{◌≡◌, ◌≢◌, ◌≤◌, ◌<◌, ℕ, length, take, codes, IfOk, IfErr, OnOk, IfSome, IsErrOf, MatchResult, MatchOption, string_bytes, vec_len};
+ghost use Rattle.std.specs.Prelude.{◌≡◌, ◌≢◌, [], ◌∷◌, ◌++◌, codes, ◌≤◌, ◌<◌, ℕ, length, take, IfOk, IfErr, OnOk, IfSome, IsErrOf, MatchOption, string_bytes, vec_len};
 ghost use Rattle.std.specs.Io.KnownBytes.{Appends, Consumes, IsAtEnd, Keeps};
 ghost use Rattle.tac_server.specs.Script.{output_of, end_of};
 ghost use Rattle.tac_server.specs.declared.replaying.ReplayFault.TheVariants.{Memory};
@@ -132,7 +132,7 @@ fn answer<R: Read>(alloc: Global, reader: &mut R) -> Result<(String, ReplayEnd),
 const MEMORY_LINE: &[u8] = b"fault Memory\n";
 
 /// Runs the script that the reader gives, and writes what that prints (docs/SCRIPT.md). The whole
-/// script is read first; time and memory are linear in it.
+/// script is read first; for a given policy, time and memory are linear in it.
 pub fn replay<R: Read, W: Write>(
     alloc: Global,
     reader: &mut R,
@@ -150,9 +150,9 @@ pub fn replay<R: Read, W: Write>(
     // What a fault leaves: nothing, a beginning of the output, or of the line that says Memory.
     ensures read_fault { IsErrOf result ReplayFault.ReadFault → Keeps (W.contents writer.old) (W.contents writer.new) }
     ensures write_fault { IsErrOf result ReplayFault.WriteFault → IfSome (R.remaining reader.old) (λ script.
-        (n : ℕ) × Appends (W.contents writer.old) (W.contents writer.new) (take n (output_of script))) }
+        (length script ≤ 268435456) × (n : ℕ) × Appends (W.contents writer.old) (W.contents writer.new) (take n (output_of script))) }
     ensures memory { IsErrOf result ReplayFault.Memory
-        → (n : ℕ) × Appends (W.contents writer.old) (W.contents writer.new) (take n MEMORY_LINE.now) }
+        → (n : ℕ) × Appends (W.contents writer.old) (W.contents writer.new) (take n (codes "fault Memory" ++ 10 ∷ [])) }
 {
     match answer(alloc, reader) {
         Ok((text, end)) => {

@@ -15,7 +15,8 @@ pub enum BodyFault {
     /// The lengths of the fields don't add up to the length of the body.
     LengthSum,
     Memory,
-    /// A reply that this server never sends: more text or data than it has room for.
+    /// A reply that this server never sends: over 64 bytes of text, any data, or other arguments
+    /// than one privilege level.
     TooLong,
 }
 

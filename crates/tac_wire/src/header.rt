@@ -5,16 +5,12 @@ ghost use Rattle.tac_wire.specs.Header.{header_bytes, header_of};
 
 use byteorder::{BigEndian, ByteOrder};
 
-/// What a packet is about. Numbers without a name are no type of RFC 8907.
+/// What a packet is about. Numbers without a name are types that aren't served.
 #[derive(Clone, Copy, Debug, PartialEq, Eq)]
 pub struct PacketType(pub u8);
 
 impl PacketType {
-    pub const AUTHENTICATION: PacketType = PacketType(1);
-
     pub const AUTHORISATION: PacketType = PacketType(2);
-
-    pub const ACCOUNTING: PacketType = PacketType(3);
 }
 
 /// The header of a packet (RFC 8907, section 4.1), as written: no value is refused here.
@@ -32,9 +28,6 @@ pub struct Header {
 }
 
 impl Header {
-    /// How many bytes a header has.
-    pub const SIZE: usize = 12;
-
     /// The flag of a packet whose body has no pad.
     pub const UNENCRYPTED: u8 = 0x01;
     /// The flag by which a client asks for many sessions on one connection.

@@ -1,0 +1,277 @@
+//! Answers to authorisation requests.
+
+use crate::support::{
+    BAD_BODY, OPS, PERMITTED, SHOW_VERSION, SHOW_VERSION_ARGS, failed, packet, plays, request,
+};
+use std::process::Abort;
+use std::test::Fail;
+
+fn answers<R: Abort + AllocGlobal>(
+    rt: &R,
+    policy: &str,
+    packet: &str,
+    output: &str,
+) -> Result<(), Fail> {
+    plays(rt, &["key k\n", policy, "run\nopen 1\n", packet], output)
+}
+
+fn refuses<R: Abort + AllocGlobal>(
+    rt: &R,
+    policy: &str,
+    user: &[u8],
+    args: &[&[u8]],
+    msg: &str,
+) -> Result<(), Fail> {
+    let packet = request(rt, user, args)?;
+    let output = failed(rt, msg)?;
+    answers(rt, policy, packet.as_str(), output.as_str())
+}
+
+#[test]
+fn worked_answers(rt: HostRuntime) -> Result<(), Fail> {
+    answers(&rt, OPS, SHOW_VERSION, PERMITTED)?;
+    answers(
+        &rt,
+        "group ops\npermit show clock\ndeny show .*\npermit show .*\nuser bob in ops\n",
+        SHOW_VERSION,
+        "reply 1 c002020000000001000000201000001a0000\
+         64656e6965642062792067726f7570206f70732072756c652032\nclosed 1\n",
+    )?;
+    answers(
+        &rt,
+        "user bob\n",
+        SHOW_VERSION,
+        "reply 1 c0020200000000010000001710000011000064656e6965642062792064656661756c74\nclosed 1\n",
+    )
+}
+
+#[test]
+fn spelling_of_the_tests_own(rt: HostRuntime) -> Result<(), Fail> {
+    let spelled = request(&rt, b"bob", &SHOW_VERSION_ARGS)?;
+    assert!(rt; spelled.as_str() == SHOW_VERSION, "{spelled}");
+    Ok(())
+}
+
+#[test]
+fn permitting_policies(rt: HostRuntime) -> Result<(), Fail> {
+    let policies = [
+        // The user's own rules come before the group's.
+        "group ops\ndeny .*\nuser bob in ops\npermit show .*\n",
+        // Where none of the user's rules matches, the group's decide.
+        "group ops\ndeny show clock\npermit show version\nuser bob in ops\ndeny ping\n",
+        // The first that matches decides.
+        "user bob\npermit show .*\ndeny .*\n",
+        // The rules of other subjects don't count.
+        "user eve\ndeny .*\nuser bob\npermit .*\ngroup bob\ndeny .*\n",
+        // The group may stand later.
+        "user bob in ops\ngroup ops\npermit .*\n",
+        "user bob\npermit s*how*.version\n",
+        // Comments, blank lines and leading blanks.
+        "# who may what\n\n   # indented\n   user bob\n \n  permit show version\n",
+    ];
+    for policy in &policies {
+        answers(&rt, policy, SHOW_VERSION, PERMITTED)?;
+    }
+    Ok(())
+}
+
+#[test]
+fn denying_policies(rt: HostRuntime) -> Result<(), Fail> {
+    let cases = [
+        (
+            "group ops\npermit .*\nuser bob in ops\ndeny show version\n",
+            "denied by user bob rule 1",
+        ),
+        (
+            "user bob\ndeny show version\npermit .*\n",
+            "denied by user bob rule 1",
+        ),
+        (
+            "user bob\npermit ping\ndeny show v.*\npermit .*\n",
+            "denied by user bob rule 2",
+        ),
+        (
+            "group ops\npermit ping\ndeny reload\ndeny .*\nuser bob in ops\npermit show\n",
+            "denied by group ops rule 3",
+        ),
+        // A pattern is for the whole line.
+        (
+            "user bob\npermit show\npermit version\npermit how.*\n",
+            "denied by default",
+        ),
+        (
+            "user bob\nuser eve\npermit .*\ngroup bob\npermit .*\n",
+            "denied by default",
+        ),
+        ("group ops\nuser bob in ops\n", "denied by default"),
+        ("", "unknown user"),
+        (
+            "user eve\npermit .*\ngroup bob\npermit .*\n",
+            "unknown user",
+        ),
+        ("user Bob\npermit .*\nuser bo\nuser bobb\n", "unknown user"),
+    ];
+    for (policy, msg) in &cases {
+        refuses(&rt, policy, b"bob", &SHOW_VERSION_ARGS, msg)?;
+    }
+    Ok(())
+}
+
+#[test]
+fn faults_of_arguments(rt: HostRuntime) -> Result<(), Fail> {
+    let bad = "bad argument";
+    let unsupported = "unsupported service";
+    let cases: [(&[u8], &[&[u8]], &str); 9] = [
+        (b"bob", &[b"service=shell", b"cmd=show", b"version"], bad),
+        (b"bob", &[b"cmd", b"service=ppp"], bad),
+        (b"eve", &[b"service=shell", b""], bad),
+        (b"bob", &[], unsupported),
+        (b"bob", &[b"cmd=show"], unsupported),
+        (b"bob", &[b"service=shell"], unsupported),
+        (b"bob", &[b"service=shell", b"cmd-arg=version"], unsupported),
+        (b"bob", &[b"service=Shell", b"cmd=show"], unsupported),
+        // The first service counts, and it counts before the user.
+        (
+            b"eve",
+            &[b"service=ppp", b"service=shell", b"cmd=show"],
+            unsupported,
+        ),
+    ];
+    for (user, args, msg) in &cases {
+        refuses(&rt, OPS, user, args, msg)?;
+    }
+    Ok(())
+}
+
+#[test]
+fn faults_of_users_and_lines(rt: HostRuntime) -> Result<(), Fail> {
+    let unknown = "unknown user";
+    let unprintable = "unprintable command";
+    let cases: [(&[u8], &[&[u8]], &str); 10] = [
+        (b"eve", &SHOW_VERSION_ARGS, unknown),
+        (b"ops", &SHOW_VERSION_ARGS, unknown),
+        (b"", &SHOW_VERSION_ARGS, unknown),
+        (b"bob ", &SHOW_VERSION_ARGS, unknown),
+        (&[b'b'; 33], &SHOW_VERSION_ARGS, unknown),
+        // The user is judged before the line.
+        (
+            b"eve",
+            &[b"service=shell", b"cmd=show", b"cmd-arg=\x07"],
+            unknown,
+        ),
+        (
+            b"bob",
+            &[b"service=shell", b"cmd=show", b"cmd-arg=\x07"],
+            unprintable,
+        ),
+        (b"bob", &[b"service=shell", b"cmd=\x7f"], unprintable),
+        (
+            b"bob",
+            &[b"service=shell", b"cmd=show", b"cmd-arg=\xc3\xa9"],
+            unprintable,
+        ),
+        (b"bob", &[b"service=shell", b"cmd=show\n"], unprintable),
+    ];
+    for (user, args, msg) in &cases {
+        refuses(&rt, OPS, user, args, msg)?;
+    }
+    Ok(())
+}
+
+// Bob may run what the pattern says, and asks for what the arguments say.
+fn permits<R: Abort + AllocGlobal>(rt: &R, pattern: &str, args: &[&[u8]]) -> Result<(), Fail> {
+    let asked = request(rt, b"bob", args)?;
+    let script = [
+        "key k\nuser bob\npermit ",
+        pattern,
+        "\nrun\nopen 1\n",
+        asked.as_str(),
+    ];
+    plays(rt, &script, PERMITTED)
+}
+
+#[test]
+fn lines_of_arguments(rt: HostRuntime) -> Result<(), Fail> {
+    let cases: [(&[&[u8]], &str); 7] = [
+        // The sign doesn't matter.
+        (
+            &[b"service*shell", b"cmd*show", b"cmd-arg*version"],
+            "show version",
+        ),
+        // Each `cmd-arg` counts, wherever it stands.
+        (
+            &[
+                b"cmd-arg=ip",
+                b"service=shell",
+                b"cmd=show",
+                b"cmd-arg=route",
+            ],
+            "show ip route",
+        ),
+        // Of `cmd` the first.
+        (&[b"service=shell", b"cmd=show", b"cmd=reload"], "show"),
+        // Other arguments don't count, and a value may have signs in it.
+        (
+            &[b"service=shell", b"timeout=5", b"cmd=set", b"cmd-arg=a=b*c"],
+            "set a=b.c",
+        ),
+        (
+            &[b"service=shell", b"cmd=show", b"cmd-arg=<cr>"],
+            "show <cr>",
+        ),
+        (&[b"service=shell", b"cmd=show", b"cmd-arg="], "show "),
+        // A shell that starts asks for the empty line.
+        (&[b"service=shell", b"cmd="], ""),
+    ];
+    for (args, pattern) in &cases {
+        permits(&rt, pattern, args)?;
+    }
+    Ok(())
+}
+
+#[test]
+fn bad_bodies(rt: HostRuntime) -> Result<(), Fail> {
+    // The length of the user is one less than it is.
+    answers(
+        &rt,
+        OPS,
+        "packet 1 c0020100000000010000003606010101020400030d080f626f6274747930\
+         736572766963653d7368656c6c636d643d73686f77636d642d6172673d76657273696f6e\n",
+        BAD_BODY,
+    )?;
+    let bodies: [&[u8]; 6] = [
+        b"",
+        &[6, 1, 1, 1, 0, 0, 0],
+        // The length of the argument is missing.
+        &[6, 1, 1, 1, 0, 0, 0, 1],
+        &[6, 1, 1, 1, 0, 0, 0, 1, 1],
+        // One byte more than the lengths say.
+        &[6, 1, 1, 1, 0, 0, 0, 1, 0, 0],
+        &[0; 131_075],
+    ];
+    for body in &bodies {
+        let asked = packet(&rt, [0xc0, 2, 1, 0, 0, 0, 0, 1], body)?;
+        answers(&rt, OPS, asked.as_str(), BAD_BODY)?;
+    }
+    Ok(())
+}
+
+#[test]
+fn other_fields_count_for_nothing(rt: HostRuntime) -> Result<(), Fail> {
+    // Of the body: all but the user and the arguments, which are `service=shell` and `cmd=`.
+    answers(
+        &rt,
+        "user bob\npermit \n",
+        "packet 1 c0020100000000010000001fffffffff030001020d04626f62ff\
+         736572766963653d7368656c6c636d643d\n",
+        PERMITTED,
+    )?;
+    // Of the header: the minor version and the session, which the reply repeats, and other flags.
+    answers(
+        &rt,
+        OPS,
+        "packet 1 c10201fa8899aabb0000003606010101030400030d080f626f6274747930\
+         736572766963653d7368656c6c636d643d73686f77636d642d6172673d76657273696f6e\n",
+        "reply 1 c10202008899aabb00000006010000000000\nclosed 1\n",
+    )
+}

@@ -1,0 +1,18 @@
+//! Tests of the replay of scripts, and of the calls below it, against values that were worked out
+//! elsewhere: by hand from the layouts of RFC 8907, or by another program.
+#![tactic(auto)]
+
+#[cfg(test)]
+mod authorisation;
+#[cfg(test)]
+mod connections;
+#[cfg(test)]
+mod parts;
+#[cfg(test)]
+mod policy_faults;
+#[cfg(test)]
+mod script_faults;
+#[cfg(test)]
+mod support;
+#[cfg(test)]
+mod transport;

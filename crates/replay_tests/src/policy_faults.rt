@@ -1,0 +1,263 @@
+//! Faults of the policy in a script.
+
+use crate::support::{PERMITTED, SHOW_VERSION, joined, plays, stops};
+use std::alloc::AllocError;
+use std::fmt::Write;
+use std::process::Abort;
+use std::test::Fail;
+
+// The fault is printed with its line in the script, where the policy begins at line 2.
+fn faults<R: Abort + AllocGlobal>(rt: &R, policy: &str, fault: &str) -> Result<(), Fail> {
+    let output = joined(rt, &["fault line ", fault, "\n"])?;
+    stops(rt, &["key k\n", policy, "\nrun\n"], output.as_str())
+}
+
+// The same, where the last line is the one that has the fault.
+fn faults_after<R: Abort + AllocGlobal>(
+    rt: &R,
+    policy: &str,
+    line: &str,
+    fault: &str,
+) -> Result<(), Fail> {
+    let policy = joined(rt, &[policy, line])?;
+    faults(rt, policy.as_str(), fault)
+}
+
+// The lines `user s0`, `user s1` and so on.
+fn users<R: AllocGlobal>(rt: &R, count: usize) -> Result<String, AllocError> {
+    let mut lines = String::new(rt.alloc());
+    for number in 0..count {
+        write!(lines, "user s{number}\n")?;
+    }
+    Ok(lines)
+}
+
+#[test]
+fn lines_that_are_none(rt: HostRuntime) -> Result<(), Fail> {
+    let lines = [
+        "users a",
+        "Group a",
+        "grant x",
+        "group",
+        "user",
+        "permit",
+        "deny",
+        "group a ",
+        "group a in b",
+        "user a ",
+        "user a in",
+        "user a in ops ",
+        "user a in  ops",
+        "user a  in ops",
+        "user a on ops",
+        "user a In ops",
+        "user a in ops b",
+        "user a b",
+        "key k",
+        "open 1",
+        "user a\r",
+        "group a\r",
+        "\r",
+        "\tuser a",
+        "user\ta",
+        "# caf\u{e9}",
+        "#\u{7f}",
+        "permit \u{1f}",
+        "  run",
+        "run ",
+    ];
+    for line in &lines {
+        faults(&rt, line, "2 1 BadLine")?;
+        // Also behind other lines.
+        faults_after(&rt, "group ops\n\n# none\n", line, "5 1 BadLine")?;
+    }
+    Ok(())
+}
+
+#[test]
+fn names_that_are_none(rt: HostRuntime) -> Result<(), Fail> {
+    let lines = [
+        "group ",
+        "user ",
+        "user  in ops",
+        "user a in ",
+        "user a in b,c",
+        "user a,b in ops",
+        "group a/b",
+        "group #a",
+        "user a+",
+        "user abcdefghijklmnopqrstuvwxyz0123456",
+    ];
+    for line in &lines {
+        faults(&rt, line, "2 2 BadName")?;
+    }
+    // All that a name may hold, and as long as it may be.
+    let policy = "group ABCDEFGHIJKLMNOPQRSTUVWXYZ_-.@\npermit show version\n\
+                  user 0123456789\nuser in\nuser a\n\
+                  user bob in ABCDEFGHIJKLMNOPQRSTUVWXYZ_-.@\n\
+                  group abcdefghijklmnopqrstuvwxyz012345\n";
+    plays(
+        &rt,
+        &["key k\n", policy, "run\nopen 1\n", SHOW_VERSION],
+        PERMITTED,
+    )
+}
+
+#[test]
+fn subjects_that_are_there_or_not(rt: HostRuntime) -> Result<(), Fail> {
+    let cases = [
+        ("group a\ngroup a", "3 3 Repeated"),
+        ("user a\npermit x\nuser a", "4 3 Repeated"),
+        ("group g\nuser a\nuser a in g", "4 3 Repeated"),
+        ("user a in nowhere\nuser a", "3 3 Repeated"),
+        ("permit x", "2 4 NoSubject"),
+        ("\n  # none yet\n  deny x\ngroup a", "4 4 NoSubject"),
+        ("user bob in ops", "2 7 NoSuchParent"),
+        (
+            "# all users\n\nuser amy\nuser bob in ops\nuser eve in nowhere",
+            "5 7 NoSuchParent",
+        ),
+        // A user is no parent.
+        ("user ops\nuser bob in ops", "3 7 NoSuchParent"),
+        ("group Ops\nuser bob in ops", "3 7 NoSuchParent"),
+    ];
+    for (policy, fault) in &cases {
+        faults(&rt, policy, fault)?;
+    }
+    Ok(())
+}
+
+#[test]
+fn patterns_that_are_none(rt: HostRuntime) -> Result<(), Fail> {
+    let cases = [
+        ("*a", "3 5 BadPattern 5 NothingToRepeat at 0"),
+        ("**", "3 5 BadPattern 5 NothingToRepeat at 0"),
+        ("a)b", "3 5 BadPattern 4 Unopened at 1"),
+        (")", "3 5 BadPattern 4 Unopened at 0"),
+        ("show *)*", "3 5 BadPattern 4 Unopened at 6"),
+    ];
+    for (pattern, fault) in &cases {
+        for word in ["permit ", "deny "] {
+            let line = joined(&rt, &[word, pattern])?;
+            faults_after(&rt, "user bob\n", line.as_str(), fault)?;
+        }
+    }
+    Ok(())
+}
+
+#[test]
+fn patterns_that_are_not_built_yet(rt: HostRuntime) -> Result<(), Fail> {
+    let cases = [
+        ("|", "0"),
+        ("a|b", "1"),
+        ("a+", "1"),
+        ("ab?", "2"),
+        ("x[a-z]", "1"),
+        ("(a)", "0"),
+        ("show \\.", "5"),
+        ("a**", "2"),
+        // The first of two.
+        ("a+)", "1"),
+        ("a**)", "2"),
+    ];
+    for (pattern, place) in &cases {
+        let policy = joined(&rt, &["user bob\npermit ", pattern])?;
+        let fault = joined(&rt, &["3 5 BadPattern 99 NotYet at ", place])?;
+        faults(&rt, policy.as_str(), fault.as_str())?;
+    }
+    Ok(())
+}
+
+#[test]
+fn long_patterns(rt: HostRuntime) -> Result<(), Fail> {
+    let fifty = "..................................................";
+    plays(
+        &rt,
+        &[
+            "key k\nuser b\npermit ",
+            fifty,
+            fifty,
+            fifty,
+            fifty,
+            "\nrun\n",
+        ],
+        "",
+    )?;
+    // It is judged before the symbols.
+    let policy = joined(&rt, &["user b\npermit *", fifty, fifty, fifty, fifty])?;
+    faults(&rt, policy.as_str(), "3 5 BadPattern 1 TooLong")
+}
+
+#[test]
+fn the_order_on_one_line(rt: HostRuntime) -> Result<(), Fail> {
+    let cases = [
+        // Before a bad name: no line at all.
+        ("group a,b c", "2 1 BadLine"),
+        ("user a,b in c d", "2 1 BadLine"),
+        // Before a subject that is there: a bad name.
+        ("user a\nuser a in b,c", "3 2 BadName"),
+        // Before a bad pattern: no subject.
+        ("permit *", "2 4 NoSubject"),
+        // A line's fault comes before a parent that isn't there, whichever stands first.
+        (
+            "user bob in ops\npermit *",
+            "3 5 BadPattern 5 NothingToRepeat at 0",
+        ),
+        // The first line that has a fault.
+        (
+            "user bob\npermit *\ngroup ,",
+            "3 5 BadPattern 5 NothingToRepeat at 0",
+        ),
+    ];
+    for (policy, fault) in &cases {
+        faults(&rt, policy, fault)?;
+    }
+    Ok(())
+}
+
+#[test]
+fn as_many_subjects_as_there_may_be(rt: HostRuntime) -> Result<(), Fail> {
+    let most = users(&rt, 1024)?;
+    plays(&rt, &["key k\n", most.as_str(), "run\n"], "")?;
+    let cases = [
+        ("group ops", "1026 10 Limit"),
+        ("user bob", "1026 10 Limit"),
+        // What comes before it on the line.
+        ("user s1023", "1026 3 Repeated"),
+        ("group ", "1026 2 BadName"),
+        ("group", "1026 1 BadLine"),
+    ];
+    for (line, fault) in &cases {
+        faults_after(&rt, most.as_str(), line, fault)?;
+    }
+    Ok(())
+}
+
+#[test]
+fn as_many_rules_as_there_may_be(rt: HostRuntime) -> Result<(), Fail> {
+    let mut most = String::from_str(
+        rt.alloc(),
+        "group ops\npermit show version\nuser bob in ops\n",
+    )?;
+    for _ in 0..256 {
+        most.push_str("deny x\n")?;
+    }
+    let script = ["key k\n", most.as_str(), "run\nopen 1\n", SHOW_VERSION];
+    plays(&rt, &script, PERMITTED)?;
+    let cases = [
+        ("permit .*", "261 10 Limit"),
+        ("deny x\ngroup ,", "261 10 Limit"),
+        // What comes before it on the line.
+        ("deny *", "261 5 BadPattern 5 NothingToRepeat at 0"),
+        ("deny", "261 1 BadLine"),
+        // The next subject has rules of its own.
+        (
+            "group a\ndeny x\ndeny *",
+            "263 5 BadPattern 5 NothingToRepeat at 0",
+        ),
+    ];
+    for (line, fault) in &cases {
+        faults_after(&rt, most.as_str(), line, fault)?;
+    }
+    Ok(())
+}

@@ -1,0 +1,188 @@
+//! Faults of scripts, apart from those of the policy.
+
+use crate::support::{OPS, PERMITTED, SHOW_VERSION, SHOW_VERSION_HEX, joined, plays, stops};
+use std::test::Fail;
+
+#[test]
+fn keys(rt: HostRuntime) -> Result<(), Fail> {
+    let longest = "0123456789abcdef0123456789abcdef0123456789abcdef0123456789abcdef\
+                   0123456789abcdef0123456789abcdef0123456789abcdef0123456789abcde\u{7e}";
+    plays(&rt, &["key ", longest, "\nrun\n"], "")?;
+    // The key is the whole rest of the line: here one blank, and `run`.
+    plays(&rt, &["key  \nrun\n"], "")?;
+    plays(&rt, &["key run\nrun\n"], "")?;
+    plays(
+        &rt,
+        &["key  k\n", OPS, "run\nopen 1\n", SHOW_VERSION],
+        PERMITTED,
+    )?;
+    stops(&rt, &["key ", longest, "x\nrun\n"], "fault line 1 BadKey\n")?;
+    let scripts = [
+        "",
+        "\n",
+        "\nkey k\nrun\n",
+        "key",
+        "key\n",
+        "key \nrun\n",
+        "Key k\nrun\n",
+        "keys k\nrun\n",
+        " key k\nrun\n",
+        "# the key\nkey k\nrun\n",
+        "key k\r\nrun\n",
+        "key \u{7f}\nrun\n",
+        "key a\tb\nrun\n",
+        "key \u{e9}\nrun\n",
+        "run\n",
+        // It is judged before all else.
+        "kee k\n",
+        "kee k\nno policy\n",
+    ];
+    for script in &scripts {
+        stops(&rt, &[script], "fault line 1 BadKey\n")?;
+    }
+    Ok(())
+}
+
+#[test]
+fn no_run(rt: HostRuntime) -> Result<(), Fail> {
+    let cases = [
+        ("key k", "fault line 2 NoRun\n"),
+        ("key k\n", "fault line 2 NoRun\n"),
+        ("key k\n\n", "fault line 3 NoRun\n"),
+        ("key k\ngroup ops\nuser bob", "fault line 4 NoRun\n"),
+        ("key k\nrun \n", "fault line 3 NoRun\n"),
+        ("key k\n run\n", "fault line 3 NoRun\n"),
+        ("key k\nRun\n", "fault line 3 NoRun\n"),
+        ("key k\nrun\r\n", "fault line 3 NoRun\n"),
+        // It is judged before the policy.
+        ("key k\nno policy\npermit *\n", "fault line 4 NoRun\n"),
+    ];
+    for (script, output) in &cases {
+        stops(&rt, &[script], output)?;
+    }
+    Ok(())
+}
+
+#[test]
+fn bad_commands(rt: HostRuntime) -> Result<(), Fail> {
+    let lines = [
+        "close 1",
+        "Open 2",
+        "",
+        "# a comment",
+        " open 2",
+        "open 2 ",
+        "open  2",
+        "open",
+        "open ",
+        "open 65536",
+        "open 000001",
+        "open 99999999999999999999",
+        "open +2",
+        "open -1",
+        "open 2x",
+        "open 2 3",
+        "open 2\r",
+        "open\t2",
+        "run",
+        "key k",
+        "user bob",
+        "packet",
+        "packet 1",
+        "packet 1 ",
+        "packet  1 c00901000000000100000000",
+        "packet 1  c00901000000000100000000",
+        "packet 1 c00901000000000100000000 ",
+        "packet 1 c00901000000000100000000\r",
+        "packet one c00901000000000100000000",
+        "packet 65536 c00901000000000100000000",
+        "packet c00901000000000100000000",
+        // An odd number of digits, and no digit.
+        "packet 1 c009010000000001000000000",
+        "packet 1 c0090100000000010000000",
+        "packet 1 c0090100000000010000000g",
+        "packet 1 0xc00901000000000100000000",
+        // No whole header.
+        "packet 1 c009010000000001000000",
+        // A body of another length than the header says.
+        "packet 1 c0090100000000010000000000",
+        "packet 1 c00901000000000100000001",
+        "packet 1 c009010000000001000000020a",
+        "packet 1 c00901000000000101000000",
+        // Two packets.
+        "packet 1 c00901040000000100000000 c00901040000000200000000",
+        "packet 1 c00901040000000100000000c00901040000000200000000",
+        "Packet 1 c00901000000000100000000",
+        "packet 2 c0",
+    ];
+    for line in &lines {
+        stops(
+            &rt,
+            &["key k\nrun\nopen 1\n", line, "\n"],
+            "fault line 4 BadCommand\n",
+        )?;
+    }
+    Ok(())
+}
+
+#[test]
+fn connections_that_are_not_there(rt: HostRuntime) -> Result<(), Fail> {
+    let packet = ["packet 2 ", SHOW_VERSION_HEX, "\n"];
+    let packet = joined(&rt, &packet)?;
+    stops(
+        &rt,
+        &["key k\nrun\nopen 1\n", packet.as_str()],
+        "fault line 4 NoConnection\n",
+    )?;
+    // It isn't there any more.
+    stops(
+        &rt,
+        &["key k\n", OPS, "run\nopen 1\n", SHOW_VERSION, SHOW_VERSION],
+        "reply 1 c00202000000000100000006010000000000\nclosed 1\nfault line 8 NoConnection\n",
+    )
+}
+
+#[test]
+fn connections_that_are_there(rt: HostRuntime) -> Result<(), Fail> {
+    let scripts = [
+        "key k\nrun\nopen 1\nopen 1\n",
+        "key k\nrun\nopen 1\nopen 00001",
+    ];
+    for script in &scripts {
+        stops(&rt, &[script], "fault line 4 AlreadyOpen\n")?;
+    }
+    Ok(())
+}
+
+#[test]
+fn a_fault_is_the_end(rt: HostRuntime) -> Result<(), Fail> {
+    // What was printed before it stands.
+    stops(
+        &rt,
+        &[
+            "key k\n",
+            OPS,
+            "run\nopen 1\n",
+            SHOW_VERSION,
+            "\nopen 1\n",
+            SHOW_VERSION,
+        ],
+        "reply 1 c00202000000000100000006010000000000\nclosed 1\nfault line 8 BadCommand\n",
+    )?;
+    stops(
+        &rt,
+        &[
+            "key k\n",
+            OPS,
+            "run\nopen 1\nopen 1\n",
+            SHOW_VERSION,
+            "no command\n",
+        ],
+        "fault line 7 AlreadyOpen\n",
+    )?;
+    stops(
+        &rt,
+        &["key k\nno policy\nrun\nno command\n"],
+        "fault line 2 1 BadLine\n",
+    )
+}

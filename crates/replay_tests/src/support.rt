@@ -1,0 +1,134 @@
+//! What the tests share: playing a script, and spelling packets in it.
+
+use std::alloc::AllocError;
+use std::fmt::Write;
+use std::process::Abort;
+use std::test::Fail;
+use tac_server::{ReplayEnd, replay};
+
+/// The policy in which bob may run what begins with `show `, by rule 1 of his group.
+pub(crate) const OPS: &str = "group ops\npermit show .*\nuser bob in ops\n";
+
+/// The packet in which bob asks for `show version`.
+pub(crate) const SHOW_VERSION: &str =
+    "packet 1 c0020100000000010000003606010101030400030d080f626f6274747930\
+     736572766963653d7368656c6c636d643d73686f77636d642d6172673d76657273696f6e\n";
+
+/// The same hexadecimal digits, without the connection.
+pub(crate) const SHOW_VERSION_HEX: &str =
+    "c0020100000000010000003606010101030400030d080f626f6274747930\
+     736572766963653d7368656c6c636d643d73686f77636d642d6172673d76657273696f6e";
+
+/// What permits it.
+pub(crate) const PERMITTED: &str = "reply 1 c00202000000000100000006010000000000\nclosed 1\n";
+
+pub(crate) const BAD_BODY: &str =
+    "reply 1 c0020200000000010000000e11000008000062616420626f6479\nclosed 1\n";
+
+pub(crate) const SHOW_VERSION_ARGS: [&[u8]; 3] = [
+    b"service=shell",
+    b"cmd=show",
+    b"cmd-arg=version",
+];
+
+/// The parts, one after another.
+pub(crate) fn joined<R: AllocGlobal>(rt: &R, parts: &[&str]) -> Result<String, AllocError> {
+    let mut whole = String::new(rt.alloc());
+    for part in parts {
+        whole.push_str(part)?;
+    }
+    Ok(whole)
+}
+
+/// Plays the script that the parts make. It has to end so, with this output.
+pub(crate) fn ends<R: Abort + AllocGlobal>(
+    rt: &R,
+    parts: &[&str],
+    end: ReplayEnd,
+    output: &str,
+) -> Result<(), Fail> {
+    let script = joined(rt, parts)?;
+    let mut reader = script.as_bytes();
+    let mut written = Vec::new(rt.alloc());
+    let reached = replay(rt.alloc(), &mut reader, &mut written)?;
+    let printed = str::from_utf8(written.as_slice())?;
+    assert!(rt;
+        printed == output,
+        "expected\n{output}printed\n{printed}by\n{script:.600}"
+    );
+    assert_eq!(rt; reached, end, "after\n{script:.600}");
+    Ok(())
+}
+
+/// Plays a script that has no fault.
+pub(crate) fn plays<R: Abort + AllocGlobal>(
+    rt: &R,
+    parts: &[&str],
+    output: &str,
+) -> Result<(), Fail> {
+    ends(rt, parts, ReplayEnd::Done, output)
+}
+
+/// Plays a script that has a fault, which is the last line of the output.
+pub(crate) fn stops<R: Abort + AllocGlobal>(
+    rt: &R,
+    parts: &[&str],
+    output: &str,
+) -> Result<(), Fail> {
+    ends(rt, parts, ReplayEnd::Refused, output)
+}
+
+/// What a body is sent as: a line of hexadecimal digits, behind its header.
+fn spelled<R: AllocGlobal>(
+    rt: &R,
+    start: &str,
+    header: [u8; 8],
+    body: &[u8],
+) -> Result<String, Fail> {
+    let mut line = String::from_str(rt.alloc(), start)?;
+    for byte in header {
+        write!(line, "{byte:02x}")?;
+    }
+    let length = body.len();
+    write!(line, "{length:08x}")?;
+    for byte in body {
+        write!(line, "{byte:02x}")?;
+    }
+    line.push_str("\n")?;
+    Ok(line)
+}
+
+/// The packet on connection 1 that has this body, after all of a header but the length.
+pub(crate) fn packet<R: AllocGlobal>(rt: &R, header: [u8; 8], body: &[u8]) -> Result<String, Fail> {
+    spelled(rt, "packet 1 ", header, body)
+}
+
+/// The packet on connection 1 in which a user asks for what the arguments say.
+pub(crate) fn request<R: AllocGlobal>(rt: &R, user: &[u8], args: &[&[u8]]) -> Result<String, Fail> {
+    let mut body = Vec::new(rt.alloc());
+    body.extend_from_slice(&[6, 1, 1, 1])?;
+    body.push(u8::try_from(user.len())?)?;
+    body.extend_from_slice(&[4, 0])?;
+    body.push(u8::try_from(args.len())?)?;
+    for arg in args {
+        body.push(u8::try_from(arg.len())?)?;
+    }
+    body.extend_from_slice(user)?;
+    body.extend_from_slice(b"tty0")?;
+    for arg in args {
+        body.extend_from_slice(arg)?;
+    }
+    packet(rt, [0xc0, 2, 1, 0, 0, 0, 0, 1], body.as_slice())
+}
+
+/// What the refusal with this text prints on connection 1.
+pub(crate) fn failed<R: AllocGlobal>(rt: &R, msg: &str) -> Result<String, Fail> {
+    let mut body = Vec::new(rt.alloc());
+    body.extend_from_slice(&[0x10, 0, 0])?;
+    body.push(u8::try_from(msg.len())?)?;
+    body.extend_from_slice(&[0, 0])?;
+    body.extend_from_slice(msg.as_bytes())?;
+    let mut lines = spelled(rt, "reply 1 ", [0xc0, 2, 2, 0, 0, 0, 0, 1], body.as_slice())?;
+    lines.push_str("closed 1\n")?;
+    Ok(lines)
+}

@@ -1,0 +1,76 @@
+//! What the program's exit status tells.
+
+ghost use Rattle.std.specs.Prelude.{◌≡◌, ◌≢◌, ◌⊎◌};
+
+use clap::error::ErrorKind;
+use std::io::ErrorKind as IoErrorKind;
+use tac_server::{ReplayEnd, ReplayFault};
+
+/// How a run of the program ended, with the number that its caller sees.
+#[derive(Clone, Copy, Debug, PartialEq, Eq)]
+pub(crate) enum Status {
+    /// All was done; help counts as that.
+    Done = 0,
+    /// The script has a fault, which was printed.
+    Refused = 1,
+    /// The command line is not one of this program's.
+    BadCommandLine = 2,
+    OutOfMemory = 3,
+    /// Reading or writing failed.
+    Failed = 4,
+}
+
+impl Status {
+    /// The status of a replay.
+    pub(crate) fn of_replay(outcome: Result<ReplayEnd, ReplayFault>) -> Status
+        ensures done { outcome ≡ Ok ReplayEnd.Done → result ≡ Status.Done }
+        ensures refused { outcome ≡ Ok ReplayEnd.Refused → result ≡ Status.Refused }
+        ensures memory { outcome ≡ Err ReplayFault.Memory → result ≡ Status.OutOfMemory }
+        ensures read { outcome ≡ Err ReplayFault.ReadFault → result ≡ Status.Failed }
+        ensures write { outcome ≡ Err ReplayFault.WriteFault → result ≡ Status.Failed }
+    {
+        match outcome {
+            Ok(ReplayEnd::Done) => Status::Done,
+            Ok(ReplayEnd::Refused) => Status::Refused,
+            Err(ReplayFault::Memory) => Status::OutOfMemory,
+            Err(ReplayFault::ReadFault | ReplayFault::WriteFault) => Status::Failed,
+        }
+    }
+
+    /// The status of a command line that asks for help or is refused.
+    pub(crate) fn of_command_line(kind: ErrorKind) -> Status
+        ensures shown { (kind ≡ ErrorKind.DisplayHelp) ⊎ (kind ≡ ErrorKind.DisplayVersion) → result ≡ Status.Done }
+        ensures memory { kind ≡ ErrorKind.OutOfMemory → result ≡ Status.OutOfMemory }
+        ensures mistake { (kind ≢ ErrorKind.DisplayHelp) × (kind ≢ ErrorKind.DisplayVersion)
+            × (kind ≢ ErrorKind.OutOfMemory) → result ≡ Status.BadCommandLine }
+    {
+        match kind {
+            ErrorKind::DisplayHelp | ErrorKind::DisplayVersion => Status::Done,
+            ErrorKind::OutOfMemory => Status::OutOfMemory,
+            _ => Status::BadCommandLine,
+        }
+    }
+
+    /// The status where the words of the command line could not be had: one isn't UTF-8, or there
+    /// was no room for them.
+    pub(crate) fn of_unread_words(kind: IoErrorKind) -> Status
+        ensures memory { kind ≡ IoErrorKind.OutOfMemory → result ≡ Status.OutOfMemory }
+        ensures mistake { kind ≢ IoErrorKind.OutOfMemory → result ≡ Status.BadCommandLine }
+    {
+        match kind {
+            IoErrorKind::OutOfMemory => Status::OutOfMemory,
+            _ => Status::BadCommandLine,
+        }
+    }
+
+    /// The number that the process ends with.
+    pub(crate) fn number(self) -> u8
+        ensures done { self ≡ Status.Done → result ≡ 0 }
+        ensures refused { self ≡ Status.Refused → result ≡ 1 }
+        ensures bad_command_line { self ≡ Status.BadCommandLine → result ≡ 2 }
+        ensures out_of_memory { self ≡ Status.OutOfMemory → result ≡ 3 }
+        ensures failed { self ≡ Status.Failed → result ≡ 4 }
+    {
+        self as u8
+    }
+}
