@@ -7,7 +7,6 @@
 ghost use Rattle.std.specs.Prelude.{◌≡◌, ◌↔◌, [], ◌∷◌, ◌++◌, length, IsTrue, IfOk, OnOk, OnErr};
 
 use std::alloc::{AllocError, AllocFailed, Global};
-use std::convert::AsSlice;
 use std::marker::Model;
 
 /// Elements in order, on the heap.
@@ -95,13 +94,5 @@ impl<T> From<Vec<T>> for Sequence<T> {
 
     fn from(items: Vec<T>) -> Sequence<T> {
         Sequence { items }
-    }
-}
-
-impl<T> AsSlice<T> for Sequence<T> {
-    ghost items = { λ sequence. sequence };
-
-    fn as_slice(&self) -> &[T] {
-        self.items.as_slice()
     }
 }

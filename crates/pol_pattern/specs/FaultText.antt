@@ -1,17 +1,8 @@
--- How a fault is numbered and printed.
+-- How a fault is printed.
 use Rattle.std.specs.Prelude.{ℕ, List, ◌++◌, codes}
 use Rattle.std.specs.Fmt.{decimal}
 use Rattle.pol_pattern.specs.declared.fault.PatternFault.{PatternFault}
 use Rattle.pol_pattern.specs.declared.fault.PatternFault.TheVariants.{TooLong, Unprintable, Unopened, NothingToRepeat, Memory, NotYet}
-
--- the number of each kind
-abbrev pub fault_number : PatternFault → ℕ
-fault_number TooLong = 1
-fault_number (Unprintable place) = 2
-fault_number (Unopened place) = 4
-fault_number (NothingToRepeat place) = 5
-fault_number Memory = 10
-fault_number (NotYet place) = 99
 
 -- the kind's number and name, and the place where it has one
 abbrev pub fault_text : PatternFault → List ℕ

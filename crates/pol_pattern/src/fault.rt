@@ -2,7 +2,7 @@
 
 ghost use Rattle.std.specs.Prelude.{◌≡◌, Some};
 ghost use Rattle.pol_pattern.specs.declared.fault.PatternFault.TheVariants.{Memory};
-ghost use Rattle.pol_pattern.specs.FaultText.{fault_number, fault_text};
+ghost use Rattle.pol_pattern.specs.FaultText.{fault_text};
 
 use std::alloc::{AllocError, AllocFailed};
 use std::error::Error;
@@ -23,22 +23,6 @@ pub enum PatternFault {
     Memory,
     /// The symbol has a meaning that is not built yet.
     NotYet(usize),
-}
-
-impl PatternFault {
-    /// The number that stands for the kind of fault.
-    pub fn number(&self) -> u8
-        ensures { result ≡ fault_number self.now }
-    {
-        match self {
-            PatternFault::TooLong => 1,
-            PatternFault::Unprintable(_) => 2,
-            PatternFault::Unopened(_) => 4,
-            PatternFault::NothingToRepeat(_) => 5,
-            PatternFault::Memory => 10,
-            PatternFault::NotYet(_) => 99,
-        }
-    }
 }
 
 impl fmt::Display for PatternFault {
