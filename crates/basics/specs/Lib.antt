@@ -1,1 +1,4 @@
 pub mod Symbol
+pub mod Lines
+pub mod Number
+pub mod Lending

@@ -4,7 +4,10 @@
 //! two vectors of equal elements differ. A [`Sequence`] is its elements alone: a struct of
 //! sequences can be compared, and stated, as plain data.
 
-ghost use Rattle.std.specs.Prelude.{◌≡◌, ◌↔◌, [], ◌∷◌, ◌++◌, length, IsTrue, IfOk, OnOk, OnErr};
+ghost use Rattle.std.specs.Prelude.{◌≡◌, ◌↔◌, ◌<◌, ◌≤◌, [], ◌∷◌, ◌++◌, length, insert, remove, slice_get, Some, IsTrue, IfOk, OnOk, OnErr};
+ghost use Rattle.std.specs.Borrow.{sem};
+ghost use Rattle.std.specs.Option.{option_map, option_map_or};
+ghost use Rattle.basics.specs.Lending.{lends_item};
 
 use std::alloc::{AllocError, AllocFailed, Global};
 use std::marker::Model;
@@ -42,6 +45,14 @@ impl<T> Sequence<T> {
         self.items.as_slice()
     }
 
+    /// The element at a place, counted from 0, to be changed.
+    pub fn get_mut(&mut self, at: usize) -> Option<&mut T>
+        ensures* writes_back { sem 𝓛 (lends_item T.row self.entry at result) }
+        ensures item { option_map (λ item. item.now) result ≡ slice_get self.old at }
+    {
+        self.items.get_mut(at)
+    }
+
     /// The elements as a vector.
     pub fn into_vec(self) -> Vec<T>
         ensures { result.items ≡ self }
@@ -67,6 +78,36 @@ impl<T> Sequence<T> {
         ensures err { OnErr result (self.new ≡ self.old) }
     {
         self.items.push(item)
+    }
+
+    /// Puts an element at a place, counted from 0; those from there on move up. Linear.
+    pub fn insert(&mut self, at: usize, item: T) -> Result<(), AllocFailed<T>>
+        requires { at ≤ length self.old }
+        ensures ok { OnOk result (self.new ≡ insert self.old at item) }
+        ensures err { OnErr result (self.new ≡ self.old) }
+    {
+        self.items.insert(at, item)
+    }
+
+    /// Takes the element at a place out; those after it move down. Linear.
+    pub fn remove(&mut self, at: usize) -> T
+        requires { at < length self.old }
+        ensures item { slice_get self.old at ≡ Some result }
+        ensures rest { self.new ≡ remove self.old at }
+    {
+        self.items.remove(at)
+    }
+
+    /// Takes the element at one place out, and puts it so that it stands at the other. Linear.
+    pub fn move_item(&mut self, from: usize, to: usize)
+    where
+        T: Drop,
+        requires from_in_bounds { from < length self.old }
+        requires to_in_bounds { to < length self.old }
+        ensures { self.new ≡ option_map_or (insert (remove self.old from) to) (slice_get self.old from) self.old }
+    {
+        let item = self.items.remove(from);
+        let _ = self.items.insert(to, item);
     }
 }
 

@@ -1,74 +1,132 @@
--- Reading units one after another, as a loop does.
-use Rattle.std.proofs.Common.{◌≡◌, ℕ, ◌+◌, ◌<◌, ◌≤◌, true, false, eqb, List, [], ◌∷◌, ◌++◌, length, get_or, drop, Result, Ok, Err, refl, sym, ap, ◌∙◌, inl, inr, append_assoc, append-nil, add-zero, arith}
-use Rattle.std.proofs.lemmas.Bool.{cases_Bool}
-use Rattle.std.proofs.lemmas.List.{get_or-drop, drop-drop, at_drop_more, at_drop_all}
-use Rattle.pol_pattern.specs.declared.flat.Class.{Class}
-use Rattle.pol_pattern.specs.declared.flat.Factor.{Factor}
-use Rattle.pol_pattern.specs.declared.flat.Factor.TheVariants as factors
+-- Reading tokens one after another, as a loop does.
+use Rattle.std.proofs.Common.{◌≡◌, ℕ, zero, suc, ◌+◌, ◌-◌, ◌<◌, ◌≤◌, List, [], ◌∷◌, ◌++◌, length, get_or, drop, Some, None, Result, Ok, Err, refl, sym, ap, ◌∙◌, append_assoc, append-nil, arith}
+use Rattle.std.specs.Prelude.{slice_get}
+use Rattle.std.proofs.lemmas.List.{at_drop_more, at_drop_all, drop-drop}
+use Rattle.pol_pattern.specs.declared.token.Token.{Token}
 use Rattle.pol_pattern.specs.declared.fault.PatternFault.{PatternFault}
-use Rattle.pol_pattern.specs.Reading.{◌>>=◌, atom_at, units_from}
+use Rattle.pol_pattern.specs.declared.fault.PatternFault.TheVariants as faults
+use Rattle.pol_pattern.specs.Reading.{◌>>=◌, token_at, Context, context_after, at_end, tokens_from, FailsUnlessMemory, IsUnlessMemory, reading, pattern_of}
+use Rattle.std.specs.Result.{MatchResult, IfOk, IsErrAnd}
+use Rattle.std.proofs.lemmas.Result.{err_from_is_err_and}
+use Rattle.pol_pattern.specs.Flat.{Terms}
+
+-- bytes that were taken are passed over
+pub tokens_from-skip : (place skip : ℕ) (context : Context) (bytes : List ℕ) → tokens_from place skip context bytes ≡ tokens_from (place + skip) 0 context (drop skip bytes)
+unfolding tokens_from
+tokens_from-skip place zero context bytes = ap (λ (n : ℕ). tokens_from n 0 context bytes) (omega arith)
+tokens_from-skip place (suc skip) context [] = refl
+tokens_from-skip place (suc skip) context (byte ∷ rest) =
+    tokens_from-skip (place + 1) skip context rest ∙ ap (λ (n : ℕ). tokens_from n 0 context (drop skip rest)) (omega arith)
 
 -- what was read before, and what is still read
-abbrev pub with_front : List Factor → Result (List Factor) PatternFault → Result (List Factor) PatternFault
+abbrev pub with_front : List Token → Result (List Token) PatternFault → Result (List Token) PatternFault
 with_front front read = read >>= λ others. Ok (front ++ others)
 
-regroup : (front : List Factor) (factor : Factor) (read : Result (List Factor) PatternFault)
-    → with_front front (read >>= λ others. Ok (factor ∷ others)) ≡ with_front (front ++ factor ∷ []) read
-regroup front factor (Ok others) = ap (λ (f : List Factor). Ok f) (sym (append_assoc front (factor ∷ []) others))
-regroup front factor (Err fault) = refl
+regroup : (front : List Token) (token : Token) (read : Result (List Token) PatternFault)
+    → with_front front (read >>= λ others. Ok (token ∷ others)) ≡ with_front (front ++ token ∷ []) read
+regroup front token (Ok others) = ap (λ (f : List Token). Ok f) (sym (append_assoc front (token ∷ []) others))
+regroup front token (Err fault) = refl
 
--- the first byte's atom, and whether a `*` stands behind it
-first_class : (front : List Factor) (place byte : ℕ) (after : List ℕ) (class : Class) → atom_at place byte ≡ Ok class → eqb (get_or after 0 0) 42 ≡ false
-    → with_front front (units_from place (byte ∷ after)) ≡ with_front (front ++ factors.Class class ∷ []) (units_from (place + 1) after)
-unfolding units_from
-first_class front place byte [] class a plain = rw a (regroup front (factors.Class class) (Ok []))
-first_class front place byte (behind ∷ rest) class a plain = rw (plain, a) (regroup front (factors.Class class) (units_from (place + 1) (behind ∷ rest)))
+first_token : (front : List Token) (place byte : ℕ) (rest : List ℕ) (context next : Context) (token : Token) (size : ℕ) → 0 < size → token_at place byte rest ≡ Ok (token, size)
+    → context_after place token context ≡ Ok next
+    → with_front front (tokens_from place 0 context (byte ∷ rest)) ≡ with_front (front ++ token ∷ []) (tokens_from (place + size) 0 next (drop (size - 1) rest))
+unfolding tokens_from
+first_token front place byte rest context next token size positive is after =
+    let sum : place + 1 + (size - 1) ≡ place + size = omega arith in
+    rw (is, after) (regroup front token (tokens_from (place + 1) (size - 1) next rest)
+    ∙ ap (with_front (front ++ token ∷ [])) (tokens_from-skip (place + 1) (size - 1) next rest ∙ ap (λ (n : ℕ). tokens_from n 0 next (drop (size - 1) rest)) sum))
 
-first_star : (front : List Factor) (place byte : ℕ) (after : List ℕ) (class : Class) → atom_at place byte ≡ Ok class → eqb (get_or after 0 0) 42 ≡ true
-    → with_front front (units_from place (byte ∷ after)) ≡ with_front (front ++ factors.Star class ∷ []) (units_from (place + 2) (drop 1 after))
-unfolding units_from
-first_star front place byte [] class a star = absurd cc
-first_star front place byte (behind ∷ rest) class a star = rw (star, a) (regroup front (factors.Star class) (units_from (place + 2) rest))
+first_fault : (front : List Token) (place byte : ℕ) (rest : List ℕ) (context : Context) (fault : PatternFault) → token_at place byte rest ≡ Err fault
+    → with_front front (tokens_from place 0 context (byte ∷ rest)) ≡ Err fault
+unfolding tokens_from
+first_fault front place byte rest context fault is = rw is refl
 
-first_fault : (front : List Factor) (place byte : ℕ) (after : List ℕ) (fault : PatternFault) → atom_at place byte ≡ Err fault
-    → with_front front (units_from place (byte ∷ after)) ≡ Err fault
-unfolding units_from
-first_fault front place byte [] fault a = rw a refl
-first_fault front place byte (behind ∷ rest) fault a =
-    elim (cases_Bool (eqb behind 42)) [
-      | inl star ↦ rw (star, a) refl
-      | inr plain ↦ rw (plain, a) refl
-    ]
+context_fault : (front : List Token) (place byte : ℕ) (rest : List ℕ) (context : Context) (token : Token) (size : ℕ) (fault : PatternFault) → token_at place byte rest ≡ Ok (token, size)
+    → context_after place token context ≡ Err fault → with_front front (tokens_from place 0 context (byte ∷ rest)) ≡ Err fault
+unfolding tokens_from
+context_fault front place byte rest context token size fault is after = rw (is, after) refl
 
 -- ---- by place
 
-pub class_read : (front : List Factor) (place : ℕ) (bytes : List ℕ) (class : Class) (total : Result (List Factor) PatternFault) → place < length bytes
-    → atom_at place (get_or bytes place 0) ≡ Ok class → eqb (get_or bytes (place + 1) 0) 42 ≡ false
-    → with_front front (units_from place (drop place bytes)) ≡ total → with_front (front ++ factors.Class class ∷ []) (units_from (place + 1) (drop (place + 1) bytes)) ≡ total
-class_read front place bytes class total lt a plain so_far =
-    let behind : eqb (get_or (drop (place + 1) bytes) 0 0) 42 ≡ false = rw (get_or-drop (place + 1) bytes 0 0, add-zero) plain in
-    sym (first_class front place (get_or bytes place 0) (drop (place + 1) bytes) class a behind)
-    ∙ sym (at_drop_more (λ (t : List ℕ). with_front front (units_from place t)) bytes place 0 lt) ∙ so_far
+pub token_read : (front : List Token) (place : ℕ) (bytes : List ℕ) (context next : Context) (token : Token) (size : ℕ) (total : Result (List Token) PatternFault) → place < length bytes
+    → 0 < size → token_at place (get_or bytes place 0) (drop (place + 1) bytes) ≡ Ok (token, size) → context_after place token context ≡ Ok next
+    → with_front front (tokens_from place 0 context (drop place bytes)) ≡ total
+    → with_front (front ++ token ∷ []) (tokens_from (place + size) 0 next (drop (place + size) bytes)) ≡ total
+token_read front place bytes context next token size total lt positive is after so_far =
+    let sum : place + 1 + (size - 1) ≡ place + size = omega arith in
+    let rest : drop (size - 1) (drop (place + 1) bytes) ≡ drop (place + size) bytes = drop-drop (size - 1) (place + 1) bytes ∙ ap (λ (n : ℕ). drop n bytes) sum in
+    ap (λ (t : List ℕ). with_front (front ++ token ∷ []) (tokens_from (place + size) 0 next t)) (sym rest)
+    ∙ sym (first_token front place (get_or bytes place 0) (drop (place + 1) bytes) context next token size positive is after)
+    ∙ sym (at_drop_more (λ (t : List ℕ). with_front front (tokens_from place 0 context t)) bytes place 0 lt) ∙ so_far
 
-pub star_read : (front : List Factor) (place : ℕ) (bytes : List ℕ) (class : Class) (total : Result (List Factor) PatternFault) → place < length bytes
-    → atom_at place (get_or bytes place 0) ≡ Ok class → eqb (get_or bytes (place + 1) 0) 42 ≡ true
-    → with_front front (units_from place (drop place bytes)) ≡ total → with_front (front ++ factors.Star class ∷ []) (units_from (place + 2) (drop (place + 2) bytes)) ≡ total
-star_read front place bytes class total lt a star so_far =
-    let behind : eqb (get_or (drop (place + 1) bytes) 0 0) 42 ≡ true = rw (get_or-drop (place + 1) bytes 0 0, add-zero) star in
-    let next : place + 2 ≡ place + 1 + 1 = omega arith in
-    let rest : drop (place + 2) bytes ≡ drop 1 (drop (place + 1) bytes) = ap (λ (n : ℕ). drop n bytes) next ∙ sym (drop-drop 1 (place + 1) bytes) in
-    ap (λ (t : List ℕ). with_front (front ++ factors.Star class ∷ []) (units_from (place + 2) t)) rest
-    ∙ sym (first_star front place (get_or bytes place 0) (drop (place + 1) bytes) class a behind)
-    ∙ sym (at_drop_more (λ (t : List ℕ). with_front front (units_from place t)) bytes place 0 lt) ∙ so_far
+pub token_refused : (front : List Token) (place : ℕ) (bytes : List ℕ) (context : Context) (fault : PatternFault) (total : Result (List Token) PatternFault) → place < length bytes
+    → token_at place (get_or bytes place 0) (drop (place + 1) bytes) ≡ Err fault → with_front front (tokens_from place 0 context (drop place bytes)) ≡ total → total ≡ Err fault
+token_refused front place bytes context fault total lt is so_far =
+    sym so_far ∙ at_drop_more (λ (t : List ℕ). with_front front (tokens_from place 0 context t)) bytes place 0 lt
+    ∙ first_fault front place (get_or bytes place 0) (drop (place + 1) bytes) context fault is
 
-pub is_refused : (front : List Factor) (place : ℕ) (bytes : List ℕ) (fault : PatternFault) (total : Result (List Factor) PatternFault) → place < length bytes
-    → atom_at place (get_or bytes place 0) ≡ Err fault → with_front front (units_from place (drop place bytes)) ≡ total → total ≡ Err fault
-is_refused front place bytes fault total lt a so_far =
-    sym so_far ∙ at_drop_more (λ (t : List ℕ). with_front front (units_from place t)) bytes place 0 lt
-    ∙ first_fault front place (get_or bytes place 0) (drop (place + 1) bytes) fault a
+pub context_refused : (front : List Token) (place : ℕ) (bytes : List ℕ) (context : Context) (token : Token) (size : ℕ) (fault : PatternFault) (total : Result (List Token) PatternFault) → place < length bytes
+    → token_at place (get_or bytes place 0) (drop (place + 1) bytes) ≡ Ok (token, size) → context_after place token context ≡ Err fault
+    → with_front front (tokens_from place 0 context (drop place bytes)) ≡ total → total ≡ Err fault
+context_refused front place bytes context token size fault total lt is after so_far =
+    sym so_far ∙ at_drop_more (λ (t : List ℕ). with_front front (tokens_from place 0 context t)) bytes place 0 lt
+    ∙ context_fault front place (get_or bytes place 0) (drop (place + 1) bytes) context token size fault is after
 
-pub is_read : (front : List Factor) (place : ℕ) (bytes : List ℕ) (total : Result (List Factor) PatternFault) → length bytes ≤ place
-    → with_front front (units_from place (drop place bytes)) ≡ total → total ≡ Ok front
-unfolding units_from
-is_read front place bytes total le so_far =
-    sym so_far ∙ at_drop_all (λ (t : List ℕ). with_front front (units_from place t)) bytes place le ∙ ap (λ (f : List Factor). Ok f) (append-nil front)
+pub tokens_end : (front : List Token) (place : ℕ) (bytes : List ℕ) (context : Context) (total : Result (List Token) PatternFault) → length bytes ≤ place
+    → with_front front (tokens_from place 0 context (drop place bytes)) ≡ total → total ≡ with_front front (at_end context.opened)
+unfolding tokens_from
+tokens_end front place bytes context total le so_far =
+    sym so_far ∙ at_drop_all (λ (t : List ℕ). with_front front (tokens_from place 0 context t)) bytes place le
+
+pub nothing_open : (front : List Token) (opened : List ℕ) → slice_get opened 0 ≡ None → with_front front (at_end opened) ≡ Ok front
+nothing_open front [] is = ap (λ (f : List Token). Ok f) (append-nil front)
+nothing_open front (last ∷ others) is = absurd cc
+
+pub last_open : (front : List Token) (opened : List ℕ) (last : ℕ) → slice_get opened 0 ≡ Some last → with_front front (at_end opened) ≡ Err (faults.Unclosed last)
+last_open front [] last is = absurd cc
+last_open front (first ∷ others) last is = let same : first ≡ last = cc in ap (λ (place : ℕ). Err (faults.Unclosed place)) same
+
+-- a fault that the reading gives
+pub fails_as : {Y : Type 0} (fault : PatternFault) (read : Result Y PatternFault) → read ≡ Err fault → FailsUnlessMemory fault read
+fails_as faults.Memory read is = tt
+fails_as faults.TooLong read is = is
+fails_as (faults.Unprintable place) read is = is
+fails_as (faults.Unclosed place) read is = is
+fails_as (faults.Unopened place) read is = is
+fails_as (faults.NothingToRepeat place) read is = is
+fails_as (faults.BadClass place) read is = is
+fails_as (faults.BadEscape place) read is = is
+fails_as faults.TooDeep read is = is
+fails_as faults.TooLarge read is = is
+
+-- a fault stays where more would be read
+pub fails_after : {X Y : Type 0} (fault : PatternFault) (read : Result X PatternFault) (f : X → Result Y PatternFault) → FailsUnlessMemory fault read → FailsUnlessMemory fault (read >>= f)
+fails_after faults.Memory read f is = tt
+fails_after faults.TooLong read f is = ap (λ r. r >>= f) is
+fails_after (faults.Unprintable place) read f is = ap (λ r. r >>= f) is
+fails_after (faults.Unclosed place) read f is = ap (λ r. r >>= f) is
+fails_after (faults.Unopened place) read f is = ap (λ r. r >>= f) is
+fails_after (faults.NothingToRepeat place) read f is = ap (λ r. r >>= f) is
+fails_after (faults.BadClass place) read f is = ap (λ r. r >>= f) is
+fails_after (faults.BadEscape place) read f is = ap (λ r. r >>= f) is
+fails_after faults.TooDeep read f is = ap (λ r. r >>= f) is
+fails_after faults.TooLarge read f is = ap (λ r. r >>= f) is
+
+-- a pattern that was read is its source
+pub pattern_is : (bytes : List ℕ) (flat : Terms) → reading bytes ≡ Ok flat → pattern_of bytes ≡ Ok bytes
+unfolding pattern_of
+pattern_is bytes flat is = rw is refl
+
+pub pattern_fails : (fault : PatternFault) (bytes : List ℕ) → FailsUnlessMemory fault (reading bytes) → FailsUnlessMemory fault (pattern_of bytes)
+unfolding pattern_of
+pattern_fails fault bytes is = fails_after fault (reading bytes) (λ flat. Ok bytes) is
+
+read_again : (source p : List ℕ) (flat : Terms) → reading source ≡ Ok flat → pattern_of source ≡ Ok p → p ≡ source
+read_again source p flat is again =
+    let both : ◌≡◌ {A = Result (List ℕ) PatternFault} (Ok source) (Ok p) = sym (pattern_is source flat is) ∙ again in cc
+
+-- reading a pattern's source again gives the pattern, or no memory
+pub copy_is : {E : Type 0} (read : Result (List ℕ) PatternFault) (copy : Result (List ℕ) E) (Q : PatternFault → E → Type 0) (source : List ℕ) (flat : Terms) → reading source ≡ Ok flat
+    → IsUnlessMemory (λ p. p) read (pattern_of source) → MatchResult read (λ p. copy ≡ Ok p) (λ fault. IsErrAnd copy (Q fault)) → IfOk copy (λ p. p ≡ source)
+copy_is (Ok p) copy Q source flat is exact step = rw step (read_again source p flat is exact)
+copy_is (Err fault) copy Q source flat is exact step = let p = err_from_is_err_and copy step in rw p.1 tt

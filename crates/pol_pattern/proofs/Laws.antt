@@ -1,61 +1,100 @@
--- What the reading of a source says of its pattern.
+-- What the reading of a source says of its pattern, as the contracts cite it.
 use Rattle.std.proofs.Common.{◌≡◌, ◌↔◌, ℕ, true, false, List, Result, Ok, Err, sym, ap, subst, refl, ◌∙◌}
 use Rattle.std.proofs.lemmas.Bool.{false≢true}
-use Rattle.pol_pattern.specs.declared.flat.Factor.{Factor}
 use Rattle.pol_pattern.specs.declared.fault.PatternFault.{PatternFault}
 use Rattle.pol_pattern.specs.declared.fault.PatternFault.TheVariants as faults
-use Rattle.pol_pattern.specs.Sets.{InTerm}
+use Rattle.pol_pattern.specs.Flat.{Terms}
+use Rattle.pol_pattern.specs.Sets.{InTerms}
 use Rattle.pol_pattern.specs.Spelling.{Spells, Holds}
-use Rattle.pol_pattern.specs.Reading.{FailsUnlessMemory, reading, matches_term, matches_reading, matches}
-use Rattle.pol_pattern.proofs.Terms.{in_term, term_matches}
-use Rattle.pol_pattern.proofs.Units.{done, ok_is, reading_spells, reading_again}
+use Rattle.pol_pattern.specs.Reading.{◌>>=◌, FailsUnlessMemory, reading, pattern_of}
+use Rattle.pol_pattern.specs.Matching.{matches_terms, matches_reading, matches}
+use Rattle.pol_pattern.proofs.Steps.{bind_ok, done, ok_is}
+use Rattle.pol_pattern.proofs.Completeness.{spells_reads}
+use Rattle.pol_pattern.proofs.Soundness.{reading_spells}
+use Rattle.pol_pattern.proofs.Held.{holds_in, in_holds, refused_unspelled}
 
-pub matches_is : (source : List ℕ) (flat : List Factor) (text : List ℕ) → reading source ≡ Ok flat → matches source text ≡ matches_term flat text
-unfolding matches
-matches_is source flat text e = ap (λ (r : Result (List Factor) PatternFault). matches_reading r text) e
+-- ---- patterns as their sources
 
--- the test on the factors that were read says whether the pattern holds the text
-pub holds_text : (source : List ℕ) (flat : List Factor) (text : List ℕ) → reading source ≡ Ok flat → (matches_term flat text ≡ true) ↔ Holds source text
-holds_text source flat text e = (
-  λ h. (flat, reading_spells source flat e, in_term flat text h),
-  λ h.
-      let same : h.0 ≡ flat = ok_is h.0 flat (sym (reading_again source h.0 h.1) ∙ e) in
-      term_matches flat text (subst (λ (f : List Factor). InTerm f text) same h.2),
-)
+pub reading_pattern : (bytes : List ℕ) (flat : Terms) → reading bytes ≡ Ok flat → pattern_of bytes ≡ Ok bytes
+unfolding pattern_of
+reading_pattern bytes flat e = ap (λ (r : Result Terms PatternFault). r >>= λ flat. Ok bytes) e
 
--- what is spelled so is refused for no fault but memory
-pub is_only_memory : (fault : PatternFault) (flat : List Factor) (source : List ℕ) → FailsUnlessMemory fault (done flat) → FailsUnlessMemory fault (done source)
+pub reading_fault : (bytes : List ℕ) (fault : PatternFault) → reading bytes ≡ Err fault → pattern_of bytes ≡ Err fault
+unfolding pattern_of
+reading_fault bytes fault e = ap (λ (r : Result Terms PatternFault). r >>= λ flat. Ok bytes) e
+
+-- what is spelled is a pattern
+pub spells_pattern : (bytes : List ℕ) (flat : Terms) → Spells bytes flat → pattern_of bytes ≡ Ok bytes
+spells_pattern bytes flat spelled = reading_pattern bytes flat (spells_reads bytes flat spelled)
+
+-- a pattern is what its source spells
+pub pattern_spells : (bytes source : List ℕ) → pattern_of bytes ≡ Ok source → (source ≡ bytes) × ((flat : Terms) × Spells source flat)
+unfolding pattern_of
+pattern_spells bytes source e =
+    let a = bind_ok (reading bytes) (λ flat. done bytes) source e in
+    let same : bytes ≡ source = ok_is bytes source a.2 in
+    (sym same, subst (λ (s : List ℕ). (flat : Terms) × Spells s flat) same (a.0, reading_spells bytes a.0 a.1))
+
+-- ---- faults
+
+-- what is spelled is refused for no fault but memory
+is_only_memory : (fault : PatternFault) (flat : Terms) (source : List ℕ) → FailsUnlessMemory fault (done flat) → FailsUnlessMemory fault (done source)
 is_only_memory faults.Memory flat source h = tt
 is_only_memory faults.TooLong flat source h = absurd cc
 is_only_memory (faults.Unprintable place) flat source h = absurd cc
+is_only_memory (faults.Unclosed place) flat source h = absurd cc
 is_only_memory (faults.Unopened place) flat source h = absurd cc
 is_only_memory (faults.NothingToRepeat place) flat source h = absurd cc
-is_only_memory (faults.NotYet place) flat source h = absurd cc
+is_only_memory (faults.BadClass place) flat source h = absurd cc
+is_only_memory (faults.BadEscape place) flat source h = absurd cc
+is_only_memory faults.TooDeep flat source h = absurd cc
+is_only_memory faults.TooLarge flat source h = absurd cc
 
-pub refused_for_memory : (fault : PatternFault) (bytes : List ℕ) (flat : List Factor) → Spells bytes flat → FailsUnlessMemory fault (reading bytes) → FailsUnlessMemory fault (done bytes)
+pub refused_for_memory : (fault : PatternFault) (bytes : List ℕ) (flat : Terms) → Spells bytes flat → FailsUnlessMemory fault (reading bytes) → FailsUnlessMemory fault (done bytes)
 refused_for_memory fault bytes flat spelled h =
-    is_only_memory fault flat bytes (subst (λ (r : Result (List Factor) PatternFault). FailsUnlessMemory fault r) (reading_again bytes flat spelled) h)
+    is_only_memory fault flat bytes (subst (λ (r : Result Terms PatternFault). FailsUnlessMemory fault r) (spells_reads bytes flat spelled) h)
 
 -- a fault that the reading gives
 pub fails_as : {Y : Type 0} (fault : PatternFault) (read : Result Y PatternFault) → read ≡ Err fault → FailsUnlessMemory fault read
 fails_as faults.Memory read e = tt
 fails_as faults.TooLong read e = e
 fails_as (faults.Unprintable place) read e = e
+fails_as (faults.Unclosed place) read e = e
 fails_as (faults.Unopened place) read e = e
 fails_as (faults.NothingToRepeat place) read e = e
-fails_as (faults.NotYet place) read e = e
+fails_as (faults.BadClass place) read e = e
+fails_as (faults.BadEscape place) read e = e
+fails_as faults.TooDeep read e = e
+fails_as faults.TooLarge read e = e
+
+-- ---- the test of a text, once it is known for flat forms
+
+-- the test of a flat form is that of its set
+abbrev pub TestsTerms : Type 0
+TestsTerms = (flat : Terms) (text : List ℕ) → (matches_terms flat text ≡ true) ↔ InTerms flat text
+
+pub matches_is : (source : List ℕ) (flat : Terms) (text : List ℕ) → reading source ≡ Ok flat → matches source text ≡ matches_terms flat text
+unfolding matches
+matches_is source flat text e = ap (λ (r : Result Terms PatternFault). matches_reading r text) e
 
 refused_test : (source : List ℕ) (fault : PatternFault) (text : List ℕ) → reading source ≡ Err fault → matches source text ≡ false
 unfolding matches
-refused_test source fault text e = ap (λ (r : Result (List Factor) PatternFault). matches_reading r text) e
+refused_test source fault text e = ap (λ (r : Result Terms PatternFault). matches_reading r text) e
 
-refused_set : (source : List ℕ) (fault : PatternFault) (text : List ℕ) → reading source ≡ Err fault → Holds source text → ⊥
-refused_set source fault text e h = let again = reading_again source h.0 h.1 in cc
+-- the test on the flat form that was read says whether the pattern holds the text
+pub holds_text : TestsTerms → (source : List ℕ) (flat : Terms) (text : List ℕ) → reading source ≡ Ok flat → (matches_terms flat text ≡ true) ↔ Holds source text
+holds_text tests source flat text e = (
+  λ passes. in_holds source text flat e ((tests flat text).0 passes),
+  λ held. (tests flat text).1 (holds_in source text flat e held),
+)
 
 -- the test is that of the set, also where the source spells no pattern
-pub test_is_set : (source text : List ℕ) → (matches source text ≡ true) ↔ Holds source text
-test_is_set source text = by (reading source) refl
+pub test_is_set : TestsTerms → (source text : List ℕ) → (matches source text ≡ true) ↔ Holds source text
+test_is_set tests source text = by (reading source) refl
   where
-    by : (r : Result (List Factor) PatternFault) → reading source ≡ r → (matches source text ≡ true) ↔ Holds source text
-    by (Ok flat) e = rw (matches_is source flat text e) (holds_text source flat text e)
-    by (Err fault) e = (λ h. absurd (false≢true (sym (refused_test source fault text e) ∙ h)), λ h. absurd (refused_set source fault text e h))
+    by : (r : Result Terms PatternFault) → reading source ≡ r → (matches source text ≡ true) ↔ Holds source text
+    by (Ok flat) e = rw (matches_is source flat text e) (holds_text tests source flat text e)
+    by (Err fault) e = (
+      λ passes. absurd (false≢true (sym (refused_test source fault text e) ∙ passes)),
+      λ held. absurd (refused_unspelled source fault held.0 e held.1),
+    )

@@ -2,13 +2,17 @@
 use Rattle.std.specs.Prelude.{ℕ, List, ◌++◌, codes}
 use Rattle.std.specs.Fmt.{decimal}
 use Rattle.pol_pattern.specs.declared.fault.PatternFault.{PatternFault}
-use Rattle.pol_pattern.specs.declared.fault.PatternFault.TheVariants.{TooLong, Unprintable, Unopened, NothingToRepeat, Memory, NotYet}
+use Rattle.pol_pattern.specs.declared.fault.PatternFault.TheVariants.{TooLong, Unprintable, Unclosed, Unopened, NothingToRepeat, BadClass, BadEscape, TooDeep, TooLarge, Memory}
 
 -- the kind's number and name, and the place where it has one
 abbrev pub fault_text : PatternFault → List ℕ
 fault_text TooLong = codes "1 TooLong"
 fault_text (Unprintable place) = codes "2 Unprintable at " ++ decimal place
+fault_text (Unclosed place) = codes "3 Unclosed at " ++ decimal place
 fault_text (Unopened place) = codes "4 Unopened at " ++ decimal place
 fault_text (NothingToRepeat place) = codes "5 NothingToRepeat at " ++ decimal place
+fault_text (BadClass place) = codes "6 BadClass at " ++ decimal place
+fault_text (BadEscape place) = codes "7 BadEscape at " ++ decimal place
+fault_text TooDeep = codes "8 TooDeep"
+fault_text TooLarge = codes "9 TooLarge"
 fault_text Memory = codes "10 Memory"
-fault_text (NotYet place) = codes "99 NotYet at " ++ decimal place

@@ -1,5 +1,9 @@
+pub mod Flat
 pub mod Sets
 pub mod Spelling
 pub mod FaultText
 pub mod Reading
-pub mod Marks
+pub mod Matching
+pub mod Sizes
+pub mod Levels
+pub mod Languages

@@ -15,14 +15,22 @@ pub enum PatternFault {
     TooLong,
     /// The byte is no symbol.
     Unprintable(usize),
-    /// A `)` closes nothing.
+    /// The `(` is never closed.
+    Unclosed(usize),
+    /// The `)` closes nothing.
     Unopened(usize),
-    /// A `*` has nothing before it.
+    /// The `*`, `+` or `?` has nothing before it.
     NothingToRepeat(usize),
+    /// The class that begins here is empty, isn't closed, or has a wrong item.
+    BadClass(usize),
+    /// The `\` has no symbol behind it.
+    BadEscape(usize),
+    /// More than 32 parentheses are open at once.
+    TooDeep,
+    /// The pattern has more than 400 factors.
+    TooLarge,
     /// Memory ran out.
     Memory,
-    /// The symbol has a meaning that is not built yet.
-    NotYet(usize),
 }
 
 impl fmt::Display for PatternFault {
@@ -32,10 +40,14 @@ impl fmt::Display for PatternFault {
         match self {
             PatternFault::TooLong => write!(f, "1 TooLong"),
             PatternFault::Unprintable(place) => write!(f, "2 Unprintable at {place}"),
+            PatternFault::Unclosed(place) => write!(f, "3 Unclosed at {place}"),
             PatternFault::Unopened(place) => write!(f, "4 Unopened at {place}"),
-            PatternFault::NothingToRepeat(place) => { write!(f, "5 NothingToRepeat at {place}") }
+            PatternFault::NothingToRepeat(place) => write!(f, "5 NothingToRepeat at {place}"),
+            PatternFault::BadClass(place) => write!(f, "6 BadClass at {place}"),
+            PatternFault::BadEscape(place) => write!(f, "7 BadEscape at {place}"),
+            PatternFault::TooDeep => write!(f, "8 TooDeep"),
+            PatternFault::TooLarge => write!(f, "9 TooLarge"),
             PatternFault::Memory => write!(f, "10 Memory"),
-            PatternFault::NotYet(place) => write!(f, "99 NotYet at {place}"),
         }
     }
 }

@@ -1,11 +1,17 @@
 //! The patterns of command lines: sets of texts, and whether one holds a text.
 #![tactic(auto)]
 
+mod building;
+mod copying;
 mod fault;
 mod flat;
+mod lexing;
 mod matching;
 mod pattern;
 mod reading;
+mod sizes;
+mod token;
 
 pub use fault::PatternFault;
+pub use flat::{Class, Factor, Term};
 pub use pattern::Pattern;

@@ -1,61 +1,142 @@
-//! Whether factors, one after another, hold a text.
+//! Whether terms hold a text.
 //!
-//! A mark stands before each factor and behind the last, and says whether the factors in front of
-//! it hold the text so far. Each symbol moves the marks once, so the time is the text's length times
-//! the number of factors, however the stars lie, and nothing is allocated.
+//! Each class has a mark, which says whether the text so far can end in a symbol of that class. A
+//! symbol moves the marks once, so the time is at most the number of factors, times how deep they
+//! stand in stars, times the text's length. Nothing is allocated.
 
-ghost use Rattle.std.specs.Prelude.{◌≡◌, ◌≤◌, ℕ, List, [], ◌∷◌, ◌++◌, length};
-ghost use Rattle.pol_pattern.specs.Reading.{matches_term};
-ghost use Rattle.pol_pattern.specs.Marks.{AreMarks};
+ghost use Rattle.std.specs.Prelude.{◌≡◌, ◌≤◌, ◌++◌, length, take, drop, true};
+ghost use Rattle.pol_pattern.specs.Flat.{factor_value, term_value, terms_value};
+ghost use Rattle.pol_pattern.specs.Matching.{factor_positions, term_positions, terms_positions, factor_ends, term_ends, terms_end, factor_moved, term_moved, terms_moved, matches_terms};
 
-use crate::flat::Factor;
+use crate::flat::{Factor, Term};
 
-/// One mark more than a pattern has factors at most.
-const MARKS: usize = 201;
+/// How many marks there are at most.
+const MARKS: usize = 400;
 
-/// The marks before the first symbol.
-fn start(factors: &[Factor]) -> [bool; MARKS]
-    requires { length factors.now ≤ 200 }
-    ensures { AreMarks factors.now [] result }
+// ---- whether the text so far can end just behind a part, where `before` says whether it can end
+// just before it; the part's marks come first in the given ones, and the others are handed back
+
+#[cycle(ends)]
+fn factor_ends<'a>(factor: &Factor, before: bool, marks: &'a [bool]) -> (bool, &'a [bool])
+    requires { factor_positions (factor_value factor.now) ≤ length marks.now }
+    ensures ends { let part = factor_value factor.now in result.0 ≡ factor_ends part before (take (factor_positions part) marks.now) }
+    ensures rest { result.1.now ≡ drop (factor_positions (factor_value factor.now)) marks.now }
+{
+    match factor {
+        Factor::Class(_) => (marks[0], &marks[1..]),
+        Factor::Group(terms) => terms_end(terms, before, marks),
+        Factor::Star(terms) => {
+            let (ends, rest) = terms_end(terms, false, marks);
+            (before || ends, rest)
+        }
+    }
+}
+
+#[cycle(ends)]
+fn term_ends<'a>(factors: &[Factor], before: bool, marks: &'a [bool]) -> (bool, &'a [bool])
+    requires { term_positions (term_value factors.now) ≤ length marks.now }
+    ensures ends { let part = term_value factors.now in result.0 ≡ term_ends part before (take (term_positions part) marks.now) }
+    ensures rest { result.1.now ≡ drop (term_positions (term_value factors.now)) marks.now }
+{
+    let mut ends = before;
+    let mut rest = marks;
+    for factor in factors {
+        (ends, rest) = factor_ends(factor, ends, rest);
+    }
+    (ends, rest)
+}
+
+#[cycle(ends)]
+fn terms_end<'a>(terms: &[Term], before: bool, marks: &'a [bool]) -> (bool, &'a [bool])
+    requires { terms_positions (terms_value terms.now) ≤ length marks.now }
+    ensures ends { let part = terms_value terms.now in result.0 ≡ terms_end part before (take (terms_positions part) marks.now) }
+    ensures rest { result.1.now ≡ drop (terms_positions (terms_value terms.now)) marks.now }
+{
+    let mut ends = false;
+    let mut rest = marks;
+    for term in terms {
+        let (own, others) = term_ends(term, before, rest);
+        ends |= own;
+        rest = others;
+    }
+    (ends, rest)
+}
+
+// ---- one more symbol: moves the part's marks, which come first in the given ones; says whether the
+// text before the symbol can end just behind the part, and how many marks the part has
+
+#[cycle(moved)]
+fn move_factor(factor: &Factor, before: bool, symbol: u8, marks: &mut [bool]) -> (bool, usize)
+    requires { factor_positions (factor_value factor.now) ≤ length marks.old }
+    ensures moved { let part = factor_value factor.now in marks.new ≡ factor_moved part before symbol (take (factor_positions part) marks.old) ++ drop (factor_positions part) marks.old }
+    ensures ends { let part = factor_value factor.now in result.0 ≡ factor_ends part before (take (factor_positions part) marks.old) }
+    ensures count { result.1 ≡ factor_positions (factor_value factor.now) }
+{
+    match factor {
+        Factor::Class(class) => {
+            let ends = marks[0];
+            marks[0] = before && class.holds(symbol);
+            (ends, 1)
+        }
+        Factor::Group(terms) => move_terms(terms, before, symbol, marks),
+        Factor::Star(terms) => {
+            let ends = before || terms_end(terms, false, marks).0;
+            let (_, count) = move_terms(terms, ends, symbol, marks);
+            (ends, count)
+        }
+    }
+}
+
+#[cycle(moved)]
+fn move_term(factors: &[Factor], before: bool, symbol: u8, marks: &mut [bool]) -> (bool, usize)
+    requires { term_positions (term_value factors.now) ≤ length marks.old }
+    ensures moved { let part = term_value factors.now in marks.new ≡ term_moved part before symbol (take (term_positions part) marks.old) ++ drop (term_positions part) marks.old }
+    ensures ends { let part = term_value factors.now in result.0 ≡ term_ends part before (take (term_positions part) marks.old) }
+    ensures count { result.1 ≡ term_positions (term_value factors.now) }
+{
+    let mut ends = before;
+    let mut place = 0;
+    for factor in factors {
+        let (own, count) = move_factor(factor, ends, symbol, &mut marks[place..]);
+        ends = own;
+        place += count;
+    }
+    (ends, place)
+}
+
+#[cycle(moved)]
+fn move_terms(terms: &[Term], before: bool, symbol: u8, marks: &mut [bool]) -> (bool, usize)
+    requires { terms_positions (terms_value terms.now) ≤ length marks.old }
+    ensures moved { let part = terms_value terms.now in marks.new ≡ terms_moved part before symbol (take (terms_positions part) marks.old) ++ drop (terms_positions part) marks.old }
+    ensures ends { let part = terms_value terms.now in result.0 ≡ terms_end part before (take (terms_positions part) marks.old) }
+    ensures count { result.1 ≡ terms_positions (terms_value terms.now) }
+{
+    let mut ends = false;
+    let mut place = 0;
+    for term in terms {
+        let (own, count) = move_term(term, before, symbol, &mut marks[place..]);
+        ends |= own;
+        place += count;
+    }
+    (ends, place)
+}
+
+// ---- a whole text
+
+/// Whether the terms hold the text.
+pub fn holds(terms: &[Term], text: &[u8]) -> bool
+    requires { terms_positions (terms_value terms.now) ≤ 400 }
+    ensures { result ≡ matches_terms (terms_value terms.now) text.now }
 {
     let mut marks = [false; MARKS];
-    marks[0] = true;
-    for (i, factor) in factors.iter().enumerate() {
-        marks[i + 1] = match factor {
-            Factor::Class(_) => false,
-            Factor::Star(_) => marks[i],
-        };
-    }
-    marks
-}
-
-/// Moves the marks over a symbol.
-fn step(factors: &[Factor], marks: &mut [bool; MARKS], symbol: u8)
-    requires { length factors.now ≤ 200 }
-    ensures { (text : List ℕ) → AreMarks factors.now text marks.old
-        → AreMarks factors.now (text ++ symbol ∷ []) marks.new }
-{
-    // the mark before the factor, as it was before the symbol
-    let mut before = marks[0];
-    marks[0] = false;
-    for (i, factor) in factors.iter().enumerate() {
-        let behind = marks[i + 1];
-        marks[i + 1] = match factor {
-            Factor::Class(class) => before && class.holds(symbol),
-            Factor::Star(class) => marks[i] || (behind && class.holds(symbol)),
-        };
-        before = behind;
-    }
-}
-
-/// Whether the factors hold the text.
-pub fn holds(factors: &[Factor], text: &[u8]) -> bool
-    requires { length factors.now ≤ 200 }
-    ensures { result ≡ matches_term factors.now text.now }
-{
-    let mut marks = start(factors);
+    let mut before = true;
     for symbol in text {
-        step(factors, &mut marks, *symbol);
+        let (_, count) = move_terms(terms, before, *symbol, &mut marks);
+        before = false;
+        // with no mark set, nothing that follows is held
+        if !marks[..count].contains(&true) {
+            return false;
+        }
     }
-    marks[factors.len()]
+    terms_end(terms, before, &marks).0
 }

@@ -66,6 +66,10 @@ fn permitting_policies(rt: HostRuntime) -> Result<(), Fail> {
         // The group may stand later.
         "user bob in ops\ngroup ops\npermit .*\n",
         "user bob\npermit s*how*.version\n",
+        "user bob\npermit (ping|show [a-z]+)\n",
+        "user bob\npermit show( [^ ]+)?( [^ ]+)?\n",
+        // A group may belong to a group.
+        "group all\npermit show .*\ngroup ops in all\ndeny ping\nuser bob in ops\ndeny reload\n",
         // Comments, blank lines and leading blanks.
         "# who may what\n\n   # indented\n   user bob\n \n  permit show version\n",
     ];
@@ -93,6 +97,15 @@ fn denying_policies(rt: HostRuntime) -> Result<(), Fail> {
         (
             "group ops\npermit ping\ndeny reload\ndeny .*\nuser bob in ops\npermit show\n",
             "denied by group ops rule 3",
+        ),
+        (
+            "group all\npermit ping\ndeny show .*\ngroup ops in all\npermit reload\nuser bob in ops\n",
+            "denied by group all rule 2",
+        ),
+        // The nearer group decides.
+        (
+            "group all\npermit .*\ngroup ops in all\ndeny show .*\nuser bob in ops\n",
+            "denied by group ops rule 1",
         ),
         // A pattern is for the whole line.
         (
@@ -274,4 +287,47 @@ fn other_fields_count_for_nothing(rt: HostRuntime) -> Result<(), Fail> {
          736572766963653d7368656c6c636d643d73686f77636d642d6172673d76657273696f6e\n",
         "reply 1 c10202008899aabb00000006010000000000\nclosed 1\n",
     )
+}
+
+#[test]
+fn a_line_that_ends_in_its_return(rt: HostRuntime) -> Result<(), Fail> {
+    let asked = "packet 1 c00201000000000100000043060101010304000\
+                 40d080f0c626f6274747930736572766963653d7368656c6c636d643d73686f77\
+                 636d642d6172673d76657273696f6e636d642d6172673d3c63723e\n";
+    answers(
+        &rt,
+        "user bob\npermit show version\n",
+        asked,
+        "reply 1 c0020200000000010000001710000011000064656e6965642062792064656661756c74\nclosed 1\n",
+    )?;
+    answers(
+        &rt,
+        "user bob\npermit show version( <cr>)?\n",
+        asked,
+        PERMITTED,
+    )
+}
+
+#[test]
+fn levels_of_shells(rt: HostRuntime) -> Result<(), Fail> {
+    let fifteen =
+        "reply 1 c002020000000001000000120101000000000b707269762d6c766c3d3135\nclosed 1\n";
+    let empty = "packet 1 c0020100000000010000002206010101030400020d04626f62\
+                 74747930736572766963653d7368656c6c636d643d\n";
+    let starred = "packet 1 c0020100000000010000002206010101030400020d04626f62\
+                   74747930736572766963653d7368656c6c636d642a\n";
+    for asked in [empty, starred] {
+        answers(&rt, "user bob\npriv 15\npermit ()\n", asked, fifteen)?;
+    }
+    // The nearest level counts, also where it is 0; and only for the empty line.
+    let nearest = "group all\npriv 3\npermit .*\ngroup ops in all\npriv 15\nuser bob in ops\n";
+    answers(&rt, nearest, empty, fifteen)?;
+    answers(
+        &rt,
+        "group ops\npriv 15\nuser bob in ops\npriv 0\npermit \n",
+        empty,
+        "reply 1 c002020000000001000000110101000000000a707269762d6c766c3d30\nclosed 1\n",
+    )?;
+    answers(&rt, nearest, SHOW_VERSION, PERMITTED)?;
+    answers(&rt, "user bob\npermit \n", empty, PERMITTED)
 }

@@ -1,13 +1,11 @@
-//! Tests of the replay of scripts, and of the calls below it, against values that were worked out
-//! elsewhere: by hand from the layouts of RFC 8907, or by another program.
+//! Tests of the replay of scripts, against values that were worked out elsewhere: by hand from the
+//! layouts of RFC 8907, or by another program.
 #![tactic(auto)]
 
 #[cfg(test)]
 mod authorisation;
 #[cfg(test)]
 mod connections;
-#[cfg(test)]
-mod parts;
 #[cfg(test)]
 mod policy_faults;
 #[cfg(test)]

@@ -43,7 +43,9 @@ fn lines_that_are_none(rt: HostRuntime) -> Result<(), Fail> {
         "permit",
         "deny",
         "group a ",
-        "group a in b",
+        "group a in",
+        "group a b",
+        "group a in b c",
         "user a ",
         "user a in",
         "user a in ops ",
@@ -63,6 +65,12 @@ fn lines_that_are_none(rt: HostRuntime) -> Result<(), Fail> {
         "# caf\u{e9}",
         "#\u{7f}",
         "permit \u{1f}",
+        "login",
+        "enable",
+        "priv",
+        "priv 5 ",
+        "priv 5 5",
+        "Login x",
         "  run",
         "run ",
     ];
@@ -82,6 +90,8 @@ fn names_that_are_none(rt: HostRuntime) -> Result<(), Fail> {
         "user  in ops",
         "user a in ",
         "user a in b,c",
+        "group a in ",
+        "group  in ops",
         "user a,b in ops",
         "group a/b",
         "group #a",
@@ -117,6 +127,10 @@ fn subjects_that_are_there_or_not(rt: HostRuntime) -> Result<(), Fail> {
             "# all users\n\nuser amy\nuser bob in ops\nuser eve in nowhere",
             "5 7 NoSuchParent",
         ),
+        ("login x", "2 4 NoSubject"),
+        ("enable x", "2 4 NoSubject"),
+        ("priv 5", "2 4 NoSubject"),
+        ("group a in b", "2 7 NoSuchParent"),
         // A user is no parent.
         ("user ops\nuser bob in ops", "3 7 NoSuchParent"),
         ("group Ops\nuser bob in ops", "3 7 NoSuchParent"),
@@ -131,10 +145,16 @@ fn subjects_that_are_there_or_not(rt: HostRuntime) -> Result<(), Fail> {
 fn patterns_that_are_none(rt: HostRuntime) -> Result<(), Fail> {
     let cases = [
         ("*a", "3 5 BadPattern 5 NothingToRepeat at 0"),
-        ("**", "3 5 BadPattern 5 NothingToRepeat at 0"),
         ("a)b", "3 5 BadPattern 4 Unopened at 1"),
-        (")", "3 5 BadPattern 4 Unopened at 0"),
         ("show *)*", "3 5 BadPattern 4 Unopened at 6"),
+        ("(a", "3 5 BadPattern 3 Unclosed at 0"),
+        ("[z-a]", "3 5 BadPattern 6 BadClass at 0"),
+        ("a\\", "3 5 BadPattern 7 BadEscape at 1"),
+        (
+            "(((((((((((((((((((((((((((((((((",
+            "3 5 BadPattern 8 TooDeep",
+        ),
+        ("a++++++++", "3 5 BadPattern 9 TooLarge"),
     ];
     for (pattern, fault) in &cases {
         for word in ["permit ", "deny "] {
@@ -146,26 +166,92 @@ fn patterns_that_are_none(rt: HostRuntime) -> Result<(), Fail> {
 }
 
 #[test]
-fn patterns_that_are_not_built_yet(rt: HostRuntime) -> Result<(), Fail> {
-    let cases = [
-        ("|", "0"),
-        ("a|b", "1"),
-        ("a+", "1"),
-        ("ab?", "2"),
-        ("x[a-z]", "1"),
-        ("(a)", "0"),
-        ("show \\.", "5"),
-        ("a**", "2"),
-        // The first of two.
-        ("a+)", "1"),
-        ("a**)", "2"),
+fn values_that_are_none(rt: HostRuntime) -> Result<(), Fail> {
+    let lines = [
+        "login ",
+        "enable ",
+        "priv ",
+        "priv x",
+        "priv 16",
+        "priv 9999",
+        "priv 00015",
+        "priv -1",
+        "priv +1",
+        "priv 0x5",
     ];
-    for (pattern, place) in &cases {
-        let policy = joined(&rt, &["user bob\npermit ", pattern])?;
-        let fault = joined(&rt, &["3 5 BadPattern 99 NotYet at ", place])?;
-        faults(&rt, policy.as_str(), fault.as_str())?;
+    for line in &lines {
+        faults_after(&rt, "user bob\n", line, "3 6 BadValue")?;
+    }
+    let sixty_four = "0123456789abcdef0123456789abcdef0123456789abcdef0123456789abcdef";
+    for word in ["login ", "enable "] {
+        let longest = joined(&rt, &["user bob\n", word, sixty_four, sixty_four])?;
+        plays(&rt, &["key k\n", longest.as_str(), "\nrun\n"], "")?;
+        faults_after(&rt, longest.as_str(), "x", "3 6 BadValue")?;
+    }
+    // A level of leading zeros, a secret that is a blank, and settings of a group.
+    let policy = "group ops\npriv 0\nuser bob in ops\nlogin  \nenable #\npriv 0015\n";
+    plays(&rt, &["key k\n", policy, "run\n"], "")
+}
+
+#[test]
+fn settings_that_may_not_be(rt: HostRuntime) -> Result<(), Fail> {
+    let cases = [
+        // A group has no secrets, whatever they are.
+        ("group g\nlogin x", "3 1 BadLine"),
+        ("group g\nenable x", "3 1 BadLine"),
+        ("group g\nlogin ", "3 1 BadLine"),
+        // A setting stands once.
+        ("user b\nlogin x\nlogin y", "4 3 Repeated"),
+        ("user b\nenable x\nlogin x\nenable x", "5 3 Repeated"),
+        ("user b\npriv 1\npermit x\npriv 1", "5 3 Repeated"),
+        ("group g\npriv 1\npriv 2", "4 3 Repeated"),
+        // That comes before its value.
+        ("user b\nlogin x\nlogin ", "4 3 Repeated"),
+        ("user b\npriv 1\npriv 16", "4 3 Repeated"),
+        // No subject comes before a value, and no line before both.
+        ("priv 16", "2 4 NoSubject"),
+        ("login ", "2 4 NoSubject"),
+        ("priv 1 6", "2 1 BadLine"),
+        ("user b\npriv 1\npriv 1 6", "4 1 BadLine"),
+    ];
+    for (policy, fault) in &cases {
+        faults(&rt, policy, fault)?;
     }
     Ok(())
+}
+
+// Groups g1 to gN, each in the one before.
+fn nested<R: AllocGlobal>(rt: &R, count: usize) -> Result<String, AllocError> {
+    let mut lines = String::from_str(rt.alloc(), "group g1\n")?;
+    for number in 2..=count {
+        let parent = number - 1;
+        write!(lines, "group g{number} in g{parent}\n")?;
+    }
+    Ok(lines)
+}
+
+#[test]
+fn chains_that_are_none(rt: HostRuntime) -> Result<(), Fail> {
+    let cases = [
+        ("group a in a", "2 8 Cycle"),
+        ("group a in b\ngroup b in a", "2 8 Cycle"),
+        // A subject that leads into a cycle is named where it stands first.
+        ("user x in a\ngroup a in b\ngroup b in a", "2 8 Cycle"),
+        ("group a in b\nuser x in a\ngroup b in b", "2 8 Cycle"),
+        // Every parent comes before every cycle, and the lines' own faults before both.
+        ("group a in a\nuser x in y", "3 7 NoSuchParent"),
+        ("group a in a\npermit", "3 1 BadLine"),
+    ];
+    for (policy, fault) in &cases {
+        faults(&rt, policy, fault)?;
+    }
+    let eight = nested(&rt, 8)?;
+    plays(&rt, &["key k\n", eight.as_str(), "run\n"], "")?;
+    faults_after(&rt, eight.as_str(), "user x in g8", "10 9 TooDeep")?;
+    let nine = nested(&rt, 9)?;
+    faults(&rt, nine.as_str(), "10 9 TooDeep")?;
+    // Every cycle comes before every chain that is too long.
+    faults_after(&rt, nine.as_str(), "group c in c", "11 8 Cycle")
 }
 
 #[test]
@@ -196,6 +282,7 @@ fn the_order_on_one_line(rt: HostRuntime) -> Result<(), Fail> {
         ("user a,b in c d", "2 1 BadLine"),
         // Before a subject that is there: a bad name.
         ("user a\nuser a in b,c", "3 2 BadName"),
+        ("user a\ngroup a in b,c", "3 2 BadName"),
         // Before a bad pattern: no subject.
         ("permit *", "2 4 NoSubject"),
         // A line's fault comes before a parent that isn't there, whichever stands first.

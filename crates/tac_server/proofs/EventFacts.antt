@@ -2,8 +2,7 @@
 use Rattle.std.proofs.Common.{◌≡◌, ℕ, ◌+◌, List, [], ◌∷◌, ◌++◌, None, Some, Err, refl, sym, ap, ◌∙◌, append_assoc, append-nil}
 use Rattle.std.specs.BTreeMap.{BTreeMap}
 use Rattle.tac_server.specs.declared.connection.Connection.{Connection}
-use Rattle.tac_server.specs.declared.policy.SubjectId.{SubjectId}
-use Rattle.tac_server.specs.declared.policy.Subject.{Subject}
+use Rattle.pol_text.specs.declared.subject.Subject.{Subject}
 use Rattle.tac_server.specs.declared.event.Event.{Event}
 use Rattle.tac_server.specs.declared.script_fault.ScriptFault.TheVariants.{BadCommand}
 use Rattle.tac_server.specs.declared.script_fault.Stop.{Stop}
@@ -12,14 +11,14 @@ use Rattle.tac_server.specs.Events.{Connections, Has, event_of, text_of, after, 
 use Rattle.tac_server.specs.Script.{Run, Prints, ended, stopped, behind_text, events_run}
 
 -- what was printed so far, and the connections that the events so far leave; what is still to be run, behind what was printed, is the whole run
-pub record Progress (policy : List (SubjectId × Subject)) (old new : List ℕ) (map : BTreeMap ℕ Connection) (number : ℕ) (lines : List (List ℕ)) (whole : Run) : Type 0 where
+pub record Progress (policy : List Subject) (old new : List ℕ) (map : BTreeMap ℕ Connection) (number : ℕ) (lines : List (List ℕ)) (whole : Run) : Type 0 where
   pub connections : Connections
   pub text : List ℕ
   pub has : Has map connections
   pub printed : new ≡ old ++ text
   pub goes_on : behind_text text (events_run policy connections number lines) ≡ whole
 
-module _ (policy : List (SubjectId × Subject)) (old new : List ℕ) (map : BTreeMap ℕ Connection) (number : ℕ) (lines : List (List ℕ)) (whole : Run) (p : Progress policy old new map number lines whole) where
+module _ (policy : List Subject) (old new : List ℕ) (map : BTreeMap ℕ Connection) (number : ℕ) (lines : List (List ℕ)) (whole : Run) (p : Progress policy old new map number lines whole) where
   -- a run that prints this and no more
   ends_with : (end : Run) → behind_text p.text end ≡ whole → end.text ≡ [] → (new ≡ old ++ whole.text) × (end.fault ≡ whole.fault)
   ends_with end e none =

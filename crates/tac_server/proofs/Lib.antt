@@ -1,5 +1,2 @@
-pub mod LineFacts
-pub mod PolicyFacts
-pub mod PolicyTextFacts
-pub mod ScriptFacts
 pub mod EventFacts
+pub mod ScriptFacts

@@ -1,18 +1,19 @@
--- Reading the lines of a script one after another.
-use Rattle.std.proofs.Common.{◌≡◌, ℕ, ◌+◌, true, false, List, [], ◌∷◌, Result, Ok, refl, sym, ap, ◌∙◌}
+-- The text of the lines before `run`.
+use Rattle.std.proofs.Common.{◌≡◌, ℕ, ◌+◌, ◌-◌, true, false, List, [], ◌∷◌, ◌++◌, length, take, refl, sym, ap, ◌∙◌, append_assoc, append-nil, length-append, inl, inr, arith}
+use Rattle.std.proofs.Math.Seq.{take-append_seam, take-length}
 use Rattle.std.specs.List.{list_any}
-use Rattle.tac_server.specs.declared.policy_fault.PolicyFault.{PolicyFault}
-use Rattle.tac_server.specs.declared.policy_fault.PolicyFault.TheVariants.{BadLine, BadName, Repeated, NoSubject, BadPattern, NoSuchParent, Limit, Memory}
-use Rattle.tac_server.specs.declared.policy.SubjectId.{SubjectId}
-use Rattle.tac_server.specs.declared.policy.Subject.{Subject}
-use Rattle.tac_server.specs.declared.script_fault.Located.{Located}
-use Rattle.tac_server.specs.declared.script_fault.Stop.{Stop}
-use Rattle.tac_server.specs.declared.script_fault.Stop.TheVariants as stops
-use Rattle.tac_server.specs.PolicyText.{FailsWith, with_line, with_lines, without_orphans, policy_of}
-use Rattle.tac_server.specs.Script.{Halts, stop_of, is_run, before_run, after_run}
+use Rattle.basics.specs.Lines.{Unread, TakesLine}
+use Rattle.pol_text.specs.Text.{text_of_lines}
+use Rattle.tac_server.specs.Script.{is_run, before_run, after_run}
 
 pub before_run-run : (lines rest : List (List ℕ)) (line : List ℕ) → lines ≡ line ∷ rest → is_run line ≡ true → before_run lines ≡ []
 before_run-run lines rest line e h = ap before_run e ∙ rw h refl
+
+pub after_run-run : (lines rest : List (List ℕ)) (line : List ℕ) → lines ≡ line ∷ rest → is_run line ≡ true → after_run lines ≡ rest
+after_run-run lines rest line e h = ap after_run e ∙ rw h refl
+
+pub any_run-run : (lines rest : List (List ℕ)) (line : List ℕ) → lines ≡ line ∷ rest → is_run line ≡ true → list_any is_run lines ≡ true
+any_run-run lines rest line e h = ap (list_any is_run) e ∙ rw h refl
 
 pub before_run-line : (lines rest : List (List ℕ)) (line : List ℕ) → lines ≡ line ∷ rest → is_run line ≡ false → before_run lines ≡ line ∷ before_run rest
 before_run-line lines rest line e h = ap before_run e ∙ rw h refl
@@ -23,43 +24,58 @@ after_run-line lines rest line e h = ap after_run e ∙ rw h refl
 pub any_run-line : (lines rest : List (List ℕ)) (line : List ℕ) → lines ≡ line ∷ rest → is_run line ≡ false → list_any is_run lines ≡ list_any is_run rest
 any_run-line lines rest line e h = ap (list_any is_run) e ∙ rw h refl
 
--- the policy is read once no line is left
-pub policy_done : (number first : ℕ) (lines left : List (List ℕ)) (policy : List (SubjectId × Subject)) → left ≡ [] → with_lines number left policy ≡ with_lines first lines [] → policy_of first lines ≡ without_orphans policy
-unfolding with_lines policy_of
-policy_done number first lines left policy none told =
-    let e : with_lines first lines [] ≡ Ok policy = sym told ∙ ap (λ (rest : List (List ℕ)). with_lines number rest policy) none in
-    rw e refl
+-- what stands before a rest
+abbrev pub before : List ℕ → List ℕ → List ℕ
+before text rest = take (length text - length rest) text
 
--- a faulty line ends the reading
-pub line_fails : (fault : PolicyFault) (number : ℕ) (line : List ℕ) (lines : List (List ℕ)) (policy : List (SubjectId × Subject)) → FailsWith fault (with_line number line policy) → Halts (stop_of number fault) (with_lines number (line ∷ lines) policy)
-unfolding with_lines
-line_fails BadLine number line lines policy h = rw h refl
-line_fails BadName number line lines policy h = rw h refl
-line_fails Repeated number line lines policy h = rw h refl
-line_fails NoSubject number line lines policy h = rw h refl
-line_fails (BadPattern fault) number line lines policy h = rw h refl
-line_fails NoSuchParent number line lines policy h = rw h refl
-line_fails Limit number line lines policy h = rw h refl
-line_fails Memory number line lines policy h = tt
+front_is : (front rest : List ℕ) → before (front ++ rest) rest ≡ front
+front_is front rest =
+    let n : length (front ++ rest) - length rest ≡ length front = omega (arith, length-append front rest) in
+    rw n (take-append_seam front rest)
 
-pub policy_halts : (stop : Stop) (first : ℕ) (lines : List (List ℕ)) (told : Result (List (SubjectId × Subject)) Located) → told ≡ with_lines first lines [] → Halts stop told → Halts stop (policy_of first lines)
-unfolding policy_of
-policy_halts stops.Memory first lines told e h = tt
-policy_halts (stops.Fault at) first lines told e h = rw (← e, h) refl
+front_of : (text front rest : List ℕ) → front ++ rest ≡ text → before text rest ≡ front
+front_of text front rest e = ap (λ (t : List ℕ). before t rest) (sym e) ∙ front_is front rest
 
--- a good line goes into the policy
-pub line_goes_on : (number : ℕ) (line : List ℕ) (lines : List (List ℕ)) (policy next : List (SubjectId × Subject)) → with_line number line policy ≡ Ok next → with_lines number (line ∷ lines) policy ≡ with_lines (number + 1) lines next
-unfolding with_lines
-line_goes_on number line lines policy next h = rw h refl
+-- the text with what a line and its LF add to the part before
+regroup : (front line next : List ℕ) → front ++ (line ++ 10 ∷ next) ≡ (front ++ (line ++ 10 ∷ [])) ++ next
+regroup front line next =
+    ap (λ (t : List ℕ). front ++ t) (sym (append_assoc line (10 ∷ []) next)) ∙ sym (append_assoc front (line ++ 10 ∷ []) next)
 
-pub fails_all : (fault : PolicyFault) (stop : Stop) (first number at : ℕ) (lines left rest : List (List ℕ)) (line : List ℕ) (policy : List (SubjectId × Subject)) → at ≡ number → left ≡ line ∷ rest
-    → with_lines number left policy ≡ with_lines first lines [] → FailsWith fault (with_line at line policy) → stop ≡ stop_of at fault → Halts stop (policy_of first lines)
-fails_all fault stop first number at lines left rest line policy same e told fails is =
-    let here : with_lines at (line ∷ rest) policy ≡ with_lines first lines [] = rw same (ap (λ (ls : List (List ℕ)). with_lines number ls policy) (sym e) ∙ told) in
-    rw is (policy_halts (stop_of at fault) first lines (with_lines at (line ∷ rest) policy) here (line_fails fault at line rest policy fails))
+module _ (text rest line : List ℕ) (old new : Unread) (same : rest ≡ old.text) (split : before text rest ++ rest ≡ text) where
+  ended : old.text ≡ line ++ 10 ∷ new.text → (before text rest ++ (line ++ 10 ∷ [])) ++ new.text ≡ text
+  ended e = sym (regroup (before text rest) line new.text) ∙ ap (λ (t : List ℕ). before text rest ++ t) (sym (same ∙ e)) ∙ split
 
-pub goes_all : (number at next_number : ℕ) (left rest : List (List ℕ)) (line : List ℕ) (policy next : List (SubjectId × Subject)) (total : Result (List (SubjectId × Subject)) Located) → at ≡ number → left ≡ line ∷ rest
-    → with_lines number left policy ≡ total → with_line at line policy ≡ Ok next → next_number ≡ number + 1 → with_lines next_number rest next ≡ total
-goes_all number at next_number left rest line policy next total same e told good more =
-    let here : with_line number line policy ≡ Ok next = rw (← same) good in
-    rw more (sym (line_goes_on number line rest policy next here) ∙ ap (λ (ls : List (List ℕ)). with_lines number ls policy) (sym e) ∙ told)
+  -- one line on, the text is still the part before and the rest
+  pub line_split : TakesLine old line new → before text new.text ++ new.text ≡ text
+  line_split takes =
+      elim takes [
+        | inl e ↦ rw (front_of text (before text rest ++ (line ++ 10 ∷ [])) new.text (ended e)) (ended e)
+        | inr last ↦ rw last.1 (append-nil (take (length text - 0) text) ∙ whole text)
+      ]
+    where
+      whole : (t : List ℕ) → take (length t - 0) t ≡ t
+      whole t = let n : length t - 0 ≡ length t = omega arith in rw n (take-length t)
+
+  -- and the part before is that of one line more
+  pub line_told : (all : List (List ℕ)) → TakesLine old line new → old.lines ≡ line ∷ new.lines → is_run line ≡ false
+      → (list_any is_run old.lines ≡ true → text_of_lines (before_run all) ≡ before text rest ++ text_of_lines (before_run old.lines))
+      → list_any is_run new.lines ≡ true → text_of_lines (before_run all) ≡ before text new.text ++ text_of_lines (before_run new.lines)
+  line_told all takes lines other told there =
+      elim takes [
+        | inl e ↦
+            let front = front_of text (before text rest ++ (line ++ 10 ∷ [])) new.text (ended e) in
+            rw front (told (any_run-line old.lines new.lines line lines other ∙ there)
+            ∙ ap (λ (ls : List (List ℕ)). before text rest ++ text_of_lines ls) (before_run-line old.lines new.lines line lines other)
+            ∙ regroup (before text rest) line (text_of_lines (before_run new.lines)))
+        | inr last ↦ absurd (none new.lines last.2 there)
+      ]
+    where
+      none : (ls : List (List ℕ)) → ls ≡ [] → list_any is_run ls ≡ true → ⊥
+      none ls e h = let impossible : false ≡ true = ap (list_any is_run) (sym e) ∙ h in cc
+
+pub line_count : (number next n : ℕ) (old new : List (List ℕ)) (line : List ℕ) → old ≡ line ∷ new → is_run line ≡ false → next ≡ number + 1
+    → (list_any is_run old ≡ true → number + length (before_run old) ≡ n) → list_any is_run new ≡ true → next + length (before_run new) ≡ n
+line_count number next n old new line e other more told there =
+    let before = told (any_run-line old new line e other ∙ there) in
+    let len = ap length (before_run-line old new line e other) in
+    omega (arith, len, before, more)

@@ -6,8 +6,8 @@ use Rattle.std.specs.Str.{bytes_eq}
 use Rattle.std.specs.Fmt.{decimal}
 use Rattle.hex.specs.Hex.{decode_of, encode_lower}
 use Rattle.tac_wire.specs.Header.{header_of, header_bytes}
-use Rattle.tac_server.specs.Lines.{split_at_first}
-use Rattle.tac_server.specs.Number.{number_of}
+use Rattle.basics.specs.Lines.{split_at_first}
+use Rattle.tac_server.specs.Number.{connection_number_of}
 use Rattle.std.specs.BTreeMap.{BTreeMap, get}
 use Rattle.std.specs.Ordering.{nat_cmp}
 use Rattle.tac_server.specs.Standing.{Saying, says, connection_of}
@@ -17,8 +17,7 @@ use Rattle.tac_server.specs.declared.script_fault.Stop.TheVariants as stops
 use Rattle.tac_server.specs.declared.packet.Packet.{Packet}
 use Rattle.tac_server.specs.declared.event.Event.{Event}
 use Rattle.tac_server.specs.declared.event.Event.TheVariants.{Open, Hand}
-use Rattle.tac_server.specs.declared.policy.SubjectId.{SubjectId}
-use Rattle.tac_server.specs.declared.policy.Subject.{Subject}
+use Rattle.pol_text.specs.declared.subject.Subject.{Subject}
 use Rattle.tac_server.specs.declared.script_fault.ScriptFault.{ScriptFault}
 use Rattle.tac_server.specs.declared.script_fault.ScriptFault.TheVariants.{NoConnection, AlreadyOpen}
 
@@ -38,13 +37,13 @@ hand_of rest =
     option_and_then (λ bytes.
     option_map (λ packet. Hand number packet) (packet_of bytes))
     (result_ok (decode_of parts.1)))
-    (number_of parts.0))
+    (connection_number_of parts.0))
     (split_at_first 32 rest)
 
 -- a line by its first word, which a space follows
 unfoldable pub event_by : List ℕ → List ℕ → Option Event
 event_by word rest =
-    if bytes_eq word (codes "open") then option_map (λ number. Open number) (number_of rest)
+    if bytes_eq word (codes "open") then option_map (λ number. Open number) (connection_number_of rest)
     else if bytes_eq word (codes "packet") then hand_of rest
     else None
 
@@ -82,16 +81,16 @@ abbrev pub shown : ℕ → Saying → List ℕ
 shown number saying = reply_line number saying.reply ++ closed_line number saying.closes
 
 -- what an event prints
-abbrev pub text_of : List (SubjectId × Subject) → Connections → Event → List ℕ
+abbrev pub text_of : List Subject → Connections → Event → List ℕ
 text_of policy connections (Open number) = []
 text_of policy connections (Hand number packet) = option_map_or (λ earlier. shown number (says policy earlier packet)) (connections number) []
 
 -- the packets of a connection after one more, if it stays open
-abbrev pub packets_after : List (SubjectId × Subject) → List Packet → Packet → Option (List Packet)
+abbrev pub packets_after : List Subject → List Packet → Packet → Option (List Packet)
 packets_after policy earlier packet = if (says policy earlier packet).closes then None else Some (earlier ++ packet ∷ [])
 
 -- the connections after an event
-abbrev pub after : List (SubjectId × Subject) → Connections → Event → Connections
+abbrev pub after : List Subject → Connections → Event → Connections
 after policy connections (Open number) = with_connection number (Some []) connections
 after policy connections (Hand number packet) = with_connection number (option_and_then (λ earlier. packets_after policy earlier packet) (connections number)) connections
 
@@ -102,7 +101,7 @@ abbrev pub Has : BTreeMap ℕ Connection → Connections → Type 0
 Has map connections = (number : ℕ) → get nat_cmp map number ≡ option_map connection_of (connections number)
 
 -- an event at this line was done: what it prints was added, and the connections are those after it
-abbrev pub IsDone : List (SubjectId × Subject) → Connections → Event → List ℕ → List ℕ → BTreeMap ℕ Connection → Type 0
+abbrev pub IsDone : List Subject → Connections → Event → List ℕ → List ℕ → BTreeMap ℕ Connection → Type 0
 IsDone policy connections event old new map =
     (fault_in connections event ≡ None) × (new ≡ old ++ text_of policy connections event) × Has map (after policy connections event)
 

@@ -1,10 +1,6 @@
-pub mod Lines
 pub mod Number
-pub mod Name
-pub mod Policy
-pub mod PolicyText
-pub mod FaultText
 pub mod Answer
 pub mod Standing
 pub mod Events
+pub mod FaultText
 pub mod Script

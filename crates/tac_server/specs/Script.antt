@@ -4,18 +4,18 @@ use Rattle.std.specs.Option.{option_and_then, option_map_or}
 use Rattle.std.specs.List.{list_any}
 use Rattle.std.specs.Str.{bytes_eq}
 use Rattle.tac_wire.specs.Key.{key_of}
-use Rattle.tac_server.specs.Lines.{split_at_first, lines_of}
-use Rattle.tac_server.specs.PolicyText.{policy_of}
+use Rattle.basics.specs.Lines.{split_at_first, lines_of}
+use Rattle.pol_text.specs.Text.{policy_of, text_of_lines}
 use Rattle.tac_server.specs.FaultText.{located_text}
 use Rattle.tac_server.specs.Events.{Connections, no_connections, event_of, fault_in, text_of, after}
 use Rattle.tac_server.specs.declared.event.Event.{Event}
-use Rattle.tac_server.specs.declared.policy.SubjectId.{SubjectId}
-use Rattle.tac_server.specs.declared.policy.Subject.{Subject}
+use Rattle.pol_text.specs.declared.subject.Subject.{Subject}
 use Rattle.tac_server.specs.declared.script_fault.Located.{Located}
 use Rattle.tac_server.specs.declared.script_fault.ScriptFault.{ScriptFault}
 use Rattle.tac_server.specs.declared.script_fault.ScriptFault.TheVariants.{BadKey, NoRun, BadPolicy, BadCommand}
-use Rattle.tac_server.specs.declared.policy_fault.PolicyFault.{PolicyFault}
-use Rattle.tac_server.specs.declared.policy_fault.PolicyFault.TheVariants.{BadLine, BadName, Repeated, NoSubject, BadPattern, NoSuchParent, Limit, Memory}
+use Rattle.pol_text.specs.declared.fault.PolicyFault.{PolicyFault}
+use Rattle.pol_text.specs.declared.fault.PolicyRefusal.{PolicyRefusal}
+use Rattle.pol_text.specs.declared.fault.PolicyFault.TheVariants as policies
 use Rattle.tac_server.specs.declared.script_fault.Stop.{Stop}
 use Rattle.tac_server.specs.declared.script_fault.Stop.TheVariants as stops
 use Rattle.tac_server.specs.declared.replaying.ReplayEnd.{ReplayEnd}
@@ -43,12 +43,12 @@ abbrev pub unless_fault : Option ScriptFault → ℕ → List ℕ → Run → Ru
 unless_fault None number text rest = behind_text text rest
 unless_fault (Some fault) number text rest = stopped number fault
 
-abbrev pub event_run : List (SubjectId × Subject) → Connections → ℕ → Option Event → (Connections → Run) → Run
+abbrev pub event_run : List Subject → Connections → ℕ → Option Event → (Connections → Run) → Run
 event_run policy connections number None go_on = stopped number BadCommand
 event_run policy connections number (Some event) go_on = unless_fault (fault_in connections event) number (text_of policy connections event) (go_on (after policy connections event))
 
 -- the run of these lines, of which the first has this number; nothing is printed after the first fault
-unfoldable pub events_run : List (SubjectId × Subject) → Connections → ℕ → List (List ℕ) → Run
+unfoldable pub events_run : List Subject → Connections → ℕ → List (List ℕ) → Run
 events_run policy connections number [] = ended
 events_run policy connections number (line ∷ lines) = event_run policy connections number (event_of line) (λ next. events_run policy next (number + 1) lines)
 
@@ -70,21 +70,24 @@ after_run (line ∷ lines) = if is_run line then lines else after_run lines
 unfoldable pub key_line : List ℕ → Option (List ℕ)
 key_line line = option_and_then (λ parts. if bytes_eq parts.0 (codes "key") then key_of parts.1 else None) (split_at_first 32 line)
 
-abbrev pub policy_run : ℕ → List (List ℕ) → Result (List (SubjectId × Subject)) Located → Run
+-- the events with the policy, of which the first has this number; the policy's first line is the second of
+-- the script. No text is refused for want of memory
+abbrev pub policy_run : ℕ → List (List ℕ) → Result (List Subject) PolicyFault → Run
 policy_run number events (Ok policy) = events_run policy no_connections number events
-policy_run number events (Err located) = record { text = []; fault = Some located }
+policy_run number events (Err (policies.Refused line refusal)) = stopped (line + 1) (BadPolicy refusal)
+policy_run number events (Err policies.Memory) = ended
 
--- the lines behind the key, of which the first has this number
-unfoldable pub body_run : ℕ → List (List ℕ) → Run
-body_run number lines =
+-- the lines behind the key; the policy's text is those before `run`
+unfoldable pub body_run : List (List ℕ) → Run
+body_run lines =
     if list_any is_run lines
-    then policy_run (number + length (before_run lines) + 1) (after_run lines) (policy_of number (before_run lines))
-    else stopped (number + length lines) NoRun
+    then policy_run (length (before_run lines) + 3) (after_run lines) (policy_of (text_of_lines (before_run lines)))
+    else stopped (length lines + 2) NoRun
 
 -- the key is judged first, then that there is a `run`, then the policy, then the events
 unfoldable pub lines_run : List (List ℕ) → Run
 lines_run [] = stopped 1 BadKey
-lines_run (first ∷ lines) = option_map_or (λ key. body_run 2 lines) (key_line first) (stopped 1 BadKey)
+lines_run (first ∷ lines) = option_map_or (λ key. body_run lines) (key_line first) (stopped 1 BadKey)
 
 abbrev pub fault_line : Option Located → List ℕ
 fault_line None = []
@@ -103,25 +106,11 @@ end_of script = end_by (lines_run (lines_of script)).fault
 
 -- ---- what a function returned, against what was wanted
 
--- it stopped at the wanted fault, or memory ran out
-abbrev pub Halts : {T : Type 0} → Stop → Result T Located → Type 0
-Halts stops.Memory wanted = Unit {0}
-Halts (stops.Fault at) wanted = wanted ≡ Err at
-
--- the stop that a fault of the policy at a line is
-abbrev pub stop_of : ℕ → PolicyFault → Stop
-stop_of number BadLine = stops.Fault (record { line = number; fault = BadPolicy BadLine })
-stop_of number BadName = stops.Fault (record { line = number; fault = BadPolicy BadName })
-stop_of number Repeated = stops.Fault (record { line = number; fault = BadPolicy Repeated })
-stop_of number NoSubject = stops.Fault (record { line = number; fault = BadPolicy NoSubject })
-stop_of number (BadPattern fault) = stops.Fault (record { line = number; fault = BadPolicy (BadPattern fault) })
-stop_of number NoSuchParent = stops.Fault (record { line = number; fault = BadPolicy NoSuchParent })
-stop_of number Limit = stops.Fault (record { line = number; fault = BadPolicy Limit })
-stop_of number Memory = stops.Memory
-
-abbrev pub Gives : {T : Type 0} → Result T Stop → Result T Located → Type 0
-Gives (Ok x) wanted = wanted ≡ Ok x
-Gives (Err stop) wanted = Halts stop wanted
+-- a policy was read, or the stop at its fault, whose line is one more in the script
+abbrev pub ReadsPolicy : {T : Type 0} → Result T Stop → Result T PolicyFault → Type 0
+ReadsPolicy (Ok policy) wanted = wanted ≡ Ok policy
+ReadsPolicy (Err stops.Memory) wanted = Unit {0}
+ReadsPolicy (Err (stops.Fault at)) wanted = (line : ℕ) × (refusal : PolicyRefusal) × (wanted ≡ Err (policies.Refused line refusal)) × (at ≡ record { line = line + 1; fault = BadPolicy refusal })
 
 -- the text grew by what the run prints, up to the fault that ended it, unless memory ran out
 abbrev pub Prints : List ℕ → List ℕ → Result (Unit {0}) Stop → Run → Type 0

@@ -8,8 +8,7 @@ use Rattle.tac_request.specs.AuthorRequest.{author_request_of}
 use Rattle.tac_request.specs.AuthorReply.{author_reply}
 use Rattle.tac_request.specs.declared.author_request.AuthorRequest.{AuthorRequest}
 use Rattle.tac_server.specs.Answer.{author_answer, bad_body}
-use Rattle.tac_server.specs.declared.policy.SubjectId.{SubjectId}
-use Rattle.tac_server.specs.declared.policy.Subject.{Subject}
+use Rattle.pol_text.specs.declared.subject.Subject.{Subject}
 use Rattle.tac_server.specs.declared.packet.Packet.{Packet}
 use Rattle.tac_server.specs.declared.connection.Connection.{Connection}
 use Rattle.tac_server.specs.declared.connection.Sent.{Sent}
@@ -52,12 +51,12 @@ reply_packet header single body =
     record { header = record header { seq = header.seq + 1; flags = (if single then 0x04 else 0); length = length body }; body = body }
 
 -- a body that is no request closes the connection, single or not; a reply ends its session, and so a connection that isn't single
-abbrev pub author_saying : List (SubjectId × Subject) → Bool → Header → Result AuthorRequest BodyFault → Saying
+abbrev pub author_saying : List Subject → Bool → Header → Result AuthorRequest BodyFault → Saying
 author_saying policy single header (Ok request) = record { reply = Some (reply_packet header single (author_reply (author_answer policy request))); closes = not single }
 author_saying policy single header (Err fault) = record { reply = Some (reply_packet header single (author_reply bad_body)); closes = true }
 
 -- the first packet of a session has seq_no 1
-unfoldable pub saying : List (SubjectId × Subject) → Bool → Packet → Saying
+unfoldable pub saying : List Subject → Bool → Packet → Saying
 saying policy single packet =
     if is_refused packet.header then silent_close
     else if not (packet.header.kind.0 == 2) then unknown_type packet.header
@@ -65,7 +64,7 @@ saying policy single packet =
     else author_saying policy single packet.header (author_request_of packet.body)
 
 -- what is said for a packet that came after these on its connection
-abbrev pub says : List (SubjectId × Subject) → List Packet → Packet → Saying
+abbrev pub says : List Subject → List Packet → Packet → Saying
 says policy earlier packet = saying policy (is_single (earlier ++ packet ∷ [])) packet
 
 -- ---- what the code keeps

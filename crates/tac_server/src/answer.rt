@@ -3,12 +3,12 @@
 ghost use Rattle.std.specs.Prelude.{◌≡◌, ◌+◌, ◌≤◌, ◌++◌, length, IfOk};
 ghost use Rattle.std.specs.Fmt.{decimal};
 ghost use Rattle.arrayvec.specs.ArrayVec.{array_vec_len};
-ghost use Rattle.tac_server.specs.Answer.{refusal as refusal_value, permission as permission_value, bad_body as bad_body_value, user_named, parent_name as parent_text, denial as denial_text, decided as decided_value, answer_to_user as user_answer, author_answer as author_answer_value};
+ghost use Rattle.pol_text.specs.Text.{kind_word as word_of_kind};
+ghost use Rattle.tac_server.specs.Answer.{refusal as refusal_value, permission as permission_value, bad_body as bad_body_value, user_named, denial as denial_text, level_for as level_of_line, decided as decided_value, answer_to_user as user_answer, author_answer as author_answer_value};
 
-use crate::name::Name;
-use crate::policy::{By, Decision, Kind, Policy, Subject, SubjectId, Verdict};
 use arrayvec::ArrayVec;
 use basics::is_text;
+use pol_text::{By, Decision, Kind, Name, Policy, SubjectId, Verdict};
 use std::alloc::{AllocError, Global};
 use tac_request::{AuthorReply, AuthorRequest, AuthorStatus, LineOf, request_line};
 
@@ -39,13 +39,13 @@ fn plain_refusal(text: &[u8]) -> AuthorReply
     refusal(msg)
 }
 
-fn permission() -> AuthorReply
-    ensures { result ≡ permission_value }
+fn permission(level: Option<u8>) -> AuthorReply
+    ensures { result ≡ permission_value level }
 {
     AuthorReply {
         status: AuthorStatus::PASS_ADD,
         msg: ArrayVec::new(),
-        priv_lvl: None,
+        priv_lvl: level,
     }
 }
 
@@ -75,59 +75,62 @@ fn put_number(text: &mut ArrayVec<u8, 64>, number: u16)
     put(text, &[b'0' + (number % 10) as u8]);
 }
 
+const DENIED_BY: &[u8] = b"denied by ";
+
+const RULE: &[u8] = b" rule ";
+
+fn kind_word(kind: Kind) -> &'static [u8]
+    ensures value { result.now ≡ word_of_kind kind }
+    ensures fits { length result.now ≤ 6 }
+{
+    match kind {
+        Kind::Group => b"group ",
+        Kind::User => b"user ",
+    }
+}
+
 // `denied by OWNER rule N`.
-fn denied_by(kind: &[u8], name: &[u8], number: u16) -> ArrayVec<u8, 64>
-    requires kind { length kind.now ≤ 16 }
-    requires name { length name.now ≤ 32 }
-    ensures { result.items ≡ kind.now ++ name.now ++ RULE.now ++ decimal number }
+fn denied_by(owner: &SubjectId, number: u16) -> ArrayVec<u8, 64>
+    ensures { result.items ≡ DENIED_BY.now ++ word_of_kind owner.now.kind ++ owner.now.name ++ RULE.now ++ decimal number }
 {
     let mut text = ArrayVec::new();
-    put(&mut text, kind);
-    put(&mut text, name);
+    put(&mut text, DENIED_BY);
+    put(&mut text, kind_word(owner.kind));
+    put(&mut text, owner.name.as_slice());
     put(&mut text, RULE);
     put_number(&mut text, number);
     text
 }
 
-const BY_USER: &[u8] = b"denied by user ";
-
-const BY_GROUP: &[u8] = b"denied by group ";
-
-const BY_DEFAULT: &[u8] = b"denied by default";
-
-const RULE: &[u8] = b" rule ";
-
-// The name of the group that a user belongs to.
-fn parent_name(user: &Subject) -> &[u8]
-    ensures value { result.now ≡ parent_text user.now }
-    ensures fits { length result.now ≤ 32 }
-{
-    match &user.parent {
-        Some(parent) => parent.name.as_slice(),
-        None => &[],
-    }
-}
-
-fn denial(name: &Name, user: &Subject, by: By) -> ArrayVec<u8, 64>
-    ensures { result.items ≡ denial_text name.now user.now by }
+fn denial(by: By) -> ArrayVec<u8, 64>
+    ensures { result.items ≡ denial_text by }
 {
     match by {
-        By::User(number) => denied_by(BY_USER, name.as_slice(), number),
-        By::Group(number) => denied_by(BY_GROUP, parent_name(user), number),
+        By::Rule(owner, number) => denied_by(&owner, number),
         By::Default => {
             let mut text = ArrayVec::new();
-            put(&mut text, BY_DEFAULT);
+            put(&mut text, b"denied by default");
             text
         }
     }
 }
 
-fn decided(name: &Name, user: &Subject, decision: Decision) -> AuthorReply
-    ensures { result ≡ decided_value name.now user.now decision }
+// The level of the shell that the empty line asks for.
+fn level_for(policy: &Policy, user: &Name, line: &[u8]) -> Option<u8>
+    ensures { result ≡ level_of_line policy.now user.now line.now }
+{
+    match line {
+        [] => policy.level_of(&SubjectId::user(*user)),
+        _ => None,
+    }
+}
+
+fn decided(policy: &Policy, user: &Name, line: &[u8], decision: Decision) -> AuthorReply
+    ensures { result ≡ decided_value policy.now user.now line.now decision }
 {
     match decision.verdict {
-        Verdict::Permit => permission(),
-        Verdict::Deny => refusal(denial(name, user, decision.by)),
+        Verdict::Permit => permission(level_for(policy, user, line)),
+        Verdict::Deny => refusal(denial(decision.by)),
     }
 }
 
@@ -135,20 +138,16 @@ fn decided(name: &Name, user: &Subject, decision: Decision) -> AuthorReply
 fn line_answer(policy: &Policy, name: &[u8], line: &[u8]) -> AuthorReply
     ensures { result ≡ user_answer policy.now name.now line.now (user_named policy.now name.now) }
 {
-    let Some(name) = Name::read(name) else {
+    let Some(user) = Name::read(name) else {
         return plain_refusal(b"unknown user");
     };
-    let id = SubjectId {
-        kind: Kind::User,
-        name,
-    };
-    let Some(user) = policy.find(&id) else {
+    let Some(decision) = policy.plain_decide(&user, line) else {
         return plain_refusal(b"unknown user");
     };
     if !is_text(line) {
         return plain_refusal(b"unprintable command");
     }
-    decided(&id.name, user, policy.decide(user, line))
+    decided(policy, &user, line, decision)
 }
 
 /// What the policy says of a request: the first case that fits.

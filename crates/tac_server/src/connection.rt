@@ -7,8 +7,8 @@ ghost use Rattle.tac_server.specs.Standing.{asks_single as asks_single_test, is_
 ghost use Rattle.tac_request.specs.AuthorRequest.{author_request_of};
 
 use crate::answer::{author_answer, bad_body};
-use crate::policy::Policy;
 use arrayvec::ArrayVec;
+use pol_text::Policy;
 use std::alloc::{AllocError, Global};
 use tac_request::{AuthorReply, read_author_request, write_author_reply};
 use tac_wire::{BodyFault, Header, Key, PacketType, pad_in_place};

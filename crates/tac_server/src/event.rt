@@ -5,10 +5,9 @@ ghost use Rattle.std.specs.Result.{result_ok};
 ghost use Rattle.hex.specs.Hex.{decode_of};
 ghost use Rattle.tac_server.specs.Events.{packet_of, hand_of, event_by, event_of};
 
-use crate::lines::split_once;
 use crate::number::connection_number;
 use crate::packet::Packet;
-use basics::Bytes;
+use basics::{Bytes, split_once};
 use hex::FromHexError;
 use std::alloc::{AllocError, Global};
 use tac_wire::Header;

@@ -5,18 +5,17 @@ ghost use Rattle.tac_wire.specs.Header.{header_bytes};
 ghost use Rattle.tac_server.specs.Standing.{Saying, says, step_of, wire, connection_of};
 ghost use Rattle.tac_server.specs.Events.{Connections, no_connections, Has, IsDone, IsStopped, reply_line, shown, packets_after};
 ghost use Rattle.tac_server.specs.Script.{Prints, events_run};
-ghost use Rattle.tac_server.specs.declared.policy.SubjectId.{SubjectId as IdValue};
-ghost use Rattle.tac_server.specs.declared.policy.Subject.{Subject as SubjectValue};
+ghost use Rattle.pol_text.specs.declared.subject.Subject.{Subject as SubjectValue};
 ghost use Rattle.tac_server.specs.declared.packet.Packet.{Packet as PacketValue};
 ghost use Rattle.tac_server.specs.declared.event.Event.TheVariants.{Open, Hand};
 
 use crate::connection::{Connection, Sent, Step, answer, asks_single};
 use crate::event::{Event, read_event};
-use crate::lines::Lines;
 use crate::packet::Packet;
-use crate::policy::Policy;
 use crate::script_fault::{Located, ScriptFault, Stop};
 use arrayvec::ArrayVec;
+use basics::Lines;
+use pol_text::Policy;
 use std::alloc::{AllocError, Global};
 use std::collections::BTreeMap;
 use std::fmt::Write;
@@ -111,7 +110,7 @@ fn open_connection(
     line: usize,
     number: u16,
 ) -> Result<(), Stop>
-    ensures { (policy : List (IdValue × SubjectValue)) (model : Connections) (text : List ℕ) → Has connections.old model → MatchResult result
+    ensures { (policy : List SubjectValue) (model : Connections) (text : List ℕ) → Has connections.old model → MatchResult result
         (λ _. IsDone policy model (Open number) text text connections.new)
         (λ stop. IsStopped line model (Open number) text text stop) }
 {

@@ -1,17 +1,15 @@
 //! The run of a script: key, policy, and then the events.
 
-ghost use Rattle.std.specs.Prelude.{◌≡◌, ◌+◌, length, true, false, OnOk, MatchResult, string_bytes};
+ghost use Rattle.std.specs.Prelude.{◌≡◌, ◌+◌, length, true, false, MatchOption, OnOk, string_bytes};
 ghost use Rattle.std.specs.List.{list_any};
-ghost use Rattle.tac_server.specs.Script.{Gives, Prints, stop_of, body_run, lines_run, is_run as run_test, before_run, after_run, key_line as key_of_line};
-ghost use Rattle.tac_server.specs.Lines.{lines_of};
-ghost use Rattle.tac_server.specs.PolicyText.{policy_of, without_orphans};
+ghost use Rattle.basics.specs.Lines.{lines_of};
+ghost use Rattle.pol_text.specs.Text.{policy_of, text_of_lines};
+ghost use Rattle.tac_server.specs.Script.{ReadsPolicy, Prints, body_run, lines_run, is_run as run_test, before_run, after_run, key_line as key_of_line};
 
 use crate::events::run_events;
-use crate::lines::{Lines, split_once};
-use crate::policy::Policy;
-use crate::policy_fault::PolicyFault;
-use crate::policy_text::add_line;
 use crate::script_fault::{Located, ScriptFault, Stop};
+use basics::{Lines, split_once};
+use pol_text::{Policy, PolicyFault};
 use std::alloc::Global;
 use tac_wire::Key;
 
@@ -21,61 +19,38 @@ fn is_run(line: &[u8]) -> bool
     line == b"run".as_slice()
 }
 
-// Whether a `run` is to come, and if not, the number of the line behind the last.
-fn find_run(lines: &Lines<'_>) -> Result<(), usize>
-    ensures { MatchResult result (λ _. list_any run_test lines.now.lines ≡ true)
-        (λ number. (list_any run_test lines.now.lines ≡ false) × (number ≡ lines.now.number + length lines.now.lines)) }
+/// Takes the lines up to `run`, and `run` too, and answers the text before it. Where there is no `run`,
+/// all lines are taken.
+fn text_before_run<'a>(lines: &mut Lines<'a>) -> Option<&'a [u8]>
+    ensures text { MatchOption result
+        (list_any run_test lines.old.lines ≡ false)
+        (λ text. (list_any run_test lines.old.lines ≡ true) × (text.now ≡ text_of_lines (before_run lines.old.lines))
+        × (lines.new.lines ≡ after_run lines.old.lines) × (lines.new.number ≡ lines.old.number + length (before_run lines.old.lines) + 1)) }
+    ensures none { MatchOption result (lines.new.number ≡ lines.old.number + length lines.old.lines) (λ text. Unit {0}) }
 {
-    let mut rest = lines.copy();
-    'lines: while let Some((_, line)) = rest.take_line() {
+    let text = lines.rest();
+    let mut rest = text;
+    'lines: while let Some((_, line)) = lines.take_line() {
         if is_run(line) {
-            return Ok(());
+            return Some(&text[..text.len() - rest.len()]);
         }
+        rest = lines.rest();
     }
-    Err(rest.number())
+    None
 }
 
-// The stop that a fault of the policy at a line is.
-fn stop_at(number: usize, fault: PolicyFault) -> Stop
-    ensures { result ≡ stop_of number fault }
+// Reads the policy, whose first line is the second of the script.
+fn read_policy(alloc: Global, text: &[u8]) -> Result<Policy, Stop>
+    ensures { ReadsPolicy result (policy_of text.now) }
 {
-    if fault == PolicyFault::Memory {
-        return Stop::Memory;
+    match Policy::read(alloc, text) {
+        Ok(policy) => Ok(policy),
+        Err(PolicyFault::Memory) => Err(Stop::Memory),
+        Err(PolicyFault::Refused { line, refusal }) => Err(Stop::Fault(Located {
+            line: line + 1,
+            fault: ScriptFault::BadPolicy(refusal),
+        })),
     }
-    Stop::Fault(Located {
-        line: number,
-        fault: ScriptFault::BadPolicy(fault),
-    })
-}
-
-// Each parent must be in the policy.
-#[tactic(auto, unfolding(crate::specs::PolicyText::without_orphans))]
-fn check_parents(policy: Policy) -> Result<Policy, Stop>
-    ensures { Gives result (without_orphans policy) }
-{
-    if let Some(orphan) = policy.first_orphan() {
-        let line = orphan.line;
-        return Err(stop_at(line, PolicyFault::NoSuchParent));
-    }
-    Ok(policy)
-}
-
-/// Reads the policy of a script: the lines up to `run`, which is taken too.
-fn read_policy(alloc: Global, lines: &mut Lines<'_>) -> Result<Policy, Stop>
-    ensures policy { Gives result (policy_of lines.old.number (before_run lines.old.lines)) }
-    ensures rest { OnOk result (lines.new.lines ≡ after_run lines.old.lines) }
-    ensures number { OnOk result (list_any run_test lines.old.lines ≡ true → lines.new.number ≡ lines.old.number + length (before_run lines.old.lines) + 1) }
-{
-    let mut policy = Policy::new(alloc);
-    'lines: while let Some((number, line)) = lines.take_line() {
-        if is_run(line) {
-            return check_parents(policy);
-        }
-        if let Err(fault) = add_line(alloc, &mut policy, number, line) {
-            return Err(stop_at(number, fault));
-        }
-    }
-    check_parents(policy)
 }
 
 // The key of a script's first line.
@@ -93,15 +68,16 @@ fn read_key(line: &[u8]) -> Option<Key>
 // Runs what stands behind the key.
 #[tactic(auto, unfolding(crate::specs::Script::body_run))]
 fn run_body(alloc: Global, key: &Key, lines: &mut Lines<'_>, out: &mut String) -> Result<(), Stop>
-    ensures { Prints (string_bytes out.old) (string_bytes out.new) result (body_run lines.old.number lines.old.lines) }
+    requires { lines.old.number ≡ 2 }
+    ensures { Prints (string_bytes out.old) (string_bytes out.new) result (body_run lines.old.lines) }
 {
-    if let Err(line) = find_run(lines) {
+    let Some(text) = text_before_run(lines) else {
         return Err(Stop::Fault(Located {
-            line,
+            line: lines.number(),
             fault: ScriptFault::NoRun,
         }));
-    }
-    let policy = read_policy(alloc, lines)?;
+    };
+    let policy = read_policy(alloc, text)?;
     run_events(alloc, key, &policy, lines, out)
 }
 

@@ -3,7 +3,7 @@
 ghost use Rattle.std.specs.Prelude.{◌≡◌};
 ghost use Rattle.tac_server.specs.declared.script_fault.Stop.TheVariants.{Memory};
 
-use crate::policy_fault::PolicyFault;
+use pol_text::PolicyRefusal;
 use std::alloc::{AllocError, AllocFailed};
 use std::fmt;
 
@@ -11,7 +11,7 @@ use std::fmt;
 pub(crate) enum ScriptFault {
     BadKey,
     NoRun,
-    BadPolicy(PolicyFault),
+    BadPolicy(PolicyRefusal),
     BadCommand,
     NoConnection,
     AlreadyOpen,
@@ -41,7 +41,7 @@ impl fmt::Display for ScriptFault {
         match self {
             ScriptFault::BadKey => write!(f, "BadKey"),
             ScriptFault::NoRun => write!(f, "NoRun"),
-            ScriptFault::BadPolicy(fault) => write!(f, "{fault}"),
+            ScriptFault::BadPolicy(refusal) => write!(f, "{refusal}"),
             ScriptFault::BadCommand => write!(f, "BadCommand"),
             ScriptFault::NoConnection => write!(f, "NoConnection"),
             ScriptFault::AlreadyOpen => write!(f, "AlreadyOpen"),

@@ -1,3 +1,4 @@
 pub mod HeaderFacts
 pub mod PadFacts
 pub mod CutFacts
+pub mod StreamFacts

@@ -3,3 +3,4 @@ pub mod Key
 pub mod Pad
 pub mod Body
 pub mod Cut
+pub mod Stream

@@ -1,13 +1,19 @@
-//! The wire format that all kinds of packet share (RFC 8907, section 4): header, key and pad, and
-//! what the readers of bodies have in common.
+//! The wire format that all kinds of packet share (RFC 8907, section 4): the stream of packets, their
+//! header, key and pad, the CHAP response, and what the readers of bodies have in common.
 #![tactic(auto)]
 
 mod body;
+mod chap;
+mod frame;
+mod framer;
 mod header;
 mod key;
 mod pad;
 
 pub use body::{BodyFault, cut};
+pub use chap::chap_response;
+pub use frame::{Frame, FrameFault};
+pub use framer::{Framer, Next};
 pub use header::{Header, PacketType};
 pub use key::Key;
 pub use pad::pad_in_place;

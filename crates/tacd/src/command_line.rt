@@ -28,9 +28,11 @@ const REPLAY_AFTER_HELP: &str = "Example:
 const REPLAY_AFTER_LONG_HELP: &str = "Lines of a script, in this order:
   key TEXT             line 1: the key, 1 to 128 printable ASCII characters
   the policy, any number of these:
-    group NAME           begins a group
-    user NAME            begins a user
-    user NAME in GROUP   begins a user who has the group's rules too
+    group NAME           begins a group; with ' in GROUP', one that has that group's rules too
+    user NAME            begins a user; with ' in GROUP', one that has that group's rules too
+    login TEXT           what the user above it logs in with, 1 to 128 characters
+    enable TEXT          what the user above it enables with
+    priv N               the level, 0 to 15, of the shells of the user or group above it
     permit PATTERN       the next rule of the user or group above it
     deny PATTERN         the next rule of the user or group above it
   run                  ends the policy
@@ -40,9 +42,11 @@ const REPLAY_AFTER_LONG_HELP: &str = "Lines of a script, in this order:
 
 In the policy, empty lines, lines that begin with '#' and leading spaces are passed over. A NAME is
 1 to 32 of the characters A-Z a-z 0-9 _ - . @. A PATTERN, up to 200 characters long, is to fit a
-whole command line: '.' fits any character, and '*' any number of the character before it. The
-characters | + ? [ ( ) \\ cannot be used yet. The first rule that fits decides, a user's own before
-the group's; where none fits, the command is denied.
+whole command line: '.' fits any character, '[a-z]' and '[^a-z]' one of a class or one that isn't in
+it, 'A|B' what A or B fits; behind a character, a class or a part in parentheses, '*' means any number
+of it, '+' at least one, and '?' at most one; a '\\' takes the next character as it is. The first rule
+that fits decides, a user's own before the group's, and a group's own before those of its group; where
+none fits, the command is denied.
 
 What is printed:
   reply N HEX          the server sends a packet on connection N, here with its body in the clear

@@ -1,18 +1,41 @@
-use Rattle.std.proofs.Common.{sym}
-use Rattle.pol_pattern.proofs.Units.{reading_short}
+use Rattle.std.proofs.Common.{◌≤◌, sym, arith}
+use Rattle.pol_pattern.specs.Flat.{terms_value, terms_size}
+use Rattle.pol_pattern.proofs.Soundness.{reading_spells}
+use Rattle.pol_pattern.proofs.Languages.{union_law, concatenation_law, star_law, plus_law, question_law, group_law}
+use Rattle.pol_pattern.proofs.Symbols.{empty_law, literal_law, escaped_law, dot_law, class_law}
 use Rattle.pol_pattern.proofs.Laws.{matches_is, holds_text, test_is_set}
+use Rattle.pol_pattern.proofs.Marks.{matches_holds, terms_positions-le_size}
 use Rattle.pol_pattern.proofs.pattern.Pattern.contains.Goals as goal
 
 pub holds-requires : goal.holds-requires
-holds-requires c = rw c.deref.ensures.value (reading_short c.self.inside.source c.self.inside.factors.items c.self.invariant)
+holds-requires c =
+    let flat = terms_value c.self.inside.terms.items in
+    let spelled = reading_spells c.self.inside.source flat c.self.invariant in
+    let small : terms_size flat ≤ 400 = spelled.6 in
+    rw c.deref.ensures.value (omega (arith, small, terms_positions-le_size flat))
 
 pub returns-clause-set : goal.returns-clause-set
 returns-clause-set c =
-    rw (c.holds.ensures, c.deref.ensures.value, ← c.self.view_is) (holds_text c.self.inside.source c.self.inside.factors.items c.args.text.now c.self.invariant)
+    rw (c.holds.ensures, c.deref.ensures.value, ← c.self.view_is) (holds_text matches_holds c.self.inside.source (terms_value c.self.inside.terms.items) c.args.text.now c.self.invariant)
 
 pub returns-clause-test : goal.returns-clause-test
 returns-clause-test c =
-    rw (c.holds.ensures, c.deref.ensures.value, ← c.self.view_is) (sym (matches_is c.self.inside.source c.self.inside.factors.items c.args.text.now c.self.invariant))
+    rw (c.holds.ensures, c.deref.ensures.value, ← c.self.view_is) (sym (matches_is c.self.inside.source (terms_value c.self.inside.terms.items) c.args.text.now c.self.invariant))
 
 pub returns-clause-law : goal.returns-clause-law
-returns-clause-law c = test_is_set
+returns-clause-law c = test_is_set matches_holds
+
+pub returns-clause-languages : goal.returns-clause-languages
+returns-clause-languages c = record {
+  union = union_law;
+  concatenation = concatenation_law;
+  star = star_law;
+  plus = plus_law;
+  question = question_law;
+  group = group_law;
+  empty = empty_law;
+  literal = literal_law;
+  escaped = escaped_law;
+  dot = dot_law;
+  class = class_law;
+}

@@ -1,6 +1,6 @@
-use Rattle.pol_pattern.proofs.Units.{reading_spells}
+use Rattle.pol_pattern.specs.Flat.{terms_value}
+use Rattle.pol_pattern.proofs.Laws.{reading_pattern}
 use Rattle.pol_pattern.proofs.pattern.Pattern.source.Goals as goal
 
-pub returns-clause-spelled : goal.returns-clause-spelled
-returns-clause-spelled c =
-    (c.self.inside.factors.items, rw (← c.self.view_is) (reading_spells c.self.inside.source c.self.inside.factors.items c.self.invariant))
+pub returns-clause-again : goal.returns-clause-again
+returns-clause-again c = rw (← c.self.view_is) (reading_pattern c.self.inside.source (terms_value c.self.inside.terms.items) c.self.invariant)

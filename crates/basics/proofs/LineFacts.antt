@@ -1,0 +1,98 @@
+-- Splitting at a place, and the lines of a text.
+use Rattle.std.proofs.Common.{◌≡◌, ◌≢◌, ℕ, ◌+◌, ◌<◌, Bool, true, false, cond, eqb, List, [], ◌∷◌, ◌++◌, length, get_or, take, drop, Option, None, Some, refl, sym, ap, ◌∙◌, append-nil, append_assoc, arith, eq-eqb}
+use Rattle.std.specs.Option.{option_map}
+use Rattle.std.proofs.lemmas.Bool.Decides.{nat_tests}
+use Rattle.std.proofs.lemmas.List.{take_more, drop_more}
+use Rattle.basics.specs.Lines.{split_at_first, onto_first, lines_of}
+
+-- parts with this before the first of them
+abbrev pub behind : List ℕ → Option (List ℕ × List ℕ) → Option (List ℕ × List ℕ)
+behind front parts = option_map (λ parts. (front ++ parts.0, parts.1)) parts
+
+pub behind-nil : (parts : Option (List ℕ × List ℕ)) → behind [] parts ≡ parts
+behind-nil None = refl
+behind-nil (Some parts) = refl
+
+behind-more : (front : List ℕ) (byte : ℕ) (parts : Option (List ℕ × List ℕ)) → behind front (option_map (λ parts. (byte ∷ parts.0, parts.1)) parts) ≡ behind (front ++ byte ∷ []) parts
+behind-more front byte None = refl
+behind-more front byte (Some parts) = ap (λ (text : List ℕ). Some (text, parts.1)) (sym (append_assoc front (byte ∷ []) parts.0))
+
+at_separator : (separator byte : ℕ) (bytes : List ℕ) → byte ≡ separator → split_at_first separator (byte ∷ bytes) ≡ Some ([], bytes)
+at_separator separator byte bytes e = rw (eq-eqb byte separator e) refl
+
+past_other : (separator byte : ℕ) (bytes : List ℕ) → byte ≢ separator → split_at_first separator (byte ∷ bytes) ≡ option_map (λ parts. (byte ∷ parts.0, parts.1)) (split_at_first separator bytes)
+past_other separator byte bytes ne =
+    let other : eqb byte separator ≡ false = grind (arith, nat_tests) in
+    rw other refl
+
+-- one byte on that is no separator
+pub behind_step : (separator byte at : ℕ) (bytes : List ℕ) → at < length bytes → byte ≡ get_or bytes at 0 → byte ≢ separator
+    → behind (take (at + 1) bytes) (split_at_first separator (drop (at + 1) bytes)) ≡ behind (take at bytes) (split_at_first separator (drop at bytes))
+behind_step separator byte at bytes lt is ne =
+    let here : drop at bytes ≡ byte ∷ drop (at + 1) bytes = drop_more bytes at 0 lt ∙ ap (λ (b : ℕ). b ∷ drop (at + 1) bytes) (sym is) in
+    let front : take (at + 1) bytes ≡ take at bytes ++ byte ∷ [] = take_more bytes at 0 lt ∙ ap (λ (b : ℕ). take at bytes ++ b ∷ []) (sym is) in
+    rw (front, here, past_other separator byte (drop (at + 1) bytes) ne) (sym (behind-more (take at bytes) byte (split_at_first separator (drop (at + 1) bytes))))
+
+-- at a separator
+pub behind_found : (separator byte at : ℕ) (bytes : List ℕ) → at < length bytes → byte ≡ get_or bytes at 0 → byte ≡ separator
+    → behind (take at bytes) (split_at_first separator (drop at bytes)) ≡ Some (take at bytes, drop (at + 1) bytes)
+behind_found separator byte at bytes lt is e =
+    let here : drop at bytes ≡ byte ∷ drop (at + 1) bytes = drop_more bytes at 0 lt ∙ ap (λ (b : ℕ). b ∷ drop (at + 1) bytes) (sym is) in
+    rw (here, at_separator separator byte (drop (at + 1) bytes) e, append-nil (take at bytes)) refl
+
+same_parts : (a b : List ℕ × List ℕ) → Some a ≡ Some b → a ≡ b
+same_parts a b e = cc
+
+split_case : (byte : ℕ) (bytes line rest : List ℕ) (b : Bool) (parts : Option (List ℕ × List ℕ)) → ((p : List ℕ × List ℕ) → parts ≡ Some p → lines_of bytes ≡ p.0 ∷ lines_of p.1)
+    → cond {A = Option (List ℕ × List ℕ)} b (Some ([], bytes)) (option_map (λ parts. (byte ∷ parts.0, parts.1)) parts) ≡ Some (line, rest)
+    → cond b ([] ∷ lines_of bytes) (onto_first byte (lines_of bytes)) ≡ line ∷ lines_of rest
+split_case byte bytes line rest true parts below h =
+    let e = same_parts ([], bytes) (line, rest) h in
+    ap (λ (p : List ℕ × List ℕ). p.0 ∷ lines_of p.1) e
+split_case byte bytes line rest false None below h = absurd cc
+split_case byte bytes line rest false (Some p) below h =
+    let e = same_parts (byte ∷ p.0, p.1) (line, rest) h in
+    ap (onto_first byte) (below p refl) ∙ ap (λ (q : List ℕ × List ℕ). q.0 ∷ lines_of q.1) e
+
+-- a text with a separator has the line before it, and the lines behind it
+pub lines_of-split : (bytes line rest : List ℕ) → split_at_first 10 bytes ≡ Some (line, rest) → lines_of bytes ≡ line ∷ lines_of rest
+lines_of-split [] line rest h = absurd cc
+lines_of-split (byte ∷ bytes) line rest h = split_case byte bytes line rest (eqb byte 10) (split_at_first 10 bytes) (λ p e. lines_of-split bytes p.0 p.1 e) h
+
+whole_case : (byte : ℕ) (bytes : List ℕ) (b : Bool) (parts : Option (List ℕ × List ℕ)) → (parts ≡ None → onto_first byte (lines_of bytes) ≡ (byte ∷ bytes) ∷ [])
+    → cond {A = Option (List ℕ × List ℕ)} b (Some ([], bytes)) (option_map (λ parts. (byte ∷ parts.0, parts.1)) parts) ≡ None
+    → cond b ([] ∷ lines_of bytes) (onto_first byte (lines_of bytes)) ≡ (byte ∷ bytes) ∷ []
+whole_case byte bytes true parts below h = absurd cc
+whole_case byte bytes false None below h = below refl
+whole_case byte bytes false (Some p) below h = absurd cc
+
+-- a text without one is one line
+pub lines_of-whole : (byte : ℕ) (bytes : List ℕ) → split_at_first 10 (byte ∷ bytes) ≡ None → lines_of (byte ∷ bytes) ≡ (byte ∷ bytes) ∷ []
+lines_of-whole byte [] h = whole_case byte [] (eqb byte 10) None (λ e. refl) h
+lines_of-whole byte (next ∷ bytes) h =
+    whole_case byte (next ∷ bytes) (eqb byte 10) (split_at_first 10 (next ∷ bytes)) (λ e. ap (onto_first byte) (lines_of-whole next bytes e)) h
+
+pub lines_of-one : (text : List ℕ) → text ≢ [] → split_at_first 10 text ≡ None → lines_of text ≡ text ∷ []
+lines_of-one [] ne h = absurd (ne refl)
+lines_of-one (byte ∷ bytes) ne h = lines_of-whole byte bytes h
+
+joined_case : (separator byte : ℕ) (bytes line rest : List ℕ) (b : Bool) (parts : Option (List ℕ × List ℕ)) → (b ≡ true → byte ≡ separator)
+    → ((p : List ℕ × List ℕ) → parts ≡ Some p → bytes ≡ p.0 ++ separator ∷ p.1)
+    → cond {A = Option (List ℕ × List ℕ)} b (Some ([], bytes)) (option_map (λ parts. (byte ∷ parts.0, parts.1)) parts) ≡ Some (line, rest)
+    → byte ∷ bytes ≡ line ++ separator ∷ rest
+joined_case separator byte bytes line rest true parts same below h =
+    let e = same_parts ([], bytes) (line, rest) h in
+    ap (λ (b : ℕ). b ∷ bytes) (same refl) ∙ ap (λ (p : List ℕ × List ℕ). p.0 ++ separator ∷ p.1) e
+joined_case separator byte bytes line rest false None same below h = absurd cc
+joined_case separator byte bytes line rest false (Some p) same below h =
+    let e = same_parts (byte ∷ p.0, p.1) (line, rest) h in
+    ap (λ (t : List ℕ). byte ∷ t) (below p refl) ∙ ap (λ (q : List ℕ × List ℕ). q.0 ++ separator ∷ q.1) e
+
+is_separator : (byte separator : ℕ) → eqb byte separator ≡ true → byte ≡ separator
+is_separator byte separator e = grind (arith, nat_tests)
+
+-- the parts with the separator between them are the text
+pub parts_joined : (separator : ℕ) (bytes line rest : List ℕ) → split_at_first separator bytes ≡ Some (line, rest) → bytes ≡ line ++ separator ∷ rest
+parts_joined separator [] line rest h = absurd cc
+parts_joined separator (byte ∷ bytes) line rest h =
+    joined_case separator byte bytes line rest (eqb byte separator) (split_at_first separator bytes) (is_separator byte separator) (λ p e. parts_joined separator bytes p.0 p.1 e) h

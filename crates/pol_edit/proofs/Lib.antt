@@ -1,0 +1,5 @@
+mod FieldFacts
+mod Spaces
+mod ReadBack
+mod SpelledSo
+pub mod Refusals

@@ -1,0 +1,117 @@
+-- What an edit makes of a policy: the new policy, or the first refusal.
+use Rattle.std.specs.Prelude.{◌≡◌, ℕ, ◌+◌, ◌-◌, nat_le, List, [], ◌∷◌, ◌++◌, length, Bool, not, ◌&&◌, is_some, Option, Some, None, Result, Ok, Err, ok_or, if◌then◌else◌}
+use Rattle.pol_pattern.specs.Reading.{pattern_of}
+use Rattle.pol_pattern.specs.declared.fault.PatternFault.{PatternFault}
+use Rattle.pol_text.specs.Secret.{is_secret}
+use Rattle.pol_text.specs.Policy.{same_kind, group_id, user_id, find_subject, all_of}
+use Rattle.pol_text.specs.Text.{new_subject}
+use Rattle.pol_text.specs.Change.{with_changed, without, is_parent, has_room_below, chain_fault, with_parent, with_login, with_enable, with_priv, with_rule_at, without_rule_at, with_rule_moved}
+use Rattle.pol_text.specs.declared.subject.Kind.{Kind}
+use Rattle.pol_text.specs.declared.subject.Kind.TheVariants.{Group, User}
+use Rattle.pol_text.specs.declared.subject.Verdict.{Verdict}
+use Rattle.pol_text.specs.declared.subject.SubjectId.{SubjectId}
+use Rattle.pol_text.specs.declared.subject.Subject.{Subject}
+use Rattle.pol_text.specs.declared.fault.ChainFault.{ChainFault}
+use Rattle.pol_text.specs.declared.fault.ChainFault.TheVariants as chains
+use Rattle.pol_edit.specs.declared.edit.Edit.{Edit}
+use Rattle.pol_edit.specs.declared.edit.Edit.TheVariants.{AddGroup, AddUser, Remove, SetParent, SetLogin, SetEnable, SetPriv, InsertRule, RemoveRule, MoveRule}
+use Rattle.pol_edit.specs.declared.fault.EditFault.{EditFault}
+use Rattle.pol_edit.specs.declared.fault.EditFault.TheVariants as faults
+
+infixl 10 ◌>>=◌
+abbrev pub ◌>>=◌ : {A B : Type 0} → Result A EditFault → (A → Result B EditFault) → Result B EditFault
+(Ok x) >>= f = f x
+(Err e) >>= f = Err e
+
+-- the subject, which must be there
+abbrev pub present : SubjectId → List Subject → Result Subject EditFault
+present id policy = ok_or (find_subject id policy) faults.NoSuch
+
+-- the group, if one is named, must be there
+abbrev pub has_group : Option (List ℕ) → List Subject → Bool
+has_group parent policy = all_of (λ name. is_some (find_subject (group_id name) policy)) parent
+
+-- a new subject goes last
+unfoldable pub added_to : List Subject → Kind → List ℕ → Option (List ℕ) → Result (List Subject) EditFault
+added_to policy kind name parent =
+    if not (has_group parent policy) then Err faults.NoSuch
+    else if is_some (find_subject (record { kind = kind; name = name }) policy) then Err faults.Exists
+    else if not (all_of (λ name. has_room_below name policy) parent) then Err faults.TooDeep
+    else if nat_le 1024 (length policy) then Err faults.Limit
+    else Ok (policy ++ new_subject kind name parent ∷ [])
+
+-- a group that is a parent stays
+unfoldable pub removed_from : List Subject → SubjectId → Result (List Subject) EditFault
+removed_from policy id = present id policy >>= λ subject.
+    if same_kind id.kind Group && is_parent id.name policy then Err faults.InUse
+    else Ok (without id policy)
+
+abbrev pub unless_chain : Option ChainFault → List Subject → Result (List Subject) EditFault
+unless_chain None policy = Ok policy
+unless_chain (Some chains.Cycle) policy = Err faults.Cycle
+unless_chain (Some chains.TooDeep) policy = Err faults.TooDeep
+
+unfoldable pub moved_in : List Subject → SubjectId → Option (List ℕ) → Result (List Subject) EditFault
+moved_in policy id parent = present id policy >>= λ subject.
+    if not (has_group parent policy) then Err faults.NoSuch
+    else unless_chain (chain_fault (with_changed id (with_parent parent) policy)) (with_changed id (with_parent parent) policy)
+
+-- a setting of a subject, if its value is right
+unfoldable pub set_in : List Subject → SubjectId → Bool → (Subject → Subject) → Result (List Subject) EditFault
+set_in policy id is_right change = present id policy >>= λ subject.
+    if is_right then Ok (with_changed id change policy) else Err faults.BadValue
+
+abbrev pub pattern_read : Result (List ℕ) PatternFault → Result (List ℕ) EditFault
+pattern_read (Ok source) = Ok source
+pattern_read (Err fault) = Err (faults.BadPattern fault)
+
+-- the number of a rule that is there, from 1
+abbrev pub is_number : ℕ → ℕ → Bool
+is_number at count = nat_le 1 at && nat_le at count
+
+unfoldable pub inserted_in : List Subject → SubjectId → ℕ → Verdict → List ℕ → Result (List Subject) EditFault
+inserted_in policy id at verdict text = present id policy >>= λ subject.
+    if not (is_number at (length subject.rules + 1)) then Err faults.BadIndex
+    else (pattern_read (pattern_of text) >>= λ pattern. if nat_le 256 (length subject.rules) then Err faults.Limit
+    else Ok (with_changed id (with_rule_at (at - 1) (record { verdict = verdict; pattern = pattern })) policy))
+
+unfoldable pub dropped_in : List Subject → SubjectId → ℕ → Result (List Subject) EditFault
+dropped_in policy id at = present id policy >>= λ subject.
+    if is_number at (length subject.rules) then Ok (with_changed id (without_rule_at (at - 1)) policy) else Err faults.BadIndex
+
+unfoldable pub shifted_in : List Subject → SubjectId → ℕ → ℕ → Result (List Subject) EditFault
+shifted_in policy id from to = present id policy >>= λ subject.
+    if is_number from (length subject.rules) && is_number to (length subject.rules)
+    then Ok (with_changed id (with_rule_moved (from - 1) (to - 1)) policy)
+    else Err faults.BadIndex
+
+-- the new policy, or the first refusal
+unfoldable pub applied : List Subject → Edit → Result (List Subject) EditFault
+applied policy (AddGroup name parent) = added_to policy Group name parent
+applied policy (AddUser name parent) = added_to policy User name parent
+applied policy (Remove subject) = removed_from policy subject
+applied policy (SetParent subject parent) = moved_in policy subject parent
+applied policy (SetLogin user secret) = set_in policy (user_id user) (all_of is_secret secret) (with_login secret)
+applied policy (SetEnable user secret) = set_in policy (user_id user) (all_of is_secret secret) (with_enable secret)
+applied policy (SetPriv subject level) = set_in policy subject (all_of (λ n. nat_le n 15) level) (with_priv level)
+applied policy (InsertRule subject at verdict pattern) = inserted_in policy subject at verdict pattern
+applied policy (RemoveRule subject at) = dropped_in policy subject at
+applied policy (MoveRule subject from to) = shifted_in policy subject from to
+
+-- ---- what a function returned, against what was wanted
+
+-- the edit was made, or it was refused as wanted or for want of memory, and the policy is as before
+abbrev pub Applies : List Subject → List Subject → Result (Unit {0}) EditFault → Result (List Subject) EditFault → Type 0
+Applies old new (Ok _) wanted = wanted ≡ Ok new
+Applies old new (Err faults.Memory) wanted = new ≡ old
+Applies old new (Err faults.BadEdit) wanted = (wanted ≡ Err faults.BadEdit) × (new ≡ old)
+Applies old new (Err faults.NoSuch) wanted = (wanted ≡ Err faults.NoSuch) × (new ≡ old)
+Applies old new (Err faults.Exists) wanted = (wanted ≡ Err faults.Exists) × (new ≡ old)
+Applies old new (Err faults.InUse) wanted = (wanted ≡ Err faults.InUse) × (new ≡ old)
+Applies old new (Err faults.Cycle) wanted = (wanted ≡ Err faults.Cycle) × (new ≡ old)
+Applies old new (Err faults.TooDeep) wanted = (wanted ≡ Err faults.TooDeep) × (new ≡ old)
+Applies old new (Err faults.BadIndex) wanted = (wanted ≡ Err faults.BadIndex) × (new ≡ old)
+Applies old new (Err (faults.BadPattern fault)) wanted = (wanted ≡ Err (faults.BadPattern fault)) × (new ≡ old)
+Applies old new (Err faults.BadValue) wanted = (wanted ≡ Err faults.BadValue) × (new ≡ old)
+Applies old new (Err faults.Limit) wanted = (wanted ≡ Err faults.Limit) × (new ≡ old)
+Applies old new (Err (faults.TooManyStates subject)) wanted = (wanted ≡ Err (faults.TooManyStates subject)) × (new ≡ old)

@@ -1,0 +1,136 @@
+-- The line of an edit (docs/POLICY.md, "Edits").
+use Rattle.std.specs.Prelude.{ℕ, List, codes, Option, Some, None, if◌then◌else◌, option_map}
+use Rattle.std.specs.Str.{bytes_eq}
+use Rattle.basics.specs.Symbol.{is_text}
+use Rattle.basics.specs.Lines.{split_at_first}
+use Rattle.basics.specs.Number.{number_of}
+use Rattle.pol_text.specs.Name.{name_of}
+use Rattle.pol_text.specs.declared.subject.Kind.{Kind}
+use Rattle.pol_text.specs.declared.subject.Kind.TheVariants.{Group, User}
+use Rattle.pol_text.specs.declared.subject.Verdict.{Verdict}
+use Rattle.pol_text.specs.declared.subject.Verdict.TheVariants.{Permit, Deny}
+use Rattle.pol_text.specs.declared.subject.SubjectId.{SubjectId}
+use Rattle.pol_edit.specs.declared.edit.Edit.{Edit}
+use Rattle.pol_edit.specs.declared.edit.Edit.TheVariants.{AddGroup, AddUser, Remove, SetParent, SetLogin, SetEnable, SetPriv, InsertRule, RemoveRule, MoveRule}
+
+infixl 10 ◌>>=◌
+abbrev pub ◌>>=◌ : {A B : Type 0} → Option A → (A → Option B) → Option B
+None >>= f = None
+(Some x) >>= f = f x
+
+-- what stands before the first space, and what stands behind it
+abbrev pub parted : List ℕ → Option (List ℕ × List ℕ)
+parted text = split_at_first 32 text
+
+-- ---- fields
+
+abbrev pub kind_of : List ℕ → Option Kind
+kind_of word = if bytes_eq word (codes "group") then Some Group else if bytes_eq word (codes "user") then Some User else None
+
+abbrev pub verdict_of : List ℕ → Option Verdict
+verdict_of word = if bytes_eq word (codes "permit") then Some Permit else if bytes_eq word (codes "deny") then Some Deny else None
+
+-- the number of a rule, or a level
+abbrev pub count_of : List ℕ → Option ℕ
+count_of text = number_of 4 text
+
+-- `KIND NAME`
+unfoldable pub subject_of : List ℕ → Option SubjectId
+subject_of text = do
+  parts ← parted text
+  kind ← kind_of parts.0
+  name ← name_of parts.1
+  Some (record { kind = kind; name = name })
+
+-- `KIND NAME`, a space, and the rest
+unfoldable pub subject_before : List ℕ → Option (SubjectId × List ℕ)
+subject_before text = do
+  parts ← parted text
+  kind ← kind_of parts.0
+  named ← parted parts.1
+  name ← name_of named.0
+  Some (record { kind = kind; name = name }, named.1)
+
+-- `in NAME`
+unfoldable pub parent_of_text : List ℕ → Option (List ℕ)
+parent_of_text text = do
+  parts ← parted text
+  if bytes_eq parts.0 (codes "in") then name_of parts.1 else None
+
+-- ---- edits, behind their first word
+
+abbrev pub add_edit : Kind → List ℕ → Option (List ℕ) → Edit
+add_edit Group name parent = AddGroup name parent
+add_edit User name parent = AddUser name parent
+
+-- `NAME`, or `NAME in PARENT`, split at its first space
+abbrev pub added : Kind → List ℕ → Option (List ℕ × List ℕ) → Option Edit
+added kind text None = option_map (λ name. add_edit kind name None) (name_of text)
+added kind text (Some parts) = name_of parts.0 >>= λ name. option_map (λ parent. add_edit kind name (Some parent)) (parent_of_text parts.1)
+
+-- `KIND NAME` or `KIND NAME in PARENT`
+unfoldable pub add_of : List ℕ → Option Edit
+add_of rest = parted rest >>= λ parts. kind_of parts.0 >>= λ kind. added kind parts.1 (parted parts.1)
+
+-- `KIND NAME in PARENT` or `KIND NAME out`
+unfoldable pub move_of : List ℕ → Option Edit
+move_of rest = subject_before rest >>= λ front.
+    if bytes_eq front.1 (codes "out") then Some (SetParent front.0 None)
+    else option_map (λ parent. SetParent front.0 (Some parent)) (parent_of_text front.1)
+
+-- `NAME TEXT`: the text is the whole rest
+unfoldable pub secret_for : (List ℕ → Option (List ℕ) → Edit) → List ℕ → Option Edit
+secret_for setting rest = parted rest >>= λ parts. option_map (λ user. setting user (Some parts.1)) (name_of parts.0)
+
+-- `login NAME`, `enable NAME` or `priv KIND NAME`
+unfoldable pub clear_of : List ℕ → Option Edit
+clear_of rest = parted rest >>= λ parts.
+    if bytes_eq parts.0 (codes "login") then option_map (λ user. SetLogin user None) (name_of parts.1)
+    else if bytes_eq parts.0 (codes "enable") then option_map (λ user. SetEnable user None) (name_of parts.1)
+    else if bytes_eq parts.0 (codes "priv") then option_map (λ subject. SetPriv subject None) (subject_of parts.1)
+    else None
+
+-- `KIND NAME LEVEL`
+unfoldable pub priv_of : List ℕ → Option Edit
+priv_of rest = subject_before rest >>= λ front. option_map (λ level. SetPriv front.0 (Some level)) (count_of front.1)
+
+-- `KIND NAME AT permit PATTERN` or `KIND NAME AT deny PATTERN`: the pattern is the whole rest
+unfoldable pub insert_of : List ℕ → Option Edit
+insert_of rest = do
+  front ← subject_before rest
+  numbered ← parted front.1
+  at ← count_of numbered.0
+  ruled ← parted numbered.1
+  verdict ← verdict_of ruled.0
+  Some (InsertRule front.0 at verdict ruled.1)
+
+-- `KIND NAME AT`
+unfoldable pub drop_of : List ℕ → Option Edit
+drop_of rest = subject_before rest >>= λ front. option_map (λ at. RemoveRule front.0 at) (count_of front.1)
+
+-- `KIND NAME FROM TO`
+unfoldable pub shift_of : List ℕ → Option Edit
+shift_of rest = do
+  front ← subject_before rest
+  parts ← parted front.1
+  from ← count_of parts.0
+  to ← count_of parts.1
+  Some (MoveRule front.0 from to)
+
+unfoldable pub edit_by : List ℕ → List ℕ → Option Edit
+edit_by word rest =
+    if bytes_eq word (codes "add") then add_of rest
+    else if bytes_eq word (codes "remove") then option_map Remove (subject_of rest)
+    else if bytes_eq word (codes "move") then move_of rest
+    else if bytes_eq word (codes "login") then secret_for SetLogin rest
+    else if bytes_eq word (codes "enable") then secret_for SetEnable rest
+    else if bytes_eq word (codes "clear") then clear_of rest
+    else if bytes_eq word (codes "priv") then priv_of rest
+    else if bytes_eq word (codes "insert") then insert_of rest
+    else if bytes_eq word (codes "drop") then drop_of rest
+    else if bytes_eq word (codes "shift") then shift_of rest
+    else None
+
+-- the edit that a line of symbols says; nothing where it is no edit
+unfoldable pub edit_of : List ℕ → Option Edit
+edit_of line = if is_text line then (parted line >>= λ parts. edit_by parts.0 parts.1) else None

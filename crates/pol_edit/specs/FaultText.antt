@@ -1,0 +1,21 @@
+-- How a refusal is printed.
+use Rattle.std.specs.Prelude.{ℕ, List, ◌++◌, codes}
+use Rattle.pol_pattern.specs.FaultText.{fault_text as pattern_fault_text}
+use Rattle.pol_edit.specs.Spelling.{subject_text}
+use Rattle.pol_edit.specs.declared.fault.EditFault.{EditFault}
+use Rattle.pol_edit.specs.declared.fault.EditFault.TheVariants.{BadEdit, NoSuch, Exists, InUse, Cycle, TooDeep, BadIndex, BadPattern, BadValue, Limit, TooManyStates, Memory}
+
+-- the kind's number and name; a bad pattern adds what is wrong with it, too many states whose
+abbrev pub fault_text : EditFault → List ℕ
+fault_text BadEdit = codes "1 BadEdit"
+fault_text NoSuch = codes "2 NoSuch"
+fault_text Exists = codes "3 Exists"
+fault_text InUse = codes "4 InUse"
+fault_text Cycle = codes "5 Cycle"
+fault_text TooDeep = codes "6 TooDeep"
+fault_text BadIndex = codes "7 BadIndex"
+fault_text (BadPattern fault) = codes "8 BadPattern " ++ pattern_fault_text fault
+fault_text BadValue = codes "9 BadValue"
+fault_text Limit = codes "10 Limit"
+fault_text (TooManyStates subject) = codes "11 TooManyStates " ++ subject_text subject
+fault_text Memory = codes "12 Memory"

@@ -1,0 +1,4 @@
+pub mod EditText
+pub mod Applying
+pub mod FaultText
+pub mod Spelling

@@ -1,0 +1,288 @@
+//! Applying an edit to a policy: the refusals in their order, and then the one change.
+
+ghost use Rattle.std.specs.Prelude.{◌≡◌, ◌⊎◌, ℕ, Ok, Err, false, nat_le, is_some, IsTrue, IfOk, IfErr, OnErr};
+ghost use Rattle.pol_pattern.specs.Reading.{pattern_of};
+ghost use Rattle.pol_text.specs.Secret.{is_secret};
+ghost use Rattle.pol_text.specs.Policy.{WellFormed, user_id, all_of};
+ghost use Rattle.pol_text.specs.Change.{has_room_below, with_login, with_enable, with_priv};
+ghost use Rattle.pol_edit.specs.declared.fault.EditFault.TheVariants.{BadValue, Memory};
+ghost use Rattle.pol_edit.specs.Applying.{Applies, has_group as group_test, added_to, removed_from, moved_in, set_in, pattern_read, is_number as number_test, inserted_in, dropped_in, shifted_in, applied};
+
+use crate::edit::Edit;
+use crate::fault::EditFault;
+use basics::Bytes;
+use pol_pattern::{Pattern, PatternFault};
+use pol_text::{ChainFault, Kind, Name, Policy, Rule, Secret, SubjectId, Verdict};
+use std::alloc::Global;
+
+// ---- fields
+
+// Whether the group is there, if one is named.
+fn has_group(policy: &Policy, parent: &Option<Name>) -> bool
+    ensures { result ≡ group_test parent.now policy.now }
+{
+    match parent {
+        Some(name) => policy.find(&SubjectId::group(*name)).is_some(),
+        None => true,
+    }
+}
+
+// Whether one more subject may stand below the group, if one is named.
+fn has_room(policy: &Policy, parent: &Option<Name>) -> bool
+    ensures { result ≡ all_of (λ name. has_room_below name policy.now) parent.now }
+{
+    match parent {
+        Some(name) => policy.has_room_below(name),
+        None => true,
+    }
+}
+
+// Whether it is the number of one of so many rules.
+fn is_number(at: u16, count: usize) -> bool
+    ensures { result ≡ number_test at count }
+{
+    at >= 1 && usize::from(at) <= count
+}
+
+fn read_pattern(alloc: Global, text: &[u8]) -> Result<Pattern, EditFault>
+    ensures ok { IfOk result (λ pattern. pattern_read (pattern_of text.now) ≡ Ok pattern) }
+    ensures err { IfErr result (λ fault. (fault ≡ Memory) ⊎ (pattern_read (pattern_of text.now) ≡ Err fault)) }
+{
+    match Pattern::read(alloc, text) {
+        Ok(pattern) => Ok(pattern),
+        Err(PatternFault::Memory) => Err(EditFault::Memory),
+        Err(fault) => Err(EditFault::BadPattern(fault)),
+    }
+}
+
+fn read_secret(alloc: Global, text: &Option<Bytes>) -> Result<Option<Secret>, EditFault>
+    ensures ok { IfOk result (λ secret. (secret ≡ text.now) × IsTrue (all_of is_secret text.now)) }
+    ensures err { IfErr result (λ fault. (fault ≡ Memory) ⊎ ((fault ≡ BadValue) × (all_of is_secret text.now ≡ false))) }
+{
+    let Some(text) = text else {
+        return Ok(None);
+    };
+    match Secret::read(alloc, text.as_slice())? {
+        Some(secret) => Ok(Some(secret)),
+        None => Err(EditFault::BadValue),
+    }
+}
+
+fn small_level(level: Option<u16>) -> Result<Option<u8>, EditFault>
+    ensures ok { IfOk result (λ small. (small ≡ level) × IsTrue (all_of (λ n. nat_le n 15) level)) }
+    ensures err { IfErr result (λ fault. (fault ≡ BadValue) × (all_of (λ n. nat_le n 15) level ≡ false)) }
+{
+    match level {
+        None => Ok(None),
+        Some(level) => {
+            if level > 15 {
+                return Err(EditFault::BadValue);
+            }
+            Ok(Some(level as u8))
+        }
+    }
+}
+
+// ---- edits
+
+#[tactic(auto, unfolding(crate::specs::Applying::added_to))]
+fn add(
+    alloc: Global,
+    policy: &mut Policy,
+    kind: Kind,
+    name: Name,
+    parent: &Option<Name>,
+) -> Result<(), EditFault>
+    ensures { Applies policy.old policy.new result (added_to policy.old kind name parent.now) }
+{
+    if !has_group(policy, parent) {
+        return Err(EditFault::NoSuch);
+    }
+    if policy.find(&SubjectId { kind, name }).is_some() {
+        return Err(EditFault::Exists);
+    }
+    if !has_room(policy, parent) {
+        return Err(EditFault::TooDeep);
+    }
+    if policy.len() >= Policy::MAX_SUBJECTS {
+        return Err(EditFault::Limit);
+    }
+    policy.add(alloc, kind, name, *parent)?;
+    Ok(())
+}
+
+#[tactic(auto, unfolding(crate::specs::Applying::removed_from))]
+fn remove(policy: &mut Policy, id: &SubjectId) -> Result<(), EditFault>
+    ensures { Applies policy.old policy.new result (removed_from policy.old id.now) }
+{
+    if policy.find(id).is_none() {
+        return Err(EditFault::NoSuch);
+    }
+    if id.kind == Kind::Group && policy.is_parent(&id.name) {
+        return Err(EditFault::InUse);
+    }
+    policy.remove(id);
+    Ok(())
+}
+
+#[tactic(auto, unfolding(crate::specs::Applying::moved_in))]
+fn set_parent(policy: &mut Policy, id: &SubjectId, parent: &Option<Name>) -> Result<(), EditFault>
+    ensures { Applies policy.old policy.new result (moved_in policy.old id.now parent.now) }
+{
+    if policy.find(id).is_none() || !has_group(policy, parent) {
+        return Err(EditFault::NoSuch);
+    }
+    match policy.set_parent(id, *parent) {
+        Ok(()) => Ok(()),
+        Err(ChainFault::Cycle) => Err(EditFault::Cycle),
+        Err(ChainFault::TooDeep) => Err(EditFault::TooDeep),
+    }
+}
+
+#[tactic(auto, unfolding(crate::specs::Applying::set_in))]
+fn set_login(
+    alloc: Global,
+    policy: &mut Policy,
+    user: Name,
+    secret: &Option<Bytes>,
+) -> Result<(), EditFault>
+    ensures { Applies policy.old policy.new result
+        (set_in policy.old (user_id user) (all_of is_secret secret.now) (with_login secret.now)) }
+{
+    let id = SubjectId::user(user);
+    if policy.find(&id).is_none() {
+        return Err(EditFault::NoSuch);
+    }
+    let secret = read_secret(alloc, secret)?;
+    policy.set_login(&id, secret);
+    Ok(())
+}
+
+#[tactic(auto, unfolding(crate::specs::Applying::set_in))]
+fn set_enable(
+    alloc: Global,
+    policy: &mut Policy,
+    user: Name,
+    secret: &Option<Bytes>,
+) -> Result<(), EditFault>
+    ensures { Applies policy.old policy.new result
+        (set_in policy.old (user_id user) (all_of is_secret secret.now) (with_enable secret.now)) }
+{
+    let id = SubjectId::user(user);
+    if policy.find(&id).is_none() {
+        return Err(EditFault::NoSuch);
+    }
+    let secret = read_secret(alloc, secret)?;
+    policy.set_enable(&id, secret);
+    Ok(())
+}
+
+#[tactic(auto, unfolding(crate::specs::Applying::set_in))]
+fn set_priv(policy: &mut Policy, id: &SubjectId, level: Option<u16>) -> Result<(), EditFault>
+    ensures { Applies policy.old policy.new result
+        (set_in policy.old id.now (all_of (λ n. nat_le n 15) level) (with_priv level)) }
+{
+    if policy.find(id).is_none() {
+        return Err(EditFault::NoSuch);
+    }
+    let level = small_level(level)?;
+    policy.set_priv(id, level);
+    Ok(())
+}
+
+#[tactic(auto, unfolding(crate::specs::Applying::inserted_in))]
+fn insert_rule(
+    alloc: Global,
+    policy: &mut Policy,
+    id: &SubjectId,
+    at: u16,
+    verdict: Verdict,
+    text: &[u8],
+) -> Result<(), EditFault>
+    ensures { Applies policy.old policy.new result (inserted_in policy.old id.now at verdict text.now) }
+{
+    let Some(subject) = policy.find(id) else {
+        return Err(EditFault::NoSuch);
+    };
+    let count = subject.rules.len();
+    if at == 0 || usize::from(at - 1) > count {
+        return Err(EditFault::BadIndex);
+    }
+    let pattern = read_pattern(alloc, text)?;
+    if count >= Policy::MAX_RULES {
+        return Err(EditFault::Limit);
+    }
+    policy.insert_rule(id, usize::from(at - 1), Rule { verdict, pattern })?;
+    Ok(())
+}
+
+#[tactic(auto, unfolding(crate::specs::Applying::dropped_in))]
+fn remove_rule(policy: &mut Policy, id: &SubjectId, at: u16) -> Result<(), EditFault>
+    ensures { Applies policy.old policy.new result (dropped_in policy.old id.now at) }
+{
+    let Some(subject) = policy.find(id) else {
+        return Err(EditFault::NoSuch);
+    };
+    if !is_number(at, subject.rules.len()) {
+        return Err(EditFault::BadIndex);
+    }
+    policy.remove_rule(id, usize::from(at - 1));
+    Ok(())
+}
+
+#[tactic(auto, unfolding(crate::specs::Applying::shifted_in))]
+fn move_rule(policy: &mut Policy, id: &SubjectId, from: u16, to: u16) -> Result<(), EditFault>
+    ensures { Applies policy.old policy.new result (shifted_in policy.old id.now from to) }
+{
+    let Some(subject) = policy.find(id) else {
+        return Err(EditFault::NoSuch);
+    };
+    let count = subject.rules.len();
+    if !is_number(from, count) || !is_number(to, count) {
+        return Err(EditFault::BadIndex);
+    }
+    policy.move_rule(id, usize::from(from - 1), usize::from(to - 1));
+    Ok(())
+}
+
+// The edit of each kind.
+#[tactic(auto, unfolding(crate::specs::Applying::applied))]
+fn make(alloc: Global, policy: &mut Policy, edit: &Edit) -> Result<(), EditFault>
+    ensures { Applies policy.old policy.new result (applied policy.old edit.now) }
+{
+    match edit {
+        Edit::AddGroup { name, parent } => add(alloc, policy, Kind::Group, *name, parent),
+        Edit::AddUser { name, parent } => add(alloc, policy, Kind::User, *name, parent),
+        Edit::Remove { subject } => remove(policy, subject),
+        Edit::SetParent { subject, parent } => set_parent(policy, subject, parent),
+        Edit::SetLogin { user, secret } => set_login(alloc, policy, *user, secret),
+        Edit::SetEnable { user, secret } => set_enable(alloc, policy, *user, secret),
+        Edit::SetPriv { subject, level } => set_priv(policy, subject, *level),
+        Edit::InsertRule {
+            subject,
+            at,
+            verdict,
+            pattern,
+        } => insert_rule(alloc, policy, subject, *at, *verdict, pattern.as_slice()),
+        Edit::RemoveRule { subject, at } => remove_rule(policy, subject, *at),
+        Edit::MoveRule { subject, from, to } => move_rule(policy, subject, *from, *to),
+    }
+}
+
+/// Applies an edit. A refused edit leaves the policy as it was, also where memory ran out.
+#[tactic(auto, using(crate::proofs::Refusals::kept))]
+pub fn apply(alloc: Global, policy: &mut Policy, edit: &Edit) -> Result<(), EditFault>
+    // Which policy it becomes, or which refusal is the first.
+    ensures exact { Applies policy.old policy.new result (applied policy.old edit.now) }
+
+    // A refusal changes nothing.
+    ensures kept { OnErr result (policy.new ≡ policy.old) }
+
+    // No edit makes a policy that isn't well formed.
+    ensures well_formed { WellFormed policy.new }
+{
+    let result = make(alloc, policy, edit);
+    // every policy is well formed: the call is for its clause
+    let _ = policy.subjects();
+    result
+}

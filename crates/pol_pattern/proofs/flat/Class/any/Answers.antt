@@ -1,0 +1,7 @@
+use Rattle.std.proofs.Common.{refl}
+use Rattle.pol_pattern.specs.Flat.{numbers_from, class_where}
+use Rattle.pol_pattern.proofs.flat.Class.any.Goals as goal
+
+pub returns : goal.returns
+unfolding class_where numbers_from
+returns c = refl

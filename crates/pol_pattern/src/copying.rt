@@ -1,0 +1,46 @@
+//! Copies of factors.
+
+ghost use Rattle.std.specs.Prelude.{◌≡◌, map, IfOk};
+ghost use Rattle.pol_pattern.specs.Flat.{factor_value, term_value};
+
+use crate::flat::{Factor, Term};
+use std::alloc::{AllocError, Global};
+
+impl Factor {
+    #[cycle(copy)]
+    pub(crate) fn copy(&self, alloc: Global) -> Result<Factor, AllocError>
+        ensures { IfOk result (λ copy. factor_value copy ≡ factor_value self.now) }
+    {
+        match self {
+            Factor::Class(class) => Ok(Factor::Class(*class)),
+            Factor::Group(terms) => Ok(Factor::Group(copy_terms(alloc, terms)?)),
+            Factor::Star(terms) => Ok(Factor::Star(copy_terms(alloc, terms)?)),
+        }
+    }
+}
+
+#[cycle(copy)]
+fn copy_terms(alloc: Global, terms: &[Term]) -> Result<Vec<Term>, AllocError>
+    ensures { IfOk result (λ copies. map (λ term. map factor_value term.items) copies.items ≡ map (λ term. map factor_value term.items) terms.now) }
+{
+    let mut copies = Vec::new(alloc);
+    for i in 0..terms.len() {
+        let mut copy = Vec::new(alloc);
+        for j in 0..terms[i].len() {
+            copy.push(terms[i][j].copy(alloc)?)?;
+        }
+        copies.push(copy)?;
+    }
+    Ok(copies)
+}
+
+/// A copy of the factors of one alternative.
+pub(crate) fn copy_term(alloc: Global, term: &[Factor]) -> Result<Term, AllocError>
+    ensures { IfOk result (λ copy. term_value copy.items ≡ term_value term.now) }
+{
+    let mut copy = Vec::new(alloc);
+    for factor in term {
+        copy.push(factor.copy(alloc)?)?;
+    }
+    Ok(copy)
+}

@@ -1,0 +1,119 @@
+//! How large the flat form of a pattern is, before it is built: a row of `+` doubles it with each.
+
+ghost use Rattle.std.specs.Prelude.{◌≡◌, ◌+◌, [], IfOk, min};
+ghost use Rattle.pol_pattern.specs.Flat.{Term as TermValue, terms_size, term_size};
+ghost use Rattle.pol_pattern.specs.Reading.{Level, fresh as fresh_level, with_atom as level_with_atom, with_repeat as level_with_repeat, with_bar as level_with_bar, finished as level_finished, build};
+ghost use Rattle.pol_pattern.specs.Sizes.{size_of, is_one_group};
+
+use crate::token::{Repeat, Token};
+use std::alloc::{AllocError, Global};
+
+/// How many factors a pattern may have.
+pub(crate) const FACTORS: usize = 400;
+
+/// Sizes are counted up to here.
+const CAP: usize = FACTORS + 1;
+
+fn capped_sum(a: usize, b: usize) -> usize
+    ensures { result ≡ min 401 (a + b) }
+{
+    a.saturating_add(b).min(CAP)
+}
+
+/// The sizes of what was read of some alternatives: of those that are done, and of the present one
+/// of the factors before its last repetition, and of that one's.
+#[derive(Clone, Copy)]
+struct Sizes {
+    done: usize,
+    before: usize,
+    last: usize,
+    last_is_group: bool,
+}
+
+impl Sizes {
+    fn fresh() -> Sizes
+        ensures { result ≡ size_of fresh_level }
+    {
+        Sizes {
+            done: 0,
+            before: 0,
+            last: 0,
+            last_is_group: false,
+        }
+    }
+
+    /// Behind one more factor.
+    fn with_factor(self, size: usize, is_group: bool) -> Sizes
+        ensures { (level : Level) (factors : TermValue) → self ≡ size_of level → size ≡ min 401 (term_size factors)
+            → is_group ≡ is_one_group factors → result ≡ size_of (level_with_atom level factors) }
+    {
+        Sizes {
+            done: self.done,
+            before: capped_sum(self.before, self.last),
+            last: size,
+            last_is_group: is_group,
+        }
+    }
+
+    fn with_repeat(self, repeat: Repeat) -> Sizes
+        ensures { (level : Level) → self ≡ size_of level → result ≡ size_of (level_with_repeat level repeat) }
+    {
+        // the alternatives of a group are starred without it
+        let star = capped_sum(self.last, usize::from(!self.last_is_group));
+        let (last, last_is_group) = match repeat {
+            Repeat::Star => (star, false),
+            Repeat::Plus => (capped_sum(self.last, star), false),
+            Repeat::Question => (capped_sum(self.last, 1), true),
+        };
+        Sizes {
+            done: self.done,
+            before: self.before,
+            last,
+            last_is_group,
+        }
+    }
+
+    fn finished(self) -> usize
+        ensures { (level : Level) → self ≡ size_of level → result ≡ min 401 (terms_size (level_finished level)) }
+    {
+        capped_sum(self.done, capped_sum(self.before, self.last))
+    }
+
+    fn with_bar(self) -> Sizes
+        ensures { (level : Level) → self ≡ size_of level → result ≡ size_of (level_with_bar level) }
+    {
+        Sizes {
+            done: self.finished(),
+            before: 0,
+            last: 0,
+            last_is_group: false,
+        }
+    }
+}
+
+/// The size of the flat form of tokens, or 401 where it is larger.
+pub(crate) fn size(alloc: Global, tokens: &[Token]) -> Result<usize, AllocError>
+    ensures { IfOk result (λ n. n ≡ min 401 (terms_size (build fresh_level [] tokens.now))) }
+{
+    let mut outer = Vec::new(alloc);
+    let mut level = Sizes::fresh();
+    'tokens: for token in tokens {
+        match token {
+            Token::Atom(_) => level = level.with_factor(1, false),
+            Token::Repeat(repeat) => level = level.with_repeat(*repeat),
+            Token::Bar => level = level.with_bar(),
+            Token::Open => {
+                outer.push(level)?;
+                level = Sizes::fresh();
+            }
+            Token::Close => {
+                let inner = level.finished();
+                let Some(around) = outer.pop() else {
+                    return Ok(inner);
+                };
+                level = around.with_factor(capped_sum(inner, 1), true);
+            }
+        }
+    }
+    Ok(level.finished())
+}

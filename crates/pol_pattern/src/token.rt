@@ -1,0 +1,25 @@
+//! The tokens of a pattern.
+
+use crate::flat::Class;
+
+/// What may stand behind an atom.
+#[derive(Clone, Copy, Debug, PartialEq, Eq)]
+pub(crate) enum Repeat {
+    /// `*`: any number of times.
+    Star,
+    /// `+`: once or more.
+    Plus,
+    /// `?`: once or not at all.
+    Question,
+}
+
+/// A part of a pattern that is read at once.
+#[derive(Clone, Copy, Debug)]
+pub(crate) enum Token {
+    /// A literal, a dot, a class, or a symbol behind a `\`: one symbol of the class.
+    Atom(Class),
+    Repeat(Repeat),
+    Bar,
+    Open,
+    Close,
+}

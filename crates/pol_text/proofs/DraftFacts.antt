@@ -1,0 +1,123 @@
+-- Subjects that come into a draft, and changes of the last.
+use Rattle.std.proofs.Common.{◌≡◌, ℕ, ◌+◌, Bool, true, false, not, cond, ◌||◌, List, [], ◌∷◌, ◌++◌, length, map, nat_le, Option, Some, Result, Ok, Err, is_some, refl, sym, ap, ◌∙◌, arith, ◌<◌, ◌≤◌}
+use Rattle.std.specs.List.{list_any}
+use Rattle.std.proofs.lemmas.Bool.Decides.{nat_tests}
+use Rattle.std.proofs.lemmas.List.{map-append}
+use Rattle.pol_text.specs.declared.subject.Kind.{Kind}
+use Rattle.pol_text.specs.declared.subject.SubjectId.{SubjectId}
+use Rattle.pol_text.specs.declared.subject.Subject.{Subject}
+use Rattle.pol_text.specs.declared.fault.PolicyRefusal.{PolicyRefusal}
+use Rattle.pol_text.specs.declared.fault.PolicyRefusal.TheVariants.{Repeated, Limit}
+use Rattle.pol_text.specs.declared.fault.PolicyFault.{PolicyFault}
+use Rattle.pol_text.specs.declared.fault.LineFault.{LineFault}
+use Rattle.pol_text.specs.declared.fault.LineFault.TheVariants as lines
+use Rattle.pol_text.specs.contracts.subject.SubjectIdPartialEq.TheImpl as derived
+use Rattle.pol_text.specs.Policy.{same_id, id_of, find_subject}
+use Rattle.pol_text.specs.Draft.{LineFails, at_place}
+use Rattle.pol_text.specs.Text.{Draft, subjects_of, new_subject, with_subject, with_present, behind_first, split_last, ◌>>=◌, with_line, with_lines, FailsUnlessMemory}
+use Rattle.pol_text.proofs.SubjectFacts.{same_is}
+
+abbrev pub ids_of : Draft → List SubjectId
+ids_of draft = map (λ entry. id_of entry.1) draft
+
+any_found : (id : SubjectId) (draft : Draft) → list_any (derived.eq-value.it id) (ids_of draft) ≡ is_some (find_subject id (subjects_of draft))
+any_found id [] = refl
+any_found id (entry ∷ rest) = rw (same_is id (id_of entry.1), any_found id rest) (by (same_id id (id_of entry.1)))
+  where
+    by : (b : Bool) → (b || is_some (find_subject id (subjects_of rest))) ≡ is_some (cond b (Some entry.1) (find_subject id (subjects_of rest)))
+    by true = refl
+    by false = refl
+
+-- whether there is such a subject is what the set says of its id
+there_is : (id : SubjectId) (draft : Draft) (keys : List SubjectId) (added : Bool) → keys ≡ ids_of draft → added ≡ not (list_any (derived.eq-value.it id) keys)
+    → added ≡ not (is_some (find_subject id (subjects_of draft)))
+there_is id draft keys added e is = is ∙ ap (λ (ids : List SubjectId). not (list_any (derived.eq-value.it id) ids)) e ∙ ap not (any_found id draft)
+
+not_false : (b : Bool) → false ≡ not b → b ≡ true
+not_false true h = refl
+not_false false h = h
+
+not_true : (b : Bool) → true ≡ not b → b ≡ false
+not_true true h = h
+not_true false h = refl
+
+pub subject_repeated : (line : ℕ) (kind : Kind) (name : List ℕ) (parent : Option (List ℕ)) (draft : Draft) (keys : List SubjectId) (added : Bool)
+    → keys ≡ ids_of draft → added ≡ not (list_any (derived.eq-value.it (record { kind = kind; name = name })) keys) → added ≡ false
+    → with_subject line kind name parent draft ≡ Err Repeated
+unfolding with_subject
+subject_repeated line kind name parent draft keys added e is old =
+    let there : is_some (find_subject (record { kind = kind; name = name }) (subjects_of draft)) ≡ true = not_false _ (sym old ∙ there_is (record { kind = kind; name = name }) draft keys added e is) in
+    rw there refl
+
+absent : (kind : Kind) (name : List ℕ) (draft : Draft) (keys : List SubjectId) (added : Bool)
+    → keys ≡ ids_of draft → added ≡ not (list_any (derived.eq-value.it (record { kind = kind; name = name })) keys) → added ≡ true
+    → is_some (find_subject (record { kind = kind; name = name }) (subjects_of draft)) ≡ false
+absent kind name draft keys added e is new = not_true _ (sym new ∙ there_is (record { kind = kind; name = name }) draft keys added e is)
+
+pub subject_over : (line : ℕ) (kind : Kind) (name : List ℕ) (parent : Option (List ℕ)) (draft : Draft) (keys : List SubjectId) (added : Bool)
+    → keys ≡ ids_of draft → added ≡ not (list_any (derived.eq-value.it (record { kind = kind; name = name })) keys) → added ≡ true → 1024 ≤ length draft
+    → with_subject line kind name parent draft ≡ Err Limit
+unfolding with_subject
+subject_over line kind name parent draft keys added e is new full =
+    let test : nat_le 1024 (length draft) ≡ true = grind (arith, nat_tests) in
+    rw (absent kind name draft keys added e is new, test) refl
+
+pub subject_added : (line : ℕ) (kind : Kind) (name : List ℕ) (parent : Option (List ℕ)) (draft : Draft) (keys : List SubjectId) (added : Bool)
+    → keys ≡ ids_of draft → added ≡ not (list_any (derived.eq-value.it (record { kind = kind; name = name })) keys) → added ≡ true → length draft < 1024
+    → with_subject line kind name parent draft ≡ Ok (draft ++ (line, new_subject kind name parent) ∷ [])
+unfolding with_subject
+subject_added line kind name parent draft keys added e is new room =
+    let test : nat_le 1024 (length draft) ≡ false = grind (arith, nat_tests) in
+    rw (absent kind name draft keys added e is new, test) refl
+
+-- ---- the last subject
+
+pub split_last-push : {A : Type 0} (front : List A) (x : A) → split_last (front ++ x ∷ []) ≡ Some (front, x)
+split_last-push [] x = refl
+split_last-push (y ∷ front) x = ap (behind_first y) (split_last-push front x)
+
+pub present_is : (change : Subject → Result Subject PolicyRefusal) (front : Draft) (line : ℕ) (subject : Subject)
+    → with_present change (front ++ (line, subject) ∷ []) ≡ (change subject >>= λ next. Ok (front ++ (line, next) ∷ []))
+unfolding with_present
+present_is change front line subject = rw (split_last-push front (line, subject)) refl
+
+LineFails-bind : {A B : Type 0} (fault : LineFault) (r : Result A PolicyRefusal) (f : A → Result B PolicyRefusal) → LineFails fault r → LineFails fault (r >>= f)
+LineFails-bind lines.Memory r f h = tt
+LineFails-bind (lines.Refused refusal) r f h = rw h refl
+
+pub present_fails : (fault : LineFault) (change : Subject → Result Subject PolicyRefusal) (draft front : Draft) (line : ℕ) (subject : Subject)
+    → draft ≡ front ++ (line, subject) ∷ [] → LineFails fault (change subject) → LineFails fault (with_present change draft)
+present_fails fault change draft front line subject e h =
+    rw (e, present_is change front line subject) (LineFails-bind fault (change subject) _ h)
+
+pub present_changed : (change : Subject → Result Subject PolicyRefusal) (draft front : Draft) (line : ℕ) (subject next : Subject)
+    → draft ≡ front ++ (line, subject) ∷ [] → change subject ≡ Ok next → with_present change draft ≡ Ok (front ++ (line, next) ∷ [])
+present_changed change draft front line subject next e h = ap (with_present change) e ∙ present_is change front line subject ∙ rw h refl
+
+-- the ids stay where the last subject keeps its own
+pub ids_kept : (keys : List SubjectId) (draft front : Draft) (line : ℕ) (subject next : Subject) → keys ≡ ids_of draft → draft ≡ front ++ (line, subject) ∷ [] → id_of next ≡ id_of subject
+    → keys ≡ ids_of (front ++ (line, next) ∷ [])
+ids_kept keys draft front line subject next is e same =
+    is ∙ ap ids_of e ∙ map-append (λ (entry : ℕ × Subject). id_of entry.1) front ((line, subject) ∷ [])
+    ∙ ap (λ (id : SubjectId). ids_of front ++ id ∷ []) (sym same) ∙ sym (map-append (λ (entry : ℕ × Subject). id_of entry.1) front ((line, next) ∷ []))
+
+-- ---- lines one after another
+
+pub lines_fail : (fault : LineFault) (number at : ℕ) (left rest : List (List ℕ)) (line : List ℕ) (draft : Draft) (total : Result Draft PolicyFault) → at ≡ number → left ≡ line ∷ rest
+    → with_lines number left draft ≡ total → LineFails fault (with_line at line draft) → FailsUnlessMemory (at_place at fault) total
+unfolding with_lines
+lines_fail lines.Memory number at left rest line draft total same e told fails = tt
+lines_fail (lines.Refused refusal) number at left rest line draft total same e told fails =
+    sym told ∙ ap (λ (ls : List (List ℕ)). with_lines number ls draft) e ∙ rw (← same, fails) refl
+
+pub lines_go_on : (number at after : ℕ) (left rest : List (List ℕ)) (line : List ℕ) (draft next : Draft) (total : Result Draft PolicyFault) → at ≡ number → left ≡ line ∷ rest
+    → with_lines number left draft ≡ total → with_line at line draft ≡ Ok next → after ≡ number + 1 → with_lines after rest next ≡ total
+unfolding with_lines
+lines_go_on number at after left rest line draft next total same e told good more =
+    let here : with_line number line draft ≡ Ok next = rw (← same) good in
+    let step : with_lines number (line ∷ rest) draft ≡ with_lines (number + 1) rest next = rw here refl in
+    rw more (sym step ∙ ap (λ (ls : List (List ℕ)). with_lines number ls draft) (sym e) ∙ told)
+
+pub lines_done : (number : ℕ) (left : List (List ℕ)) (draft : Draft) (total : Result Draft PolicyFault) → left ≡ [] → with_lines number left draft ≡ total → total ≡ Ok draft
+unfolding with_lines
+lines_done number left draft total e told = sym told ∙ ap (λ (ls : List (List ℕ)). with_lines number ls draft) e

@@ -1,0 +1,23 @@
+use Rattle.std.proofs.Common.{sym, subst₂, ◌∙◌}
+use Rattle.pol_text.proofs.Placed.{AreFields, placed, within, not_nowhere}
+use Rattle.pol_text.proofs.KeepsRemove.{removed_now, fields_removed}
+use Rattle.pol_text.proofs.policy.Policy.remove.Goals as goal
+
+pub returns-in_default : goal.returns-in_default
+returns-in_default c =
+    not_nowhere c.args.id.now c.args.self.now c.self.inside.subjects c.self.inside.places.keys c.self.view_is c.self.invariant (sym c.place_of.ensures ∙ c.in_default.is) c.requires.there
+
+pub remove-requires : goal.remove-requires
+remove-requires c = within c.args.id.now c.self.inside.subjects c.self.inside.places.keys c.in-Some.place c.self.invariant (sym c.place_of.ensures ∙ c.in-Some.is)
+
+pub invariant_of-self : goal.invariant_of-self
+invariant_of-self c =
+    let h = placed c.args.id.now c.args.self.now c.self.inside.subjects c.self.inside.places.keys c.in-Some.place c.remove.result c.self.view_is c.self.invariant
+    (sym c.place_of.ensures ∙ c.in-Some.is) (sym c.remove.ensures.item) in
+    subst₂ AreFields (sym c.remove.ensures.rest) (sym c.shift_remove_index.ensures.keys) (fields_removed h c.requires.unused)
+
+pub returns : goal.returns
+returns c =
+    let h = placed c.args.id.now c.args.self.now c.self.inside.subjects c.self.inside.places.keys c.in-Some.place c.remove.result c.self.view_is c.self.invariant
+    (sym c.place_of.ensures ∙ c.in-Some.is) (sym c.remove.ensures.item) in
+    c.remove.ensures.rest ∙ removed_now h

@@ -1,0 +1,9 @@
+pub mod Name
+pub mod Secret
+pub mod Policy
+pub mod Places
+pub mod Change
+pub mod Text
+pub mod FaultText
+pub mod Draft
+pub mod Setting

@@ -1,0 +1,10 @@
+-- Secrets: what users log in and enable with.
+use Rattle.std.specs.Prelude.{ℕ, List, length, Bool, ◌&&◌, nat_lt, nat_le, Option, Some, None, if◌then◌else◌}
+use Rattle.basics.specs.Symbol.{is_text}
+
+-- 1 to 128 symbols
+abbrev pub is_secret : List ℕ → Bool
+is_secret text = nat_lt 0 (length text) && nat_le (length text) 128 && is_text text
+
+abbrev pub secret_of : List ℕ → Option (List ℕ)
+secret_of text = if is_secret text then Some text else None

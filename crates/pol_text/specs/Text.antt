@@ -1,0 +1,233 @@
+-- The text of a policy: which policy its lines make, or the first refusal and its line
+-- (docs/POLICY.md).
+use Rattle.std.specs.Prelude.{◌≡◌, ℕ, ◌+◌, List, [], ◌∷◌, ◌++◌, length, map, find, codes, Bool, true, not, ◌&&◌, nat_le, nat_eq, is_some, ok_or, Option, Some, None, Result, Ok, Err, if◌then◌else◌}
+use Rattle.std.specs.Option.{option_and_then, option_map_or}
+use Rattle.std.specs.Str.{bytes_eq}
+use Rattle.std.specs.Fmt.{decimal}
+use Rattle.basics.specs.Symbol.{is_text}
+use Rattle.basics.specs.Lines.{split_at_first, without_leading_spaces, lines_of}
+use Rattle.basics.specs.Number.{number_of}
+use Rattle.pol_pattern.specs.Reading.{pattern_of}
+use Rattle.pol_pattern.specs.declared.fault.PatternFault.{PatternFault}
+use Rattle.pol_text.specs.Name.{name_of}
+use Rattle.pol_text.specs.Secret.{secret_of}
+use Rattle.pol_text.specs.Policy.{same_kind, find_subject, has_parent, ends_within}
+use Rattle.pol_text.specs.declared.subject.Kind.{Kind}
+use Rattle.pol_text.specs.declared.subject.Kind.TheVariants.{Group, User}
+use Rattle.pol_text.specs.declared.subject.Verdict.{Verdict}
+use Rattle.pol_text.specs.declared.subject.Verdict.TheVariants.{Permit, Deny}
+use Rattle.pol_text.specs.declared.subject.Rule.{Rule}
+use Rattle.pol_text.specs.declared.subject.Subject.{Subject}
+use Rattle.pol_text.specs.declared.fault.PolicyRefusal.{PolicyRefusal}
+use Rattle.pol_text.specs.declared.fault.PolicyRefusal.TheVariants.{BadLine, BadName, Repeated, NoSubject, BadPattern, BadValue, NoSuchParent, Cycle, TooDeep, Limit}
+use Rattle.pol_text.specs.declared.fault.PolicyFault.{PolicyFault}
+use Rattle.pol_text.specs.declared.fault.PolicyFault.TheVariants.{Refused, Memory}
+
+infixl 10 ◌>>=◌
+abbrev pub ◌>>=◌ : {A B E : Type 0} → Result A E → (A → Result B E) → Result B E
+(Ok x) >>= f = f x
+(Err e) >>= f = Err e
+
+-- subjects in order, each with the line that it begins at
+abbrev pub Draft : Type 0
+Draft = List (ℕ × Subject)
+
+abbrev pub subjects_of : Draft → List Subject
+subjects_of draft = map (λ entry. entry.1) draft
+
+-- ---- a line that begins a subject
+
+abbrev pub named : List ℕ → Result (List ℕ) PolicyRefusal
+named text = ok_or (name_of text) BadName
+
+-- the text is one field: it has no space
+abbrev pub is_field : List ℕ → Bool
+is_field text = not (is_some (split_at_first 32 text))
+
+-- `in PARENT`, behind the name
+unfoldable pub with_parent : List ℕ → List ℕ → Result (List ℕ × Option (List ℕ)) PolicyRefusal
+with_parent name rest = do
+  parts ← ok_or (split_at_first 32 rest) BadLine
+  if bytes_eq parts.0 (codes "in") && is_field parts.1 then (named name >>= λ name. named parts.1 >>= λ parent. Ok (name, Some parent)) else Err BadLine
+
+-- `NAME` or `NAME in PARENT`, split at its first space
+unfoldable pub heading : List ℕ → Option (List ℕ × List ℕ) → Result (List ℕ × Option (List ℕ)) PolicyRefusal
+heading rest None = named rest >>= λ name. Ok (name, None)
+heading rest (Some parts) = with_parent parts.0 parts.1
+
+abbrev pub new_subject : Kind → List ℕ → Option (List ℕ) → Subject
+new_subject kind name parent =
+    record { kind = kind; name = name; parent = parent; login = None; enable = None; priv_lvl = None; rules = [] }
+
+-- a new subject goes last; a policy has at most 1,024
+unfoldable pub with_subject : ℕ → Kind → List ℕ → Option (List ℕ) → Draft → Result Draft PolicyRefusal
+with_subject line kind name parent draft =
+    if is_some (find_subject (record { kind = kind; name = name }) (subjects_of draft)) then Err Repeated
+    else if nat_le 1024 (length draft) then Err Limit
+    else Ok (draft ++ (line, new_subject kind name parent) ∷ [])
+
+-- ---- a line of the present subject, which is the last
+
+-- one more before the first of those
+abbrev pub behind_first : {A : Type 0} → A → Option (List A × A) → Option (List A × A)
+behind_first x None = Some ([], x)
+behind_first x (Some parts) = Some (x ∷ parts.0, parts.1)
+
+-- the last of a list, and those before it
+abbrev pub split_last : {A : Type 0} → List A → Option (List A × A)
+split_last [] = None
+split_last (x ∷ xs) = behind_first x (split_last xs)
+
+-- what a line makes of the present subject
+unfoldable pub with_present : (Subject → Result Subject PolicyRefusal) → Draft → Result Draft PolicyRefusal
+with_present change draft = do
+  parts ← ok_or (split_last draft) NoSubject
+  subject ← change parts.1.1
+  Ok (parts.0 ++ (parts.1.0, subject) ∷ [])
+
+-- a setting that isn't there yet
+abbrev pub set_once : {A : Type 0} → Option A → Option A → (A → Subject) → Result Subject PolicyRefusal
+set_once (Some old) value change = Err Repeated
+set_once None None change = Err BadValue
+set_once None (Some value) change = Ok (change value)
+
+abbrev pub with_login : List ℕ → Subject → Result Subject PolicyRefusal
+with_login text subject =
+    if same_kind subject.kind Group then Err BadLine
+    else set_once subject.login (secret_of text) (λ secret. record subject { login = Some secret })
+
+abbrev pub with_enable : List ℕ → Subject → Result Subject PolicyRefusal
+with_enable text subject =
+    if same_kind subject.kind Group then Err BadLine
+    else set_once subject.enable (secret_of text) (λ secret. record subject { enable = Some secret })
+
+-- 1 to 4 digits, 0 to 15
+abbrev pub level_of : List ℕ → Option ℕ
+level_of text = option_and_then (λ level. if nat_le level 15 then Some level else None) (number_of 4 text)
+
+abbrev pub with_priv : List ℕ → Subject → Result Subject PolicyRefusal
+with_priv text subject = set_once subject.priv_lvl (level_of text) (λ level. record subject { priv_lvl = Some level })
+
+abbrev pub pattern_read : List ℕ → Result (List ℕ) PolicyRefusal
+pattern_read text = refusing (pattern_of text)
+  where
+    refusing : Result (List ℕ) PatternFault → Result (List ℕ) PolicyRefusal
+    refusing (Ok source) = Ok source
+    refusing (Err fault) = Err (BadPattern fault)
+
+-- a rule goes last; a subject has at most 256
+unfoldable pub with_rule : Verdict → List ℕ → Subject → Result Subject PolicyRefusal
+with_rule verdict text subject =
+    pattern_read text >>= λ pattern. if nat_le 256 (length subject.rules) then Err Limit
+    else Ok (record subject { rules = subject.rules ++ record { verdict = verdict; pattern = pattern } ∷ [] })
+
+-- ---- lines
+
+-- the policy after a line of this first word, which a space follows
+unfoldable pub with_words : ℕ → List ℕ → List ℕ → Draft → Result Draft PolicyRefusal
+with_words number word rest draft =
+    if bytes_eq word (codes "group") then (heading rest (split_at_first 32 rest) >>= λ ids. with_subject number Group ids.0 ids.1 draft)
+    else if bytes_eq word (codes "user") then (heading rest (split_at_first 32 rest) >>= λ ids. with_subject number User ids.0 ids.1 draft)
+    else if bytes_eq word (codes "login") then with_present (with_login rest) draft
+    else if bytes_eq word (codes "enable") then with_present (with_enable rest) draft
+    else if bytes_eq word (codes "priv") then (if is_field rest then with_present (with_priv rest) draft else Err BadLine)
+    else if bytes_eq word (codes "permit") then with_present (with_rule Permit rest) draft
+    else if bytes_eq word (codes "deny") then with_present (with_rule Deny rest) draft
+    else Err BadLine
+
+-- an empty line, or one that begins with `#`
+abbrev pub is_blank : List ℕ → Bool
+is_blank [] = true
+is_blank (byte ∷ bytes) = nat_eq byte 35
+
+unfoldable pub with_trimmed : ℕ → List ℕ → Draft → Result Draft PolicyRefusal
+with_trimmed number line draft =
+    if is_blank line then Ok draft
+    else (ok_or (split_at_first 32 line) BadLine >>= λ parts. with_words number parts.0 parts.1 draft)
+
+-- the policy after one more line: it has symbols alone, and its leading spaces are dropped
+unfoldable pub with_line : ℕ → List ℕ → Draft → Result Draft PolicyRefusal
+with_line number line draft = if is_text line then with_trimmed number (without_leading_spaces line) draft else Err BadLine
+
+-- a refusal with the line that it is at
+abbrev pub at_line : {A : Type 0} → ℕ → Result A PolicyRefusal → Result A PolicyFault
+at_line number (Ok x) = Ok x
+at_line number (Err refusal) = Err (Refused number refusal)
+
+-- the policy after these lines, of which the first has this number; the first faulty line decides
+unfoldable pub with_lines : ℕ → List (List ℕ) → Draft → Result Draft PolicyFault
+with_lines number [] draft = Ok draft
+with_lines number (line ∷ lines) draft = at_line number (with_line number line draft) >>= λ next. with_lines (number + 1) lines next
+
+-- ---- whole texts
+
+-- the first subject that fails a test is refused, at its line
+unfoldable pub checked : (Subject → Bool) → PolicyRefusal → Draft → Result Draft PolicyFault
+checked test refusal draft =
+    option_map_or (λ entry. Err (Refused entry.0 refusal)) (find (λ entry. not (test entry.1)) draft) (Ok draft)
+
+-- each over all subjects in order: its parent is a group of the policy; its chain ends, and so has no
+-- subject twice; its chain ends within 8
+unfoldable pub with_right_chains : Draft → Result (List Subject) PolicyFault
+with_right_chains draft =
+    checked (has_parent (subjects_of draft)) NoSuchParent draft
+    >>= checked (ends_within (length draft) (subjects_of draft)) Cycle
+    >>= checked (ends_within 8 (subjects_of draft)) TooDeep
+    >>= λ draft. Ok (subjects_of draft)
+
+-- the policy that a text says, or the first refusal with its line
+unfoldable pub policy_of : List ℕ → Result (List Subject) PolicyFault
+policy_of text = with_lines 1 (lines_of text) [] >>= with_right_chains
+
+-- ---- the printed form
+
+abbrev pub kind_word : Kind → List ℕ
+kind_word Group = codes "group "
+kind_word User = codes "user "
+
+abbrev pub verdict_word : Verdict → List ℕ
+verdict_word Permit = codes "permit "
+verdict_word Deny = codes "deny "
+
+abbrev pub heading_line : Subject → List ℕ
+heading_line subject = kind_word subject.kind ++ subject.name ++ option_map_or (λ parent. codes " in " ++ parent) subject.parent []
+
+-- a line where there is a value
+abbrev pub line_for : {A : Type 0} → (A → List ℕ) → Option A → List (List ℕ)
+line_for line None = []
+line_for line (Some value) = line value ∷ []
+
+abbrev pub rule_line : Rule → List ℕ
+rule_line rule = verdict_word rule.verdict ++ rule.pattern
+
+-- its line, then `login`, `enable`, `priv` where set, then its rules
+abbrev pub subject_lines : Subject → List (List ℕ)
+subject_lines subject =
+    heading_line subject ∷ (line_for (λ secret. codes "login " ++ secret) subject.login
+    ++ line_for (λ secret. codes "enable " ++ secret) subject.enable
+    ++ line_for (λ level. codes "priv " ++ decimal level) subject.priv_lvl
+    ++ map rule_line subject.rules)
+
+abbrev pub policy_lines : List Subject → List (List ℕ)
+policy_lines [] = []
+policy_lines (subject ∷ rest) = subject_lines subject ++ policy_lines rest
+
+-- every line with its LF
+abbrev pub text_of_lines : List (List ℕ) → List ℕ
+text_of_lines [] = []
+text_of_lines (line ∷ lines) = line ++ 10 ∷ text_of_lines lines
+
+unfoldable pub text_of : List Subject → List ℕ
+text_of policy = text_of_lines (policy_lines policy)
+
+-- ---- what a function returned, against what was wanted
+
+-- the fault is the wanted one, or memory ran out
+abbrev pub FailsUnlessMemory : {Y : Type 0} → PolicyFault → Result Y PolicyFault → Type 0
+FailsUnlessMemory Memory wanted = Unit {0}
+FailsUnlessMemory (Refused line refusal) wanted = wanted ≡ Err (Refused line refusal)
+
+-- the result, seen by view, is the wanted one, unless memory ran out
+abbrev pub IsUnlessMemory : {X Y : Type 0} → (X → Y) → Result X PolicyFault → Result Y PolicyFault → Type 0
+IsUnlessMemory view (Ok x) wanted = wanted ≡ Ok (view x)
+IsUnlessMemory view (Err fault) wanted = FailsUnlessMemory fault wanted

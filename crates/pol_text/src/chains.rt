@@ -1,0 +1,83 @@
+//! Look-ups and chains over a list of subjects, which may be no policy yet.
+
+ghost use Rattle.std.specs.Prelude.{◌≡◌, map, IfOk};
+ghost use Rattle.std.specs.Option.{option_copied};
+ghost use Rattle.pol_text.specs.Policy.{id_of, find_subject, parent_of as parent_among, ends_within as chain_ends_within, chain_within};
+
+use crate::subject::{Subject, SubjectId};
+use basics::Sequence;
+use indexmap::IndexSet;
+use std::alloc::{AllocError, Global};
+
+/// The subject of this kind and name. A hash look-up.
+pub(crate) fn find_in<'a>(
+    subjects: &'a Sequence<Subject>,
+    places: &IndexSet<SubjectId>,
+    id: &SubjectId,
+) -> Option<&'a Subject>
+    requires { places.now.keys ≡ map id_of subjects.now }
+    ensures { option_copied result ≡ find_subject id.now subjects.now }
+{
+    let Some(place) = places.get_index_of(id) else {
+        return None;
+    };
+    subjects.as_slice().get(place)
+}
+
+/// The group that the subject belongs to.
+pub(crate) fn parent_in<'a>(
+    subjects: &'a Sequence<Subject>,
+    places: &IndexSet<SubjectId>,
+    subject: &Subject,
+) -> Option<&'a Subject>
+    requires { places.now.keys ≡ map id_of subjects.now }
+    ensures { option_copied result ≡ parent_among subjects.now subject.now }
+{
+    let Some(parent) = subject.parent else {
+        return None;
+    };
+    find_in(subjects, places, &SubjectId::group(parent))
+}
+
+/// Whether the subject, its parent, that one's parent and so on are at most so many.
+pub(crate) fn ends_within(
+    subjects: &Sequence<Subject>,
+    places: &IndexSet<SubjectId>,
+    most: usize,
+    subject: &Subject,
+) -> bool
+    requires { places.now.keys ≡ map id_of subjects.now }
+    ensures { result ≡ chain_ends_within most subjects.now subject.now }
+{
+    let mut present = subject;
+    'chain: for _ in 0..most {
+        match parent_in(subjects, places, present) {
+            Some(parent) => present = parent,
+            None => return true,
+        }
+    }
+    false
+}
+
+/// The kinds and names of the subject, its parent, that one's parent and so on, at most so many.
+pub(crate) fn ids_within(
+    alloc: Global,
+    subjects: &Sequence<Subject>,
+    places: &IndexSet<SubjectId>,
+    most: usize,
+    subject: &Subject,
+) -> Result<Sequence<SubjectId>, AllocError>
+    requires { places.now.keys ≡ map id_of subjects.now }
+    ensures { IfOk result (λ ids. ids ≡ map id_of (chain_within most subjects.now subject.now)) }
+{
+    let mut ids = Sequence::new(alloc);
+    let mut present = subject;
+    'chain: for _ in 0..most {
+        ids.push(present.id())?;
+        match parent_in(subjects, places, present) {
+            Some(parent) => present = parent,
+            None => return Ok(ids),
+        }
+    }
+    Ok(ids)
+}

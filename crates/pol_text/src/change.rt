@@ -1,0 +1,248 @@
+//! Changes of a policy, each of which keeps it well formed.
+
+ghost use Rattle.std.specs.Prelude.{◌≡◌, ◌<◌, ◌≤◌, ◌∷◌, ◌++◌, ◌&&◌, [], length, map, position, slice_get, nat_lt, nat_le, false, is_some, IsTrue, Ok, Err, None, OnOk, OnErr};
+ghost use Rattle.std.specs.List.{list_all};
+ghost use Rattle.std.specs.Option.{option_map_or, option_copied};
+ghost use Rattle.std.specs.Result.{result_err};
+ghost use Rattle.pol_text.specs.Name.{is_name};
+ghost use Rattle.pol_text.specs.Secret.{is_secret};
+ghost use Rattle.pol_text.specs.Policy.{same_id, id_of, group_id, find_subject, ends_within as ends_test, all_of, is_right_rule};
+ghost use Rattle.pol_text.specs.Change.{with_changed, without, is_parent, has_room_below, chain_fault, with_parent, with_login, with_enable, with_priv, with_rule_at, without_rule_at, with_rule_moved};
+ghost use Rattle.pol_text.specs.Places.{changed_at};
+ghost use Rattle.pol_text.specs.Text.{new_subject};
+ghost use Rattle.pol_text.specs.declared.subject.Kind.TheVariants.{Group, User};
+
+use crate::chains::ends_within;
+use crate::fault::ChainFault;
+use crate::name::Name;
+use crate::policy::Policy;
+use crate::secret::Secret;
+use crate::subject::{Kind, Rule, Subject, SubjectId};
+use basics::Sequence;
+use indexmap::IndexSet;
+use std::alloc::{AllocError, Global};
+
+// Where the subject stands among all subjects, counted from 0.
+fn place_of(places: &IndexSet<SubjectId>, id: &SubjectId) -> Option<usize>
+    ensures { result ≡ position (same_id id.now) places.now.keys }
+{
+    places.get_index_of(id)
+}
+
+// By its type a name is right, and so are a secret and a rule's pattern. These only say so.
+fn see_name(name: &Name)
+    ensures { IsTrue (is_name name.now) }
+{
+    let _ = name.as_slice();
+}
+
+fn see_secret(secret: &Option<Secret>)
+    ensures { IsTrue (all_of is_secret secret.now) }
+{
+    if let Some(secret) = secret {
+        let _ = secret.as_slice();
+    }
+}
+
+fn see_rule(rule: &Rule)
+    ensures { IsTrue (is_right_rule rule.now) }
+{
+    let _ = rule.pattern.source();
+}
+
+// Puts the subject at the place below another group, and returns the one that it was below.
+fn put_parent(subjects: &mut Sequence<Subject>, place: usize, parent: Option<Name>) -> Option<Name>
+    requires { place < length subjects.old }
+    ensures changed { subjects.new ≡ changed_at place (with_parent parent) subjects.old }
+    ensures former { result ≡ option_map_or (λ subject. subject.parent) (slice_get subjects.old place) None }
+{
+    let subject = subjects.get_mut(place)?;
+    let former = subject.parent;
+    subject.parent = parent;
+    former
+}
+
+// Whether each chain has at most so many subjects.
+fn all_end_within(subjects: &Sequence<Subject>, places: &IndexSet<SubjectId>, most: usize) -> bool
+    requires { places.now.keys ≡ map id_of subjects.now }
+    ensures { result ≡ list_all (ends_test most subjects.now) subjects.now }
+{
+    subjects
+        .as_slice()
+        .iter()
+        .all(|subject| ends_within(subjects, places, most, subject))
+}
+
+// What is wrong with the chains. The walk along a chain that doesn't end stops after as many steps
+// as there are subjects, and the first such chain is the last that is looked at.
+fn chain_fault_of(subjects: &Sequence<Subject>, places: &IndexSet<SubjectId>) -> Option<ChainFault>
+    requires { places.now.keys ≡ map id_of subjects.now }
+    ensures { result ≡ chain_fault subjects.now }
+{
+    if !all_end_within(subjects, places, subjects.len()) {
+        return Some(ChainFault::Cycle);
+    }
+    if !all_end_within(subjects, places, Policy::MAX_CHAIN) {
+        return Some(ChainFault::TooDeep);
+    }
+    None
+}
+
+impl Policy {
+    /// Adds a subject without secrets and rules at the end. Amortised constant time.
+    pub fn add(
+        &mut self,
+        alloc: Global,
+        kind: Kind,
+        name: Name,
+        parent: Option<Name>,
+    ) -> Result<(), AllocError>
+        requires absent { find_subject (record { kind = kind; name = name }) self.old ≡ None }
+        requires room { length self.old < 1024 }
+        requires below { IsTrue (all_of (λ group. has_room_below group self.old) parent) }
+        ensures ok { OnOk result (self.new ≡ self.old ++ new_subject kind name parent ∷ []) }
+        ensures err { OnErr result (self.new ≡ self.old) }
+    {
+        see_name(&name);
+        self.places.reserve(1)?;
+        let subject = Subject {
+            kind,
+            name,
+            parent,
+            login: None,
+            enable: None,
+            priv_lvl: None,
+            rules: Sequence::new(alloc),
+        };
+        self.subjects.push(subject)?;
+        // there is room, so it is added
+        self.places.insert(SubjectId { kind, name })?;
+        Ok(())
+    }
+
+    /// Takes a user out, or a group that is no parent. Linear.
+    pub fn remove(&mut self, id: &SubjectId)
+        requires there { IsTrue (is_some (find_subject id.now self.old)) }
+        requires unused { id.now.kind ≡ Group → is_parent id.now.name self.old ≡ false }
+        ensures { self.new ≡ without id.now self.old }
+    {
+        let Some(place) = place_of(&self.places, id) else {
+            return;
+        };
+        let _ = self.subjects.remove(place);
+        let _ = self.places.shift_remove_index(place);
+    }
+
+    /// Puts a subject below another group, or below none. Where a chain then doesn't end, or has
+    /// more than 8 subjects, nothing changes.
+    pub fn set_parent(&mut self, id: &SubjectId, parent: Option<Name>) -> Result<(), ChainFault>
+        requires there { IsTrue (is_some (find_subject id.now self.old)) }
+        requires group { IsTrue (all_of (λ name. is_some (find_subject (group_id name) self.old)) parent) }
+        ensures fault { result_err result ≡ chain_fault (with_changed id.now (with_parent parent) self.old) }
+        ensures ok { OnOk result (self.new ≡ with_changed id.now (with_parent parent) self.old) }
+        ensures err { OnErr result (self.new ≡ self.old) }
+    {
+        let Some(place) = place_of(&self.places, id) else {
+            return Ok(());
+        };
+        let former = put_parent(&mut self.subjects, place, parent);
+        if let Some(fault) = chain_fault_of(&self.subjects, &self.places) {
+            put_parent(&mut self.subjects, place, former);
+            return Err(fault);
+        }
+        Ok(())
+    }
+
+    /// Gives a user another secret to log in with, or none.
+    pub fn set_login(&mut self, id: &SubjectId, secret: Option<Secret>)
+        requires there { IsTrue (is_some (find_subject id.now self.old)) }
+        requires user { id.now.kind ≡ User }
+        ensures { self.new ≡ with_changed id.now (with_login secret) self.old }
+    {
+        see_secret(&secret);
+        let Some(place) = place_of(&self.places, id) else {
+            return;
+        };
+        let Some(subject) = self.subjects.get_mut(place) else {
+            return;
+        };
+        subject.login = secret;
+    }
+
+    /// Gives a user another secret to enable with, or none.
+    pub fn set_enable(&mut self, id: &SubjectId, secret: Option<Secret>)
+        requires there { IsTrue (is_some (find_subject id.now self.old)) }
+        requires user { id.now.kind ≡ User }
+        ensures { self.new ≡ with_changed id.now (with_enable secret) self.old }
+    {
+        see_secret(&secret);
+        let Some(place) = place_of(&self.places, id) else {
+            return;
+        };
+        let Some(subject) = self.subjects.get_mut(place) else {
+            return;
+        };
+        subject.enable = secret;
+    }
+
+    /// Gives a subject another privilege level, or none.
+    pub fn set_priv(&mut self, id: &SubjectId, level: Option<u8>)
+        requires there { IsTrue (is_some (find_subject id.now self.old)) }
+        requires small { IsTrue (all_of (λ n. nat_le n 15) level) }
+        ensures { self.new ≡ with_changed id.now (with_priv level) self.old }
+    {
+        let Some(place) = place_of(&self.places, id) else {
+            return;
+        };
+        let Some(subject) = self.subjects.get_mut(place) else {
+            return;
+        };
+        subject.priv_lvl = level;
+    }
+
+    /// Puts a rule at a place among a subject's rules, counted from 0; those from there on move up.
+    pub fn insert_rule(&mut self, id: &SubjectId, at: usize, rule: Rule) -> Result<(), AllocError>
+        requires { IsTrue (option_map_or (λ subject. nat_le at (length subject.rules) && nat_lt (length subject.rules) 256) (find_subject id.now self.old) false) }
+        ensures ok { OnOk result (self.new ≡ with_changed id.now (with_rule_at at rule) self.old) }
+        ensures err { OnErr result (self.new ≡ self.old) }
+    {
+        see_rule(&rule);
+        let Some(place) = place_of(&self.places, id) else {
+            return Ok(());
+        };
+        let Some(subject) = self.subjects.get_mut(place) else {
+            return Ok(());
+        };
+        subject.rules.insert(at, rule)?;
+        Ok(())
+    }
+
+    /// Takes the rule at a place, counted from 0, out of a subject's rules.
+    pub fn remove_rule(&mut self, id: &SubjectId, at: usize)
+        requires { IsTrue (option_map_or (λ subject. nat_lt at (length subject.rules)) (find_subject id.now self.old) false) }
+        ensures { self.new ≡ with_changed id.now (without_rule_at at) self.old }
+    {
+        let Some(place) = place_of(&self.places, id) else {
+            return;
+        };
+        let Some(subject) = self.subjects.get_mut(place) else {
+            return;
+        };
+        let _ = subject.rules.remove(at);
+    }
+
+    /// Takes the rule at a place, counted from 0, out of a subject's rules, and puts it so that it
+    /// stands at another.
+    pub fn move_rule(&mut self, id: &SubjectId, from: usize, to: usize)
+        requires { IsTrue (option_map_or (λ subject. nat_lt from (length subject.rules) && nat_lt to (length subject.rules)) (find_subject id.now self.old) false) }
+        ensures { self.new ≡ with_changed id.now (with_rule_moved from to) self.old }
+    {
+        let Some(place) = place_of(&self.places, id) else {
+            return;
+        };
+        let Some(subject) = self.subjects.get_mut(place) else {
+            return;
+        };
+        subject.rules.move_item(from, to);
+    }
+}

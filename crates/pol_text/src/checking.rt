@@ -1,0 +1,143 @@
+//! Whether the chains of a draft are right, and the policy that it then is.
+
+ghost use Rattle.std.specs.Prelude.{◌≡◌, ◌<◌, ◌≤◌, ℕ, Ok, Err, length, map, slice_index, IfOk, IfSome, MatchResult};
+ghost use Rattle.std.specs.Option.{option_map_or};
+ghost use Rattle.pol_text.specs.Draft.{RightDraft, first_failing};
+ghost use Rattle.pol_text.specs.Policy.{WellFormed, id_of, has_parent as parent_test, ends_within as chain_ends_within};
+ghost use Rattle.pol_text.specs.Text.{Draft as DraftValue, IsUnlessMemory, subjects_of, with_right_chains, policy_of};
+ghost use Rattle.pol_text.specs.declared.fault.PolicyFault.TheVariants.{Refused};
+ghost use Rattle.pol_text.specs.declared.fault.PolicyRefusal.{PolicyRefusal as RefusalValue};
+
+use crate::chains::{ends_within, find_in};
+use crate::draft::{Draft, Parts};
+use crate::fault::{PolicyFault, PolicyRefusal};
+use crate::policy::Policy;
+use crate::reading::read_lines;
+use crate::subject::{Subject, SubjectId};
+use basics::Sequence;
+use indexmap::IndexSet;
+use std::alloc::Global;
+
+// The place of the first subject whose parent isn't among the subjects.
+fn first_orphan(subjects: &Sequence<Subject>, places: &IndexSet<SubjectId>) -> Option<usize>
+    requires { places.now.keys ≡ map id_of subjects.now }
+    ensures { result ≡ first_failing 0 (parent_test subjects.now) subjects.now }
+{
+    'subjects: for (i, subject) in subjects.as_slice().iter().enumerate() {
+        if !has_parent(subjects, places, subject) {
+            return Some(i);
+        }
+    }
+    None
+}
+
+// Whether the subject's parent, if it has one, is among the subjects.
+fn has_parent(subjects: &Sequence<Subject>, places: &IndexSet<SubjectId>, subject: &Subject) -> bool
+    requires { places.now.keys ≡ map id_of subjects.now }
+    ensures { result ≡ parent_test subjects.now subject.now }
+{
+    match subject.parent {
+        Some(parent) => find_in(subjects, places, &SubjectId::group(parent)).is_some(),
+        None => true,
+    }
+}
+
+// The place of the first subject whose chain has more subjects than so many.
+fn first_longer(
+    subjects: &Sequence<Subject>,
+    places: &IndexSet<SubjectId>,
+    most: usize,
+) -> Option<usize>
+    requires { places.now.keys ≡ map id_of subjects.now }
+    ensures { result ≡ first_failing 0 (chain_ends_within most subjects.now) subjects.now }
+{
+    'subjects: for (i, subject) in subjects.as_slice().iter().enumerate() {
+        if !ends_within(subjects, places, most, subject) {
+            return Some(i);
+        }
+    }
+    None
+}
+
+// The subject at the place is refused, if there is one.
+fn refuse(
+    lines: &[usize],
+    failing: Option<usize>,
+    refusal: PolicyRefusal,
+) -> Result<(), PolicyFault>
+    requires { IfSome failing (λ place. place < length lines.now) }
+    ensures { result ≡ option_map_or (λ place. Err (PolicyFault.Refused (slice_index lines.now place) refusal)) failing (Ok tt) }
+{
+    match failing {
+        Some(place) => Err(PolicyFault::Refused {
+            line: lines[place],
+            refusal,
+        }),
+        None => Ok(()),
+    }
+}
+
+// Each over all subjects in order: its parent is among them, its chain ends, and ends within 8.
+fn check_chains(parts: &Parts) -> Result<(), PolicyFault>
+    requires places { parts.now.places.keys ≡ map id_of parts.now.subjects }
+    requires sizes { length parts.now.lines.items ≡ length parts.now.subjects }
+    ensures { (draft : DraftValue) → parts.now.lines.items ≡ map (λ entry. entry.0) draft → parts.now.subjects ≡ subjects_of draft
+        → MatchResult result (λ _. with_right_chains draft ≡ Ok parts.now.subjects) (λ fault. with_right_chains draft ≡ Err fault) }
+{
+    let Parts {
+        lines,
+        subjects,
+        places,
+    } = parts;
+    let orphan = first_orphan(subjects, places);
+    refuse(lines, orphan, PolicyRefusal::NoSuchParent)?;
+    let endless = first_longer(subjects, places, subjects.len());
+    refuse(lines, endless, PolicyRefusal::Cycle)?;
+    let deep = first_longer(subjects, places, Policy::MAX_CHAIN);
+    refuse(lines, deep, PolicyRefusal::TooDeep)?;
+    Ok(())
+}
+
+// The policy that the draft is.
+fn finish(alloc: Global, draft: Draft) -> Result<Policy, PolicyFault>
+    requires { RightDraft draft }
+    ensures { IsUnlessMemory (λ policy. policy) result (with_right_chains draft) }
+{
+    let parts = draft.into_parts(alloc)?;
+    check_chains(&parts)?;
+    let Parts {
+        subjects,
+        places,
+        ..
+    } = parts;
+    Ok(Policy { subjects, places })
+}
+
+// The policy that a text says.
+#[tactic(auto, unfolding(crate::specs::Text::policy_of))]
+fn read_policy(alloc: Global, text: &[u8]) -> Result<Policy, PolicyFault>
+    ensures exact { IsUnlessMemory (λ policy. policy) result (policy_of text.now) }
+    ensures well_formed { IfOk result WellFormed }
+{
+    let draft = read_lines(alloc, text)?;
+    finish(alloc, draft)
+}
+
+impl Policy {
+    /// Reads a policy's text (docs/POLICY.md): the policy that it says, or the first fault with its
+    /// line.
+    ///
+    /// A line of a subject takes no look-up, a line that begins one takes one hash look-up, and the
+    /// chains of what is accepted have at most 8 subjects. So an accepted text takes expected time
+    /// linear in its length, up to a logarithm. A refused one takes at most 1,024 look-ups more for
+    /// each of its subjects.
+    pub fn read(alloc: Global, text: &[u8]) -> Result<Policy, PolicyFault>
+        ensures exact { IsUnlessMemory (λ policy. policy) result (policy_of text.now) }
+        ensures well_formed { IfOk result WellFormed }
+
+        // The line of a refusal is one of the text's.
+        ensures place { (line : ℕ) (refusal : RefusalValue) → result ≡ Err (Refused line refusal) → line ≤ length text.now }
+    {
+        read_policy(alloc, text)
+    }
+}

@@ -1,0 +1,147 @@
+//! Reading a policy's text, line by line.
+
+ghost use Rattle.std.specs.Prelude.{◌≡◌, [], Ok, Err};
+ghost use Rattle.basics.specs.Lines.{split_at_first, lines_of};
+ghost use Rattle.pol_text.specs.Draft.{LineGives, at_place};
+ghost use Rattle.pol_text.specs.Text.{IsUnlessMemory, named as name_wanted, is_field as field_test, with_parent, heading as heading_wanted, with_words, with_trimmed, with_line, with_lines};
+
+use crate::draft::Draft;
+use crate::fault::{LineFault, PolicyFault, PolicyRefusal};
+use crate::name::Name;
+use crate::setting::Setting;
+use crate::subject::{Kind, Verdict};
+use basics::{Lines, is_text, split_once, without_leading_spaces};
+use std::alloc::Global;
+
+fn named(text: &[u8]) -> Result<Name, PolicyRefusal>
+    ensures { result ≡ name_wanted text.now }
+{
+    match Name::read(text) {
+        Some(name) => Ok(name),
+        None => Err(PolicyRefusal::BadName),
+    }
+}
+
+fn is_field(text: &[u8]) -> bool
+    ensures { result ≡ field_test text.now }
+{
+    split_once(text, b' ').is_none()
+}
+
+// `NAME in PARENT`: the name, and what stands behind it and a space.
+#[tactic(auto, unfolding(crate::specs::Text::with_parent))]
+fn heading_below(name: &[u8], rest: &[u8]) -> Result<(Name, Option<Name>), PolicyRefusal>
+    ensures { result ≡ with_parent name.now rest.now }
+{
+    let Some((word, parent)) = split_once(rest, b' ') else {
+        return Err(PolicyRefusal::BadLine);
+    };
+    if word != b"in".as_slice() || !is_field(parent) {
+        return Err(PolicyRefusal::BadLine);
+    }
+    let name = named(name)?;
+    let parent = named(parent)?;
+    Ok((name, Some(parent)))
+}
+
+// `NAME` or `NAME in PARENT`, behind the first word.
+#[tactic(auto, unfolding(crate::specs::Text::heading))]
+fn heading(rest: &[u8]) -> Result<(Name, Option<Name>), PolicyRefusal>
+    ensures { result ≡ heading_wanted rest.now (split_at_first 32 rest.now) }
+{
+    match split_once(rest, b' ') {
+        Some((name, rest)) => heading_below(name, rest),
+        None => {
+            let name = named(rest)?;
+            Ok((name, None))
+        }
+    }
+}
+
+// A line of this first word, which a space follows.
+#[tactic(auto, unfolding(crate::specs::Text::with_words))]
+fn add_words(
+    alloc: Global,
+    draft: Draft,
+    number: usize,
+    word: &[u8],
+    rest: &[u8],
+) -> Result<Draft, LineFault>
+    ensures { LineGives result (with_words number word.now rest.now draft) }
+{
+    if word == b"group".as_slice() {
+        let (name, parent) = heading(rest)?;
+        return draft.with_subject(alloc, number, Kind::Group, name, parent);
+    }
+    if word == b"user".as_slice() {
+        let (name, parent) = heading(rest)?;
+        return draft.with_subject(alloc, number, Kind::User, name, parent);
+    }
+    if word == b"login".as_slice() {
+        return draft.with_present(alloc, Setting::Login(rest));
+    }
+    if word == b"enable".as_slice() {
+        return draft.with_present(alloc, Setting::Enable(rest));
+    }
+    if word == b"priv".as_slice() {
+        if !is_field(rest) {
+            return Err(LineFault::Refused(PolicyRefusal::BadLine));
+        }
+        return draft.with_present(alloc, Setting::Priv(rest));
+    }
+    if word == b"permit".as_slice() {
+        return draft.with_present(alloc, Setting::Rule(Verdict::Permit, rest));
+    }
+    if word == b"deny".as_slice() {
+        return draft.with_present(alloc, Setting::Rule(Verdict::Deny, rest));
+    }
+    Err(LineFault::Refused(PolicyRefusal::BadLine))
+}
+
+#[tactic(auto, unfolding(crate::specs::Text::with_trimmed))]
+fn add_trimmed(alloc: Global, draft: Draft, number: usize, line: &[u8]) -> Result<Draft, LineFault>
+    ensures { LineGives result (with_trimmed number line.now draft) }
+{
+    if let [] | [b'#', ..] = line {
+        return Ok(draft);
+    }
+    let Some((word, rest)) = split_once(line, b' ') else {
+        return Err(LineFault::Refused(PolicyRefusal::BadLine));
+    };
+    add_words(alloc, draft, number, word, rest)
+}
+
+// The draft after one more line.
+#[tactic(auto, unfolding(crate::specs::Text::with_line))]
+fn add_line(alloc: Global, draft: Draft, number: usize, line: &[u8]) -> Result<Draft, LineFault>
+    ensures { LineGives result (with_line number line.now draft) }
+{
+    if !is_text(line) {
+        return Err(LineFault::Refused(PolicyRefusal::BadLine));
+    }
+    add_trimmed(alloc, draft, number, without_leading_spaces(line))
+}
+
+fn at_line(line: usize, fault: LineFault) -> PolicyFault
+    ensures { result ≡ at_place line fault }
+{
+    match fault {
+        LineFault::Refused(refusal) => PolicyFault::Refused { line, refusal },
+        LineFault::Memory => PolicyFault::Memory,
+    }
+}
+
+/// The subjects of all lines. Expected time linear in the text.
+pub(crate) fn read_lines(alloc: Global, text: &[u8]) -> Result<Draft, PolicyFault>
+    ensures { IsUnlessMemory (λ draft. draft) result (with_lines 1 (lines_of text.now) []) }
+{
+    let mut lines = Lines::new(text);
+    let mut draft = Draft::new(alloc);
+    'lines: while let Some((number, line)) = lines.take_line() {
+        match add_line(alloc, draft, number, line) {
+            Ok(next) => draft = next,
+            Err(fault) => return Err(at_line(number, fault)),
+        }
+    }
+    Ok(draft)
+}

@@ -1,0 +1,136 @@
+//! What a line says of the present subject.
+
+ghost use Rattle.std.specs.Prelude.{◌≡◌, Ok, Err, ok_or, if◌then◌else◌};
+ghost use Rattle.pol_text.specs.declared.fault.PolicyRefusal.TheVariants.{BadLine, BadValue};
+ghost use Rattle.pol_text.specs.declared.subject.Kind.TheVariants.{Group};
+ghost use Rattle.pol_text.specs.Draft.{LineGives};
+ghost use Rattle.pol_text.specs.Policy.{same_kind};
+ghost use Rattle.pol_text.specs.Secret.{secret_of};
+ghost use Rattle.pol_text.specs.Setting.{changed_by};
+ghost use Rattle.pol_text.specs.Text.{level_of, pattern_read, with_login as login_set, with_enable as enable_set, with_priv as priv_set, with_rule as rule_added};
+
+use crate::fault::{LineFault, PolicyRefusal};
+use crate::policy::Policy;
+use crate::secret::Secret;
+use crate::subject::{Kind, Rule, Subject, Verdict};
+use basics::read_number;
+use pol_pattern::{Pattern, PatternFault};
+use std::alloc::Global;
+
+/// A line of a subject, behind its first word.
+#[derive(Clone, Copy)]
+pub(crate) enum Setting<'a> {
+    Login(&'a [u8]),
+    Enable(&'a [u8]),
+    Priv(&'a [u8]),
+    Rule(Verdict, &'a [u8]),
+}
+
+impl<'a> Setting<'a> {
+    /// The subject with the setting made.
+    pub(crate) fn change(self, alloc: Global, subject: Subject) -> Result<Subject, LineFault>
+        ensures { LineGives result (changed_by self.entry subject) }
+    {
+        match self {
+            Setting::Login(text) => with_login(alloc, subject, text),
+            Setting::Enable(text) => with_enable(alloc, subject, text),
+            Setting::Priv(text) => with_priv(subject, text),
+            Setting::Rule(verdict, text) => with_rule(alloc, subject, verdict, text),
+        }
+    }
+}
+
+fn secret(alloc: Global, text: &[u8]) -> Result<Secret, LineFault>
+    ensures { LineGives result (ok_or (secret_of text.now) BadValue) }
+{
+    match Secret::read(alloc, text)? {
+        Some(secret) => Ok(secret),
+        None => Err(LineFault::Refused(PolicyRefusal::BadValue)),
+    }
+}
+
+// A group has no secrets.
+fn refuse_group(kind: Kind) -> Result<(), PolicyRefusal>
+    ensures { result ≡ (if same_kind kind Group then Err BadLine else Ok tt) }
+{
+    match kind {
+        Kind::Group => Err(PolicyRefusal::BadLine),
+        Kind::User => Ok(()),
+    }
+}
+
+fn with_login(alloc: Global, mut subject: Subject, text: &[u8]) -> Result<Subject, LineFault>
+    ensures { LineGives result (login_set text.now subject) }
+{
+    refuse_group(subject.kind)?;
+    if subject.login.is_some() {
+        return Err(LineFault::Refused(PolicyRefusal::Repeated));
+    }
+    let secret = secret(alloc, text)?;
+    subject.login = Some(secret);
+    Ok(subject)
+}
+
+fn with_enable(alloc: Global, mut subject: Subject, text: &[u8]) -> Result<Subject, LineFault>
+    ensures { LineGives result (enable_set text.now subject) }
+{
+    refuse_group(subject.kind)?;
+    if subject.enable.is_some() {
+        return Err(LineFault::Refused(PolicyRefusal::Repeated));
+    }
+    let secret = secret(alloc, text)?;
+    subject.enable = Some(secret);
+    Ok(subject)
+}
+
+// A level of 1 to 4 digits, up to 15.
+fn level(text: &[u8]) -> Option<u8>
+    ensures { result ≡ level_of text.now }
+{
+    let level = read_number(text, 4)?;
+    if level > 15 {
+        return None;
+    }
+    Some(level as u8)
+}
+
+fn with_priv(mut subject: Subject, text: &[u8]) -> Result<Subject, LineFault>
+    ensures { LineGives result (priv_set text.now subject) }
+{
+    if subject.priv_lvl.is_some() {
+        return Err(LineFault::Refused(PolicyRefusal::Repeated));
+    }
+    let Some(level) = level(text) else {
+        return Err(LineFault::Refused(PolicyRefusal::BadValue));
+    };
+    subject.priv_lvl = Some(level);
+    Ok(subject)
+}
+
+// A rule's pattern.
+fn pattern(alloc: Global, text: &[u8]) -> Result<Pattern, LineFault>
+    ensures { LineGives result (pattern_read text.now) }
+{
+    match Pattern::read(alloc, text) {
+        Ok(pattern) => Ok(pattern),
+        Err(PatternFault::Memory) => Err(LineFault::Memory),
+        Err(fault) => Err(LineFault::Refused(PolicyRefusal::BadPattern(fault))),
+    }
+}
+
+#[tactic(auto, unfolding(crate::specs::Text::with_rule))]
+fn with_rule(
+    alloc: Global,
+    mut subject: Subject,
+    verdict: Verdict,
+    text: &[u8],
+) -> Result<Subject, LineFault>
+    ensures { LineGives result (rule_added verdict text.now subject) }
+{
+    let pattern = pattern(alloc, text)?;
+    if subject.rules.len() >= Policy::MAX_RULES {
+        return Err(LineFault::Refused(PolicyRefusal::Limit));
+    }
+    subject.rules.push(Rule { verdict, pattern })?;
+    Ok(subject)
+}

@@ -1,0 +1,170 @@
+//! Groups and users, and what decides.
+
+ghost use Rattle.std.specs.Prelude.{◌≡◌, ◌≤◌, length, IfOk};
+ghost use Rattle.pol_text.specs.Policy.{id_of, group_id, user_id, first_match as first_of};
+
+use crate::name::Name;
+use crate::secret::Secret;
+use basics::Sequence;
+use pol_pattern::Pattern;
+use std::alloc::{AllocError, Global};
+
+#[derive(Clone, Copy, Debug, PartialEq, Eq, Hash)]
+pub enum Kind {
+    Group,
+    User,
+}
+
+/// Which subject: a group and a user may have the same name.
+#[derive(Clone, Copy, Debug, PartialEq, Eq, Hash)]
+pub struct SubjectId {
+    pub kind: Kind,
+    pub name: Name,
+}
+
+impl SubjectId {
+    /// The group of this name.
+    pub fn group(name: Name) -> SubjectId
+        ensures { result ≡ group_id name }
+    {
+        SubjectId {
+            kind: Kind::Group,
+            name,
+        }
+    }
+
+    /// The user of this name.
+    pub fn user(name: Name) -> SubjectId
+        ensures { result ≡ user_id name }
+    {
+        SubjectId {
+            kind: Kind::User,
+            name,
+        }
+    }
+}
+
+#[derive(Clone, Copy, Debug, PartialEq, Eq)]
+pub enum Verdict {
+    Permit,
+    Deny,
+}
+
+/// A rule: what it says of the command lines that its pattern holds.
+#[derive(Debug, Drop)]
+pub struct Rule {
+    pub verdict: Verdict,
+    pub pattern: Pattern,
+}
+
+impl Rule {
+    /// A copy of the rule.
+    pub fn copy(&self, alloc: Global) -> Result<Rule, AllocError>
+        ensures { IfOk result (λ copy. copy ≡ self.now) }
+    {
+        let pattern = self.pattern.copy(alloc)?;
+        Ok(Rule {
+            verdict: self.verdict,
+            pattern,
+        })
+    }
+}
+
+/// A group or a user. The parent is the name of a group.
+#[derive(Debug, Drop)]
+pub struct Subject {
+    pub kind: Kind,
+    pub name: Name,
+    pub parent: Option<Name>,
+    /// What a user logs in with; a group has none.
+    pub login: Option<Secret>,
+    /// What a user enables with; a group has none.
+    pub enable: Option<Secret>,
+    /// The privilege level of a shell, 0 to 15 (RFC 8907, section 9).
+    pub priv_lvl: Option<u8>,
+    /// At most 256.
+    pub rules: Sequence<Rule>,
+}
+
+impl Subject {
+    /// The subject's kind and name.
+    pub fn id(&self) -> SubjectId
+        ensures { result ≡ id_of self.now }
+    {
+        SubjectId {
+            kind: self.kind,
+            name: self.name,
+        }
+    }
+
+    /// What the first of the subject's own rules whose pattern holds the line decides.
+    pub(crate) fn first_match(&self, line: &[u8]) -> Option<Decision>
+        requires { length self.now.rules ≤ 256 }
+        ensures { result ≡ first_of (id_of self.now) 1 self.now.rules line.now }
+    {
+        let owner = self.id();
+        for (i, rule) in self.rules.as_slice().iter().enumerate() {
+            if rule.pattern.contains(line) {
+                return Some(Decision {
+                    verdict: rule.verdict,
+                    by: By::Rule(owner, i as u16 + 1),
+                });
+            }
+        }
+        None
+    }
+
+    /// A copy of the subject.
+    pub fn copy(&self, alloc: Global) -> Result<Subject, AllocError>
+        ensures { IfOk result (λ copy. copy ≡ self.now) }
+    {
+        let login = copy_secret(alloc, &self.login)?;
+        let enable = copy_secret(alloc, &self.enable)?;
+        let rules = copy_rules(alloc, &self.rules)?;
+        Ok(Subject {
+            kind: self.kind,
+            name: self.name,
+            parent: self.parent,
+            login,
+            enable,
+            priv_lvl: self.priv_lvl,
+            rules,
+        })
+    }
+}
+
+fn copy_secret(alloc: Global, secret: &Option<Secret>) -> Result<Option<Secret>, AllocError>
+    ensures { IfOk result (λ copy. copy ≡ secret.now) }
+{
+    match secret {
+        Some(secret) => {
+            let copy = secret.copy(alloc)?;
+            Ok(Some(copy))
+        }
+        None => Ok(None),
+    }
+}
+
+fn copy_rules(alloc: Global, rules: &Sequence<Rule>) -> Result<Sequence<Rule>, AllocError>
+    ensures { IfOk result (λ copy. copy ≡ rules.now) }
+{
+    let mut copies = Sequence::new(alloc);
+    for rule in rules.as_slice() {
+        let copy = rule.copy(alloc)?;
+        copies.push(copy)?;
+    }
+    Ok(copies)
+}
+
+/// What decided: a rule, by its owner and its number there, from 1, or that no rule matched.
+#[derive(Clone, Copy, Debug, PartialEq, Eq)]
+pub enum By {
+    Rule(SubjectId, u16),
+    Default,
+}
+
+#[derive(Clone, Copy, Debug, PartialEq, Eq)]
+pub struct Decision {
+    pub verdict: Verdict,
+    pub by: By,
+}

@@ -1,0 +1,9 @@
+//! Tests of patterns, policies and edits, against answers that were worked out by hand.
+#![tactic(auto)]
+
+#[cfg(test)]
+mod edits;
+#[cfg(test)]
+mod patterns;
+#[cfg(test)]
+mod policies;

@@ -1,0 +1,2 @@
+pub mod StartFacts
+pub mod ContinueFacts

@@ -1,0 +1,4 @@
+pub mod Flag
+pub mod Start
+pub mod Continue
+pub mod Reply

@@ -1,0 +1,104 @@
+//! Starts of an authentication.
+
+ghost use Rattle.std.specs.Prelude.{◌≡◌, IfOk, Ok};
+ghost use Rattle.tac_wire.specs.Body.{Gives};
+ghost use Rattle.tac_authen.specs.Start.{start_bytes, start_of};
+
+use basics::Bytes;
+use std::alloc::Global;
+use tac_wire::BodyFault;
+
+/// What the client wants. Numbers without a name are actions that aren't served.
+#[derive(Clone, Copy, Debug, PartialEq, Eq)]
+pub struct Action(pub u8);
+
+impl Action {
+    pub const LOGIN: Action = Action(1);
+}
+
+/// How the user is to be authenticated. Numbers without a name are types that aren't served.
+#[derive(Clone, Copy, Debug, PartialEq, Eq)]
+pub struct AuthenType(pub u8);
+
+impl AuthenType {
+    pub const ASCII: AuthenType = AuthenType(1);
+
+    pub const PAP: AuthenType = AuthenType(2);
+
+    pub const CHAP: AuthenType = AuthenType(3);
+}
+
+/// What the user is authenticated for. Numbers without a name are read as they are.
+#[derive(Clone, Copy, Debug, PartialEq, Eq)]
+pub struct Service(pub u8);
+
+impl Service {
+    pub const NONE: Service = Service(0);
+
+    pub const LOGIN: Service = Service(1);
+
+    pub const ENABLE: Service = Service(2);
+
+    pub const PPP: Service = Service(3);
+}
+
+/// The start of an authentication (RFC 8907, section 5.1), as written: no value is refused here.
+#[derive(Debug, Drop)]
+pub struct Start {
+    pub action: Action,
+    pub priv_lvl: u8,
+    pub authen_type: AuthenType,
+    /// The field authen_service.
+    pub service: Service,
+    pub user: Bytes,
+    pub port: Bytes,
+    pub rem_addr: Bytes,
+    /// The field data.
+    pub extra: Bytes,
+}
+
+// Each fault in its order.
+fn read_fields(alloc: Global, body: &[u8]) -> Result<Start, BodyFault>
+    ensures { Gives result (start_of body.now) }
+{
+    if body.len() < 8 {
+        return Err(BodyFault::Short);
+    }
+    let (fixed, fields) = body.split_at(8);
+    let (user_len, port_len, rem_addr_len, data_len) = (
+        fixed[4] as usize,
+        fixed[5] as usize,
+        fixed[6] as usize,
+        fixed[7] as usize,
+    );
+    if fields.len() != user_len + port_len + rem_addr_len + data_len {
+        return Err(BodyFault::LengthSum);
+    }
+    let (user, fields) = fields.split_at(user_len);
+    let (port, fields) = fields.split_at(port_len);
+    let (rem_addr, extra) = fields.split_at(rem_addr_len);
+    Ok(Start {
+        action: Action(fixed[0]),
+        priv_lvl: fixed[1],
+        authen_type: AuthenType(fixed[2]),
+        service: Service(fixed[3]),
+        user: Bytes::from_slice(alloc, user)?,
+        port: Bytes::from_slice(alloc, port)?,
+        rem_addr: Bytes::from_slice(alloc, rem_addr)?,
+        extra: Bytes::from_slice(alloc, extra)?,
+    })
+}
+
+/// The start that a body spells (RFC 8907, section 5.1).
+///
+/// `Short` where the fixed part isn't whole; `LengthSum` where the lengths don't add up to the
+/// body's; `Memory` in place of any answer where memory ran out.
+pub fn read_start(alloc: Global, body: &[u8]) -> Result<Start, BodyFault>
+    ensures exact { Gives result (start_of body.now) }
+    // No byte is lost, and none ignored.
+    ensures found { IfOk result (λ start. body.now ≡ start_bytes start) }
+    // Each body that spells a start is read, unless memory runs out.
+    ensures only { (start : Start) → body.now ≡ start_bytes start → Gives result (Ok start) }
+{
+    read_fields(alloc, body)
+}

@@ -1,0 +1,157 @@
+-- The stream of packets (RFC 8907, section 4): each a header of twelve bytes and a body of the header's length.
+-- A stream is all its bytes: nothing here knows of the pieces in which they come.
+use Rattle.std.specs.Prelude.{◌≡◌, ℕ, zero, suc, ◌+◌, ◌/◌, ◌%◌, ◌^◌, ◌<◌, ◌==◌, Bool, not, ◌&&◌, nat_lt, nat_le, List, [], ◌∷◌, ◌++◌, length, take, drop, Option, Some, None, if◌then◌else◌, bit_and}
+use Rattle.tac_wire.specs.Header.{header_bytes, header_of}
+use Rattle.tac_wire.specs.declared.header.Header.{Header}
+use Rattle.tac_wire.specs.declared.frame.Frame.{Frame}
+use Rattle.tac_wire.specs.declared.frame.FrameFault.{FrameFault}
+use Rattle.tac_wire.specs.declared.frame.FrameFault.TheVariants.{BadVersion, Unencrypted, TooLong}
+use Rattle.tac_wire.specs.declared.framer.Next.{Next}
+use Rattle.tac_wire.specs.declared.framer.Next.TheVariants.{Packet, Need, Fault, Ended}
+
+-- ---- one item
+
+-- major version 0xc, in the high four bits, and minor version 0 or 1, in the low four
+abbrev pub is_served_version : ℕ → Bool
+is_served_version version = version / 16 == 0xc && nat_le (version % 16) 1
+
+-- TAC_PLUS_UNENCRYPTED_FLAG, by which a body has no pad
+abbrev pub is_unencrypted : ℕ → Bool
+is_unencrypted flags = not (bit_and flags 0x01 == 0)
+
+-- why a header is refused: the first fault that it has. The longest body is that of an authentication CONTINUE: five
+-- bytes, and two fields of at most 65535
+abbrev pub header_fault : Header → Option FrameFault
+header_fault header =
+    if not (is_served_version header.version)
+    then Some BadVersion
+    else if is_unencrypted header.flags
+    then Some Unencrypted
+    else if nat_lt 131075 header.length then Some TooLong else None
+
+-- how a packet is written
+abbrev pub frame_bytes : Frame → List ℕ
+frame_bytes frame = header_bytes frame.header ++ frame.body
+
+-- what a stream begins with: a whole packet, with what is behind it; a header that is refused; or neither yet
+pub data Item : Type 0 where
+  whole : Frame → List ℕ → Item
+  refused : FrameFault → Item
+  unfinished : Item
+
+-- the item of a header that is taken, and what is behind it
+abbrev pub packet_item : Header → List ℕ → Item
+packet_item header rest =
+    if nat_le header.length (length rest)
+    then whole (record { header = header; body = take header.length rest }) (drop header.length rest)
+    else unfinished
+
+-- the item of a header, with its fault if it has one, and what is behind it
+abbrev pub header_item : Option FrameFault → Header → List ℕ → Item
+header_item (Some fault) header rest = refused fault
+header_item None header rest = packet_item header rest
+
+-- a header is judged as soon as it is there, whatever there is of the body
+unfoldable pub first_item : List ℕ → Item
+first_item bytes =
+    let header = header_of (take 12 bytes) in
+    if nat_le 12 (length bytes)
+    then header_item (header_fault header) header (drop 12 bytes)
+    else unfinished
+
+-- a packet that is taken: no fault, a body of the header's length, and a session number of four bytes
+abbrev pub IsTaken : Frame → Type 0
+IsTaken frame = (header_fault frame.header ≡ None) × (length frame.body ≡ frame.header.length) × (frame.header.session < 2 ^ 32)
+
+-- ---- a whole stream
+
+-- what is behind the last packet: bytes that are no whole item yet, or the header that was refused
+pub data Tail : Type 0 where
+  open_end : List ℕ → Tail
+  fault : FrameFault → Tail
+
+-- a stream, cut into packets
+pub record Parts : Type 0 where
+  pub packets : List Frame
+  pub tail : Tail
+
+-- no packet
+abbrev pub only : Tail → Parts
+only tail = record { packets = []; tail = tail }
+
+-- these packets before the others
+abbrev pub behind : List Frame → Parts → Parts
+behind packets parts = record parts { packets = packets ++ parts.packets }
+
+-- the parts of bytes that begin with this item, by the parts of what is behind it
+abbrev pub parts_by : (List ℕ → Parts) → Item → List ℕ → Parts
+parts_by parts_of (whole frame rest) bytes = behind (frame ∷ []) (parts_of rest)
+parts_by parts_of (refused reason) bytes = only (fault reason)
+parts_by parts_of unfinished bytes = only (open_end bytes)
+
+-- the parts, where at most so many packets are cut off
+unfoldable pub cut_within : ℕ → List ℕ → Parts
+cut_within zero bytes = only (open_end bytes)
+cut_within (suc most) bytes = parts_by (cut_within most) (first_item bytes) bytes
+
+-- the parts of a stream: there are fewer packets than bytes, since each takes twelve bytes or more
+unfoldable pub cut : List ℕ → Parts
+cut bytes = cut_within (length bytes) bytes
+
+-- what more bytes make of the parts so far: an open end goes on, and a fault stays
+abbrev pub resumed : List Frame → Tail → List ℕ → Parts
+resumed packets (open_end bytes) more = behind packets (cut (bytes ++ more))
+resumed packets (fault reason) more = record { packets = packets; tail = fault reason }
+
+abbrev pub continued : Parts → List ℕ → Parts
+continued parts more = resumed parts.packets parts.tail more
+
+-- ---- a framer
+
+-- the part of the stream that no item was made of yet; or a fault was told, and nothing is kept
+pub data Pending : Type 0 where
+  unread : List ℕ → Pending
+  ended : Pending
+
+abbrev pub fed : Pending → List ℕ → Pending
+fed (unread bytes) piece = unread (bytes ++ piece)
+fed ended piece = ended
+
+-- how an item is told
+abbrev pub told : Item → Next
+told (whole frame rest) = Packet frame
+told (refused reason) = Fault reason
+told unfinished = Need
+
+abbrev pub next_of : Pending → Next
+next_of (unread bytes) = told (first_item bytes)
+next_of ended = Ended
+
+-- what is left of these bytes once their first item was told
+abbrev pub left_by : Item → List ℕ → Pending
+left_by (whole frame rest) bytes = unread rest
+left_by (refused reason) bytes = ended
+left_by unfinished bytes = unread bytes
+
+abbrev pub left_of : Pending → Pending
+left_of (unread bytes) = left_by (first_item bytes) bytes
+left_of ended = ended
+
+-- a packet that is told is written at the head of these bytes
+abbrev pub BeginsWith : Next → List ℕ → Type 0
+BeginsWith (Packet frame) bytes = (bytes ≡ frame_bytes frame ++ drop (12 + length frame.body) bytes) × (length frame.body ≡ frame.header.length)
+BeginsWith Need bytes = Unit {0}
+BeginsWith (Fault reason) bytes = Unit {0}
+BeginsWith Ended bytes = Unit {0}
+
+-- these bytes in front of what is held
+abbrev pub in_front : List ℕ → Pending → Pending
+in_front bytes (unread others) = unread (bytes ++ others)
+in_front bytes ended = ended
+
+-- a packet that is told was written in front of what is left, and its body has the length that its header says
+abbrev pub WasInFront : Next → Pending → Pending → Type 0
+WasInFront (Packet frame) before left = (before ≡ in_front (frame_bytes frame) left) × (length frame.body ≡ frame.header.length)
+WasInFront Need before left = Unit {0}
+WasInFront (Fault reason) before left = Unit {0}
+WasInFront Ended before left = Unit {0}

@@ -1,0 +1,48 @@
+//! A packet, and the faults that end a stream.
+
+ghost use Rattle.std.specs.Prelude.{◌≡◌};
+ghost use Rattle.tac_wire.specs.Stream.{header_fault};
+
+use crate::header::Header;
+use basics::Bytes;
+
+/// A packet as it stands in the stream: the body still has its pad.
+#[derive(Debug, Drop)]
+pub struct Frame {
+    pub header: Header,
+    pub body: Bytes,
+}
+
+impl Frame {
+    /// The longest body that is taken: that of an authentication CONTINUE with two fields of 65,535
+    /// bytes behind its five fixed ones.
+    pub const MAX_BODY: u32 = 131_075;
+}
+
+/// Why a stream can't be read on.
+#[derive(Clone, Copy, Debug, PartialEq, Eq)]
+pub enum FrameFault {
+    /// The major version isn't 0xc, or the minor version is above 1.
+    BadVersion,
+    /// The body has no pad.
+    Unencrypted,
+    /// The body would be longer than [`Frame::MAX_BODY`].
+    TooLong,
+}
+
+// Why a header is refused, if it is.
+pub(crate) fn fault_of(header: &Header) -> Option<FrameFault>
+    ensures { result ≡ header_fault header.now }
+{
+    let major = header.version >> 4;
+    let minor = header.version & 0x0f;
+    if major != 0xc || minor > 1 {
+        Some(FrameFault::BadVersion)
+    } else if header.flags & Header::UNENCRYPTED != 0 {
+        Some(FrameFault::Unencrypted)
+    } else if header.length > Frame::MAX_BODY {
+        Some(FrameFault::TooLong)
+    } else {
+        None
+    }
+}

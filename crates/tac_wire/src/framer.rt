@@ -1,0 +1,146 @@
+//! The packets of a stream that comes in pieces.
+
+ghost use Rattle.std.specs.Prelude.{◌≡◌, ◌++◌, List, ℕ, [], IfOk, OnOk, OnErr};
+ghost use Rattle.tac_wire.specs.Stream.{first_item as item_of, told, cut, parts_by, continued, unread, ended as no_more, fed, next_of, left_of, BeginsWith, WasInFront, IsTaken, frame_bytes, whole};
+ghost use Rattle.tac_wire.specs.declared.frame.Frame.{Frame as FrameValue};
+
+use crate::frame::{Frame, FrameFault, fault_of};
+use crate::header::Header;
+use basics::Bytes;
+use std::alloc::{AllocError, Global};
+use std::marker::Model;
+
+// How many bytes a header has.
+const HEADER: usize = 12;
+
+/// What stands first in what a [`Framer`] holds.
+#[derive(Debug, Drop)]
+pub enum Next {
+    /// A whole packet.
+    Packet(Frame),
+    /// No whole item: the stream has to go on first.
+    Need,
+    /// A header that is refused. Nothing is read after it.
+    Fault(FrameFault),
+    /// A fault was told before.
+    Ended,
+}
+
+/// Cuts a stream into packets, however it comes in pieces.
+///
+/// A header is judged as soon as its twelve bytes are there, and a packet never waits for what
+/// follows it. The bytes of packets that were handed out stay in front until they are at least half
+/// of the buffer, and are removed then: each byte is moved a constant number of times on average, so
+/// a stream handed over byte by byte costs linear time in all.
+#[derive(Debug, Drop)]
+pub struct Framer {
+    alloc: Global,
+    buffer: Vec<u8>,
+    // how many bytes of the buffer were handed out
+    read: usize,
+    ended: bool,
+}
+
+impl Model for Framer {
+    ghost use Rattle.std.specs.Prelude.{◌≡◌, ◌≤◌, [], drop, length, IsTrue, if◌then◌else◌};
+    ghost use Rattle.tac_wire.specs.Stream.{Pending, unread, ended as no_more};
+
+    ghost Value = { Pending };
+
+    ghost view = { λ framer. if framer.ended then no_more else unread (drop framer.read framer.buffer.items) };
+
+    ghost invariant = { λ framer. (framer.read ≤ length framer.buffer.items) × (IsTrue framer.ended → framer.buffer.items ≡ []) };
+}
+
+// What these bytes begin with.
+#[tactic(auto, unfolding(crate::specs::Stream::first_item))]
+fn first_item(alloc: Global, bytes: &[u8]) -> Result<Next, AllocError>
+    ensures exact { IfOk result (λ next. next ≡ told (item_of bytes.now)) }
+    ensures found { IfOk result (λ next. BeginsWith next bytes.now) }
+{
+    let Some((head, rest)) = bytes.split_first_chunk::<HEADER>() else {
+        return Ok(Next::Need);
+    };
+    let header = Header::read(head);
+    if let Some(fault) = fault_of(&header) {
+        return Ok(Next::Fault(fault));
+    }
+    let len = header.length as usize;
+    if rest.len() < len {
+        return Ok(Next::Need);
+    }
+    let body = Bytes::from_slice(alloc, &rest[..len])?;
+    Ok(Next::Packet(Frame { header, body }))
+}
+
+impl Framer {
+    /// The beginning of a stream. Takes no memory.
+    pub fn new(alloc: Global) -> Framer
+        ensures { result ≡ unread [] }
+    {
+        Framer {
+            alloc,
+            buffer: Vec::new(alloc),
+            read: 0,
+            ended: false,
+        }
+    }
+
+    // Removes what was handed out, if that is at least half of the buffer.
+    fn compact(&mut self)
+        ensures { self.new ≡ self.old }
+    {
+        if self.read >= self.buffer.len() - self.read {
+            self.buffer.drain(..self.read);
+            self.read = 0;
+        }
+    }
+
+    // Gives up the stream, with all that was kept of it.
+    fn end(&mut self)
+        ensures { self.new ≡ no_more }
+    {
+        self.buffer = Vec::new(self.alloc);
+        self.read = 0;
+        self.ended = true;
+    }
+
+    /// Takes the next piece of the stream; nothing after a fault was told.
+    pub fn feed(&mut self, piece: &[u8]) -> Result<(), AllocError>
+        ensures ok { OnOk result (self.new ≡ fed self.old piece.now) }
+        ensures err { OnErr result (self.new ≡ self.old) }
+        // However a stream is cut into pieces, the same packets, fault and rest come out.
+        ensures pieces { (bytes more : List ℕ) → cut (bytes ++ more) ≡ continued (cut bytes) more }
+    {
+        if self.ended {
+            return Ok(());
+        }
+        self.compact();
+        self.buffer.extend_from_slice(piece)
+    }
+
+    /// Tells what stands first in what is held, and removes it; a fault is told once.
+    pub fn next(&mut self) -> Result<Next, AllocError>
+        ensures told { IfOk result (λ next. next ≡ next_of self.old) }
+        ensures left { OnOk result (self.new ≡ left_of self.old) }
+        ensures err { OnErr result (self.new ≡ self.old) }
+        // No byte is lost, and none is added.
+        ensures found { IfOk result (λ next. WasInFront next self.old self.new) }
+        // Each packet that is taken is told as soon as it stands there, whatever follows.
+        ensures again { (frame : FrameValue) (rest : List ℕ) → IsTaken frame →
+            item_of (frame_bytes frame ++ rest) ≡ whole frame rest }
+        // One item after another, this gives the parts of the stream.
+        ensures items { (bytes : List ℕ) → cut bytes ≡ parts_by cut (item_of bytes) bytes }
+    {
+        if self.ended {
+            return Ok(Next::Ended);
+        }
+        let next = first_item(self.alloc, &self.buffer[self.read..])?;
+        match &next {
+            Next::Packet(frame) => self.read += HEADER + frame.body.len(),
+            Next::Fault(_) => self.end(),
+            _ => {}
+        }
+        Ok(next)
+    }
+}
