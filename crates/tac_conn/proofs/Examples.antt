@@ -1,0 +1,101 @@
+-- Worked cases: what packets come to.
+use Rattle.std.proofs.Common.{◌≡◌, ℕ, ◌+◌, true, false, List, [], ◌∷◌, ◌++◌, length, None, refl}
+use Rattle.std.specs.Prelude.{codes}
+use Rattle.tac_conn.specs.declared.ask.AskKind.TheVariants.{Authentication, Authorisation}
+use Rattle.tac_conn.specs.declared.ask.Slot.{Slot}
+use Rattle.tac_conn.specs.declared.ask.Answer.TheVariants.{Denied, Permitted}
+use Rattle.pol_text.specs.declared.subject.By.TheVariants as by
+use Rattle.tac_conn.specs.declared.ask.Ask.TheVariants.{Authenticate}
+use Rattle.tac_conn.specs.declared.ask.Proof.TheVariants.{Plain}
+use Rattle.tac_conn.specs.Standing.{Packet, question, reply, asks, silent, close, outcome, judged, judged_after, is_closed, trail_of, open_count, open_sessions, reply_to}
+
+-- a packet of authentication, minor version 0 or 1
+abbrev authen_packet : ℕ → ℕ → ℕ → ℕ → List ℕ → Packet
+authen_packet minor seq flags session body =
+    record { header = record { version = 0xc0 + minor; kind = record { 0 = 1 }; seq = seq; flags = flags; session = session; length = length body }; body = body }
+
+-- an ASCII login without user
+abbrev start : ℕ → ℕ → Packet
+start flags session = authen_packet 0 1 flags session (1 ∷ 1 ∷ 1 ∷ 1 ∷ 0 ∷ 0 ∷ 0 ∷ 0 ∷ [])
+
+-- a CONTINUE with this text, shorter than 256 bytes
+abbrev continue : ℕ → ℕ → ℕ → List ℕ → Packet
+continue seq flags session text = authen_packet 0 seq 0 session (0 ∷ length text ∷ 0 ∷ 0 ∷ flags ∷ text)
+
+-- a reply without NOECHO, or with it
+abbrev replied : ℕ → ℕ → ℕ → ℕ → ℕ → List ℕ → Packet
+replied seq flags session status noecho text = authen_packet 0 seq flags session (status ∷ noecho ∷ 0 ∷ length text ∷ 0 ∷ 0 ∷ text)
+
+-- a START without a user gives GETUSER
+asks_name : outcome [] (start 0 7) ≡ question (replied 2 0 7 4 0 (codes "Username: "))
+unfolding outcome judged_after judged is_closed trail_of open_count
+asks_name = refl
+
+-- then a name gives GETPASS, with NOECHO
+asks_secret : outcome (start 0 7 ∷ []) (continue 3 0 7 (codes "bob")) ≡ question (replied 4 0 7 5 1 (codes "Password: "))
+unfolding outcome judged_after judged is_closed trail_of open_count
+asks_secret = refl
+
+-- then what is typed is asked of the policy, and the connection closes with the answer
+asks_policy : outcome (continue 3 0 7 (codes "bob") ∷ start 0 7 ∷ []) (continue 5 0 7 (codes "pw"))
+    ≡ asks (Authenticate (codes "bob") (record { 0 = 1 }) (Plain (codes "pw")))
+    (record { header = record { version = 0xc0; kind = record { 0 = 1 }; seq = 6; flags = 0; session = 7; length = 0 }; kind = Authentication; single = false })
+unfolding outcome judged_after judged is_closed trail_of open_count
+asks_policy = refl
+
+-- a CONTINUE with another seq_no closes
+wrong_seq : outcome (start 0 7 ∷ []) (continue 5 0 7 (codes "bob")) ≡ close
+unfolding outcome judged_after judged is_closed trail_of open_count
+wrong_seq = refl
+
+-- so does a second session on a connection that isn't single
+second_session : outcome (start 0 7 ∷ []) (start 0 8) ≡ close
+unfolding outcome judged_after judged is_closed trail_of open_count
+second_session = refl
+
+-- on a single one it is opened, and both are
+two_sessions : open_sessions (start 0 8 ∷ start 4 7 ∷ []) ≡ 2
+unfolding judged trail_of open_count
+two_sessions = refl
+
+-- the client gives up: a single connection stays open, another closes
+gives_up_single : outcome (start 4 7 ∷ []) (continue 3 3 7 []) ≡ silent
+unfolding outcome judged_after judged is_closed trail_of open_count
+gives_up_single = refl
+
+gives_up : outcome (start 0 7 ∷ []) (continue 3 1 7 []) ≡ close
+unfolding outcome judged_after judged is_closed trail_of open_count
+gives_up = refl
+
+-- after its end a session_id is used again
+used_again : outcome (continue 3 1 7 [] ∷ start 4 7 ∷ []) (start 0 7) ≡ question (replied 2 4 7 4 0 (codes "Username: "))
+unfolding outcome judged_after judged is_closed trail_of open_count
+used_again = refl
+
+-- CHAP with 16 bytes of data fails
+short_chap : outcome [] (authen_packet 1 1 4 9 ((1 ∷ 1 ∷ 3 ∷ 3 ∷ 1 ∷ 0 ∷ 0 ∷ 16 ∷ 98 ∷ []) ++ codes "0123456789abcdef"))
+    ≡ reply (record { header = record { version = 0xc1; kind = record { 0 = 1 }; seq = 2; flags = 4; session = 9; length = 27 }; body = (2 ∷ 0 ∷ 0 ∷ 21 ∷ 0 ∷ 0 ∷ []) ++ codes "Authentication failed" }) false
+unfolding outcome judged_after judged is_closed trail_of open_count
+short_chap = refl
+
+-- a body that is none closes a single connection too
+bad_start : outcome [] (authen_packet 0 1 4 9 (1 ∷ [])) ≡ reply (replied 2 4 9 7 0 (codes "bad body")) true
+unfolding outcome judged_after judged is_closed trail_of open_count
+bad_start = refl
+
+-- a type that isn't served
+other_type : (body : List ℕ) → outcome [] (record { header = record { version = 0xc0; kind = record { 0 = 3 }; seq = 1; flags = 4; session = 9; length = length body }; body = body })
+    ≡ reply (record { header = record { version = 0xc0; kind = record { 0 = 3 }; seq = 2; flags = 4; session = 9; length = 0 }; body = [] }) true
+unfolding outcome judged_after judged is_closed trail_of open_count
+other_type body = refl
+
+-- the answer to a request, in its slot
+abbrev request_slot : Slot
+request_slot = record { header = record { version = 0xc0; kind = record { 0 = 2 }; seq = 2; flags = 0; session = 9; length = 0 }; kind = Authorisation; single = false }
+
+denied : reply_to request_slot (Denied by.Default)
+    ≡ record { header = record { version = 0xc0; kind = record { 0 = 2 }; seq = 2; flags = 0; session = 9; length = 23 }; body = (0x10 ∷ 0 ∷ 0 ∷ 17 ∷ 0 ∷ 0 ∷ []) ++ codes "denied by default" }
+denied = refl
+
+permitted : reply_to request_slot (Permitted None) ≡ record { header = record { version = 0xc0; kind = record { 0 = 2 }; seq = 2; flags = 0; session = 9; length = 6 }; body = 1 ∷ 0 ∷ 0 ∷ 0 ∷ 0 ∷ 0 ∷ [] }
+permitted = refl

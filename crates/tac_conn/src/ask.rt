@@ -1,0 +1,96 @@
+//! What is asked of the policy, and what it answers.
+
+use basics::Bytes;
+use pol_text::By;
+use tac_authen::Service;
+use tac_wire::Header;
+
+/// How a user proves to be the one named.
+#[derive(Debug, Drop)]
+pub enum Proof {
+    /// The password itself.
+    Plain(Bytes),
+    /// A response to a challenge, by the password (RFC 1994).
+    Chap {
+        id: u8,
+        challenge: Bytes,
+        response: [u8; 16],
+    },
+}
+
+/// What is asked of the policy.
+#[derive(Debug, Drop)]
+pub enum Ask {
+    /// Whether the proof is this user's, for this service.
+    Authenticate {
+        user: Bytes,
+        service: Service,
+        proof: Proof,
+    },
+    /// Whether this user may run this command line.
+    Authorise {
+        user: Bytes,
+        line: Bytes,
+    },
+}
+
+/// Which of the two is asked.
+#[derive(Clone, Copy, Debug, PartialEq, Eq)]
+pub enum AskKind {
+    Authentication,
+    Authorisation,
+}
+
+/// An answer of the policy.
+#[derive(Clone, Copy, Debug, PartialEq, Eq)]
+pub enum Answer {
+    /// The proof is the user's.
+    Pass,
+    /// The proof isn't the user's.
+    Fail,
+    /// The policy has no such user.
+    UnknownUser,
+    /// The command line has a byte that is no symbol.
+    Unprintable,
+    Denied(By),
+    /// Perhaps with the privilege level of a shell.
+    Permitted(Option<u8>),
+}
+
+impl Answer {
+    ghost use Rattle.std.specs.Prelude.{◌≡◌};
+    ghost use Rattle.tac_conn.specs.Reply.{kind_of_answer};
+
+    /// What the answer is to.
+    pub fn kind(self) -> AskKind
+        ensures { result ≡ kind_of_answer self }
+    {
+        match self {
+            Answer::Pass | Answer::Fail => AskKind::Authentication,
+            Answer::UnknownUser | Answer::Unprintable | Answer::Denied(_) | Answer::Permitted(_) =>
+                AskKind::Authorisation,
+        }
+    }
+}
+
+/// The place of a reply that is still to be given.
+#[derive(Clone, Copy, Debug, PartialEq, Eq)]
+pub struct Slot {
+    // the reply's, but for the length
+    pub(crate) header: Header,
+    pub(crate) kind: AskKind,
+    // whether the connection stays open after the reply
+    pub(crate) single: bool,
+}
+
+impl Slot {
+    ghost use Rattle.std.specs.Prelude.{◌≡◌};
+    ghost use Rattle.tac_conn.specs.Kept.{kind_asked};
+
+    /// What was asked.
+    pub fn kind(self) -> AskKind
+        ensures { result ≡ kind_asked self }
+    {
+        self.kind
+    }
+}

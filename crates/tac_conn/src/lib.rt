@@ -1,0 +1,19 @@
+//! One connection of the server: what it says for each packet, and what it asks of the policy
+//! (RFC 8907, sections 4.1 to 4.3, 5 and 6).
+#![tactic(auto)]
+
+mod ask;
+mod conn;
+mod continuation;
+mod ending;
+mod judged;
+mod packet;
+mod reply;
+mod session;
+mod start;
+mod step;
+
+pub use ask::{Answer, Ask, AskKind, Proof, Slot};
+pub use conn::Conn;
+pub use pol_text::{By, Kind, Name, SubjectId};
+pub use step::{Sent, Step};

@@ -1,0 +1,211 @@
+//! What a clear packet comes to, by the sessions that are kept.
+
+ghost use Rattle.std.specs.Prelude.{◌≡◌, ◌<◌, ◌==◌, length, None, Some, IfOk, option_map};
+ghost use Rattle.tac_authen.specs.Start.{start_of};
+ghost use Rattle.tac_authen.specs.Continue.{continue_of};
+ghost use Rattle.tac_request.specs.AuthorRequest.{author_request_of};
+ghost use Rattle.tac_conn.specs.Standing.{reply_header as reply_header_value, slot_for as slot_value, unknown_type as unknown_outcome, start_read, continue_read, request_read, line_outcome, started_user, started_service, typed_in, first_outcome, later_outcome, judged as judged_outcome, is_served as served_value};
+ghost use Rattle.tac_request.specs.Line.{line_of};
+ghost use Rattle.tac_conn.specs.Kept.{step_of, judged_of, session_started, session_named, session_after, session_in, awaited_user, seen};
+
+use crate::ask::{Ask, AskKind, Slot};
+use crate::continuation::answered;
+use crate::ending::{breaks, ends};
+use crate::judged::Judged;
+use crate::reply::refusal;
+use crate::session::{Session, find_session};
+use crate::start::started;
+use crate::step::{Sent, Step};
+use arrayvec::ArrayVec;
+use std::alloc::{AllocError, Global};
+use tac_authen::{read_continue, read_start};
+use tac_request::{AuthorRequest, LineOf, read_author_request, request_line};
+use tac_wire::{BodyFault, Header, Key, PacketType};
+
+const AUTHENTICATION: PacketType = PacketType(1);
+
+// Whether packets of this type are served.
+fn is_served(header: &Header) -> bool
+    ensures { result ≡ served_value header.now }
+{
+    header.kind == AUTHENTICATION || header.kind == PacketType::AUTHORISATION
+}
+
+// The place of the reply to a packet.
+fn slot_for(header: &Header, single: bool) -> Slot
+    requires { header.now.seq < 255 }
+    ensures { result ≡ slot_value header.now single }
+{
+    let flags = if single { Header::SINGLE_CONNECTION } else { 0 };
+    let kind = if header.kind == AUTHENTICATION {
+        AskKind::Authentication
+    } else {
+        AskKind::Authorisation
+    };
+    Slot {
+        header: Header {
+            seq: header.seq + 1,
+            flags,
+            length: 0,
+            ..*header
+        },
+        kind,
+        single,
+    }
+}
+
+// The answer to a type that isn't served.
+fn unknown_type(key: &Key, header: &Header) -> Step
+    ensures { result ≡ step_of key.now (unknown_outcome header.now) }
+{
+    if header.seq == 255 {
+        return Step::Close;
+    }
+    let header = Header {
+        seq: header.seq + 1,
+        length: 0,
+        ..*header
+    };
+    let body = ArrayVec::new();
+    Step::Reply(Sent { header, body }, true)
+}
+
+// A START, with so many sessions open.
+fn start_packet(
+    alloc: Global,
+    key: &Key,
+    count: usize,
+    slot: Slot,
+    body: &[u8],
+) -> Result<Judged, AllocError>
+    ensures { IfOk result (λ judged. judged ≡ judged_of key.now
+        (session_started slot.header (started_service (start_of body.now)) (started_user (start_of body.now)))
+        (start_read count slot (start_of body.now))) }
+{
+    match read_start(alloc, body) {
+        Ok(start) => started(alloc, key, count, slot, start),
+        Err(BodyFault::Memory) => Err(AllocError),
+        Err(_) => Ok(Judged::over(breaks(key, slot))),
+    }
+}
+
+// A CONTINUE of this session.
+fn continue_packet(
+    alloc: Global,
+    key: &Key,
+    slot: Slot,
+    session: &Session,
+    body: &[u8],
+) -> Result<Judged, AllocError>
+    ensures { IfOk result (λ judged. judged ≡ judged_of key.now
+        (session_named session.now (typed_in (continue_of body.now)))
+        (continue_read slot session.now.service (awaited_user session.now.waiting) (continue_of body.now))) }
+{
+    match read_continue(alloc, body) {
+        Ok(answer) => answered(alloc, key, slot, session, answer),
+        Err(BodyFault::Memory) => Err(AllocError),
+        Err(_) => Ok(Judged::over(breaks(key, slot))),
+    }
+}
+
+// A request that is read.
+fn requested(
+    alloc: Global,
+    key: &Key,
+    slot: Slot,
+    request: AuthorRequest,
+) -> Result<Step, AllocError>
+    ensures { IfOk result (λ step. step ≡ step_of key.now (line_outcome slot request.user (line_of request.args))) }
+{
+    let step = match request_line(alloc, request.args.as_slice())? {
+        LineOf::BadArgument => ends(key, slot, refusal(b"bad argument")),
+        LineOf::NotShell => ends(key, slot, refusal(b"unsupported service")),
+        LineOf::Line(line) => Step::Asks(
+            Ask::Authorise {
+                user: request.user,
+                line,
+            },
+            slot,
+        ),
+    };
+    Ok(step)
+}
+
+// An authorisation REQUEST.
+fn request_packet(alloc: Global, key: &Key, slot: Slot, body: &[u8]) -> Result<Step, AllocError>
+    ensures { IfOk result (λ step. step ≡ step_of key.now (request_read slot (author_request_of body.now))) }
+{
+    match read_author_request(alloc, body) {
+        Ok(request) => requested(alloc, key, slot, request),
+        Err(BodyFault::Memory) => Err(AllocError),
+        Err(_) => Ok(breaks(key, slot)),
+    }
+}
+
+// A packet of no open session, with so many sessions open.
+fn first_packet(
+    alloc: Global,
+    key: &Key,
+    single: bool,
+    count: usize,
+    header: &Header,
+    body: &[u8],
+) -> Result<Judged, AllocError>
+    ensures { IfOk result (λ judged. judged ≡ judged_of key.now
+        (session_after None (record { header = header.now; body = body.now }))
+        (first_outcome single count (record { header = header.now; body = body.now }))) }
+{
+    if header.seq != 1 || !(single || count == 0) {
+        return Ok(Judged::over(Step::Close));
+    }
+    let slot = slot_for(header, single);
+    if header.kind == AUTHENTICATION {
+        return start_packet(alloc, key, count, slot, body);
+    }
+    let step = request_packet(alloc, key, slot, body)?;
+    Ok(Judged::over(step))
+}
+
+// A packet of an open session.
+fn later_packet(
+    alloc: Global,
+    key: &Key,
+    single: bool,
+    session: &Session,
+    header: &Header,
+    body: &[u8],
+) -> Result<Judged, AllocError>
+    ensures { IfOk result (λ judged. judged ≡ judged_of key.now
+        (session_after (Some session.now) (record { header = header.now; body = body.now }))
+        (later_outcome single (seen session.now) (record { header = header.now; body = body.now }))) }
+{
+    if header.kind != AUTHENTICATION || header.seq != session.waiting.expected_seq() {
+        return Ok(Judged::over(Step::Close));
+    }
+    let slot = slot_for(header, single);
+    continue_packet(alloc, key, slot, session, body)
+}
+
+/// What a clear packet comes to, on a connection that is single or isn't, with these sessions open.
+#[tactic(auto, unfolding(crate::specs::Standing::judged))]
+pub(crate) fn judge(
+    alloc: Global,
+    key: &Key,
+    single: bool,
+    sessions: &[Session],
+    header: &Header,
+    body: &[u8],
+) -> Result<Judged, AllocError>
+    ensures { IfOk result (λ judged. judged ≡ judged_of key.now
+        (session_after (session_in sessions.now header.now.session) (record { header = header.now; body = body.now }))
+        (judged_outcome single (length sessions.now) (option_map seen (session_in sessions.now header.now.session)) (record { header = header.now; body = body.now }))) }
+{
+    if !is_served(header) {
+        return Ok(Judged::over(unknown_type(key, header)));
+    }
+    let count = sessions.len();
+    match find_session(sessions, header.session) {
+        Some(session) => later_packet(alloc, key, single, session, header, body),
+        None => first_packet(alloc, key, single, count, header, body),
+    }
+}
