@@ -4,7 +4,7 @@ use basics::Bytes;
 use std::fmt::Write;
 use std::process::Abort;
 use std::test::Fail;
-use tac_conn::{Answer, Ask, By, Conn, Name, Proof, Sent, Step, SubjectId};
+use tac_conn::{Answer, Ask, By, Conn, Name, Proof, Record, Sent, Step, SubjectId};
 use tac_wire::{Frame, Header, Key, pad_in_place};
 
 /// The key of all conversations.
@@ -64,6 +64,22 @@ fn asked<R: AllocGlobal>(rt: &R, ask: &Ask) -> Result<String, Fail> {
             let user = str::from_utf8(user.as_slice())?;
             let line = str::from_utf8(line.as_slice())?;
             write!(text, "{user}: {line}: ")?;
+        }
+        Ask::Account(record) => {
+            let Record {
+                user,
+                kind,
+                task,
+                elapsed,
+                line,
+            } = record;
+            let user = str::from_utf8(user.as_slice())?;
+            let task = str::from_utf8(task.as_slice())?;
+            let line = match line {
+                Some(line) => str::from_utf8(line.as_slice())?,
+                None => "(no line)",
+            };
+            write!(text, "{user} {kind:?} {task} {elapsed} {line}: ")?;
         }
     }
     Ok(text)
@@ -287,6 +303,45 @@ fn authorisation(rt: HostRuntime) -> Result<(), Fail> {
 }
 
 #[test]
+fn accounting(rt: HostRuntime) -> Result<(), Fail> {
+    // The line and the seconds, and then a record without them that finds no room.
+    let cases = [
+        (
+            "c00301000000000100000041\
+             040601010103040004090f0d08626f6274747930\
+             7461736b5f69643d37656c61707365645f74696d653d3630736572766963653d7368656c6c636d643d73686f77",
+            Answer::Stored,
+            "bob Stop 7 60 show: c003020000000001000000050000000001 closes",
+        ),
+        (
+            "c0030100000000010000001a0a060101010304000109626f62747479307461736b5f69643d37",
+            Answer::BookFull,
+            "bob Update 7 0 (no line): c00302000000000100000011000c0000027265636f7264732066756c6c closes",
+        ),
+    ];
+    for (packet, answer, said) in &cases {
+        let mut conn = Conn::new(rt.alloc());
+        says(&rt, &mut conn, packet, *answer, said)?;
+    }
+    // START and STOP together are no record's flags: a single connection stays open.
+    let mut conn = Conn::new(rt.alloc());
+    says(
+        &rt,
+        &mut conn,
+        "c0030104000000010000001a06060101010304000109626f62747479307461736b5f69643d37",
+        Answer::Stored,
+        "c0030204000000010000000e000900000262616420666c616773",
+    )?;
+    says(
+        &rt,
+        &mut conn,
+        "c0030104000000010000001a0a060101010304000109626f62747479307461736b5f69643d37",
+        Answer::Stored,
+        "bob Update 7 0 (no line): c003020400000001000000050000000001",
+    )
+}
+
+#[test]
 fn packets_that_close(rt: HostRuntime) -> Result<(), Fail> {
     let cases = [
         // A type that isn't served, with a seq_no above and with none.
@@ -306,16 +361,21 @@ fn packets_that_close(rt: HostRuntime) -> Result<(), Fail> {
             "c00201040000000100000003010101",
             "c0020204000000010000000e11000008000062616420626f6479 closes",
         ),
+        (
+            "c00301040000000100000003020101",
+            "c0030204000000010000000d000800000262616420626f6479 closes",
+        ),
     ];
     for (packet, said) in &cases {
         let mut conn = Conn::new(rt.alloc());
         says(&rt, &mut conn, packet, Answer::Pass, said)?;
         says(&rt, &mut conn, packet, Answer::Pass, "close")?;
     }
-    // An open session, by another seq_no and by another type.
+    // An open session, by another seq_no and by other types.
     for packet in [
         "c0010504000000010000000b0006000000736563726574",
         "c0020304000000010000000b0006000000736563726574",
+        "c0030304000000010000000b0006000000736563726574",
     ] {
         let mut conn = Conn::new(rt.alloc());
         let reply = format!(in rt.alloc(); "c00102040000000100000010{ASK_PASSWORD}")?;

@@ -3,13 +3,21 @@
 #![tactic(auto)]
 
 #[cfg(test)]
+mod accounting;
+#[cfg(test)]
 mod authorisation;
 #[cfg(test)]
 mod connections;
 #[cfg(test)]
+mod logins;
+#[cfg(test)]
+mod pieces;
+#[cfg(test)]
 mod policy_faults;
 #[cfg(test)]
 mod script_faults;
+#[cfg(test)]
+mod sessions;
 #[cfg(test)]
 mod support;
 #[cfg(test)]

@@ -104,16 +104,70 @@ fn bad_commands(rt: HostRuntime) -> Result<(), Fail> {
         "packet 1 0xc00901000000000100000000",
         // No whole header.
         "packet 1 c009010000000001000000",
-        // A body of another length than the header says.
-        "packet 1 c0090100000000010000000000",
-        "packet 1 c00901000000000100000001",
-        "packet 1 c009010000000001000000020a",
-        "packet 1 c00901000000000101000000",
-        // Two packets.
-        "packet 1 c00901040000000100000000 c00901040000000200000000",
-        "packet 1 c00901040000000100000000c00901040000000200000000",
+        // Of several packets, all are judged, and the spaces between them.
+        "packet 1 c00901040000000100000000  c00901040000000200000000",
+        "packet 1 c00901040000000100000000 c00901040000000200000000 ",
+        "packet 1 c00901040000000100000000\tc00901040000000200000000",
+        "packet 1 c00901040000000100000000 c0090104000000020000000",
+        "packet 1 c00901040000000100000000 c009010400000002000000",
+        "packet 1 c009010400000001000000 c00901040000000200000000",
+        "packet 2 c00901040000000100000000 c0",
         "Packet 1 c00901000000000100000000",
         "packet 2 c0",
+    ];
+    for line in &lines {
+        stops(
+            &rt,
+            &["key k\nrun\nopen 1\n", line, "\n"],
+            "fault line 4 BadCommand\n",
+        )?;
+    }
+    Ok(())
+}
+
+#[test]
+fn more_bad_commands(rt: HostRuntime) -> Result<(), Fail> {
+    let lines = [
+        "bytes",
+        "bytes 1",
+        "bytes 1 ",
+        "bytes 1 a",
+        "bytes 1 c00",
+        "bytes 1 0g",
+        "bytes 1 0x00",
+        "bytes 1 aa bb",
+        "bytes 1 aa ",
+        "bytes  1 aa",
+        "bytes 1  aa",
+        "bytes 65536 aa",
+        "bytes 000001 aa",
+        "bytes aa",
+        "bytes 2 a",
+        "Bytes 1 aa",
+        "pieces",
+        "pieces ",
+        "pieces 0",
+        "pieces 0000",
+        "pieces 00001",
+        "pieces 10000",
+        "pieces -1",
+        "pieces 1 ",
+        "pieces  1",
+        "pieces 1 2",
+        "pieces 1x",
+        "piece 1",
+        "lost",
+        "lost ",
+        "lost 65536",
+        "lost 70000",
+        "lost 000001",
+        "lost 1 ",
+        "lost  1",
+        "lost 1 2",
+        "Lost 1",
+        "console",
+        "console ",
+        "console policy",
     ];
     for line in &lines {
         stops(

@@ -1,4 +1,4 @@
-//! What the tests share: playing a script, and spelling packets in it.
+//! What the tests share: playing scripts and conversations, and spelling packets in them.
 
 use std::alloc::AllocError;
 use std::fmt::Write;
@@ -8,6 +8,9 @@ use tac_server::{ReplayEnd, replay};
 
 /// The policy in which bob may run what begins with `show `, by rule 1 of his group.
 pub(crate) const OPS: &str = "group ops\npermit show .*\nuser bob in ops\n";
+
+/// The same, where bob can log in too.
+pub(crate) const BOB: &str = "group ops\npermit show .*\nuser bob in ops\nlogin secret\n";
 
 /// The packet in which bob asks for `show version`.
 pub(crate) const SHOW_VERSION: &str =
@@ -76,6 +79,68 @@ pub(crate) fn stops<R: Abort + AllocGlobal>(
     output: &str,
 ) -> Result<(), Fail> {
     ends(rt, parts, ReplayEnd::Refused, output)
+}
+
+// Adds a line of a conversation as a script has it.
+fn push_line(text: &mut String, line: &str) -> Result<(), Fail> {
+    let mut is_quoted = false;
+    for byte in line.bytes() {
+        match byte {
+            b'\'' => is_quoted = !is_quoted,
+            _ if is_quoted => write!(text, "{byte:02x}")?,
+            b'.' => {}
+            _ => text.push(char::from(byte))?,
+        }
+    }
+    text.push_str("\n")?;
+    Ok(())
+}
+
+// Whether the line of a conversation is one that is printed.
+fn is_printed(line: &str) -> bool {
+    line.starts_with("reply ") || line.starts_with("closed ") || line.starts_with("fault ")
+}
+
+// Plays what a conversation came to so far.
+fn comes_to<R: Abort + AllocGlobal>(rt: &R, script: &str, output: &str) -> Result<(), Fail> {
+    if output.contains("fault ") {
+        stops(rt, &[script], output)
+    } else {
+        plays(rt, &[script], output)
+    }
+}
+
+/// Plays conversations under a policy, each on its own, with connection 1 open.
+///
+/// A paragraph is a conversation: lines of a script, and behind each line what it prints. In these
+/// lines dots drop out, and text in single quotes stands for its bytes in hexadecimal digits. A line
+/// that begins with `#` is a comment.
+pub(crate) fn converses<R: Abort + AllocGlobal>(
+    rt: &R,
+    policy: &str,
+    text: &str,
+) -> Result<(), Fail> {
+    let opened = ["key k\n", policy, "run\nopen 1\n"];
+    let mut script = joined(rt, &opened)?;
+    let mut output = String::new(rt.alloc());
+    for line in text.lines() {
+        let line = line.trim_start();
+        if line.starts_with('#') {
+            continue;
+        }
+        if is_printed(line) {
+            push_line(&mut output, line)?;
+            continue;
+        }
+        comes_to(rt, script.as_str(), output.as_str())?;
+        if line.is_empty() {
+            script = joined(rt, &opened)?;
+            output.clear();
+        } else {
+            push_line(&mut script, line)?;
+        }
+    }
+    comes_to(rt, script.as_str(), output.as_str())
 }
 
 /// What a body is sent as: a line of hexadecimal digits, behind its header.

@@ -1,5 +1,5 @@
 -- Each ask has the slot of its kind.
-use Rattle.std.proofs.Common.{◌≡◌, ℕ, ◌+◌, Bool, true, false, cond, List, [], ◌∷◌, length, Option, None, Some, Result, Ok, Err, refl, ap}
+use Rattle.std.proofs.Common.{◌≡◌, ℕ, ◌+◌, Bool, true, false, cond, List, [], ◌∷◌, length, Option, None, Some, Result, Ok, Err, refl}
 use Rattle.std.specs.Prelude.{not, option_map, nat_le, nat_lt, ◌==◌, ◌||◌, ◌%◌, codes}
 use Rattle.tac_authen.specs.Flag.{has_flag}
 use Rattle.tac_authen.specs.Reply.{reply_bytes}
@@ -11,6 +11,10 @@ use Rattle.tac_wire.specs.declared.body.BodyFault.{BodyFault}
 use Rattle.tac_authen.specs.declared.start.Start.{Start}
 use Rattle.tac_authen.specs.declared.start.Service.{Service}
 use Rattle.tac_authen.specs.declared.continuation.Continue.{Continue}
+use Rattle.tac_request.specs.declared.acct_request.AcctRequest.{AcctRequest}
+use Rattle.tac_request.specs.declared.record.AcctKind.{AcctKind}
+use Rattle.tac_request.specs.AcctRequest.{acct_request_of}
+use Rattle.tac_request.specs.Record.{kind_of as acct_kind_of}
 use Rattle.tac_request.specs.declared.author_request.AuthorRequest.{AuthorRequest}
 use Rattle.tac_request.specs.declared.line.LineOf.{LineOf}
 use Rattle.tac_request.specs.declared.line.LineOf.TheVariants.{Line, BadArgument, NotShell}
@@ -19,11 +23,11 @@ use Rattle.tac_authen.specs.Continue.{continue_of}
 use Rattle.tac_request.specs.AuthorRequest.{author_request_of}
 use Rattle.tac_request.specs.Line.{line_of}
 use Rattle.tac_conn.specs.declared.ask.Slot.{Slot}
-use Rattle.tac_conn.specs.Standing.{Packet, Outcome, question, reply, asks, silent, close, Open, judged, start_read, ascii_outcome, proven_outcome, chap_outcome, chap_proof, continue_read, typed_outcome, name_outcome, by_session, aborted, unknown_type, first_outcome, is_served, is_supported, ends, inquires, request_read, line_outcome, max_sessions, slot_for}
+use Rattle.tac_conn.specs.Standing.{Packet, Outcome, question, reply, asks, silent, close, Open, judged, start_read, ascii_outcome, proven_outcome, chap_outcome, chap_proof, continue_read, typed_outcome, name_outcome, aborted, unknown_type, opening_outcome, first_outcome, later_outcome, by_kind, kind_of, is_supported, ends, inquires, request_read, line_outcome, record_outcome, acct_read, max_sessions, slot_for}
 use Rattle.tac_conn.specs.Kept.{step_of, HasItsSlot, kind_of_ask, outcome_in, single_with, seen, session_in}
 use Rattle.tac_conn.specs.declared.conn.Conn.{Conn}
 use Rattle.tac_conn.specs.declared.ask.AskKind.{AskKind}
-use Rattle.tac_conn.specs.declared.ask.AskKind.TheVariants.{Authentication, Authorisation}
+use Rattle.tac_conn.specs.declared.ask.AskKind.TheVariants.{Authentication, Authorisation, Accounting}
 
 abbrev Right : Outcome → Type 0
 Right (question packet) = Unit {0}
@@ -82,45 +86,45 @@ right_request : (slot : Slot) (r : Result AuthorRequest BodyFault) → slot.kind
 right_request slot (Ok request) e = right_line slot request.user (line_of request.args) e
 right_request slot (Err fault) e = tt
 
-kind_by : (b : Bool) (x y : Outcome) → (b ≡ true → Right x) → (b ≡ false → Right y) → Right (cond b x y)
-kind_by true x y f g = f refl
-kind_by false x y f g = g refl
+right_record : (slot : Slot) (request : AcctRequest) (kind : Option AcctKind) → slot.kind ≡ Accounting → Right (record_outcome slot request kind)
+right_record slot request None e = tt
+right_record slot request (Some kind) e = e
 
-closed_or : (b c : Bool) (x : Outcome) → (b ≡ true → Right x) → Right (cond (not b || c) close x)
-closed_or true true x f = tt
-closed_or true false x f = f refl
-closed_or false c x f = tt
+right_acct : (slot : Slot) (r : Result AcctRequest BodyFault) → slot.kind ≡ Accounting → Right (acct_read slot r)
+right_acct slot (Ok request) e = right_record slot request (acct_kind_of request.flags) e
+right_acct slot (Err fault) e = tt
 
 unknown : (header : Header) → Right (unknown_type header)
 unknown header = either (nat_lt header.seq 255) (reply (record { header = record header { seq = header.seq + 1; length = 0 }; body = [] }) true) close tt tt
 
-abbrev kind_if : Bool → AskKind
-kind_if b = cond b Authentication Authorisation
+right_opening : (kind : AskKind) (count : ℕ) (slot : Slot) (body : List ℕ) → slot.kind ≡ kind → Right (opening_outcome kind count slot body)
+right_opening Authentication count slot body e = right_start count slot (start_of body) e
+right_opening Authorisation count slot body e = right_request slot (author_request_of body) e
+right_opening Accounting count slot body e = right_acct slot (acct_request_of body) e
 
-right_first : (single : Bool) (count : ℕ) (packet : Packet) → Right (first_outcome single count packet)
-right_first single count packet =
+right_first : (single : Bool) (count : ℕ) (kind : AskKind) (packet : Packet) → Right (first_outcome single count kind packet)
+right_first single count kind packet =
     let header = packet.header in
-    let slot = slot_for header single in
-    let start = start_read count slot (start_of packet.body) in
-    let request = request_read slot (author_request_of packet.body) in
-    either (not (header.seq == 1) || not (single || count == 0)) close (cond (header.kind.0 == 1) start request) tt
-    (kind_by (header.kind.0 == 1) start request
-    (λ e. right_start count slot (start_of packet.body) (ap kind_if e))
-    (λ e. right_request slot (author_request_of packet.body) (ap kind_if e)))
+    let slot = slot_for header kind single in
+    either (not (header.seq == 1) || not (single || count == 0)) close (opening_outcome kind count slot packet.body) tt (right_opening kind count slot packet.body refl)
 
-right_by : (single : Bool) (count : ℕ) (known : Option Open) (packet : Packet) → Right (by_session single count known packet)
-right_by single count None packet = right_first single count packet
-right_by single count (Some known) packet =
-    let header = packet.header in
-    let slot = slot_for header single in
-    closed_or (header.kind.0 == 1) (not (header.seq == known.next_seq)) (continue_read slot known.service known.user (continue_of packet.body))
-    (λ e. right_continue slot known.service known.user (continue_of packet.body) (ap kind_if e))
+right_later : (single : Bool) (known : Open) (kind : AskKind) (packet : Packet) → Right (later_outcome single known kind packet)
+right_later single known Authentication packet =
+    let slot = slot_for packet.header Authentication single in
+    let answer = continue_of packet.body in
+    either (packet.header.seq == known.next_seq) (continue_read slot known.service known.user answer) close (right_continue slot known.service known.user answer refl) tt
+right_later single known Authorisation packet = tt
+right_later single known Accounting packet = tt
+
+right_by : (single : Bool) (count : ℕ) (known : Option Open) (kind : Option AskKind) (packet : Packet) → Right (by_kind single count known kind packet)
+right_by single count known None packet = unknown packet.header
+right_by single count None (Some kind) packet = right_first single count kind packet
+right_by single count (Some known) (Some kind) packet = right_later single known kind packet
 
 -- whatever a packet comes to
 pub judged_right : (single : Bool) (count : ℕ) (known : Option Open) (packet : Packet) → Right (judged single count known packet)
 unfolding judged
-judged_right single count known packet =
-    either (is_served packet.header) (by_session single count known packet) (unknown_type packet.header) (right_by single count known packet) (unknown packet.header)
+judged_right single count known packet = right_by single count known (kind_of packet.header) packet
 
 pub outcome_in-right : (conn : Conn) (packet : Packet) → Right (outcome_in conn packet)
 unfolding outcome_in

@@ -1,12 +1,13 @@
 -- Worked cases: what packets come to.
 use Rattle.std.proofs.Common.{◌≡◌, ℕ, ◌+◌, true, false, List, [], ◌∷◌, ◌++◌, length, None, refl}
 use Rattle.std.specs.Prelude.{codes}
-use Rattle.tac_conn.specs.declared.ask.AskKind.TheVariants.{Authentication, Authorisation}
+use Rattle.tac_conn.specs.declared.ask.AskKind.TheVariants.{Authentication, Authorisation, Accounting}
 use Rattle.tac_conn.specs.declared.ask.Slot.{Slot}
-use Rattle.tac_conn.specs.declared.ask.Answer.TheVariants.{Denied, Permitted}
+use Rattle.tac_conn.specs.declared.ask.Answer.TheVariants.{Denied, Permitted, Stored}
 use Rattle.pol_text.specs.declared.subject.By.TheVariants as by
-use Rattle.tac_conn.specs.declared.ask.Ask.TheVariants.{Authenticate}
+use Rattle.tac_conn.specs.declared.ask.Ask.TheVariants.{Authenticate, Account}
 use Rattle.tac_conn.specs.declared.ask.Proof.TheVariants.{Plain}
+use Rattle.tac_request.specs.declared.record.AcctKind.TheVariants.{Update}
 use Rattle.tac_conn.specs.Standing.{Packet, question, reply, asks, silent, close, outcome, judged, judged_after, is_closed, trail_of, open_count, open_sessions, reply_to}
 
 -- a packet of authentication, minor version 0 or 1
@@ -84,10 +85,42 @@ unfolding outcome judged_after judged is_closed trail_of open_count
 bad_start = refl
 
 -- a type that isn't served
-other_type : (body : List ℕ) → outcome [] (record { header = record { version = 0xc0; kind = record { 0 = 3 }; seq = 1; flags = 4; session = 9; length = length body }; body = body })
-    ≡ reply (record { header = record { version = 0xc0; kind = record { 0 = 3 }; seq = 2; flags = 4; session = 9; length = 0 }; body = [] }) true
+other_type : (body : List ℕ) → outcome [] (record { header = record { version = 0xc0; kind = record { 0 = 4 }; seq = 1; flags = 4; session = 9; length = length body }; body = body })
+    ≡ reply (record { header = record { version = 0xc0; kind = record { 0 = 4 }; seq = 2; flags = 4; session = 9; length = 0 }; body = [] }) true
 unfolding outcome judged_after judged is_closed trail_of open_count
 other_type body = refl
+
+-- an accounting request with this first byte, of bob at tty0, with the argument task_id=7
+abbrev acct_request : ℕ → Packet
+acct_request flags =
+    let body = (flags ∷ 6 ∷ 1 ∷ 1 ∷ 1 ∷ 3 ∷ 4 ∷ 0 ∷ 1 ∷ 9 ∷ []) ++ codes "bobtty0task_id=7" in
+    record { header = record { version = 0xc0; kind = record { 0 = 3 }; seq = 1; flags = 0; session = 1; length = 26 }; body = body }
+
+abbrev acct_slot : Slot
+acct_slot = record { header = record { version = 0xc0; kind = record { 0 = 3 }; seq = 2; flags = 0; session = 1; length = 0 }; kind = Accounting; single = false }
+
+-- an update is to be stored
+asks_to_store : outcome [] (acct_request 0x0a) ≡ asks (Account (record { user = codes "bob"; kind = Update; task = codes "7"; elapsed = 0; line = None })) acct_slot
+unfolding outcome judged_after judged is_closed trail_of open_count
+asks_to_store = refl
+
+-- START and STOP together are no flags of a record
+bad_flags : outcome [] (acct_request 0x06)
+    ≡ reply (record { header = record { version = 0xc0; kind = record { 0 = 3 }; seq = 2; flags = 0; session = 1; length = 14 }; body = (0 ∷ 9 ∷ 0 ∷ 0 ∷ 2 ∷ []) ++ codes "bad flags" }) true
+unfolding outcome judged_after judged is_closed trail_of open_count
+bad_flags = refl
+
+-- a packet of accounting closes an open session, and so does one beside it
+acct_of_open : outcome (start 4 1 ∷ []) (acct_request 0x0a) ≡ close
+unfolding outcome judged_after judged is_closed trail_of open_count
+acct_of_open = refl
+
+acct_beside_open : outcome (start 0 7 ∷ []) (acct_request 0x0a) ≡ close
+unfolding outcome judged_after judged is_closed trail_of open_count
+acct_beside_open = refl
+
+stored : reply_to acct_slot Stored ≡ record { header = record { version = 0xc0; kind = record { 0 = 3 }; seq = 2; flags = 0; session = 1; length = 5 }; body = 0 ∷ 0 ∷ 0 ∷ 0 ∷ 1 ∷ [] }
+stored = refl
 
 -- the answer to a request, in its slot
 abbrev request_slot : Slot

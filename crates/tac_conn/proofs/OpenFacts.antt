@@ -11,6 +11,10 @@ use Rattle.tac_wire.specs.declared.body.BodyFault.{BodyFault}
 use Rattle.tac_authen.specs.declared.start.Start.{Start}
 use Rattle.tac_authen.specs.declared.start.Service.{Service}
 use Rattle.tac_authen.specs.declared.continuation.Continue.{Continue}
+use Rattle.tac_request.specs.declared.acct_request.AcctRequest.{AcctRequest}
+use Rattle.tac_request.specs.declared.record.AcctKind.{AcctKind}
+use Rattle.tac_request.specs.AcctRequest.{acct_request_of}
+use Rattle.tac_request.specs.Record.{kind_of as acct_kind_of}
 use Rattle.tac_request.specs.declared.author_request.AuthorRequest.{AuthorRequest}
 use Rattle.tac_request.specs.declared.line.LineOf.{LineOf}
 use Rattle.tac_request.specs.declared.line.LineOf.TheVariants.{Line, BadArgument, NotShell}
@@ -19,8 +23,10 @@ use Rattle.tac_authen.specs.Continue.{continue_of}
 use Rattle.tac_request.specs.AuthorRequest.{author_request_of}
 use Rattle.tac_request.specs.Line.{line_of}
 use Rattle.tac_conn.specs.declared.ask.Slot.{Slot}
+use Rattle.tac_conn.specs.declared.ask.AskKind.{AskKind}
+use Rattle.tac_conn.specs.declared.ask.AskKind.TheVariants.{Authentication, Authorisation, Accounting}
 use Rattle.tac_conn.specs.declared.session.Session.{Session}
-use Rattle.tac_conn.specs.Standing.{Packet, Outcome, question, reply, asks, silent, close, leaves_open, Open, open_of, judged, start_read, ascii_outcome, proven_outcome, chap_outcome, chap_proof, continue_read, typed_outcome, aborted, unknown_type, later_outcome, first_outcome, is_served, is_supported, ends, inquires, request_read, line_outcome, max_sessions, slot_for, given, started_user, started_service, typed_in, service_of, user_of}
+use Rattle.tac_conn.specs.Standing.{Packet, Outcome, question, reply, asks, silent, close, leaves_open, Open, open_of, judged, start_read, ascii_outcome, proven_outcome, chap_outcome, chap_proof, continue_read, typed_outcome, aborted, unknown_type, opening_outcome, by_kind, kind_of, is_supported, ends, inquires, request_read, line_outcome, record_outcome, acct_read, max_sessions, slot_for, given, started_user, started_service, typed_in, service_of, user_of}
 use Rattle.tac_conn.specs.Kept.{seen, session_if_open, session_after, session_started}
 
 either : (b : Bool) (x y : Outcome) → leaves_open x ≡ false → leaves_open y ≡ false → leaves_open (cond b x y) ≡ false
@@ -42,12 +48,16 @@ pub secret_ends : (single : Bool) (count next_seq : ℕ) (service : Service) (us
     → leaves_open (judged single count (Some (record { next_seq = next_seq; service = service; user = Some user })) packet) ≡ false
 unfolding judged
 secret_ends single count next_seq service user packet =
-    let header = packet.header in
-    let open_session : Open = record { next_seq = next_seq; service = service; user = Some user } in
-    let slot = slot_for header single in
-    either (is_served header) (later_outcome single open_session packet) (unknown_type header)
-    (either (not (header.kind.0 == 1) || not (header.seq == next_seq)) close (continue_read slot service (Some user) (continue_of packet.body)) refl (later_ends slot service user (continue_of packet.body)))
-    (unknown_ends header)
+    secret_ends_by (kind_of packet.header)
+  where
+    secret_ends_by : (kind : Option AskKind) → leaves_open (by_kind single count (Some (record { next_seq = next_seq; service = service; user = Some user })) kind packet) ≡ false
+    secret_ends_by None = unknown_ends packet.header
+    secret_ends_by (Some Authentication) =
+        let slot = slot_for packet.header Authentication single in
+        let answer = continue_of packet.body in
+        either (packet.header.seq == next_seq) (continue_read slot service (Some user) answer) close (later_ends slot service user answer) refl
+    secret_ends_by (Some Authorisation) = refl
+    secret_ends_by (Some Accounting) = refl
 
 full : (b : Bool) (x y : Outcome) → b ≡ true → leaves_open x ≡ false → leaves_open (cond b x y) ≡ false
 full true x y e f = f
@@ -81,18 +91,29 @@ request_ends : (slot : Slot) (r : Result AuthorRequest BodyFault) → leaves_ope
 request_ends slot (Ok request) = line_ends slot request.user (line_of request.args)
 request_ends slot (Err fault) = refl
 
+record_ends : (slot : Slot) (request : AcctRequest) (kind : Option AcctKind) → leaves_open (record_outcome slot request kind) ≡ false
+record_ends slot request None = refl
+record_ends slot request (Some kind) = refl
+
+acct_ends : (slot : Slot) (r : Result AcctRequest BodyFault) → leaves_open (acct_read slot r) ≡ false
+acct_ends slot (Ok request) = record_ends slot request (acct_kind_of request.flags)
+acct_ends slot (Err fault) = refl
+
+full_opening : (kind : AskKind) (count : ℕ) (slot : Slot) (body : List ℕ) → nat_le max_sessions count ≡ true → leaves_open (opening_outcome kind count slot body) ≡ false
+full_opening Authentication count slot body e = full_start count slot (start_of body) e
+full_opening Authorisation count slot body e = request_ends slot (author_request_of body)
+full_opening Accounting count slot body e = acct_ends slot (acct_request_of body)
+
+full_by : (single : Bool) (count : ℕ) (kind : Option AskKind) (packet : Packet) → nat_le max_sessions count ≡ true → leaves_open (by_kind single count None kind packet) ≡ false
+full_by single count None packet e = unknown_ends packet.header
+full_by single count (Some kind) packet e =
+    let slot = slot_for packet.header kind single in
+    either (not (packet.header.seq == 1) || not (single || count == 0)) close (opening_outcome kind count slot packet.body) refl (full_opening kind count slot packet.body e)
+
 -- no session is opened beside as many as may be open
 pub full_opens_none : (single : Bool) (count : ℕ) (packet : Packet) → nat_le max_sessions count ≡ true → leaves_open (judged single count None packet) ≡ false
 unfolding judged
-full_opens_none single count packet e =
-    let header = packet.header in
-    let slot = slot_for header single in
-    let start = start_read count slot (start_of packet.body) in
-    let request = request_read slot (author_request_of packet.body) in
-    either (is_served header) (first_outcome single count packet) (unknown_type header)
-    (either (not (header.seq == 1) || not (single || count == 0)) close (cond (header.kind.0 == 1) start request) refl
-    (either (header.kind.0 == 1) start request (full_start count slot (start_of packet.body) e) (request_ends slot (author_request_of packet.body))))
-    (unknown_ends header)
+full_opens_none single count packet e = full_by single count (kind_of packet.header) packet e
 
 -- ---- what is kept
 

@@ -17,9 +17,9 @@ use Rattle.tac_conn.specs.declared.judged.Judged.{Judged}
 use Rattle.tac_wire.specs.declared.frame.Frame.{Frame}
 use Rattle.tac_conn.specs.declared.ask.Slot.{Slot}
 use Rattle.tac_conn.specs.declared.ask.AskKind.{AskKind}
-use Rattle.tac_conn.specs.declared.ask.AskKind.TheVariants.{Authentication, Authorisation}
+use Rattle.tac_conn.specs.declared.ask.AskKind.TheVariants.{Authentication, Authorisation, Accounting}
 use Rattle.tac_conn.specs.declared.ask.Ask.{Ask}
-use Rattle.tac_conn.specs.declared.ask.Ask.TheVariants.{Authenticate, Authorise}
+use Rattle.tac_conn.specs.declared.ask.Ask.TheVariants.{Authenticate, Authorise, Account}
 use Rattle.tac_conn.specs.declared.conn.Conn.{Conn}
 use Rattle.tac_conn.specs.Standing.{Packet, Outcome, question, reply, asks, silent, close, closes, Open, open_of, trail_of, open_sessions, max_sessions, judged, is_single, is_closed, asks_single, started_user, started_service, typed_in}
 
@@ -181,6 +181,7 @@ pub record Stands (conn : Conn) (packets : List Packet) : Type 0 where
 abbrev pub kind_of_ask : Ask → AskKind
 kind_of_ask (Authenticate user service proof) = Authentication
 kind_of_ask (Authorise user line) = Authorisation
+kind_of_ask (Account event) = Accounting
 
 -- the slot of an ask takes the answers to it
 abbrev pub HasItsSlot : Step → Type 0

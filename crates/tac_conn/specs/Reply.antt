@@ -1,4 +1,4 @@
--- The replies of the server (RFC 8907, sections 5.2 and 6.2).
+-- The replies of the server (RFC 8907, sections 5.2, 6.2 and 7.2).
 use Rattle.std.specs.Prelude.{ℕ, List, [], ◌∷◌, ◌++◌, codes, true, false, Option, None}
 use Rattle.std.specs.Fmt.{decimal}
 use Rattle.pol_text.specs.Text.{kind_word}
@@ -8,10 +8,12 @@ use Rattle.tac_authen.specs.declared.reply.AuthenReply.{AuthenReply}
 use Rattle.tac_authen.specs.Reply.{reply_bytes}
 use Rattle.tac_request.specs.declared.author_reply.AuthorReply.{AuthorReply}
 use Rattle.tac_request.specs.AuthorReply.{author_reply}
+use Rattle.tac_request.specs.declared.acct_reply.AcctReply.{AcctReply}
+use Rattle.tac_request.specs.AcctReply.{acct_reply}
 use Rattle.tac_conn.specs.declared.ask.Answer.{Answer}
-use Rattle.tac_conn.specs.declared.ask.Answer.TheVariants.{Pass, Fail, UnknownUser, Unprintable, Denied, Permitted}
+use Rattle.tac_conn.specs.declared.ask.Answer.TheVariants.{Pass, Fail, UnknownUser, Unprintable, Denied, Permitted, Stored, BookFull}
 use Rattle.tac_conn.specs.declared.ask.AskKind.{AskKind}
-use Rattle.tac_conn.specs.declared.ask.AskKind.TheVariants.{Authentication, Authorisation}
+use Rattle.tac_conn.specs.declared.ask.AskKind.TheVariants.{Authentication, Authorisation, Accounting}
 
 -- ---- authentication
 
@@ -63,6 +65,16 @@ abbrev pub denial : By → List ℕ
 denial (by.Rule owner number) = codes "denied by " ++ kind_word owner.kind ++ owner.name ++ codes " rule " ++ decimal number
 denial by.Default = codes "denied by default"
 
+-- ---- accounting
+
+-- SUCCESS without text
+abbrev pub success : AcctReply
+success = record { status = record { 0 = 1 }; msg = record { items = [] } }
+
+-- ERROR
+abbrev pub acct_error : List ℕ → AcctReply
+acct_error text = record { status = record { 0 = 2 }; msg = record { items = text } }
+
 -- ---- the answers of the policy
 
 abbrev pub kind_of_answer : Answer → AskKind
@@ -72,6 +84,8 @@ kind_of_answer UnknownUser = Authorisation
 kind_of_answer Unprintable = Authorisation
 kind_of_answer (Denied by) = Authorisation
 kind_of_answer (Permitted level) = Authorisation
+kind_of_answer Stored = Accounting
+kind_of_answer BookFull = Accounting
 
 -- the body that carries an answer
 abbrev pub answer_body : Answer → List ℕ
@@ -81,8 +95,11 @@ answer_body UnknownUser = author_reply (refusal (codes "unknown user"))
 answer_body Unprintable = author_reply (refusal (codes "unprintable command"))
 answer_body (Denied by) = author_reply (refusal (denial by))
 answer_body (Permitted level) = author_reply (permission level)
+answer_body Stored = acct_reply success
+answer_body BookFull = acct_reply (acct_error (codes "records full"))
 
 -- the body that says that a body is none of its kind
 abbrev pub bad_body : AskKind → List ℕ
 bad_body Authentication = reply_bytes (authen_error (codes "bad body"))
 bad_body Authorisation = author_reply (author_error (codes "bad body"))
+bad_body Accounting = acct_reply (acct_error (codes "bad body"))

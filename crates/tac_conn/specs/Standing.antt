@@ -1,4 +1,4 @@
--- What the server says on a connection, from the clear packets that came on it (RFC 8907, sections 4.1 to 4.3, 5 and 6).
+-- What the server says on a connection, from the clear packets that came on it (RFC 8907, sections 4.1 to 4.3, and 5 to 7).
 -- Lists of packets have the latest first.
 use Rattle.std.specs.Prelude.{ℕ, ◌+◌, ◌-◌, ◌*◌, ◌%◌, List, [], ◌∷◌, length, drop, codes, slice_index, slice_range, Bool, true, false, not, ◌&&◌, ◌||◌, ◌==◌, nat_lt, nat_le, bit_and, Option, Some, None, is_some, Result, Ok, Err, if◌then◌else◌}
 use Rattle.std.specs.List.{list_any}
@@ -15,18 +15,23 @@ use Rattle.tac_authen.specs.Reply.{reply_bytes}
 use Rattle.tac_request.specs.AuthorRequest.{author_request_of}
 use Rattle.tac_request.specs.AuthorReply.{author_reply}
 use Rattle.tac_request.specs.Line.{line_of}
+use Rattle.tac_request.specs.declared.acct_request.AcctRequest.{AcctRequest}
+use Rattle.tac_request.specs.declared.record.AcctKind.{AcctKind}
+use Rattle.tac_request.specs.AcctRequest.{acct_request_of}
+use Rattle.tac_request.specs.AcctReply.{acct_reply}
+use Rattle.tac_request.specs.Record.{kind_of as acct_kind_of, record_of}
 use Rattle.tac_request.specs.declared.author_request.AuthorRequest.{AuthorRequest}
 use Rattle.tac_request.specs.declared.line.LineOf.{LineOf}
 use Rattle.tac_request.specs.declared.line.LineOf.TheVariants.{Line, BadArgument, NotShell}
 use Rattle.tac_conn.specs.declared.ask.AskKind.{AskKind}
-use Rattle.tac_conn.specs.declared.ask.AskKind.TheVariants.{Authentication, Authorisation}
+use Rattle.tac_conn.specs.declared.ask.AskKind.TheVariants.{Authentication, Authorisation, Accounting}
 use Rattle.tac_conn.specs.declared.ask.Ask.{Ask}
-use Rattle.tac_conn.specs.declared.ask.Ask.TheVariants.{Authenticate, Authorise}
+use Rattle.tac_conn.specs.declared.ask.Ask.TheVariants.{Authenticate, Authorise, Account}
 use Rattle.tac_conn.specs.declared.ask.Answer.{Answer}
 use Rattle.tac_conn.specs.declared.ask.Proof.{Proof}
 use Rattle.tac_conn.specs.declared.ask.Proof.TheVariants.{Plain, Chap}
 use Rattle.tac_conn.specs.declared.ask.Slot.{Slot}
-use Rattle.tac_conn.specs.Reply.{failed, authen_error, question_to, secret_question, refusal, bad_body, answer_body}
+use Rattle.tac_conn.specs.Reply.{failed, authen_error, question_to, secret_question, refusal, acct_error, bad_body, answer_body}
 
 -- a packet without the pad
 pub record Packet : Type 0 where
@@ -73,13 +78,17 @@ reply_flags false = 0
 abbrev pub reply_header : Header → Bool → Header
 reply_header header single = record header { seq = header.seq + 1; flags = reply_flags single; length = 0 }
 
--- type 1 is authentication, type 2 authorisation
-abbrev pub kind_of : Header → AskKind
-kind_of header = if header.kind.0 == 1 then Authentication else Authorisation
+-- type 1 is authentication, type 2 authorisation, type 3 accounting; no other type is served
+abbrev pub kind_of : Header → Option AskKind
+kind_of header =
+    if header.kind.0 == 1 then Some Authentication
+    else if header.kind.0 == 2 then Some Authorisation
+    else if header.kind.0 == 3 then Some Accounting
+    else None
 
--- the place of the reply to a packet
-abbrev pub slot_for : Header → Bool → Slot
-slot_for header single = record { header = reply_header header single; kind = kind_of header; single = single }
+-- the place of the reply to a packet of this kind
+abbrev pub slot_for : Header → AskKind → Bool → Slot
+slot_for header kind single = record { header = reply_header header single; kind = kind; single = single }
 
 -- a packet with this header, but for the length, and this body
 abbrev pub packet_with : Header → List ℕ → Packet
@@ -178,6 +187,17 @@ abbrev pub request_read : Slot → Result AuthorRequest BodyFault → Outcome
 request_read slot (Ok request) = line_outcome slot request.user (line_of request.args)
 request_read slot (Err fault) = breaks slot
 
+-- ---- accounting
+
+-- a record is to be stored, where the flags are those of a kind of record
+abbrev pub record_outcome : Slot → AcctRequest → Option AcctKind → Outcome
+record_outcome slot request None = ends slot (acct_reply (acct_error (codes "bad flags")))
+record_outcome slot request (Some kind) = asks (Account (record_of request kind)) slot
+
+abbrev pub acct_read : Slot → Result AcctRequest BodyFault → Outcome
+acct_read slot (Ok request) = record_outcome slot request (acct_kind_of request.flags)
+acct_read slot (Err fault) = breaks slot
+
 -- ---- a packet
 
 -- what is known of an open session: the seq_no that its next packet must have, and the user whose password it waits for;
@@ -187,32 +207,38 @@ pub record Open : Type 0 where
   pub service : Service
   pub user : Option (List ℕ)
 
+-- the body of a session's first packet, by how many sessions are open
+abbrev pub opening_outcome : AskKind → ℕ → Slot → List ℕ → Outcome
+opening_outcome Authentication count slot body = start_read count slot (start_of body)
+opening_outcome Authorisation count slot body = request_read slot (author_request_of body)
+opening_outcome Accounting count slot body = acct_read slot (acct_request_of body)
+
 -- a packet of no open session, by how many sessions are open
-abbrev pub first_outcome : Bool → ℕ → Packet → Outcome
-first_outcome single count packet =
+abbrev pub first_outcome : Bool → ℕ → AskKind → Packet → Outcome
+first_outcome single count kind packet =
     if not (packet.header.seq == 1) || not (single || count == 0) then close
-    else if packet.header.kind.0 == 1 then start_read count (slot_for packet.header single) (start_of packet.body)
-    else request_read (slot_for packet.header single) (author_request_of packet.body)
+    else opening_outcome kind count (slot_for packet.header kind single) packet.body
 
--- a packet of an open session
-abbrev pub later_outcome : Bool → Open → Packet → Outcome
-later_outcome single session packet =
-    if not (packet.header.kind.0 == 1) || not (packet.header.seq == session.next_seq) then close
-    else continue_read (slot_for packet.header single) session.service session.user (continue_of packet.body)
+-- a packet of an open session, which is one of authentication: any other session has one packet
+abbrev pub later_outcome : Bool → Open → AskKind → Packet → Outcome
+later_outcome single session Authentication packet =
+    if packet.header.seq == session.next_seq
+    then continue_read (slot_for packet.header Authentication single) session.service session.user (continue_of packet.body)
+    else close
+later_outcome single session Authorisation packet = close
+later_outcome single session Accounting packet = close
 
-abbrev pub by_session : Bool → ℕ → Option Open → Packet → Outcome
-by_session single count None packet = first_outcome single count packet
-by_session single count (Some session) packet = later_outcome single session packet
+abbrev pub by_session : Bool → ℕ → Option Open → AskKind → Packet → Outcome
+by_session single count None kind packet = first_outcome single count kind packet
+by_session single count (Some session) kind packet = later_outcome single session kind packet
 
--- authentication and authorisation are served
-abbrev pub is_served : Header → Bool
-is_served header = header.kind.0 == 1 || header.kind.0 == 2
+abbrev pub by_kind : Bool → ℕ → Option Open → Option AskKind → Packet → Outcome
+by_kind single count session None packet = unknown_type packet.header
+by_kind single count session (Some kind) packet = by_session single count session kind packet
 
 -- a packet on a connection that is single or isn't, by how many sessions are open, and by its session, if that is open
 unfoldable pub judged : Bool → ℕ → Option Open → Packet → Outcome
-judged single count session packet =
-    if is_served packet.header then by_session single count session packet
-    else unknown_type packet.header
+judged single count session packet = by_kind single count session (kind_of packet.header) packet
 
 -- ---- the packets before
 

@@ -3,6 +3,7 @@
 use basics::Bytes;
 use pol_text::By;
 use tac_authen::Service;
+use tac_request::Record;
 use tac_wire::Header;
 
 /// How a user proves to be the one named.
@@ -32,13 +33,16 @@ pub enum Ask {
         user: Bytes,
         line: Bytes,
     },
+    /// That this record be stored.
+    Account(Record),
 }
 
-/// Which of the two is asked.
+/// Which of these is asked.
 #[derive(Clone, Copy, Debug, PartialEq, Eq)]
 pub enum AskKind {
     Authentication,
     Authorisation,
+    Accounting,
 }
 
 /// An answer of the policy.
@@ -55,6 +59,10 @@ pub enum Answer {
     Denied(By),
     /// Perhaps with the privilege level of a shell.
     Permitted(Option<u8>),
+    /// The record is stored.
+    Stored,
+    /// There is no room for the record, which isn't stored.
+    BookFull,
 }
 
 impl Answer {
@@ -69,6 +77,7 @@ impl Answer {
             Answer::Pass | Answer::Fail => AskKind::Authentication,
             Answer::UnknownUser | Answer::Unprintable | Answer::Denied(_) | Answer::Permitted(_) =>
                 AskKind::Authorisation,
+            Answer::Stored | Answer::BookFull => AskKind::Accounting,
         }
     }
 }

@@ -1,7 +1,8 @@
 //! One connection of the server: what it says for each packet, and what it asks of the policy
-//! (RFC 8907, sections 4.1 to 4.3, 5 and 6).
+//! (RFC 8907, sections 4.1 to 4.3, and 5 to 7).
 #![tactic(auto)]
 
+mod accounting;
 mod ask;
 mod conn;
 mod continuation;
@@ -17,3 +18,4 @@ pub use ask::{Answer, Ask, AskKind, Proof, Slot};
 pub use conn::Conn;
 pub use pol_text::{By, Kind, Name, SubjectId};
 pub use step::{Sent, Step};
+pub use tac_request::{AcctKind, Record};

@@ -4,10 +4,11 @@ ghost use Rattle.std.specs.Prelude.{◌≡◌, ◌<◌, ◌==◌, length, None, 
 ghost use Rattle.tac_authen.specs.Start.{start_of};
 ghost use Rattle.tac_authen.specs.Continue.{continue_of};
 ghost use Rattle.tac_request.specs.AuthorRequest.{author_request_of};
-ghost use Rattle.tac_conn.specs.Standing.{reply_header as reply_header_value, slot_for as slot_value, unknown_type as unknown_outcome, start_read, continue_read, request_read, line_outcome, started_user, started_service, typed_in, first_outcome, later_outcome, judged as judged_outcome, is_served as served_value};
+ghost use Rattle.tac_conn.specs.Standing.{reply_header as reply_header_value, slot_for as slot_value, unknown_type as unknown_outcome, start_read, continue_read, request_read, line_outcome, started_user, started_service, typed_in, opening_outcome, first_outcome, later_outcome, judged as judged_outcome, kind_of as kind_value};
 ghost use Rattle.tac_request.specs.Line.{line_of};
 ghost use Rattle.tac_conn.specs.Kept.{step_of, judged_of, session_started, session_named, session_after, session_in, awaited_user, seen};
 
+use crate::accounting::acct_packet;
 use crate::ask::{Ask, AskKind, Slot};
 use crate::continuation::answered;
 use crate::ending::{breaks, ends};
@@ -22,26 +23,24 @@ use tac_authen::{read_continue, read_start};
 use tac_request::{AuthorRequest, LineOf, read_author_request, request_line};
 use tac_wire::{BodyFault, Header, Key, PacketType};
 
-const AUTHENTICATION: PacketType = PacketType(1);
-
-// Whether packets of this type are served.
-fn is_served(header: &Header) -> bool
-    ensures { result ≡ served_value header.now }
+// What packets of this type are about; `None` for a type that isn't served.
+fn kind_of(header: &Header) -> Option<AskKind>
+    ensures { result ≡ kind_value header.now }
 {
-    header.kind == AUTHENTICATION || header.kind == PacketType::AUTHORISATION
+    match header.kind {
+        PacketType::AUTHENTICATION => Some(AskKind::Authentication),
+        PacketType::AUTHORISATION => Some(AskKind::Authorisation),
+        PacketType::ACCOUNTING => Some(AskKind::Accounting),
+        _ => None,
+    }
 }
 
-// The place of the reply to a packet.
-fn slot_for(header: &Header, single: bool) -> Slot
+// The place of the reply to a packet of this kind.
+fn slot_for(header: &Header, kind: AskKind, single: bool) -> Slot
     requires { header.now.seq < 255 }
-    ensures { result ≡ slot_value header.now single }
+    ensures { result ≡ slot_value header.now kind single }
 {
     let flags = if single { Header::SINGLE_CONNECTION } else { 0 };
-    let kind = if header.kind == AUTHENTICATION {
-        AskKind::Authentication
-    } else {
-        AskKind::Authorisation
-    };
     Slot {
         header: Header {
             seq: header.seq + 1,
@@ -142,28 +141,50 @@ fn request_packet(alloc: Global, key: &Key, slot: Slot, body: &[u8]) -> Result<S
     }
 }
 
+// The body of a session's first packet, with so many sessions open.
+fn opening(
+    alloc: Global,
+    key: &Key,
+    count: usize,
+    slot: Slot,
+    body: &[u8],
+) -> Result<Judged, AllocError>
+    ensures { IfOk result (λ judged. judged ≡ judged_of key.now
+        (session_started slot.header (started_service (start_of body.now)) (started_user (start_of body.now)))
+        (opening_outcome slot.kind count slot body.now)) }
+{
+    match slot.kind {
+        AskKind::Authentication => start_packet(alloc, key, count, slot, body),
+        AskKind::Authorisation => {
+            let step = request_packet(alloc, key, slot, body)?;
+            Ok(Judged::over(step))
+        }
+        AskKind::Accounting => {
+            let step = acct_packet(alloc, key, slot, body)?;
+            Ok(Judged::over(step))
+        }
+    }
+}
+
 // A packet of no open session, with so many sessions open.
 fn first_packet(
     alloc: Global,
     key: &Key,
     single: bool,
     count: usize,
+    kind: AskKind,
     header: &Header,
     body: &[u8],
 ) -> Result<Judged, AllocError>
     ensures { IfOk result (λ judged. judged ≡ judged_of key.now
         (session_after None (record { header = header.now; body = body.now }))
-        (first_outcome single count (record { header = header.now; body = body.now }))) }
+        (first_outcome single count kind (record { header = header.now; body = body.now }))) }
 {
     if header.seq != 1 || !(single || count == 0) {
         return Ok(Judged::over(Step::Close));
     }
-    let slot = slot_for(header, single);
-    if header.kind == AUTHENTICATION {
-        return start_packet(alloc, key, count, slot, body);
-    }
-    let step = request_packet(alloc, key, slot, body)?;
-    Ok(Judged::over(step))
+    let slot = slot_for(header, kind, single);
+    opening(alloc, key, count, slot, body)
 }
 
 // A packet of an open session.
@@ -172,17 +193,18 @@ fn later_packet(
     key: &Key,
     single: bool,
     session: &Session,
+    kind: AskKind,
     header: &Header,
     body: &[u8],
 ) -> Result<Judged, AllocError>
     ensures { IfOk result (λ judged. judged ≡ judged_of key.now
         (session_after (Some session.now) (record { header = header.now; body = body.now }))
-        (later_outcome single (seen session.now) (record { header = header.now; body = body.now }))) }
+        (later_outcome single (seen session.now) kind (record { header = header.now; body = body.now }))) }
 {
-    if header.kind != AUTHENTICATION || header.seq != session.waiting.expected_seq() {
+    if kind != AskKind::Authentication || header.seq != session.waiting.expected_seq() {
         return Ok(Judged::over(Step::Close));
     }
-    let slot = slot_for(header, single);
+    let slot = slot_for(header, kind, single);
     continue_packet(alloc, key, slot, session, body)
 }
 
@@ -200,12 +222,12 @@ pub(crate) fn judge(
         (session_after (session_in sessions.now header.now.session) (record { header = header.now; body = body.now }))
         (judged_outcome single (length sessions.now) (option_map seen (session_in sessions.now header.now.session)) (record { header = header.now; body = body.now }))) }
 {
-    if !is_served(header) {
+    let Some(kind) = kind_of(header) else {
         return Ok(Judged::over(unknown_type(key, header)));
-    }
+    };
     let count = sessions.len();
     match find_session(sessions, header.session) {
-        Some(session) => later_packet(alloc, key, single, session, header, body),
-        None => first_packet(alloc, key, single, count, header, body),
+        Some(session) => later_packet(alloc, key, single, session, kind, header, body),
+        None => first_packet(alloc, key, single, count, kind, header, body),
     }
 }

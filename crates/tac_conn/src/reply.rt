@@ -6,7 +6,8 @@ ghost use Rattle.arrayvec.specs.ArrayVec.{array_vec_len};
 ghost use Rattle.pol_text.specs.Text.{kind_word as word_of_kind};
 ghost use Rattle.tac_authen.specs.Reply.{reply_bytes};
 ghost use Rattle.tac_request.specs.AuthorReply.{author_reply};
-ghost use Rattle.tac_conn.specs.Reply.{authen as authen_value, refusal as refusal_value, permission as permission_value, author_error as author_error_value, denial as denial_text, question_to as question_value, secret_question as secret_value, bad_body as bad_body_value, answer_body as answer_value};
+ghost use Rattle.tac_request.specs.AcctReply.{acct_reply};
+ghost use Rattle.tac_conn.specs.Reply.{authen as authen_value, refusal as refusal_value, permission as permission_value, author_error as author_error_value, denial as denial_text, question_to as question_value, secret_question as secret_value, bad_body as bad_body_value, answer_body as answer_value, acct_error as acct_error_value, success as success_value};
 ghost use Rattle.tac_conn.specs.Standing.{packet_with};
 ghost use Rattle.tac_conn.specs.Kept.{sent as sent_value};
 
@@ -15,7 +16,9 @@ use crate::step::Sent;
 use arrayvec::ArrayVec;
 use pol_text::{By, Kind, SubjectId};
 use tac_authen::{AuthenReply, AuthenStatus, write_reply};
-use tac_request::{AuthorReply, AuthorStatus, write_author_reply};
+use tac_request::{
+    AcctReply, AcctStatus, AuthorReply, AuthorStatus, write_acct_reply, write_author_reply,
+};
 use tac_wire::{Header, Key, pad_in_place};
 
 /// The text of a FAIL that says no more.
@@ -138,6 +141,29 @@ fn author_error(text: &[u8]) -> ArrayVec<u8, 84>
     short(written)
 }
 
+// The body of an accounting SUCCESS.
+fn success() -> ArrayVec<u8, 84>
+    ensures { result.items ≡ acct_reply success_value }
+{
+    let written = write_acct_reply(&AcctReply {
+        status: AcctStatus::SUCCESS,
+        msg: ArrayVec::new(),
+    });
+    short(written)
+}
+
+/// The body of an accounting ERROR.
+pub(crate) fn acct_error(text: &[u8]) -> ArrayVec<u8, 84>
+    requires { length text.now ≤ 64 }
+    ensures { result.items ≡ acct_reply (acct_error_value text.now) }
+{
+    let written = write_acct_reply(&AcctReply {
+        status: AcctStatus::ERROR,
+        msg: message(text),
+    });
+    short(written)
+}
+
 /// The body that says that a body is none of its kind.
 pub(crate) fn bad_body(kind: AskKind) -> ArrayVec<u8, 84>
     ensures { result.items ≡ bad_body_value kind }
@@ -145,6 +171,7 @@ pub(crate) fn bad_body(kind: AskKind) -> ArrayVec<u8, 84>
     match kind {
         AskKind::Authentication => authen(AuthenStatus::ERROR, b"bad body"),
         AskKind::Authorisation => author_error(b"bad body"),
+        AskKind::Accounting => acct_error(b"bad body"),
     }
 }
 
@@ -208,6 +235,8 @@ pub(crate) fn answer_body(answer: Answer) -> ArrayVec<u8, 84>
         Answer::Unprintable => refusal(b"unprintable command"),
         Answer::Denied(by) => refusal(denial(by).as_slice()),
         Answer::Permitted(level) => permission(level),
+        Answer::Stored => success(),
+        Answer::BookFull => acct_error(b"records full"),
     }
 }
 

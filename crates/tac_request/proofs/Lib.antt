@@ -1,3 +1,5 @@
 pub mod ReplyFacts
 pub mod ArgumentFacts
 pub mod RequestFacts
+pub mod AcctRequestFacts
+pub mod RecordFacts

@@ -1,4 +1,7 @@
 pub mod AuthorRequest
 pub mod AuthorReply
+pub mod AcctRequest
+pub mod AcctReply
 pub mod Argument
 pub mod Line
+pub mod Record

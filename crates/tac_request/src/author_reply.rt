@@ -38,7 +38,7 @@ pub struct AuthorReply {
 const LEVEL_NAME: &[u8] = b"priv-lvl=";
 
 /// How many bytes a server_msg has at most.
-const MSG_MAX: usize = 64;
+pub(crate) const MSG_MAX: usize = 64;
 
 // Adds bytes for which there is room.
 fn put(body: &mut ArrayVec<u8, 96>, bytes: &[u8])

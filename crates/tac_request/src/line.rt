@@ -40,7 +40,7 @@ fn value_under<'a>(argument: &'a [u8], name: &[u8]) -> Option<&'a [u8]>
 }
 
 // The value of the first argument with this name.
-fn first_value<'a>(args: &'a [Bytes], name: &[u8]) -> Option<&'a [u8]>
+pub(crate) fn first_value<'a>(args: &'a [Bytes], name: &[u8]) -> Option<&'a [u8]>
     ensures { option_copied result ≡ slice_get (values_under name.now args.now) 0 }
 {
     for argument in args {

@@ -1,67 +1,72 @@
--- Doing the events of a script one after another.
-use Rattle.std.proofs.Common.{◌≡◌, ℕ, ◌+◌, List, [], ◌∷◌, ◌++◌, None, Some, Err, refl, sym, ap, ◌∙◌, append_assoc, append-nil}
-use Rattle.std.specs.BTreeMap.{BTreeMap}
-use Rattle.tac_server.specs.declared.connection.Connection.{Connection}
-use Rattle.pol_text.specs.declared.subject.Subject.{Subject}
-use Rattle.tac_server.specs.declared.event.Event.{Event}
-use Rattle.tac_server.specs.declared.script_fault.ScriptFault.TheVariants.{BadCommand}
-use Rattle.tac_server.specs.declared.script_fault.Stop.{Stop}
-use Rattle.tac_server.specs.declared.script_fault.Stop.TheVariants as stops
-use Rattle.tac_server.specs.Events.{Connections, Has, event_of, text_of, after, IsDone, IsStopped}
-use Rattle.tac_server.specs.Script.{Run, Prints, ended, stopped, behind_text, events_run}
+-- The fields of a text, and the packets that they spell.
+use Rattle.std.proofs.Common.{◌≡◌, ℕ, Bool, true, false, cond, eqb, List, [], ◌∷◌, ◌++◌, Option, None, Some, refl, sym, ap, ◌∙◌, append-nil, append_assoc}
+use Rattle.std.specs.Option.{option_map, option_and_then}
+use Rattle.basics.specs.Lines.{split_at_first, onto_first}
+use Rattle.tac_server.specs.Command.{bytes_of, wire_packet, wire_packets, fields_of}
 
--- what was printed so far, and the connections that the events so far leave; what is still to be run, behind what was printed, is the whole run
-pub record Progress (policy : List Subject) (old new : List ℕ) (map : BTreeMap ℕ Connection) (number : ℕ) (lines : List (List ℕ)) (whole : Run) : Type 0 where
-  pub connections : Connections
-  pub text : List ℕ
-  pub has : Has map connections
-  pub printed : new ≡ old ++ text
-  pub goes_on : behind_text text (events_run policy connections number lines) ≡ whole
+-- ---- fields
 
-module _ (policy : List Subject) (old new : List ℕ) (map : BTreeMap ℕ Connection) (number : ℕ) (lines : List (List ℕ)) (whole : Run) (p : Progress policy old new map number lines whole) where
-  -- a run that prints this and no more
-  ends_with : (end : Run) → behind_text p.text end ≡ whole → end.text ≡ [] → (new ≡ old ++ whole.text) × (end.fault ≡ whole.fault)
-  ends_with end e none =
-      (p.printed ∙ ap (λ (t : List ℕ). old ++ t) (sym (append-nil p.text) ∙ ap (λ (t : List ℕ). p.text ++ t) (sym none)) ∙ ap (λ (r : Run). old ++ r.text) e, ap (λ (r : Run). r.fault) e)
+same_parts : (a b : List ℕ × List ℕ) → Some a ≡ Some b → a ≡ b
+same_parts a b e = cc
 
-  -- no line is left
-  pub run_ended : lines ≡ [] → (new ≡ old ++ whole.text) × (whole.fault ≡ None)
-  unfolding events_run
-  run_ended e =
-      let last = ends_with ended (ap (λ (ls : List (List ℕ)). behind_text p.text (events_run policy p.connections number ls)) (sym e) ∙ p.goes_on) refl in
-      (last.0, sym last.1)
+split_case : (byte : ℕ) (bytes field rest : List ℕ) (b : Bool) (parts : Option (List ℕ × List ℕ)) → ((p : List ℕ × List ℕ) → parts ≡ Some p → fields_of bytes ≡ p.0 ∷ fields_of p.1)
+    → cond {A = Option (List ℕ × List ℕ)} b (Some ([], bytes)) (option_map (λ parts. (byte ∷ parts.0, parts.1)) parts) ≡ Some (field, rest)
+    → cond b ([] ∷ fields_of bytes) (onto_first byte (fields_of bytes)) ≡ field ∷ fields_of rest
+split_case byte bytes field rest true parts below h =
+    let e = same_parts ([], bytes) (field, rest) h in
+    ap (λ (p : List ℕ × List ℕ). p.0 ∷ fields_of p.1) e
+split_case byte bytes field rest false None below h = absurd cc
+split_case byte bytes field rest false (Some p) below h =
+    let e = same_parts (byte ∷ p.0, p.1) (field, rest) h in
+    ap (onto_first byte) (below p refl) ∙ ap (λ (q : List ℕ × List ℕ). q.0 ∷ fields_of q.1) e
 
-  module _ (line : List ℕ) (rest : List (List ℕ)) (split : lines ≡ line ∷ rest) where
-    -- the line is no command
-    pub run_refused : (at : ℕ) → at ≡ number → event_of line ≡ None → (new ≡ old ++ whole.text) × (whole.fault ≡ Some (record { line = at; fault = BadCommand }))
-    unfolding events_run
-    run_refused at same none =
-        let here : events_run policy p.connections number (line ∷ rest) ≡ stopped number BadCommand = rw none refl in
-        let last = ends_with (stopped number BadCommand) (ap (behind_text p.text) (sym here) ∙ ap (λ (ls : List (List ℕ)). behind_text p.text (events_run policy p.connections number ls)) (sym split) ∙ p.goes_on) refl in
-        (last.0, rw same (sym last.1))
+-- a text with a space has the field before it, and the fields behind it
+pub fields_of-split : (bytes field rest : List ℕ) → split_at_first 32 bytes ≡ Some (field, rest) → fields_of bytes ≡ field ∷ fields_of rest
+fields_of-split [] field rest h = absurd cc
+fields_of-split (byte ∷ bytes) field rest h = split_case byte bytes field rest (eqb byte 32) (split_at_first 32 bytes) (λ p e. fields_of-split bytes p.0 p.1 e) h
 
-    -- the event was not done
-    pub run_stopped : (event : Event) (at : ℕ) (now : List ℕ) (stop : Stop) → at ≡ number → event_of line ≡ Some event → IsStopped at p.connections event new now stop → Prints old now (Err stop) whole
-    unfolding events_run
-    run_stopped event at now stops.Memory same found h = tt
-    run_stopped event at now (stops.Fault fault) same found h =
-        let here : events_run policy p.connections number (line ∷ rest) ≡ stopped number fault.fault = rw (found, h.1) refl in
-        let last = ends_with (stopped number fault.fault) (ap (behind_text p.text) (sym here) ∙ ap (λ (ls : List (List ℕ)). behind_text p.text (events_run policy p.connections number ls)) (sym split) ∙ p.goes_on) refl in
-        (h.2 ∙ last.0, sym last.1 ∙ ap (λ (n : ℕ). Some (record { line = n; fault = fault.fault })) (sym same ∙ sym h.0))
+whole_case : (byte : ℕ) (bytes : List ℕ) (b : Bool) (parts : Option (List ℕ × List ℕ)) → (parts ≡ None → fields_of bytes ≡ bytes ∷ [])
+    → cond {A = Option (List ℕ × List ℕ)} b (Some ([], bytes)) (option_map (λ parts. (byte ∷ parts.0, parts.1)) parts) ≡ None
+    → cond b ([] ∷ fields_of bytes) (onto_first byte (fields_of bytes)) ≡ (byte ∷ bytes) ∷ []
+whole_case byte bytes true parts below h = absurd cc
+whole_case byte bytes false None below h = ap (onto_first byte) (below refl)
+whole_case byte bytes false (Some p) below h = absurd cc
 
-    -- the event was done
-    pub run_goes_on : (event : Event) (next : ℕ) (now : List ℕ) (after_map : BTreeMap ℕ Connection) → next ≡ number + 1 → event_of line ≡ Some event → IsDone policy p.connections event new now after_map
-        → Progress policy old now after_map next rest whole
-    unfolding events_run
-    run_goes_on event next now after_map more found h =
-        let text = text_of policy p.connections event in
-        let onward = events_run policy (after policy p.connections event) (number + 1) rest in
-        let here : events_run policy p.connections number (line ∷ rest) ≡ behind_text text onward = rw (found, h.0) refl in
-        let joined : behind_text (p.text ++ text) onward ≡ behind_text p.text (behind_text text onward) = ap (λ (t : List ℕ). record onward { text = t }) (append_assoc p.text text onward.text) in
-        record {
-          connections = after policy p.connections event;
-          text = p.text ++ text;
-          has = h.2;
-          printed = h.1 ∙ ap (λ (t : List ℕ). t ++ text) p.printed ∙ append_assoc old p.text text;
-          goes_on = rw more (joined ∙ ap (behind_text p.text) (sym here) ∙ ap (λ (ls : List (List ℕ)). behind_text p.text (events_run policy p.connections number ls)) (sym split) ∙ p.goes_on);
-        }
+-- a text without one is one field
+pub fields_of-whole : (bytes : List ℕ) → split_at_first 32 bytes ≡ None → fields_of bytes ≡ bytes ∷ []
+fields_of-whole [] h = refl
+fields_of-whole (byte ∷ bytes) h = whole_case byte bytes (eqb byte 32) (split_at_first 32 bytes) (fields_of-whole bytes) h
+
+-- ---- packets
+
+-- what packets spell behind these
+abbrev pub behind : List ℕ → Option (List ℕ) → Option (List ℕ)
+behind front packets = option_map (λ more. front ++ more) packets
+
+behind_joined : (front packet : List ℕ) (packets : Option (List ℕ)) → behind front (behind packet packets) ≡ behind (front ++ packet) packets
+behind_joined front packet None = refl
+behind_joined front packet (Some more) = ap (λ (t : List ℕ). Some t) (sym (append_assoc front packet more))
+
+module _ (key : List ℕ) (front : List ℕ) (fields : List (List ℕ)) (whole : Option (List ℕ)) (told : behind front (wire_packets key fields) ≡ whole) where
+  -- no field is left
+  pub packets_end : fields ≡ [] → Some front ≡ whole
+  unfolding wire_packets
+  packets_end e = ap (λ (t : List ℕ). Some t) (sym (append-nil front)) ∙ ap (λ (fs : List (List ℕ)). behind front (wire_packets key fs)) (sym e) ∙ told
+
+  module _ (field : List ℕ) (rest : List (List ℕ)) (split : fields ≡ field ∷ rest) where
+    first_told : behind front (wire_packets key (field ∷ rest)) ≡ whole
+    first_told = ap (λ (fs : List (List ℕ)). behind front (wire_packets key fs)) (sym split) ∙ told
+
+    -- the next field spells no packet
+    pub packets_none : None ≡ option_and_then (wire_packet key) (bytes_of field) → None ≡ whole
+    unfolding wire_packets
+    packets_none none =
+        let here : wire_packets key (field ∷ rest) ≡ None = rw (← none) refl in
+        sym (ap (behind front) here) ∙ first_told
+
+    -- the next field spells a packet
+    pub packets_more : (packet : List ℕ) → Some packet ≡ option_and_then (wire_packet key) (bytes_of field) → behind (front ++ packet) (wire_packets key rest) ≡ whole
+    unfolding wire_packets
+    packets_more packet some =
+        let here : wire_packets key (field ∷ rest) ≡ behind packet (wire_packets key rest) = rw (← some) refl in
+        sym (behind_joined front packet (wire_packets key rest)) ∙ sym (ap (behind front) here) ∙ first_told

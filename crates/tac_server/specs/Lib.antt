@@ -1,6 +1,9 @@
 pub mod Number
-pub mod Answer
-pub mod Standing
+pub mod Desk
+pub mod Serving
+pub mod Server
+pub mod Command
 pub mod Events
+pub mod Kept
 pub mod FaultText
 pub mod Script

@@ -7,7 +7,9 @@ use Rattle.tac_wire.specs.Key.{key_of}
 use Rattle.basics.specs.Lines.{split_at_first, lines_of}
 use Rattle.pol_text.specs.Text.{policy_of, text_of_lines}
 use Rattle.tac_server.specs.FaultText.{located_text}
-use Rattle.tac_server.specs.Events.{Connections, no_connections, event_of, fault_in, text_of, after}
+use Rattle.tac_server.specs.Command.{event_of}
+use Rattle.tac_server.specs.Server.{State, opening}
+use Rattle.tac_server.specs.Events.{fault_in, text_of, after}
 use Rattle.tac_server.specs.declared.event.Event.{Event}
 use Rattle.pol_text.specs.declared.subject.Subject.{Subject}
 use Rattle.tac_server.specs.declared.script_fault.Located.{Located}
@@ -38,19 +40,19 @@ behind_text text run = record run { text = text ++ run.text }
 
 -- ---- events
 
--- an event at a line, and then what goes on with the connections that it leaves
+-- an event at a line, and then what goes on with the server that it leaves
 abbrev pub unless_fault : Option ScriptFault → ℕ → List ℕ → Run → Run
 unless_fault None number text rest = behind_text text rest
 unless_fault (Some fault) number text rest = stopped number fault
 
-abbrev pub event_run : List Subject → Connections → ℕ → Option Event → (Connections → Run) → Run
-event_run policy connections number None go_on = stopped number BadCommand
-event_run policy connections number (Some event) go_on = unless_fault (fault_in connections event) number (text_of policy connections event) (go_on (after policy connections event))
+abbrev pub event_run : List ℕ → State → ℕ → Option Event → (State → Run) → Run
+event_run key state number None go_on = stopped number BadCommand
+event_run key state number (Some event) go_on = unless_fault (fault_in state.connections event) number (text_of key state event) (go_on (after key state event))
 
 -- the run of these lines, of which the first has this number; nothing is printed after the first fault
-unfoldable pub events_run : List Subject → Connections → ℕ → List (List ℕ) → Run
-events_run policy connections number [] = ended
-events_run policy connections number (line ∷ lines) = event_run policy connections number (event_of line) (λ next. events_run policy next (number + 1) lines)
+unfoldable pub events_run : List ℕ → State → ℕ → List (List ℕ) → Run
+events_run key state number [] = ended
+events_run key state number (line ∷ lines) = event_run key state number (event_of key line) (λ next. events_run key next (number + 1) lines)
 
 -- ---- the whole script
 
@@ -72,22 +74,22 @@ key_line line = option_and_then (λ parts. if bytes_eq parts.0 (codes "key") the
 
 -- the events with the policy, of which the first has this number; the policy's first line is the second of
 -- the script. No text is refused for want of memory
-abbrev pub policy_run : ℕ → List (List ℕ) → Result (List Subject) PolicyFault → Run
-policy_run number events (Ok policy) = events_run policy no_connections number events
-policy_run number events (Err (policies.Refused line refusal)) = stopped (line + 1) (BadPolicy refusal)
-policy_run number events (Err policies.Memory) = ended
+abbrev pub policy_run : List ℕ → ℕ → List (List ℕ) → Result (List Subject) PolicyFault → Run
+policy_run key number events (Ok policy) = events_run key (opening policy) number events
+policy_run key number events (Err (policies.Refused line refusal)) = stopped (line + 1) (BadPolicy refusal)
+policy_run key number events (Err policies.Memory) = ended
 
 -- the lines behind the key; the policy's text is those before `run`
-unfoldable pub body_run : List (List ℕ) → Run
-body_run lines =
+unfoldable pub body_run : List ℕ → List (List ℕ) → Run
+body_run key lines =
     if list_any is_run lines
-    then policy_run (length (before_run lines) + 3) (after_run lines) (policy_of (text_of_lines (before_run lines)))
+    then policy_run key (length (before_run lines) + 3) (after_run lines) (policy_of (text_of_lines (before_run lines)))
     else stopped (length lines + 2) NoRun
 
 -- the key is judged first, then that there is a `run`, then the policy, then the events
 unfoldable pub lines_run : List (List ℕ) → Run
 lines_run [] = stopped 1 BadKey
-lines_run (first ∷ lines) = option_map_or (λ key. body_run lines) (key_line first) (stopped 1 BadKey)
+lines_run (first ∷ lines) = option_map_or (λ key. body_run key lines) (key_line first) (stopped 1 BadKey)
 
 abbrev pub fault_line : Option Located → List ℕ
 fault_line None = []

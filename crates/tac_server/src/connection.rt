@@ -1,156 +1,126 @@
-//! What the server says for a packet on a connection.
+//! One connection, and what the server says on it.
 
-ghost use Rattle.std.specs.Prelude.{◌≡◌, ◌<◌, IfOk, None, true};
-ghost use Rattle.tac_wire.specs.Pad.{padded};
-ghost use Rattle.tac_request.specs.AuthorReply.{author_reply};
-ghost use Rattle.tac_server.specs.Standing.{asks_single as asks_single_test, is_refused as refused_test, unknown_type as unknown_type_saying, reply_packet, author_saying, saying, wire, step_of};
-ghost use Rattle.tac_request.specs.AuthorRequest.{author_request_of};
+ghost use Rattle.std.specs.Prelude.{◌≡◌, ◌++◌, ◌∷◌, [], List, ℕ, None, Some, IfOk, OnOk};
+ghost use Rattle.std.specs.Option.{option_to_list};
+ghost use Rattle.tac_conn.specs.Standing.{Packet, outcome, reply_to as reply_packet};
+ghost use Rattle.tac_conn.specs.Kept.{Stands, clear, pending_of, kind_asked, kind_of_ask, closes_with, sent as sent_value};
+ghost use Rattle.tac_server.specs.Desk.{asked};
+ghost use Rattle.tac_server.specs.Serving.{says, unless_closed, said_on};
+ghost use Rattle.tac_server.specs.Kept.{Serves, IsReply, IsSaidTo};
+ghost use Rattle.tac_server.specs.declared.desk.Desk.{Desk as DeskValue};
 
-use crate::answer::{author_answer, bad_body};
-use arrayvec::ArrayVec;
-use pol_text::Policy;
+use crate::desk::Desk;
+use basics::Sequence;
 use std::alloc::{AllocError, Global};
-use tac_request::{AuthorReply, read_author_request, write_author_reply};
-use tac_wire::{BodyFault, Header, Key, PacketType, pad_in_place};
+use tac_conn::{Ask, Conn, Sent, Slot, Step};
+use tac_wire::{Frame, Framer, Key, Next};
 
-/// The longest body that is taken.
-const MAX_BODY: u32 = 131_075;
-
-/// What is kept of the packets that came on a connection: whether the first of them asked for a
-/// single connection.
-#[derive(Clone, Copy, Debug, PartialEq, Eq)]
+/// An open connection: the packets that came on it, and the beginning of one that isn't whole yet.
+#[derive(Debug, Drop)]
 pub(crate) struct Connection {
-    pub(crate) single: Option<bool>,
+    framer: Framer,
+    conn: Conn,
 }
 
-/// A packet as it is sent: the pad is on its body.
-#[derive(Debug, Drop)]
-pub(crate) struct Sent {
-    pub(crate) header: Header,
-    pub(crate) body: ArrayVec<u8, 96>,
-}
-
-/// What is sent for a packet, and whether the connection closes.
-#[derive(Debug, Drop)]
-pub(crate) struct Step {
-    pub(crate) reply: Option<Sent>,
-    pub(crate) closes: bool,
-}
-
-/// Whether the client asks for many sessions on one connection.
-pub(crate) fn asks_single(header: &Header) -> bool
-    ensures { result ≡ asks_single_test header.now }
+// The reply that carries the desk's answer, and whether the connection closes.
+fn answer_to(
+    key: &Key,
+    desk: &mut Desk,
+    conn: &mut Conn,
+    ask: Ask,
+    slot: Slot,
+) -> Result<(Sent, bool), AllocError>
+    requires pending { pending_of conn.old ≡ Some slot }
+    requires kind { kind_asked slot ≡ kind_of_ask ask }
+    ensures reply { IfOk result (λ reply. reply ≡ (sent_value key.now (reply_packet slot (asked desk.old ask).answer), closes_with slot)) }
+    ensures desk { OnOk result (desk.new ≡ (asked desk.old ask).desk) }
+    ensures pending { OnOk result (pending_of conn.new ≡ None) }
+    ensures stands { (packets : List Packet) → Stands conn.old packets → OnOk result (Stands conn.new packets) }
 {
-    header.flags & Header::SINGLE_CONNECTION != 0
-}
-
-// Whether the header closes the connection at once.
-fn is_refused(header: &Header) -> bool
-    ensures { result ≡ refused_test header.now }
-{
-    let known_version = header.version / 16 == 12 && header.version % 16 <= 1;
-    !known_version || header.flags & Header::UNENCRYPTED != 0 || header.length > MAX_BODY
-}
-
-fn silent_close() -> Step
-    ensures { result ≡ record { reply = None; closes = true } }
-{
-    Step {
-        reply: None,
-        closes: true,
+    match desk.ask(ask) {
+        Ok(answer) => Ok(conn.give(key, slot, answer)),
+        Err(error) => Err(error),
     }
 }
 
-// The answer to a type that isn't served.
-fn unknown_type(key: &Key, header: &Header) -> Step
-    ensures { result ≡ step_of key.now (unknown_type_saying header.now) }
-{
-    if header.seq == 255 {
-        return silent_close();
-    }
-    let reply = Header {
-        seq: header.seq + 1,
-        length: 0,
-        ..*header
-    };
-    Step {
-        reply: Some(Sent {
-            header: reply,
-            body: ArrayVec::new(),
-        }),
-        closes: true,
-    }
-}
-
-// The packet that carries a reply.
-fn padded_reply(key: &Key, header: &Header, single: bool, reply: &AuthorReply) -> Sent
-    requires { header.now.seq < 255 }
-    ensures { result ≡ wire key.now (reply_packet header.now single (author_reply reply.now)) }
-{
-    let mut body = write_author_reply(reply);
-    let header = Header {
-        seq: header.seq + 1,
-        flags: if single { Header::SINGLE_CONNECTION } else { 0 },
-        length: body.len() as u32,
-        ..*header
-    };
-    pad_in_place(&header, key, body.as_mut_slice());
-    Sent { header, body }
-}
-
-// The answer to a clear authorisation body.
-fn author_step(
+// What is sent for a packet, if anything, and whether the connection closes. One that still waits
+// for an answer lost it for want of memory, and says no more.
+fn reply_to(
     alloc: Global,
     key: &Key,
-    policy: &Policy,
-    single: bool,
-    header: &Header,
-    body: &[u8],
-) -> Result<Step, AllocError>
-    requires { header.now.seq < 255 }
-    ensures { IfOk result (λ step. step ≡ step_of key.now (author_saying policy.now single header.now (author_request_of body.now))) }
+    desk: &mut Desk,
+    conn: &mut Conn,
+    frame: Frame,
+) -> Result<(Option<Sent>, bool), AllocError>
+    ensures { (earlier : List Packet) → pending_of conn.old ≡ None → Stands conn.old earlier → IfOk result (λ reply.
+        IsReply key.now desk.new conn.new reply (clear key.now frame ∷ earlier) (says desk.old (outcome earlier (clear key.now frame)))) }
 {
-    match read_author_request(alloc, body) {
-        Ok(request) => {
-            let reply = author_answer(alloc, policy, &request)?;
-            Ok(Step {
-                reply: Some(padded_reply(key, header, single, &reply)),
-                closes: !single,
-            })
+    if conn.pending().is_some() {
+        return Ok((None, true));
+    }
+    match conn.take(alloc, key, frame)? {
+        Step::Reply(reply, closes) => Ok((Some(reply), closes)),
+        Step::Asks(ask, slot) => {
+            let (reply, closes) = answer_to(key, desk, conn, ask, slot)?;
+            Ok((Some(reply), closes))
         }
-        Err(BodyFault::Memory) => Err(AllocError),
-        Err(_) => {
-            let reply = bad_body();
-            Ok(Step {
-                reply: Some(padded_reply(key, header, single, &reply)),
-                closes: true,
-            })
-        }
+        Step::Silent => Ok((None, false)),
+        Step::Close => Ok((None, true)),
     }
 }
 
-/// The answer to a packet with the pad on its body, on a connection that is single or isn't. The
-/// pad is taken off in place.
-#[tactic(auto, unfolding(crate::specs::Standing::saying))]
-pub(crate) fn answer(
-    alloc: Global,
-    key: &Key,
-    policy: &Policy,
-    single: bool,
-    header: &Header,
-    body: &mut [u8],
-) -> Result<Step, AllocError>
-    ensures { IfOk result (λ step. step ≡ step_of key.now (saying policy.now single (record { header = header.now; body = padded header.now key.now body.old }))) }
+// Adds what is sent, if anything.
+fn add(sent: &mut Sequence<Sent>, reply: Option<Sent>) -> Result<(), AllocError>
+    ensures { OnOk result (sent.new ≡ sent.old ++ option_to_list reply) }
 {
-    if is_refused(header) {
-        return Ok(silent_close());
+    match reply {
+        Some(reply) => {
+            sent.push(reply)?;
+            Ok(())
+        }
+        None => Ok(()),
     }
-    if header.kind != PacketType::AUTHORISATION {
-        return Ok(unknown_type(key, header));
+}
+
+impl Connection {
+    /// A connection on which nothing came yet. Takes no memory.
+    pub(crate) fn new(alloc: Global) -> Connection
+        ensures { (key : List ℕ) → Serves key result [] }
+    {
+        Connection {
+            framer: Framer::new(alloc),
+            conn: Conn::new(alloc),
+        }
     }
-    if header.seq != 1 {
-        return Ok(silent_close());
+
+    /// Takes the next piece of what comes on the connection, adds what is sent for the packets that
+    /// it completes, and answers whether the connection closes.
+    pub(crate) fn take_piece(
+        &mut self,
+        alloc: Global,
+        key: &Key,
+        desk: &mut Desk,
+        piece: &[u8],
+        sent: &mut Sequence<Sent>,
+    ) -> Result<bool, AllocError>
+        ensures said { (before : List ℕ) → Serves key.now self.old before → IfOk result (λ closes.
+            IsSaidTo key.now sent.old sent.new closes self.new desk.new (before ++ piece.now) (said_on key.now desk.old before piece.now)) }
+        // However bytes are cut into pieces, the same is said.
+        ensures pieces { (desk : DeskValue) (before first second : List ℕ) → said_on key.now desk before (first ++ second)
+            ≡ unless_closed (said_on key.now desk before first) (λ next. said_on key.now next (before ++ first) second) }
+    {
+        self.framer.feed(piece)?;
+        'packets: loop {
+            let frame = match self.framer.next()? {
+                Next::Packet(frame) => frame,
+                Next::Need => return Ok(false),
+                Next::Fault(_) | Next::Ended => return Ok(true),
+            };
+            let (reply, closes) = reply_to(alloc, key, desk, &mut self.conn, frame)?;
+            add(sent, reply)?;
+            if closes {
+                return Ok(true);
+            }
+        }
     }
-    pad_in_place(header, key, body);
-    author_step(alloc, key, policy, single, header, body)
 }

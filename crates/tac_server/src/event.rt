@@ -1,46 +1,35 @@
 //! The lines behind `run`.
 
-ghost use Rattle.std.specs.Prelude.{◌≡◌, IfOk};
-ghost use Rattle.std.specs.Result.{result_ok};
-ghost use Rattle.hex.specs.Hex.{decode_of};
-ghost use Rattle.tac_server.specs.Events.{packet_of, hand_of, event_by, event_of};
+ghost use Rattle.std.specs.Prelude.{◌≡◌, ◌∷◌, [], ◌<◌, length, IfOk, IfSome};
+ghost use Rattle.std.specs.Option.{option_map, option_map_or, option_and_then};
+ghost use Rattle.tac_server.specs.Command.{bytes_of, wire_packet as packet_of, wire_packets as packets_of, fields_of, numbered as numbered_text, hand_of, piece_size_of, event_by, event_of};
 
 use crate::number::connection_number;
-use crate::packet::Packet;
-use basics::{Bytes, split_once};
+use basics::{Bytes, read_number, split_once};
 use hex::FromHexError;
 use std::alloc::{AllocError, Global};
-use tac_wire::Header;
+use tac_wire::{Header, Key, pad_in_place};
 
 /// What a line asks for.
 #[derive(Debug, Drop)]
 pub(crate) enum Event {
     /// Opens a connection.
     Open(u16),
-    /// Hands a clear packet in on a connection.
-    Hand(u16, Packet),
+    /// Hands bytes in on a connection, as a client sends them.
+    Hand(u16, Bytes),
+    /// From now on, hands bytes in by pieces of this size.
+    Pieces(usize),
+    /// The connection is lost.
+    Lost(u16),
 }
 
-// The packet that the bytes are: a header and a body of the length that it says.
-#[tactic(auto, unfolding(crate::specs::Events::packet_of))]
-fn packet(alloc: Global, bytes: &[u8]) -> Result<Option<Packet>, AllocError>
-    ensures { IfOk result (λ packet. packet ≡ packet_of bytes.now) }
+// The bytes that hexadecimal digits of either case spell, at least one.
+fn hexadecimal(alloc: Global, text: &[u8]) -> Result<Option<Bytes>, AllocError>
+    ensures { IfOk result (λ bytes. bytes ≡ bytes_of text.now) }
 {
-    let Some((header, body)) = bytes.split_first_chunk::<12>() else {
-        return Ok(None);
-    };
-    let header = Header::read(header);
-    if header.length as usize != body.len() {
+    if text.is_empty() {
         return Ok(None);
     }
-    let body = Bytes::from_slice(alloc, body)?;
-    Ok(Some(Packet { header, body }))
-}
-
-// The bytes that hexadecimal digits of either case spell.
-fn hexadecimal(alloc: Global, text: &[u8]) -> Result<Option<Bytes>, AllocError>
-    ensures { IfOk result (λ bytes. bytes ≡ result_ok (decode_of text.now)) }
-{
     match hex::decode(alloc, text) {
         Ok(bytes) => Ok(Some(Bytes::from(bytes))),
         Err(FromHexError::OutOfMemory) => Err(AllocError),
@@ -48,47 +37,132 @@ fn hexadecimal(alloc: Global, text: &[u8]) -> Result<Option<Bytes>, AllocError>
     }
 }
 
-// `packet N HEX`, behind its first word.
-#[tactic(auto, unfolding(crate::specs::Events::hand_of))]
-fn hand(alloc: Global, rest: &[u8]) -> Result<Option<Event>, AllocError>
-    ensures { IfOk result (λ event. event ≡ hand_of rest.now) }
+// A clear packet as a client sends it: the pad is put on the body. Nothing where the bytes are too
+// few for a header.
+fn wire_packet(key: &Key, bytes: Bytes) -> Option<Bytes>
+    ensures { result ≡ packet_of key.now bytes }
 {
-    let Some((number, text)) = split_once(rest, b' ') else {
+    let mut packet = bytes.into_vec();
+    let (header, _) = packet.as_slice().split_first_chunk::<12>()?;
+    let header = Header::read(header);
+    pad_in_place(&header, key, &mut packet.as_mut_slice()[12..]);
+    Some(Bytes::from(packet))
+}
+
+// The packet that a field spells, as a client sends it.
+fn spelled_packet(alloc: Global, key: &Key, field: &[u8]) -> Result<Option<Bytes>, AllocError>
+    ensures { IfOk result (λ packet. packet ≡ option_and_then (packet_of key.now) (bytes_of field.now)) }
+{
+    let Some(bytes) = hexadecimal(alloc, field)? else {
         return Ok(None);
     };
-    let Some(number) = connection_number(number) else {
+    Ok(wire_packet(key, bytes))
+}
+
+// The first field of a text, and the text behind the space that ends it, if one does.
+fn first_field(text: &[u8]) -> (&[u8], Option<&[u8]>)
+    ensures fields { fields_of text.now ≡ result.0.now ∷ option_map_or (λ rest. fields_of rest.now) result.1 [] }
+    ensures shorter { IfSome result.1 (λ rest. length rest.now < length text.now) }
+{
+    match split_once(text, b' ') {
+        Some((field, rest)) => (field, Some(rest)),
+        None => (text, None),
+    }
+}
+
+// The packets that the fields of a text spell, joined. Linear.
+fn wire_packets(alloc: Global, key: &Key, text: &[u8]) -> Result<Option<Bytes>, AllocError>
+    ensures { IfOk result (λ packets. packets ≡ packets_of key.now (fields_of text.now)) }
+{
+    let mut packets = Bytes::new(alloc);
+    let mut rest = Some(text);
+    'fields: while let Some(fields) = rest {
+        let (field, next) = first_field(fields);
+        let Some(packet) = spelled_packet(alloc, key, field)? else {
+            return Ok(None);
+        };
+        packets.extend_from_slice(packet.as_slice())?;
+        rest = next;
+    }
+    Ok(Some(packets))
+}
+
+// `N`, and what stands behind the space after it.
+fn numbered(text: &[u8]) -> Option<(u16, &[u8])>
+    ensures { option_map (λ parts. (parts.0, parts.1.now)) result ≡ numbered_text text.now }
+{
+    let (number, rest) = split_once(text, b' ')?;
+    let number = connection_number(number)?;
+    Some((number, rest))
+}
+
+// `packet N HEX HEX ..`, behind its first word.
+fn hand_packets(alloc: Global, key: &Key, rest: &[u8]) -> Result<Option<Event>, AllocError>
+    ensures { IfOk result (λ event. event ≡ hand_of (λ text. packets_of key.now (fields_of text)) rest.now) }
+{
+    let Some((number, text)) = numbered(rest) else {
+        return Ok(None);
+    };
+    let Some(packets) = wire_packets(alloc, key, text)? else {
+        return Ok(None);
+    };
+    Ok(Some(Event::Hand(number, packets)))
+}
+
+// `bytes N HEX`, behind its first word.
+fn hand_bytes(alloc: Global, rest: &[u8]) -> Result<Option<Event>, AllocError>
+    ensures { IfOk result (λ event. event ≡ hand_of bytes_of rest.now) }
+{
+    let Some((number, text)) = numbered(rest) else {
         return Ok(None);
     };
     let Some(bytes) = hexadecimal(alloc, text)? else {
         return Ok(None);
     };
-    let Some(packet) = packet(alloc, bytes.as_slice())? else {
-        return Ok(None);
-    };
-    Ok(Some(Event::Hand(number, packet)))
+    Ok(Some(Event::Hand(number, bytes)))
+}
+
+// The size of pieces: 1 to 4 digits, not all of them 0.
+fn piece_size(text: &[u8]) -> Option<usize>
+    ensures { result ≡ piece_size_of text.now }
+{
+    let size = read_number(text, 4)?;
+    if size == 0 {
+        return None;
+    }
+    Some(size as usize)
 }
 
 // A line of this first word, which a space follows.
-#[tactic(auto, unfolding(crate::specs::Events::event_by))]
-fn worded(alloc: Global, word: &[u8], rest: &[u8]) -> Result<Option<Event>, AllocError>
-    ensures { IfOk result (λ event. event ≡ event_by word.now rest.now) }
+#[tactic(auto, unfolding(crate::specs::Command::event_by))]
+fn worded(alloc: Global, key: &Key, word: &[u8], rest: &[u8]) -> Result<Option<Event>, AllocError>
+    ensures { IfOk result (λ event. event ≡ event_by key.now word.now rest.now) }
 {
     if word == b"open".as_slice() {
         return Ok(connection_number(rest).map(Event::Open));
     }
     if word == b"packet".as_slice() {
-        return hand(alloc, rest);
+        return hand_packets(alloc, key, rest);
+    }
+    if word == b"bytes".as_slice() {
+        return hand_bytes(alloc, rest);
+    }
+    if word == b"pieces".as_slice() {
+        return Ok(piece_size(rest).map(Event::Pieces));
+    }
+    if word == b"lost".as_slice() {
+        return Ok(connection_number(rest).map(Event::Lost));
     }
     Ok(None)
 }
 
-/// What the line asks for; nothing where it is no command.
-#[tactic(auto, unfolding(crate::specs::Events::event_of))]
-pub(crate) fn read_event(alloc: Global, line: &[u8]) -> Result<Option<Event>, AllocError>
-    ensures { IfOk result (λ event. event ≡ event_of line.now) }
+/// What the line asks for; nothing where it is no command. The key pads clear packets. Linear.
+#[tactic(auto, unfolding(crate::specs::Command::event_of))]
+pub(crate) fn read_event(alloc: Global, key: &Key, line: &[u8]) -> Result<Option<Event>, AllocError>
+    ensures { IfOk result (λ event. event ≡ event_of key.now line.now) }
 {
     let Some((word, rest)) = split_once(line, b' ') else {
         return Ok(None);
     };
-    worded(alloc, word, rest)
+    worded(alloc, key, word, rest)
 }

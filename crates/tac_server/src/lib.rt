@@ -1,14 +1,15 @@
-//! The answers of the server, and the replay of a script.
+//! The server, and the replay of a script.
 #![tactic(auto)]
 
-mod answer;
 mod connection;
+mod desk;
 mod event;
 mod events;
 mod number;
-mod packet;
 mod replaying;
 mod script;
 mod script_fault;
+mod server;
+mod shown;
 
 pub use replaying::{ReplayEnd, ReplayFault, replay};

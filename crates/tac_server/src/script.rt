@@ -8,6 +8,7 @@ ghost use Rattle.tac_server.specs.Script.{ReadsPolicy, Prints, body_run, lines_r
 
 use crate::events::run_events;
 use crate::script_fault::{Located, ScriptFault, Stop};
+use crate::server::Server;
 use basics::{Lines, split_once};
 use pol_text::{Policy, PolicyFault};
 use std::alloc::Global;
@@ -67,9 +68,9 @@ fn read_key(line: &[u8]) -> Option<Key>
 
 // Runs what stands behind the key.
 #[tactic(auto, unfolding(crate::specs::Script::body_run))]
-fn run_body(alloc: Global, key: &Key, lines: &mut Lines<'_>, out: &mut String) -> Result<(), Stop>
+fn run_body(alloc: Global, key: Key, lines: &mut Lines<'_>, out: &mut String) -> Result<(), Stop>
     requires { lines.old.number ≡ 2 }
-    ensures { Prints (string_bytes out.old) (string_bytes out.new) result (body_run lines.old.lines) }
+    ensures { Prints (string_bytes out.old) (string_bytes out.new) result (body_run key lines.old.lines) }
 {
     let Some(text) = text_before_run(lines) else {
         return Err(Stop::Fault(Located {
@@ -78,7 +79,7 @@ fn run_body(alloc: Global, key: &Key, lines: &mut Lines<'_>, out: &mut String) -
         }));
     };
     let policy = read_policy(alloc, text)?;
-    run_events(alloc, key, &policy, lines, out)
+    run_events(alloc, Server::new(alloc, key, policy), lines, out)
 }
 
 // The key is judged before anything else.
@@ -103,5 +104,5 @@ pub(crate) fn run_script(alloc: Global, script: &[u8], out: &mut String) -> Resu
     let Some(key) = read_key(line) else {
         return Err(bad_key());
     };
-    run_body(alloc, &key, &mut lines, out)
+    run_body(alloc, key, &mut lines, out)
 }

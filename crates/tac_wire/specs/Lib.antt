@@ -4,3 +4,4 @@ pub mod Pad
 pub mod Body
 pub mod Cut
 pub mod Stream
+pub mod Chap

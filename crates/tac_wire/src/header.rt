@@ -5,12 +5,18 @@ ghost use Rattle.tac_wire.specs.Header.{header_bytes, header_of};
 
 use byteorder::{BigEndian, ByteOrder};
 
-/// What a packet is about. Numbers without a name are types that aren't served.
+/// What a packet is about (RFC 8907, section 4.1). Numbers without a name are types that aren't
+/// served.
 #[derive(Clone, Copy, Debug, PartialEq, Eq)]
 pub struct PacketType(pub u8);
 
 impl PacketType {
+    /// Whether a user is the one named.
+    pub const AUTHENTICATION: PacketType = PacketType(1);
+    /// What a user may do.
     pub const AUTHORISATION: PacketType = PacketType(2);
+    /// What a user did, to be recorded.
+    pub const ACCOUNTING: PacketType = PacketType(3);
 }
 
 /// The header of a packet (RFC 8907, section 4.1), as written: no value is refused here.

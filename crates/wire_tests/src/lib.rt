@@ -3,6 +3,8 @@
 #![tactic(auto)]
 
 #[cfg(test)]
+mod accounting;
+#[cfg(test)]
 mod authentication;
 #[cfg(test)]
 mod frames;

@@ -14,7 +14,7 @@ use tac_wire::{Header, Key, PacketType, pad_in_place};
 const REQUEST: &[u8] =
     b"\x06\x01\x01\x01\x03\x04\x00\x03\x0d\x08\x0fbobtty0service=shellcmd=showcmd-arg=version";
 
-fn arguments(alloc: Global, args: &[&[u8]]) -> Result<Sequence<Bytes>, AllocError> {
+pub(crate) fn arguments(alloc: Global, args: &[&[u8]]) -> Result<Sequence<Bytes>, AllocError> {
     let mut list = Sequence::new(alloc);
     for arg in args {
         list.push(Bytes::from_slice(alloc, arg)?)?;

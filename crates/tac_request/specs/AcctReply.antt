@@ -1,0 +1,29 @@
+-- Accounting replies as bytes (RFC 8907, section 7.2): those that this server sends.
+use Rattle.std.specs.Prelude.{ℕ, ◌+◌, List, [], ◌∷◌, ◌++◌, length, take, drop, slice_index, Result, Ok, Err, ◌||◌, nat_lt, ◌==◌, if◌then◌else◌}
+use Rattle.std.specs.Int.{w16, to_be_bytes, from_be_bytes}
+use Rattle.tac_wire.specs.declared.body.BodyFault.{BodyFault}
+use Rattle.tac_wire.specs.declared.body.BodyFault.TheVariants.{Short, LengthSum, TooLong}
+use Rattle.tac_request.specs.declared.acct_reply.AcctReply.{AcctReply}
+
+-- server_msg_len, data_len, status; server_msg, no data
+abbrev pub acct_reply : AcctReply → List ℕ
+acct_reply reply =
+    to_be_bytes w16 (length reply.msg.items) ++ to_be_bytes w16 0 ++ (reply.status.0 ∷ []) ++ reply.msg.items
+
+abbrev pub msg_len : List ℕ → ℕ
+msg_len body = from_be_bytes w16 (take 2 body)
+
+abbrev pub data_len : List ℕ → ℕ
+data_len body = from_be_bytes w16 (take 2 (drop 2 body))
+
+-- the reply that a body spells, or the first fault
+abbrev pub acct_reply_of : List ℕ → Result AcctReply BodyFault
+acct_reply_of body =
+    if nat_lt (length body) 5 then Err Short
+    else (if length body == 5 + msg_len body + data_len body
+    then (if nat_lt 64 (msg_len body) || nat_lt 0 (data_len body) then Err TooLong
+    else Ok (record {
+      status = record { 0 = slice_index body 4 };
+      msg = record { items = drop 5 body };
+    }))
+    else Err LengthSum)

@@ -1,0 +1,61 @@
+-- What is recorded of an accounting request (RFC 8907, sections 7.1 and 8.3).
+use Rattle.std.specs.Prelude.{ℕ, ◌^◌, Bool, true, false, not, List, [], length, ◌&&◌, nat_lt, ◌==◌, bit_and, Option, Some, None, slice_get, unwrap_or, option_and_then, if◌then◌else◌, codes}
+use Rattle.std.specs.Char.{is_ascii_digit}
+use Rattle.std.specs.List.{list_all}
+use Rattle.std.specs.Str.Parse.{digits_value}
+use Rattle.basics.specs.Symbol.{is_text}
+use Rattle.tac_request.specs.declared.acct_request.AcctRequest.{AcctRequest}
+use Rattle.tac_request.specs.declared.line.LineOf.{LineOf}
+use Rattle.tac_request.specs.declared.line.LineOf.TheVariants.{Line, BadArgument, NotShell}
+use Rattle.tac_request.specs.declared.record.AcctKind.{AcctKind}
+use Rattle.tac_request.specs.declared.record.AcctKind.TheVariants.{Begin, Stop, Watch, Update}
+use Rattle.tac_request.specs.declared.record.Record.{Record}
+use Rattle.tac_request.specs.Line.{values_under, line_of}
+
+-- whether a byte of flags has this one
+abbrev pub has_flag : ℕ → ℕ → Bool
+has_flag flag flags = not (bit_and flags flag == 0)
+
+-- what the flags START, STOP and WATCHDOG mean together; no other set of them means anything
+abbrev pub meaning : Bool → Bool → Bool → Option AcctKind
+meaning true false false = Some Begin
+meaning false true false = Some Stop
+meaning false false true = Some Watch
+meaning true false true = Some Update
+meaning start stop watchdog = None
+
+-- the kind of a record with these flags; the other flags don't matter
+abbrev pub kind_of : ℕ → Option AcctKind
+kind_of flags = meaning (has_flag 0x02 flags) (has_flag 0x04 flags) (has_flag 0x08 flags)
+
+-- the value of the first argument with this name; an argument without a sign has none
+abbrev pub first_under : List ℕ → List (List ℕ) → Option (List ℕ)
+first_under name args = slice_get (values_under name args) 0
+
+-- the seconds that one or more decimal digits tell, where they fit 32 bits
+abbrev pub seconds_of : List ℕ → Option ℕ
+seconds_of digits =
+    let seconds = digits_value 10 digits in
+    if nat_lt 0 (length digits) && list_all is_ascii_digit digits && nat_lt seconds (2 ^ 32) then Some seconds else None
+
+abbrev pub task_of : List (List ℕ) → List ℕ
+task_of args = unwrap_or (first_under (codes "task_id") args) []
+
+abbrev pub elapsed_of : List (List ℕ) → ℕ
+elapsed_of args = unwrap_or (option_and_then seconds_of (first_under (codes "elapsed_time") args)) 0
+
+-- the line, if there is one, and all its bytes are symbols
+abbrev pub text_line : LineOf → Option (List ℕ)
+text_line (Line line) = if is_text line then Some line else None
+text_line BadArgument = None
+text_line NotShell = None
+
+-- what is kept of a request that tells of this kind
+abbrev pub record_of : AcctRequest → AcctKind → Record
+record_of request kind = record {
+  user = request.user;
+  kind = kind;
+  task = task_of request.args;
+  elapsed = elapsed_of request.args;
+  line = text_line (line_of request.args);
+}

@@ -1,0 +1,69 @@
+//! Bodies of accounting requests.
+
+ghost use Rattle.std.specs.Prelude.{◌≡◌, IfOk, Ok};
+ghost use Rattle.tac_wire.specs.Body.{Gives};
+ghost use Rattle.tac_request.specs.AcctRequest.{acct_request, acct_request_of};
+
+use crate::author_request::{AuthorRequest, read_author_request};
+use basics::{Bytes, Sequence};
+use std::alloc::Global;
+use tac_wire::BodyFault;
+
+/// An accounting request (RFC 8907, section 7.1), as written: no value is refused here.
+#[derive(Debug, Drop)]
+pub struct AcctRequest {
+    pub flags: u8,
+    pub authen_method: u8,
+    pub priv_lvl: u8,
+    pub authen_type: u8,
+    pub authen_service: u8,
+    pub user: Bytes,
+    pub port: Bytes,
+    pub rem_addr: Bytes,
+    pub args: Sequence<Bytes>,
+}
+
+// The flags, and behind them the fields that an authorisation request has too.
+fn read_fields(alloc: Global, body: &[u8]) -> Result<AcctRequest, BodyFault>
+    ensures { Gives result (acct_request_of body.now) }
+{
+    let Some((flags, rest)) = body.split_first() else {
+        return Err(BodyFault::Short);
+    };
+    let AuthorRequest {
+        authen_method,
+        priv_lvl,
+        authen_type,
+        authen_service,
+        user,
+        port,
+        rem_addr,
+        args,
+    } = read_author_request(alloc, rest)?;
+    Ok(AcctRequest {
+        flags: *flags,
+        authen_method,
+        priv_lvl,
+        authen_type,
+        authen_service,
+        user,
+        port,
+        rem_addr,
+        args,
+    })
+}
+
+/// The request that a body spells (RFC 8907, section 7.1).
+///
+/// `Short` where the fixed part, with the lengths of the arguments, isn't whole; `LengthSum` where
+/// the lengths don't add up to the body's; `Memory` in place of any answer where memory ran out.
+pub fn read_acct_request(alloc: Global, body: &[u8]) -> Result<AcctRequest, BodyFault>
+    ensures exact { Gives result (acct_request_of body.now) }
+    // No byte is lost, and none ignored.
+    ensures found { IfOk result (λ request. body.now ≡ acct_request request) }
+    // Each body that spells a request is read, unless memory runs out.
+    ensures only { (request : AcctRequest) → body.now ≡ acct_request request →
+        Gives result (Ok request) }
+{
+    read_fields(alloc, body)
+}

@@ -1,0 +1,9 @@
+pub mod Beside
+pub mod Texts
+pub mod OpenTasks
+pub mod OpenSet
+pub mod Counts
+pub mod Scan
+pub mod Groups
+pub mod Marks
+pub mod Settled

@@ -1,0 +1,12 @@
+use Rattle.std.proofs.Common.{sym, ◌∙◌}
+use Rattle.tac_tally.proofs.Groups.{sums-user}
+use Rattle.tac_tally.proofs.Scan.{seen-more}
+use Rattle.tac_tally.proofs.book.Book.group_tally.Goals as goal
+
+pub subjects-preserved : goal.subjects-preserved
+subjects-preserved c =
+    let items = c.subjects-subject-items in
+    let more = seen-more c.args.policy.now items.result.now c.subjects.subject-index c.subject-item.result items.ensures.subjects c.subjects-test.true c.subject-item.is in
+    let below = sym c.in_ok-is_user_below.ensures ∙ c.if-not-branch.false in
+    let tally = rw c.as_slice.ensures.value at c.in_ok-tally.ensures.value in
+    rw more (sums-user _ _ _ _ c.subjects.subject-index c.subjects.total _ c.in_ok-tally.tally c.subject-item.result below tally c.in_ok-tally.ensures.small c.plus-total.ensures c.subjects.invariant)

@@ -1,0 +1,4 @@
+pub mod Book
+pub mod Tally
+pub mod Recount
+pub mod Counting

@@ -1,0 +1,50 @@
+-- Marks that are worked out anew.
+use Rattle.std.specs.Prelude.{◌≡◌, ℕ, Bool, false, List, [], ◌∷◌, map, Option, Some, None, unwrap_or, Result, IfOk, if◌then◌else◌}
+use Rattle.std.specs.Option.{option_map_or}
+use Rattle.std.specs.List.{list_any}
+use Rattle.std.specs.Str.{bytes_eq}
+use Rattle.std.specs.Borrow.{Bor}
+use Rattle.std.specs.Fn.{Mut, AlwaysReturns}
+use Rattle.std.specs.declared.alloc.AllocError.{AllocError}
+use Rattle.tac_request.specs.declared.record.Record.{Record}
+use Rattle.tac_tally.specs.Book.{Entry}
+
+-- whether the line of a record is denied; a record without a line isn't
+abbrev pub is_denied : (List ℕ → List ℕ → Bool) → Record → Bool
+is_denied denies item = option_map_or (denies item.user) item.line false
+
+-- whether the text is one of these
+abbrev pub is_one_of : List (List ℕ) → List ℕ → Bool
+is_one_of texts text = list_any (bytes_eq text) texts
+
+-- the mark of a record anew, if it is of one of these users
+abbrev pub mark_of : (List ℕ → List ℕ → Bool) → List (List ℕ) → Record → Option Bool
+mark_of denies users item = if is_one_of users item.user then Some (is_denied denies item) else None
+
+-- for each record of one of these users its mark anew, and nothing for the others
+abbrev pub recount_of : (List ℕ → List ℕ → Bool) → List (List ℕ) → List Record → List (Option Bool)
+recount_of denies users records = map (mark_of denies users) records
+
+-- the entries with their marks anew, where there is one, and else as they were
+abbrev pub settled : List (Option Bool) → List Entry → List Entry
+settled [] entries = entries
+settled (mark ∷ marks) [] = []
+settled (mark ∷ marks) (entry ∷ rest) = record entry { denied = unwrap_or mark entry.denied } ∷ settled marks rest
+
+-- the same of the marks alone
+abbrev pub marks_put : List (Option Bool) → List Bool → List Bool
+marks_put [] old = old
+marks_put (mark ∷ marks) [] = []
+marks_put (mark ∷ marks) (denied ∷ rest) = unwrap_or mark denied ∷ marks_put marks rest
+
+-- the entry with its mark anew, if it is of one of these users
+abbrev pub with_mark : (List ℕ → List ℕ → Bool) → List (List ℕ) → Entry → Entry
+with_mark denies users entry = if is_one_of users entry.item.user then record entry { denied = is_denied denies entry.item } else entry
+
+-- the entries of these users with their marks anew, and the others as they were
+abbrev pub remarked : (List ℕ → List ℕ → Bool) → List (List ℕ) → List Entry → List Entry
+remarked denies users entries = map (with_mark denies users) entries
+
+-- each call from f on, at a user and a line, that doesn't run out of memory answers what denies gives
+abbrev pub Computes : {F : Type 0} → Mut F (Bor (List ℕ) × (Bor (List ℕ) × Unit {0})) (Result Bool AllocError) → (List ℕ → List ℕ → Bool) → F → Type 0
+Computes g denies = AlwaysReturns g (λ a r. IfOk r (λ denied. denied ≡ denies a.0.now a.1.0.now))

@@ -1,0 +1,12 @@
+//! The accounting records that the server keeps, and what they count up to (RFC 8907, section 7).
+#![tactic(auto)]
+
+mod book;
+mod counting;
+mod recount;
+mod tally;
+
+pub use book::{Book, StoreFault};
+pub use recount::Recount;
+pub use tac_request::{AcctKind, Record};
+pub use tally::Tally;
