@@ -2,11 +2,10 @@
 
 ghost use Rattle.std.specs.Prelude.{◌≡◌, Some};
 ghost use Rattle.pol_edit.specs.declared.fault.EditFault.TheVariants.{Memory};
-ghost use Rattle.pol_text.specs.Text.{kind_word as word_of_kind};
 ghost use Rattle.pol_edit.specs.FaultText.{fault_text};
 
 use pol_pattern::PatternFault;
-use pol_text::{Kind, Name, SubjectId};
+use pol_text::{Name, SubjectId};
 use std::alloc::{AllocError, AllocFailed};
 use std::error::Error;
 use std::{fmt, str};
@@ -40,15 +39,6 @@ pub enum EditFault {
     Memory,
 }
 
-fn kind_word(kind: Kind) -> &'static str
-    ensures { result.now ≡ word_of_kind kind }
-{
-    match kind {
-        Kind::Group => "group ",
-        Kind::User => "user ",
-    }
-}
-
 // A name is ASCII.
 fn name_text(name: &Name) -> &str
     ensures { result.now ≡ name.now }
@@ -75,7 +65,7 @@ impl fmt::Display for EditFault {
             EditFault::BadValue => write!(f, "9 BadValue"),
             EditFault::Limit => write!(f, "10 Limit"),
             EditFault::TooManyStates(subject) => {
-                let kind = kind_word(subject.kind);
+                let kind = subject.kind.keyword();
                 let name = name_text(&subject.name);
                 write!(f, "11 TooManyStates {kind}{name}")
             }

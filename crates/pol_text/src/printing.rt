@@ -2,22 +2,13 @@
 
 ghost use Rattle.std.specs.Prelude.{◌≡◌, Ok, ◌++◌, ◌∷◌, [], codes, map, IfOk, OnOk};
 ghost use Rattle.std.specs.Fmt.{decimal};
-ghost use Rattle.pol_text.specs.Text.{kind_word as word_of_kind, verdict_word as word_of_verdict, heading_line, line_for, rule_line, subject_lines, text_of_lines, text_of, policy_of};
+ghost use Rattle.pol_text.specs.Text.{verdict_word as word_of_verdict, heading_line, line_for, rule_line, subject_lines, text_of_lines, text_of, policy_of};
 
 use crate::policy::Policy;
 use crate::secret::Secret;
-use crate::subject::{Kind, Rule, Subject, Verdict};
+use crate::subject::{Rule, Subject, Verdict};
 use basics::Bytes;
 use std::alloc::{AllocError, Global};
-
-fn kind_word(kind: Kind) -> &'static [u8]
-    ensures { result.now ≡ word_of_kind kind }
-{
-    match kind {
-        Kind::Group => b"group ",
-        Kind::User => b"user ",
-    }
-}
 
 fn verdict_word(verdict: Verdict) -> &'static [u8]
     ensures { result.now ≡ word_of_verdict verdict }
@@ -42,7 +33,7 @@ fn print_line(text: &mut Bytes, front: &[u8], back: &[u8]) -> Result<(), AllocEr
 fn print_heading(text: &mut Bytes, subject: &Subject) -> Result<(), AllocError>
     ensures { OnOk result (text.new ≡ text.old ++ text_of_lines (heading_line subject.now ∷ [])) }
 {
-    text.extend_from_slice(kind_word(subject.kind))?;
+    text.extend_from_slice(subject.kind.keyword().as_bytes())?;
     let name = subject.name.as_slice();
     match &subject.parent {
         Some(parent) => {

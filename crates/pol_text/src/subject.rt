@@ -1,6 +1,7 @@
 //! Groups and users, and what decides.
 
 ghost use Rattle.std.specs.Prelude.{◌≡◌, ◌≤◌, length, IfOk};
+ghost use Rattle.pol_text.specs.Text.{kind_word};
 ghost use Rattle.pol_text.specs.Policy.{id_of, group_id, user_id, first_match as first_of};
 
 use crate::name::Name;
@@ -13,6 +14,19 @@ use std::alloc::{AllocError, Global};
 pub enum Kind {
     Group,
     User,
+}
+
+impl Kind {
+    /// The word that such a subject begins with wherever it is named, and the space behind it.
+    pub fn keyword(self) -> &'static str
+        ensures value { result.now ≡ kind_word self }
+        ensures fits { length result.now ≤ 6 }
+    {
+        match self {
+            Kind::Group => "group ",
+            Kind::User => "user ",
+        }
+    }
 }
 
 /// Which subject: a group and a user may have the same name.

@@ -1,4 +1,3 @@
-pub mod Flag
 pub mod Start
 pub mod Continue
 pub mod Reply

@@ -4,7 +4,7 @@ use Rattle.std.specs.Int.{w16, to_be_bytes, from_be_bytes}
 use Rattle.tac_wire.specs.declared.body.BodyFault.{BodyFault}
 use Rattle.tac_wire.specs.declared.body.BodyFault.TheVariants.{Short, LengthSum, TooLong}
 use Rattle.tac_authen.specs.declared.reply.AuthenReply.{AuthenReply}
-use Rattle.tac_authen.specs.Flag.{has_flag}
+use Rattle.tac_wire.specs.Flag.{has_flag}
 
 -- whether the text that is asked for is not to be shown
 abbrev pub is_noecho : ℕ → Bool

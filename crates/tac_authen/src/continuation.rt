@@ -2,7 +2,7 @@
 
 ghost use Rattle.std.specs.Prelude.{◌≡◌, ◌<◌, length, IfOk, Ok};
 ghost use Rattle.tac_wire.specs.Body.{Gives};
-ghost use Rattle.tac_authen.specs.Flag.{has_flag};
+ghost use Rattle.tac_wire.specs.Flag.{has_flag};
 ghost use Rattle.tac_authen.specs.Continue.{continue_bytes, continue_of};
 
 use basics::Bytes;

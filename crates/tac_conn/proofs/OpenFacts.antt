@@ -1,7 +1,7 @@
 -- Which packets leave a session open, and what is kept of it then.
 use Rattle.std.proofs.Common.{◌≡◌, ℕ, ◌+◌, ◌*◌, Bool, true, false, cond, List, [], ◌∷◌, length, Option, None, Some, Result, Ok, Err, refl, ap}
 use Rattle.std.specs.Prelude.{not, option_map, nat_le, nat_lt, ◌==◌, ◌||◌, ◌%◌, codes}
-use Rattle.tac_authen.specs.Flag.{has_flag}
+use Rattle.tac_wire.specs.Flag.{has_flag}
 use Rattle.tac_authen.specs.Reply.{reply_bytes}
 use Rattle.tac_conn.specs.Reply.{failed, authen_error, question_to}
 use Rattle.tac_conn.specs.declared.ask.Ask.TheVariants.{Authenticate}

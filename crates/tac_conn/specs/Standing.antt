@@ -1,6 +1,6 @@
 -- What the server says on a connection, from the clear packets that came on it (RFC 8907, sections 4.1 to 4.3, and 5 to 7).
 -- Lists of packets have the latest first.
-use Rattle.std.specs.Prelude.{ℕ, ◌+◌, ◌-◌, ◌*◌, ◌%◌, List, [], ◌∷◌, length, drop, codes, slice_index, slice_range, Bool, true, false, not, ◌&&◌, ◌||◌, ◌==◌, nat_lt, nat_le, bit_and, Option, Some, None, is_some, Result, Ok, Err, if◌then◌else◌}
+use Rattle.std.specs.Prelude.{ℕ, ◌+◌, ◌-◌, ◌*◌, ◌%◌, List, [], ◌∷◌, length, drop, codes, slice_index, slice_range, Bool, true, false, not, ◌&&◌, ◌||◌, ◌==◌, nat_lt, nat_le, Option, Some, None, is_some, Result, Ok, Err, if◌then◌else◌}
 use Rattle.std.specs.List.{list_any}
 use Rattle.tac_wire.specs.declared.header.Header.{Header}
 use Rattle.tac_wire.specs.declared.body.BodyFault.{BodyFault}
@@ -8,7 +8,7 @@ use Rattle.tac_authen.specs.declared.start.Start.{Start}
 use Rattle.tac_authen.specs.declared.start.Service.{Service}
 use Rattle.tac_authen.specs.declared.continuation.Continue.{Continue}
 use Rattle.tac_authen.specs.declared.reply.AuthenReply.{AuthenReply}
-use Rattle.tac_authen.specs.Flag.{has_flag}
+use Rattle.tac_wire.specs.Flag.{has_flag}
 use Rattle.tac_authen.specs.Start.{start_of}
 use Rattle.tac_authen.specs.Continue.{continue_of}
 use Rattle.tac_authen.specs.Reply.{reply_bytes}
@@ -244,7 +244,7 @@ judged single count session packet = by_kind single count session (kind_of packe
 
 -- the client asks for many sessions on one connection
 abbrev pub asks_single : Header → Bool
-asks_single header = not (bit_and header.flags 0x04 == 0)
+asks_single header = has_flag 0x04 header.flags
 
 -- a connection is single if its first packet asked for it; the flag of later packets means nothing
 abbrev pub is_single : List Packet → Bool

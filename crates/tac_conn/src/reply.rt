@@ -14,7 +14,7 @@ ghost use Rattle.tac_conn.specs.Kept.{sent as sent_value};
 use crate::ask::{Answer, AskKind};
 use crate::step::Sent;
 use arrayvec::ArrayVec;
-use pol_text::{By, Kind, SubjectId};
+use pol_text::{By, SubjectId};
 use tac_authen::{AuthenReply, AuthenStatus, write_reply};
 use tac_request::{
     AcctReply, AcctStatus, AuthorReply, AuthorStatus, write_acct_reply, write_author_reply,
@@ -192,23 +192,13 @@ const DENIED_BY: &[u8] = b"denied by ";
 
 const RULE: &[u8] = b" rule ";
 
-fn kind_word(kind: Kind) -> &'static [u8]
-    ensures value { result.now ≡ word_of_kind kind }
-    ensures fits { length result.now ≤ 6 }
-{
-    match kind {
-        Kind::Group => b"group ",
-        Kind::User => b"user ",
-    }
-}
-
 // `denied by OWNER rule N`.
 fn denied_by(owner: &SubjectId, number: u16) -> ArrayVec<u8, 64>
     ensures { result.items ≡ DENIED_BY.now ++ word_of_kind owner.now.kind ++ owner.now.name ++ RULE.now ++ decimal number }
 {
     let mut text = ArrayVec::new();
     put(&mut text, DENIED_BY);
-    put(&mut text, kind_word(owner.kind));
+    put(&mut text, owner.kind.keyword().as_bytes());
     put(&mut text, owner.name.as_slice());
     put(&mut text, RULE);
     put_number(&mut text, number);

@@ -1,8 +1,9 @@
 -- What is recorded of an accounting request (RFC 8907, sections 7.1 and 8.3).
-use Rattle.std.specs.Prelude.{ℕ, ◌^◌, Bool, true, false, not, List, [], length, ◌&&◌, nat_lt, ◌==◌, bit_and, Option, Some, None, slice_get, unwrap_or, option_and_then, if◌then◌else◌, codes}
+use Rattle.std.specs.Prelude.{ℕ, ◌^◌, Bool, true, false, List, [], length, ◌&&◌, nat_lt, Option, Some, None, slice_get, unwrap_or, option_and_then, if◌then◌else◌, codes}
 use Rattle.std.specs.Char.{is_ascii_digit}
 use Rattle.std.specs.List.{list_all}
 use Rattle.std.specs.Str.Parse.{digits_value}
+use Rattle.tac_wire.specs.Flag.{has_flag}
 use Rattle.basics.specs.Symbol.{is_text}
 use Rattle.tac_request.specs.declared.acct_request.AcctRequest.{AcctRequest}
 use Rattle.tac_request.specs.declared.line.LineOf.{LineOf}
@@ -11,10 +12,6 @@ use Rattle.tac_request.specs.declared.record.AcctKind.{AcctKind}
 use Rattle.tac_request.specs.declared.record.AcctKind.TheVariants.{Begin, Stop, Watch, Update}
 use Rattle.tac_request.specs.declared.record.Record.{Record}
 use Rattle.tac_request.specs.Line.{values_under, line_of}
-
--- whether a byte of flags has this one
-abbrev pub has_flag : ℕ → ℕ → Bool
-has_flag flag flags = not (bit_and flags flag == 0)
 
 -- what the flags START, STOP and WATCHDOG mean together; no other set of them means anything
 abbrev pub meaning : Bool → Bool → Bool → Option AcctKind

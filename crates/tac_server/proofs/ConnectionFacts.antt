@@ -1,12 +1,12 @@
 -- One packet after another of what came on a connection.
-use Rattle.std.proofs.Common.{◌≡◌, ℕ, ◌+◌, ◌<◌, List, [], ◌∷◌, ◌++◌, length, length-append, map, Bool, true, false, Option, None, refl, sym, ap, subst, ◌∙◌, ◌⊎◌, inl, inr, append_assoc, append-nil, arith}
+use Rattle.std.proofs.Common.{◌≡◌, ℕ, ◌+◌, ◌<◌, List, [], ◌∷◌, ◌++◌, length, length-append, Bool, true, false, Option, None, refl, sym, ap, subst, ◌∙◌, ◌⊎◌, inl, inr, append_assoc, append-nil, arith}
 use Rattle.std.specs.Option.{option_to_list}
 use Rattle.std.proofs.lemmas.List.{map-append}
 use Rattle.tac_wire.specs.declared.frame.Frame.{Frame}
 use Rattle.tac_wire.specs.declared.frame.FrameFault.{FrameFault}
 use Rattle.tac_wire.specs.declared.framer.Next.{Next}
 use Rattle.tac_wire.specs.declared.framer.Next.TheVariants.{Packet, Need, Fault, Ended}
-use Rattle.tac_wire.specs.Stream.{Parts, Tail, open_end, fault, Pending, unread, ended, Item, whole, refused, unfinished, cut, cut_within, only, first_item, parts_by, behind as before_parts, told, next_of, left_of, left_by, fed, continued, resumed, in_front, WasInFront, frame_bytes}
+use Rattle.tac_wire.specs.Stream.{Parts, Tail, open_end, fault, Pending, unread, ended, Item, whole, refused, unfinished, cut, cut_within, only, first_item, parts_by, behind as before_parts, told, next_of, left_of, left_by, fed, continued, resumed, WasInFront, frame_bytes}
 use Rattle.tac_conn.specs.declared.conn.Conn.{Conn}
 use Rattle.tac_conn.specs.declared.step.Sent.{Sent}
 use Rattle.tac_conn.specs.Standing.{Packet as PacketValue, outcome}
@@ -14,7 +14,7 @@ use Rattle.tac_conn.specs.Kept.{Stands, clear, pending_of, sent}
 use Rattle.tac_server.specs.declared.desk.Desk.{Desk}
 use Rattle.tac_server.specs.declared.connection.Connection.{Connection}
 use Rattle.tac_server.specs.Serving.{Said, says, behind, unless_closed, closed_by, said_to, packets_of, said_on}
-use Rattle.tac_server.specs.Kept.{sent_under, Serves, ServesUnless, IsReply, IsSaidTo}
+use Rattle.tac_server.specs.Kept.{sent_under, Serves, IsReply}
 use Rattle.tac_server.proofs.ServingFacts.{said_to-none, said_to-next, said_on-parts, packets_of-next, unless_closed-true, unless_closed-false, behind_behind}
 
 -- a stream of which nothing came

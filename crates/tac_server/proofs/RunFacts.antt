@@ -1,5 +1,5 @@
 -- Doing the events of a script one after another.
-use Rattle.std.proofs.Common.{◌≡◌, ℕ, ◌+◌, List, [], ◌∷◌, ◌++◌, Bool, Option, None, Some, Result, Ok, Err, refl, sym, ap, ◌∙◌, append_assoc, append-nil}
+use Rattle.std.proofs.Common.{◌≡◌, ℕ, ◌+◌, List, [], ◌∷◌, ◌++◌, Bool, Option, None, Some, Ok, Err, refl, sym, ap, ◌∙◌, append_assoc, append-nil}
 use Rattle.std.specs.Prelude.{is_some, IsTrue, if◌then◌else◌}
 use Rattle.tac_conn.specs.declared.step.Sent.{Sent}
 use Rattle.tac_server.specs.declared.server.Server.{Server}
@@ -11,9 +11,9 @@ use Rattle.tac_server.specs.declared.script_fault.ScriptFault.TheVariants.{BadCo
 use Rattle.tac_server.specs.declared.script_fault.Stop.{Stop}
 use Rattle.tac_server.specs.declared.script_fault.Stop.TheVariants as stops
 use Rattle.tac_server.specs.Serving.{Said, said_on}
-use Rattle.tac_server.specs.Server.{State, with_connection}
+use Rattle.tac_server.specs.Server.{State}
 use Rattle.tac_server.specs.Command.{event_of}
-use Rattle.tac_server.specs.Events.{text_of, after, shown, fault_in}
+use Rattle.tac_server.specs.Events.{text_of, after, shown}
 use Rattle.tac_server.specs.Kept.{sent_under, HasState, IsHeard, IsOpened, IsDoneUnless, stop_of}
 use Rattle.tac_server.specs.Script.{Run, Prints, ended, stopped, behind_text, events_run}
 

@@ -1,13 +1,11 @@
 -- The connections of a server, and bytes that are handed in piece by piece.
-use Rattle.std.proofs.Common.{◌≡◌, ◌≢◌, ℕ, suc, ◌+◌, List, [], ◌∷◌, ◌++◌, take, drop, map, Bool, true, false, cond, Option, None, Some, Result, Ok, Err, refl, sym, ap, subst, ◌∙◌, append_assoc, append-nil, length, arith, ◌⊎◌, inl, inr, nat_cmp}
-use Rattle.std.specs.Prelude.{◌==◌, is_some, IsTrue, IsSome}
-use Rattle.std.specs.Ordering.{is_eq}
+use Rattle.std.proofs.Common.{◌≡◌, ℕ, suc, List, [], ◌∷◌, ◌++◌, take, drop, Bool, true, false, cond, Option, None, Some, Result, Ok, Err, refl, sym, ap, subst, ◌∙◌, append_assoc, append-nil, length, arith, nat_cmp}
+use Rattle.std.specs.Prelude.{◌==◌, IsSome}
 use Rattle.std.specs.BTreeMap.{BTreeMap, get, is_at}
 use Rattle.std.proofs.lemmas.Bool.{eq-eqb, eqb-true}
 use Rattle.std.proofs.lemmas.List.{map-append, take-append-drop}
 use Rattle.tac_conn.specs.declared.step.Sent.{Sent}
 use Rattle.tac_conn.specs.Kept.{sent}
-use Rattle.tac_conn.specs.Standing.{Packet}
 use Rattle.tac_server.specs.declared.desk.Desk.{Desk}
 use Rattle.tac_server.specs.declared.connection.Connection.{Connection}
 use Rattle.tac_server.specs.declared.server.Server.{Server}

@@ -2,7 +2,7 @@
 use Rattle.std.proofs.Common.{◌≡◌, ℕ, List, [], ◌∷◌, ◌++◌, length, drop, map, reverse, Bool, true, false, cond, refl, sym, ap, ◌∙◌, append_assoc, append-nil}
 use Rattle.std.proofs.lemmas.List.{reverse-append, map-append}
 use Rattle.tac_wire.specs.declared.frame.Frame.{Frame}
-use Rattle.tac_wire.specs.Stream.{Parts, Tail, open_end, fault, cut, behind as before_parts, continued, resumed}
+use Rattle.tac_wire.specs.Stream.{Parts, Tail, open_end, fault, cut, continued}
 use Rattle.tac_conn.specs.Standing.{Packet, outcome}
 use Rattle.tac_conn.specs.Kept.{clear}
 use Rattle.tac_server.specs.declared.desk.Desk.{Desk}

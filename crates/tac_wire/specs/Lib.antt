@@ -1,5 +1,6 @@
 pub mod Header
 pub mod Key
+pub mod Flag
 pub mod Pad
 pub mod Body
 pub mod Cut

@@ -1,6 +1,7 @@
 -- The stream of packets (RFC 8907, section 4): each a header of twelve bytes and a body of the header's length.
 -- A stream is all its bytes: nothing here knows of the pieces in which they come.
-use Rattle.std.specs.Prelude.{◌≡◌, ℕ, zero, suc, ◌+◌, ◌/◌, ◌%◌, ◌^◌, ◌<◌, ◌==◌, Bool, not, ◌&&◌, nat_lt, nat_le, List, [], ◌∷◌, ◌++◌, length, take, drop, Option, Some, None, if◌then◌else◌, bit_and}
+use Rattle.std.specs.Prelude.{◌≡◌, ℕ, zero, suc, ◌+◌, ◌/◌, ◌%◌, ◌^◌, ◌<◌, ◌==◌, Bool, not, ◌&&◌, nat_lt, nat_le, List, [], ◌∷◌, ◌++◌, length, take, drop, Option, Some, None, if◌then◌else◌}
+use Rattle.tac_wire.specs.Flag.{has_flag}
 use Rattle.tac_wire.specs.Header.{header_bytes, header_of}
 use Rattle.tac_wire.specs.declared.header.Header.{Header}
 use Rattle.tac_wire.specs.declared.frame.Frame.{Frame}
@@ -17,7 +18,7 @@ is_served_version version = version / 16 == 0xc && nat_le (version % 16) 1
 
 -- TAC_PLUS_UNENCRYPTED_FLAG, by which a body has no pad
 abbrev pub is_unencrypted : ℕ → Bool
-is_unencrypted flags = not (bit_and flags 0x01 == 0)
+is_unencrypted flags = has_flag 0x01 flags
 
 -- why a header is refused: the first fault that it has. The longest body is that of an authentication CONTINUE: five
 -- bytes, and two fields of at most 65535

@@ -1,4 +1,4 @@
-use Rattle.std.proofs.Common.{◌≡◌, ℕ, List, length, Bool, Result}
+use Rattle.std.proofs.Common.{◌≡◌, List, length, Bool, Result}
 use Rattle.tac_conn.specs.declared.step.Sent.{Sent}
 use Rattle.tac_server.specs.declared.server.Server.{Server}
 use Rattle.tac_server.specs.declared.server.ServerFault.{ServerFault}

@@ -1,4 +1,4 @@
-use Rattle.std.proofs.Common.{ℕ, List, refl, sym, ◌∙◌}
+use Rattle.std.proofs.Common.{refl, sym, ◌∙◌}
 use Rattle.tac_server.proofs.ServingFacts.{said_on-pieces}
 use Rattle.tac_server.proofs.ConnectionFacts.{started, needs_more, stopped, closing, going_on, packet_falls}
 use Rattle.tac_server.proofs.connection.Connection.take_piece.Goals as goal

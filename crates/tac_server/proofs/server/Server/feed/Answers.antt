@@ -1,4 +1,4 @@
-use Rattle.std.proofs.Common.{sym, ◌∙◌}
+use Rattle.std.proofs.Common.{sym}
 use Rattle.tac_server.proofs.ServerFacts.{fed_open, some_found}
 use Rattle.tac_server.proofs.server.Server.feed.Goals as goal
 
