@@ -32,11 +32,9 @@ fn frame<R: AllocGlobal>(rt: &R, text: &str) -> Result<Frame, Fail> {
 
 // A packet that is sent, with the pad taken off, and whether the connection closes.
 fn spelled<R: AllocGlobal>(rt: &R, sent: Sent, closes: bool) -> Result<String, Fail> {
-    let Sent { header, mut body } = sent;
-    pad_in_place(&header, &key()?, body.as_mut_slice());
-    let mut text = hex::encode(rt.alloc(), header.write().as_slice())?;
-    let body = hex::encode(rt.alloc(), body.as_slice())?;
-    text.push_str(body.as_str())?;
+    let mut bytes = sent.bytes();
+    pad_in_place(&sent.header, &key()?, &mut bytes.as_mut_slice()[12..]);
+    let mut text = hex::encode(rt.alloc(), bytes.as_slice())?;
     if closes {
         text.push_str(" closes")?;
     }

@@ -18,17 +18,25 @@ fn records(rt: HostRuntime) -> Result<(), Fail> {
         reply 1 c0030200.00000001.00000005.0000000001
         closed 1
 
-        # A stop with a time and a line.
-        packet 1 c0030100.00000001.00000051.040601010103040005.090f0d080f'bobtty0task_id=7elapsed_time=12service=shellcmd=showcmd-arg=version'
-        reply 1 c0030200.00000001.00000005.0000000001
-        closed 1
-
         # Many on a single connection, with a request between them. A record needs neither user nor arguments.
         packet 1 c1030104.00000009.00000009.020000000000000000 c0020104.00000009.00000017.0601010103000001.0b'bobservice=ppp'
         reply 1 c1030204.00000009.00000005.0000000001
         reply 1 c0020204.00000009.00000019.100000130000'unsupported service'
         packet 1 c0030104.00000009.0000000a.080000000000000001.00
         reply 1 c0030204.00000009.00000005.0000000001
+        ",
+    )
+}
+
+#[test]
+fn a_stop_with_a_time_and_a_line(rt: HostRuntime) -> Result<(), Fail> {
+    converses(
+        &rt,
+        "group ops\npermit show .*\ngroup bare\nuser bob in ops\n",
+        "
+        packet 1 c0030100.00000001.00000051.040601010103040005.090f0d080f'bobtty0task_id=7elapsed_time=12service=shellcmd=showcmd-arg=version'
+        reply 1 c0030200.00000001.00000005.0000000001
+        closed 1
         ",
     )
 }

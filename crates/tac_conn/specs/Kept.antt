@@ -14,7 +14,6 @@ use Rattle.tac_conn.specs.declared.session.Waiting.{Waiting}
 use Rattle.tac_conn.specs.declared.session.Waiting.TheVariants as waits
 use Rattle.tac_conn.specs.declared.session.Session.{Session}
 use Rattle.tac_conn.specs.declared.judged.Judged.{Judged}
-use Rattle.tac_wire.specs.declared.frame.Frame.{Frame}
 use Rattle.tac_conn.specs.declared.ask.Slot.{Slot}
 use Rattle.tac_conn.specs.declared.ask.AskKind.{AskKind}
 use Rattle.tac_conn.specs.declared.ask.AskKind.TheVariants.{Authentication, Authorisation, Accounting}
@@ -118,12 +117,9 @@ slot_in (Asks ask slot) = Some slot
 slot_in Silent = None
 slot_in Close = None
 
--- what answers belong into a slot, and whether the connection closes with the reply
+-- what answers belong into a slot
 abbrev pub kind_asked : Slot → AskKind
 kind_asked slot = slot.kind
-
-abbrev pub closes_with : Slot → Bool
-closes_with slot = not slot.single
 
 -- ---- a connection
 
@@ -131,9 +127,9 @@ closes_with slot = not slot.single
 abbrev pub pending_of : Conn → Option Slot
 pending_of conn = conn.pending
 
--- the packet of a frame: the pad is taken off
-abbrev pub clear : List ℕ → Frame → Packet
-clear key frame = record { header = frame.header; body = padded frame.header key frame.body }
+-- whether the connection is closed
+abbrev pub closed_of : Conn → Bool
+closed_of conn = conn.closed
 
 -- whether a connection is single, once a packet of this header came
 abbrev pub single_with : Option Bool → Header → Bool

@@ -75,7 +75,7 @@ success = record { status = record { 0 = 1 }; msg = record { items = [] } }
 abbrev pub acct_error : List ℕ → AcctReply
 acct_error text = record { status = record { 0 = 2 }; msg = record { items = text } }
 
--- ---- the answers of the policy
+-- ---- the answers of the desk
 
 abbrev pub kind_of_answer : Answer → AskKind
 kind_of_answer Pass = Authentication

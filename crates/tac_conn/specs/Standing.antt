@@ -1,8 +1,10 @@
--- What the server says on a connection, from the clear packets that came on it (RFC 8907, sections 4.1 to 4.3, and 5 to 7).
+-- What the server says on a connection, from the clear packets that came on it (RFC 8907, sections 4.1 to 4.4, and 5 to 7).
 -- Lists of packets have the latest first.
 use Rattle.std.specs.Prelude.{ℕ, ◌+◌, ◌-◌, ◌*◌, ◌%◌, List, [], ◌∷◌, length, drop, codes, slice_index, slice_range, Bool, true, false, not, ◌&&◌, ◌||◌, ◌==◌, nat_lt, nat_le, Option, Some, None, is_some, Result, Ok, Err, if◌then◌else◌}
 use Rattle.std.specs.List.{list_any}
+use Rattle.tac_wire.specs.declared.frame.Frame.{Frame}
 use Rattle.tac_wire.specs.declared.header.Header.{Header}
+use Rattle.tac_wire.specs.Pad.{padded}
 use Rattle.tac_wire.specs.declared.body.BodyFault.{BodyFault}
 use Rattle.tac_authen.specs.declared.start.Start.{Start}
 use Rattle.tac_authen.specs.declared.start.Service.{Service}
@@ -38,13 +40,17 @@ pub record Packet : Type 0 where
   pub header : Header
   pub body : List ℕ
 
+-- the packet of a frame under this key: the pad is taken off
+abbrev pub clear : List ℕ → Frame → Packet
+clear key frame = record { header = frame.header; body = padded frame.header key frame.body }
+
 -- what a packet comes to
 pub data Outcome : Type 0 where
   -- a reply that asks for more: its session is open from then on
   question : Packet → Outcome
   -- the session's last reply, and whether the connection closes
   reply : Packet → Bool → Outcome
-  -- the policy is asked; its answer is the session's last reply
+  -- the desk is asked; its answer is the session's last reply
   asks : Ask → Slot → Outcome
   -- nothing is sent, and the connection stays open
   silent : Outcome
@@ -338,3 +344,7 @@ outcome earlier packet = if is_closed earlier then close else judged_after earli
 -- the reply in a slot
 abbrev pub reply_to : Slot → Answer → Packet
 reply_to slot answer = packet_with slot.header (answer_body answer)
+
+-- whether the connection closes with it
+abbrev pub closes_with : Slot → Bool
+closes_with slot = not slot.single

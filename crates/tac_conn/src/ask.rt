@@ -1,4 +1,4 @@
-//! What is asked of the policy, and what it answers.
+//! What is asked of the desk, which has the policy and the records, and what it answers.
 
 use basics::Bytes;
 use pol_text::By;
@@ -19,7 +19,7 @@ pub enum Proof {
     },
 }
 
-/// What is asked of the policy.
+/// What is asked of the desk.
 #[derive(Debug, Drop)]
 pub enum Ask {
     /// Whether the proof is this user's, for this service.
@@ -28,7 +28,7 @@ pub enum Ask {
         service: Service,
         proof: Proof,
     },
-    /// Whether this user may run this command line.
+    /// Whether this user may run this command line, which may be any bytes.
     Authorise {
         user: Bytes,
         line: Bytes,
@@ -45,7 +45,7 @@ pub enum AskKind {
     Accounting,
 }
 
-/// An answer of the policy.
+/// An answer of the desk.
 #[derive(Clone, Copy, Debug, PartialEq, Eq)]
 pub enum Answer {
     /// The proof is the user's.
@@ -56,8 +56,9 @@ pub enum Answer {
     UnknownUser,
     /// The command line has a byte that is no symbol.
     Unprintable,
+    /// The command line is denied, by this rule or by default.
     Denied(By),
-    /// Perhaps with the privilege level of a shell.
+    /// The command line is permitted, perhaps with the privilege level of a shell.
     Permitted(Option<u8>),
     /// The record is stored.
     Stored,

@@ -1,9 +1,9 @@
 //! A connection.
 
-ghost use Rattle.std.specs.Prelude.{◌≡◌, [], ◌∷◌, List, None, Some, IfOk, OnOk, OnErr};
+ghost use Rattle.std.specs.Prelude.{◌≡◌, [], ◌∷◌, List, None, Some, IsTrue, IfOk, OnOk, OnErr};
 ghost use Rattle.tac_conn.specs.Reply.{kind_of_answer};
-ghost use Rattle.tac_conn.specs.Standing.{Packet, outcome as outcome_of, reply_to};
-ghost use Rattle.tac_conn.specs.Kept.{Stands, HasItsSlot, pending_of, kind_asked, closes_with, clear, sent as sent_value, step_of, step_closes as step_closes_value, slot_in as slot_value, single_with as single_value, outcome_in, conn_after};
+ghost use Rattle.tac_conn.specs.Standing.{Packet, clear, outcome as outcome_of, reply_to, closes_with};
+ghost use Rattle.tac_conn.specs.Kept.{Stands, HasItsSlot, pending_of, closed_of, kind_asked, sent as sent_value, step_of, step_closes as step_closes_value, slot_in as slot_value, single_with as single_value, outcome_in, conn_after};
 
 use crate::ask::{Answer, Slot};
 use crate::judged::Judged;
@@ -123,8 +123,8 @@ impl Conn {
 
     /// Takes a packet that came, with the pad on its body, where no answer is waited for.
     ///
-    /// A closed connection answers [`Step::Close`]. The error is want of memory, and changes
-    /// nothing.
+    /// A closed connection answers [`Step::Close`] and stays as it is. The error is want of memory:
+    /// nothing has changed, and the packet is gone.
     pub fn take(&mut self, alloc: Global, key: &Key, frame: Frame) -> Result<Step, AllocError>
         requires { pending_of self.old ≡ None }
         // What is done is what the packet comes to, by the clear packets that came before it.
@@ -134,6 +134,7 @@ impl Conn {
             OnOk result (Stands self.new (clear key.now frame ∷ earlier)) }
         ensures pending { IfOk result (λ step. pending_of self.new ≡ slot_value step) }
         ensures kind { IfOk result HasItsSlot }
+        ensures closed { IsTrue (closed_of self.old) → self.new ≡ self.old }
         ensures err { OnErr result (self.new ≡ self.old) }
     {
         if self.closed {
@@ -142,8 +143,8 @@ impl Conn {
         self.take_open(alloc, key, frame)
     }
 
-    /// The reply that carries the policy's answer, and whether the connection closes then. Takes no
-    /// memory.
+    /// The reply that carries the desk's answer, and whether the connection closes then. The slot is
+    /// the one that waits, and the answer is one to what was asked. Takes no memory.
     pub fn give(&mut self, key: &Key, slot: Slot, answer: Answer) -> (Sent, bool)
         requires pending { pending_of self.old ≡ Some slot }
         requires kind { kind_of_answer answer ≡ kind_asked slot }

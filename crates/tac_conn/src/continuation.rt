@@ -46,7 +46,7 @@ fn named(key: &Key, slot: Slot, session: &Session, name: Bytes) -> Judged
     }
 }
 
-// The policy is asked whether the password is this user's.
+// The desk is asked whether the password is this user's.
 fn typed_secret(
     alloc: Global,
     slot: Slot,

@@ -1,5 +1,5 @@
-//! One connection of the server: what it says for each packet, and what it asks of the policy
-//! (RFC 8907, sections 4.1 to 4.3, and 5 to 7).
+//! One connection of the server: what it says for each packet, and what it asks of the desk,
+//! which has the policy and the records (RFC 8907, sections 4.1 to 4.4, and 5 to 7).
 #![tactic(auto)]
 
 mod accounting;
@@ -16,6 +16,7 @@ mod step;
 
 pub use ask::{Answer, Ask, AskKind, Proof, Slot};
 pub use conn::Conn;
-pub use pol_text::{By, Kind, Name, SubjectId};
+pub use pol_text::{By, Decision, Kind, Name, SubjectId};
 pub use step::{Sent, Step};
+pub use tac_authen::Service;
 pub use tac_request::{AcctKind, Record};

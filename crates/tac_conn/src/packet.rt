@@ -4,7 +4,7 @@ ghost use Rattle.std.specs.Prelude.{◌≡◌, ◌<◌, ◌==◌, length, None, 
 ghost use Rattle.tac_authen.specs.Start.{start_of};
 ghost use Rattle.tac_authen.specs.Continue.{continue_of};
 ghost use Rattle.tac_request.specs.AuthorRequest.{author_request_of};
-ghost use Rattle.tac_conn.specs.Standing.{reply_header as reply_header_value, slot_for as slot_value, unknown_type as unknown_outcome, start_read, continue_read, request_read, line_outcome, started_user, started_service, typed_in, opening_outcome, first_outcome, later_outcome, judged as judged_outcome, kind_of as kind_value};
+ghost use Rattle.tac_conn.specs.Standing.{slot_for as slot_value, unknown_type as unknown_outcome, start_read, continue_read, request_read, line_outcome, started_user, started_service, typed_in, opening_outcome, first_outcome, later_outcome, judged as judged_outcome, kind_of as kind_value};
 ghost use Rattle.tac_request.specs.Line.{line_of};
 ghost use Rattle.tac_conn.specs.Kept.{step_of, judged_of, session_started, session_named, session_after, session_in, awaited_user, seen};
 

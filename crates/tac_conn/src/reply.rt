@@ -214,7 +214,7 @@ fn denial(by: By) -> ArrayVec<u8, 64>
     }
 }
 
-/// The body that carries an answer of the policy.
+/// The body that carries an answer of the desk.
 pub(crate) fn answer_body(answer: Answer) -> ArrayVec<u8, 84>
     ensures { result.items ≡ answer_value answer }
 {

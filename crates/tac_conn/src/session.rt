@@ -1,6 +1,6 @@
 //! What is kept of the open sessions.
 
-ghost use Rattle.std.specs.Prelude.{◌≡◌, ◌≤◌, ◌==◌, ◌∷◌, [], ◌++◌, OnOk, OnErr};
+ghost use Rattle.std.specs.Prelude.{◌≡◌, ◌≤◌, ◌==◌, OnOk, OnErr};
 ghost use Rattle.std.specs.List.{find};
 ghost use Rattle.std.specs.Option.{option_copied};
 ghost use Rattle.tac_conn.specs.Kept.{expected_seq as expected_seq_of, waiting_for as waiting_value, without as removed, with_session, place_in, settled as settled_value};

@@ -29,9 +29,9 @@ impl Sent {
 /// What is done for a packet.
 #[derive(Debug, Drop)]
 pub enum Step {
-    /// A reply is sent, and the connection closes or stays open.
+    /// A reply is sent, and the connection closes (true) or stays open.
     Reply(Sent, bool),
-    /// The policy is asked, and its answer belongs into this slot.
+    /// The desk is asked, and its answer belongs into this slot.
     Asks(Ask, Slot),
     /// Nothing is sent, and the connection stays open.
     Silent,

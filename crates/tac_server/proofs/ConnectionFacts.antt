@@ -9,8 +9,8 @@ use Rattle.tac_wire.specs.declared.framer.Next.TheVariants.{Packet, Need, Fault,
 use Rattle.tac_wire.specs.Stream.{Parts, Tail, open_end, fault, Pending, unread, ended, Item, whole, refused, unfinished, cut, cut_within, only, first_item, parts_by, behind as before_parts, told, next_of, left_of, left_by, fed, continued, resumed, WasInFront, frame_bytes}
 use Rattle.tac_conn.specs.declared.conn.Conn.{Conn}
 use Rattle.tac_conn.specs.declared.step.Sent.{Sent}
-use Rattle.tac_conn.specs.Standing.{Packet as PacketValue, outcome}
-use Rattle.tac_conn.specs.Kept.{Stands, clear, pending_of, sent}
+use Rattle.tac_conn.specs.Standing.{Packet as PacketValue, clear, outcome}
+use Rattle.tac_conn.specs.Kept.{Stands, pending_of, sent}
 use Rattle.tac_server.specs.declared.desk.Desk.{Desk}
 use Rattle.tac_server.specs.declared.connection.Connection.{Connection}
 use Rattle.tac_server.specs.Serving.{Said, says, behind, unless_closed, closed_by, said_to, packets_of, said_on}

@@ -6,15 +6,6 @@ use Rattle.basics.specs.Lines.{Unread, TakesLine}
 use Rattle.pol_text.specs.Text.{text_of_lines}
 use Rattle.tac_server.specs.Script.{is_run, before_run, after_run}
 
-pub before_run-run : (lines rest : List (List ℕ)) (line : List ℕ) → lines ≡ line ∷ rest → is_run line ≡ true → before_run lines ≡ []
-before_run-run lines rest line e h = ap before_run e ∙ rw h refl
-
-pub after_run-run : (lines rest : List (List ℕ)) (line : List ℕ) → lines ≡ line ∷ rest → is_run line ≡ true → after_run lines ≡ rest
-after_run-run lines rest line e h = ap after_run e ∙ rw h refl
-
-pub any_run-run : (lines rest : List (List ℕ)) (line : List ℕ) → lines ≡ line ∷ rest → is_run line ≡ true → list_any is_run lines ≡ true
-any_run-run lines rest line e h = ap (list_any is_run) e ∙ rw h refl
-
 pub before_run-line : (lines rest : List (List ℕ)) (line : List ℕ) → lines ≡ line ∷ rest → is_run line ≡ false → before_run lines ≡ line ∷ before_run rest
 before_run-line lines rest line e h = ap before_run e ∙ rw h refl
 

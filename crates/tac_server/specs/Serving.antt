@@ -2,8 +2,7 @@
 use Rattle.std.specs.Prelude.{ℕ, List, [], ◌∷◌, ◌++◌, length, drop, map, reverse, Bool, true, false, if◌then◌else◌}
 use Rattle.tac_wire.specs.declared.frame.Frame.{Frame}
 use Rattle.tac_wire.specs.Stream.{Tail, open_end, fault, cut}
-use Rattle.tac_conn.specs.Standing.{Packet, Outcome, question, reply, asks, silent, close, outcome, reply_to}
-use Rattle.tac_conn.specs.Kept.{clear, closes_with}
+use Rattle.tac_conn.specs.Standing.{Packet, Outcome, question, reply, asks, silent, close, outcome, reply_to, clear, closes_with}
 use Rattle.tac_conn.specs.declared.ask.Slot.{Slot}
 use Rattle.tac_server.specs.declared.desk.Desk.{Desk}
 use Rattle.tac_server.specs.Desk.{Answered, asked}

@@ -2,8 +2,8 @@
 
 ghost use Rattle.std.specs.Prelude.{◌≡◌, ◌++◌, ◌∷◌, [], List, ℕ, None, Some, IfOk, OnOk};
 ghost use Rattle.std.specs.Option.{option_to_list};
-ghost use Rattle.tac_conn.specs.Standing.{Packet, outcome, reply_to as reply_packet};
-ghost use Rattle.tac_conn.specs.Kept.{Stands, clear, pending_of, kind_asked, kind_of_ask, closes_with, sent as sent_value};
+ghost use Rattle.tac_conn.specs.Standing.{Packet, clear, outcome, reply_to as reply_packet, closes_with};
+ghost use Rattle.tac_conn.specs.Kept.{Stands, pending_of, kind_asked, kind_of_ask, sent as sent_value};
 ghost use Rattle.tac_server.specs.Desk.{asked};
 ghost use Rattle.tac_server.specs.Serving.{says, unless_closed, said_on};
 ghost use Rattle.tac_server.specs.Kept.{Serves, IsReply, IsSaidTo};

@@ -1,13 +1,13 @@
 //! How what is sent is shown: packets with the pad taken off, in hexadecimal digits.
 
-ghost use Rattle.std.specs.Prelude.{◌≡◌, ◌++◌, List, ℕ, OnOk, string_bytes};
+ghost use Rattle.std.specs.Prelude.{◌≡◌, ◌++◌, List, OnOk, string_bytes};
 ghost use Rattle.std.specs.List.{flat_map};
 ghost use Rattle.tac_wire.specs.Header.{header_bytes};
 ghost use Rattle.tac_conn.specs.Standing.{Packet};
 ghost use Rattle.tac_conn.specs.Kept.{sent as sent_value};
 ghost use Rattle.tac_server.specs.Serving.{Said};
 ghost use Rattle.tac_server.specs.Kept.{sent_under};
-ghost use Rattle.tac_server.specs.Events.{reply_line, closed_line, shown};
+ghost use Rattle.tac_server.specs.Events.{reply_line, shown};
 
 use arrayvec::ArrayVec;
 use std::alloc::{AllocError, Global};

@@ -14,6 +14,7 @@ pub enum BodyFault {
     Short,
     /// The lengths of the fields don't add up to the length of the body.
     LengthSum,
+    /// Memory ran out; a reader may answer this in place of any other.
     Memory,
     /// A reply that this server never sends: over 64 bytes of text, any data, or other arguments
     /// than one privilege level.
@@ -36,7 +37,8 @@ impl<T: Drop> From<AllocFailed<T>> for BodyFault {
     }
 }
 
-/// Copies the fields of these lengths that the bytes begin with, one after another.
+/// Copies the fields of these lengths that the bytes begin with, one after another. The lengths add
+/// up to no more than there are bytes. The error is want of memory.
 pub fn cut(alloc: Global, lengths: &[u8], bytes: &[u8]) -> Result<Sequence<Bytes>, AllocError>
     requires { sum lengths.now ≤ length bytes.now }
     ensures { IfOk result (λ fields. fields ≡ fields_of lengths.now bytes.now) }

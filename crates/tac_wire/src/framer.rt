@@ -30,7 +30,7 @@ pub enum Next {
 ///
 /// A header is judged as soon as its twelve bytes are there, and a packet never waits for what
 /// follows it. The bytes of packets that were handed out stay in front until they are at least half
-/// of the buffer, and are removed then: each byte is moved a constant number of times on average, so
+/// of the buffer when more is fed, and are removed then: each byte is moved a constant number of times on average, so
 /// a stream handed over byte by byte costs linear time in all.
 #[derive(Debug, Drop)]
 pub struct Framer {
@@ -105,7 +105,8 @@ impl Framer {
         self.ended = true;
     }
 
-    /// Takes the next piece of the stream; nothing after a fault was told.
+    /// Takes the next piece of the stream; nothing after a fault was told. The error is want of
+    /// memory, and changes nothing.
     pub fn feed(&mut self, piece: &[u8]) -> Result<(), AllocError>
         ensures ok { OnOk result (self.new ≡ fed self.old piece.now) }
         ensures err { OnErr result (self.new ≡ self.old) }
@@ -119,7 +120,8 @@ impl Framer {
         self.buffer.extend_from_slice(piece)
     }
 
-    /// Tells what stands first in what is held, and removes it; a fault is told once.
+    /// Tells what stands first in what is held, and removes it; a fault is told once. The error is
+    /// want of memory for a packet's body, and changes nothing.
     pub fn next(&mut self) -> Result<Next, AllocError>
         ensures told { IfOk result (λ next. next ≡ next_of self.old) }
         ensures left { OnOk result (self.new ≡ left_of self.old) }

@@ -39,6 +39,7 @@ impl Header {
     /// The flag by which a client asks for many sessions on one connection.
     pub const SINGLE_CONNECTION: u8 = 0x04;
 
+    /// The header that twelve bytes spell, in network order. Takes no memory.
     pub fn read(bytes: &[u8; 12]) -> Header
         ensures value { result ≡ header_of bytes.now }
         // No byte is lost.
@@ -54,6 +55,7 @@ impl Header {
         }
     }
 
+    /// The bytes that spell the header, in network order. Takes no memory.
     pub fn write(&self) -> [u8; 12]
         ensures value { result ≡ header_bytes self.now }
         // What was written is read again.

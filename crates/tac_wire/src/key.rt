@@ -40,6 +40,7 @@ impl Key {
         Some(Key { symbols })
     }
 
+    /// The key's symbols.
     pub fn as_slice(&self) -> &[u8]
         ensures { result.now ≡ self.now }
     {

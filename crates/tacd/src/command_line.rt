@@ -3,13 +3,14 @@
 use clap::Command;
 use std::alloc::{AllocError, Global};
 
-const ABOUT: &str = "Plays scripted TACACS+ traffic against a policy of command lines";
+const ABOUT: &str = "Plays scripted TACACS+ traffic against a policy of users and command lines";
 
-const LONG_ABOUT: &str = "Plays scripted TACACS+ traffic against a policy of command lines.
+const LONG_ABOUT: &str =
+    "Plays scripted TACACS+ traffic against a policy of users and command lines.
 
-A network device that runs TACACS+ (RFC 8907) asks a server whether a user may run a command line.
-tacd takes what devices ask from a script, together with the policy, and prints what the server
-answers. It opens no socket.";
+A network device that runs TACACS+ (RFC 8907) asks a server who may log in and which command lines a
+user may run, and has it record what was done. tacd takes what devices send from a script, together
+with the policy, and prints what the server answers. It opens no socket.";
 
 const REPLAY_ABOUT: &str = "Reads a script on standard input and prints the server's replies";
 
@@ -17,8 +18,9 @@ const REPLAY_LONG_ABOUT: &str =
     "Reads a script on standard input and prints the server's replies on standard output.
 
 The script gives the key that server and devices share, a policy, and what devices send over their
-connections: TACACS+ authorisation requests (RFC 8907), each of which asks whether a user may run a
-command line. The whole script, at most 268435456 bytes, is read before anything is printed.";
+connections: packets of TACACS+ authentication, authorisation and accounting (RFC 8907), of which
+every session asks for a login or a command line, or tells what was done. The whole script, at most
+268435456 bytes, is read before anything is printed.";
 
 const REPLAY_AFTER_HELP: &str = "Example:
   tacd replay < session.script
@@ -38,7 +40,10 @@ const REPLAY_AFTER_LONG_HELP: &str = "Lines of a script, in this order:
   run                  ends the policy
   events, any number of these:
     open N               a device opens connection N, 0 to 65535
-    packet N HEX         it sends a packet: 12 bytes of header, then the body, in the clear
+    packet N HEX ..      it sends packets: 12 bytes of header, then the body, in the clear
+    bytes N HEX          it sends these bytes as they are
+    pieces K             from here on, what is sent comes in pieces of K bytes, 1 to 9999
+    lost N               connection N is lost
 
 In the policy, empty lines, lines that begin with '#' and leading spaces are passed over. A NAME is
 1 to 32 of the characters A-Z a-z 0-9 _ - . @. A PATTERN, up to 200 characters long, is to fit a

@@ -8,7 +8,7 @@ use tac_request::{
     AuthorStatus, LineOf, read_author_reply, read_author_request, request_line, split_arg,
     write_author_reply,
 };
-use tac_wire::{Header, Key, PacketType, pad_in_place};
+use tac_wire::{Header, Key, PacketType, cut, pad_in_place};
 
 /// The body of the packet in which bob asks for `show version`.
 const REQUEST: &[u8] =
@@ -20,6 +20,18 @@ pub(crate) fn arguments(alloc: Global, args: &[&[u8]]) -> Result<Sequence<Bytes>
         list.push(Bytes::from_slice(alloc, arg)?)?;
     }
     Ok(list)
+}
+
+#[test]
+fn fields_of_given_lengths(rt: HostRuntime) -> Result<(), Fail> {
+    let fields = cut(rt.alloc(), &[3, 0, 2], b"abcdefg")?;
+    let [first, second, third] = fields.as_slice() else {
+        return Err(Fail::from("not three fields"));
+    };
+    assert!(rt; first.as_slice() == b"abc".as_slice());
+    assert!(rt; second.is_empty());
+    assert!(rt; third.as_slice() == b"de".as_slice());
+    Ok(())
 }
 
 #[test]

@@ -1,8 +1,8 @@
 use Rattle.std.proofs.Common.{◌≡◌, ◌∷◌, ap, sym, subst, Result, Ok, Err}
 use Rattle.std.specs.Prelude.{IfOk, OnOk}
 use Rattle.tac_conn.specs.declared.conn.Conn.{Conn}
-use Rattle.tac_conn.specs.Standing.{Outcome}
-use Rattle.tac_conn.specs.Kept.{Stands, HasItsSlot, step_of, clear, outcome_in}
+use Rattle.tac_conn.specs.Standing.{Outcome, clear}
+use Rattle.tac_conn.specs.Kept.{Stands, HasItsSlot, step_of, outcome_in}
 use Rattle.tac_conn.proofs.StandsFacts.{outcome_in-outcome, stands_next, closed_outcome, stands_closed}
 use Rattle.tac_conn.proofs.AskFacts.{step_has_its_slot, outcome_in-right}
 use Rattle.tac_conn.proofs.conn.Conn.take.Goals as goal
