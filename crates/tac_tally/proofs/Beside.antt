@@ -1,6 +1,6 @@
 -- Records, and beside each its mark.
 use Rattle.std.proofs.Common.{◌≡◌, ℕ, suc, ◌+◌, ◌<◌, Bool, false, List, [], ◌∷◌, ◌++◌, length, take, get_or, refl, sym, ap, ◌∙◌, arith}
-use Rattle.std.proofs.lemmas.List.{nil_from_length, take_more, length-take-le}
+use Rattle.std.proofs.lemmas.List.{take_more, length-take-le}
 use Rattle.tac_request.specs.declared.record.Record.{Record}
 use Rattle.tac_tally.specs.Book.{items, beside}
 
@@ -23,10 +23,6 @@ beside-push [] [] r m same = refl
 beside-push [] (n ∷ ms) r m same = absurd (omega arith)
 beside-push (q ∷ rs) [] r m same = absurd (omega arith)
 beside-push (q ∷ rs) (n ∷ ms) r m same = ap (λ l. record { item = q; denied = n } ∷ l) (beside-push rs ms r m (omega arith))
-
--- there are no entries where there are no records
-pub beside-nil : (rs : List Record) (ms : List Bool) → length ms ≡ length rs → beside rs ms ≡ [] → rs ≡ []
-beside-nil rs ms same none = nil_from_length rs (sym (length-beside rs ms same) ∙ ap length none)
 
 -- the same of the first i, and the one behind them
 pub beside-more : (rs : List Record) (ms : List Bool) (i : ℕ) (r : Record) → i < length rs → length ms ≡ length rs → r ≡ get_or rs i r

@@ -7,8 +7,9 @@ use Rattle.tac_request.specs.declared.record.AcctKind.{AcctKind}
 use Rattle.tac_request.specs.declared.record.AcctKind.TheVariants.{Begin, Stop, Watch, Update}
 use Rattle.tac_tally.specs.Book.{Entry}
 use Rattle.tac_tally.specs.Tally.{same_acct, is_of, drifts, elapsed_of, tally_of}
-use Rattle.tac_tally.specs.Counting.{one_if, counted}
+use Rattle.tac_tally.specs.Counting.{counted}
 use Rattle.tac_tally.specs.declared.tally.Tally.{Tally}
+use Rattle.tac_tally.proofs.OpenTasks.{one_if}
 
 -- the tally without its open tasks
 abbrev pub but_open : Tally → Tally

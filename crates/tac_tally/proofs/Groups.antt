@@ -1,7 +1,7 @@
 -- The sum of the tallies of a group's users, one more subject on.
 use Rattle.std.proofs.Common.{◌≡◌, ℕ, ◌+◌, ◌*◌, ◌^◌, Bool, true, false, ◌&&◌, cond, List, [], ◌∷◌, ◌++◌, map, filter, fold, refl, sym, ap, ◌∙◌, arith}
 use Rattle.std.specs.List.{list_any}
-use Rattle.std.proofs.lemmas.Bool.{cond-true, cond-false}
+use Rattle.std.proofs.lemmas.Bool.{cond-true}
 use Rattle.std.proofs.lemmas.List.{map-append}
 use Rattle.std.proofs.lemmas.List.Elements.{filter-append}
 use Rattle.std.proofs.lemmas.List.Sums.{fold-append}
@@ -14,7 +14,6 @@ use Rattle.pol_text.proofs.SubjectFacts.{same_is}
 use Rattle.tac_tally.specs.Book.{Entry}
 use Rattle.tac_tally.specs.Tally.{tally_of, is_user_below, plus, no_tally, IsBelow}
 use Rattle.tac_tally.specs.declared.tally.Tally.{Tally}
-use Rattle.tac_tally.proofs.Scan.{IsBelow-le}
 
 -- the sum over those of the subjects that are users whose chain holds the group
 abbrev pub sum_over : List Subject → List ℕ → List Entry → List Subject → Tally
@@ -55,13 +54,6 @@ sums-user policy group entries seen n total total' tally s below is small is' h 
     elapsed = omega (arith, h.small.elapsed, small.elapsed);
     drift = omega (arith, h.small.drift, small.drift);
   });
-}
-
-pub sums-other : (policy : List Subject) (group : List ℕ) (entries : List Entry) (seen : List Subject) (n : ℕ) (total : Tally) (s : Subject)
-    → is_user_below policy group s ≡ false → Sums policy group entries seen n total → Sums policy group entries (seen ++ s ∷ []) (n + 1) total
-sums-other policy group entries seen n total s other h = record {
-  sum = h.sum ∙ sym (sum_over-push policy group entries seen s ∙ cond-false _ _ _ other);
-  small = IsBelow-le (n * 2 ^ 96 + 1) ((n + 1) * 2 ^ 96 + 1) total (omega arith) h.small;
 }
 
 same_search : {X : Type 0} (p q : X → Bool) → ((x : X) → p x ≡ q x) → (xs : List X) → list_any p xs ≡ list_any q xs

@@ -18,9 +18,6 @@ module _ {F : Type 0} (g : Mut F (Bor (List ℕ) × (Bor (List ℕ) × Unit {0})
     pub size : length marks ≡ length seen
     pub decided : (denies : List ℕ → List ℕ → Bool) → Computes g denies f0 → Computes g denies f × (marks ≡ recount_of denies users seen)
 
-  pub marks-none : (f : F) (users : List (List ℕ)) → Marks f f users [] []
-  marks-none f users = record { size = refl; decided = λ denies c. (c, refl) }
-
   -- a record of which nothing is asked
   pub marks-plain : (f0 f : F) (users : List (List ℕ)) (seen : List Record) (marks : List (Option Bool)) (item : Record) (mark : Option Bool)
       → ((denies : List ℕ → List ℕ → Bool) → mark ≡ mark_of denies users item) → Marks f0 f users seen marks → Marks f0 f users (seen ++ item ∷ []) (marks ++ mark ∷ [])

@@ -7,9 +7,9 @@ use Rattle.tac_request.specs.declared.record.AcctKind.TheVariants.{Begin, Stop, 
 use Rattle.tac_request.specs.declared.record.Record.{Record}
 use Rattle.tac_tally.specs.Book.{Entry}
 use Rattle.tac_tally.specs.Tally.{same_acct, is_of}
-use Rattle.tac_tally.specs.Counting.{one_if, has_text, HoldsOpen}
+use Rattle.tac_tally.specs.Counting.{has_text, HoldsOpen}
 use Rattle.tac_tally.proofs.Texts.{by_bytes, has_text-changed}
-use Rattle.tac_tally.proofs.OpenTasks.{is_turn, is_open-push, open_tasks-push}
+use Rattle.tac_tally.proofs.OpenTasks.{one_if, is_turn, is_open-push, open_tasks-push}
 
 -- an entry that begins or stops a task puts the task in or takes it out
 pub holds-turn : (user : List ℕ) (xs : List Entry) (e : Entry) (begins : Bool) (key : Bor (List ℕ)) (old new : BTreeSet (Bor (List ℕ)))

@@ -8,7 +8,11 @@ use Rattle.tac_request.specs.declared.record.AcctKind.TheVariants.{Begin, Stop}
 use Rattle.tac_tally.specs.Book.{Entry}
 use Rattle.tac_tally.specs.Tally.{is_of, turns, open_tasks}
 use Rattle.tac_tally.proofs.Texts.{bytes_eq_comm}
-use Rattle.tac_tally.specs.Counting.{one_if, is_open}
+use Rattle.tac_tally.specs.Counting.{is_open}
+
+-- 1 where the test holds
+abbrev pub one_if : Bool → ℕ
+one_if test = cond test 1 0
 
 -- the entry begins or stops a task of the user
 abbrev pub is_turn : List ℕ → Entry → Bool

@@ -12,19 +12,15 @@ use Rattle.tac_tally.specs.Book.{Entry}
 use Rattle.tac_tally.specs.Tally.{same_acct, is_of, turns, open_tasks}
 use Rattle.tac_tally.specs.declared.tally.Tally.{Tally}
 
--- 1 where the test holds
-abbrev pub one_if : Bool → ℕ
-one_if test = if test then 1 else 0
-
 -- the tally with one more record, except for its open tasks
 abbrev pub counted : Record → Bool → Tally → Tally
 counted item denied tally = record tally {
-  starts = tally.starts + one_if (same_acct item.kind Begin);
-  stops = tally.stops + one_if (same_acct item.kind Stop);
-  watchdogs = tally.watchdogs + one_if (same_acct item.kind Watch);
-  updates = tally.updates + one_if (same_acct item.kind Update);
+  starts = tally.starts + (if same_acct item.kind Begin then 1 else 0);
+  stops = tally.stops + (if same_acct item.kind Stop then 1 else 0);
+  watchdogs = tally.watchdogs + (if same_acct item.kind Watch then 1 else 0);
+  updates = tally.updates + (if same_acct item.kind Update then 1 else 0);
   elapsed = tally.elapsed + (if same_acct item.kind Stop then item.elapsed else 0);
-  drift = tally.drift + one_if (same_acct item.kind Stop && is_some item.line && denied);
+  drift = tally.drift + (if same_acct item.kind Stop && is_some item.line && denied then 1 else 0);
 }
 
 -- whether a task of the user is open: a record that begins it has no later one that begins or stops it

@@ -11,7 +11,7 @@ abbrev pub is_deny : Verdict → Bool
 is_deny Permit = false
 is_deny Deny = true
 
--- whether the policy denies the user's line; nothing is denied to one who isn't there
+-- whether the policy denies the user's line; one who isn't there is denied every line
 abbrev pub denied_by : List Subject → List ℕ → List ℕ → Bool
 denied_by policy user line =
-    option_map_or (λ decision. is_deny decision.verdict) (option_and_then (λ name. decide policy name line) (name_of user)) false
+    option_map_or (λ decision. is_deny decision.verdict) (option_and_then (λ name. decide policy name line) (name_of user)) true

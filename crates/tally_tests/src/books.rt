@@ -58,6 +58,20 @@ fn a_full_book(rt: HostRuntime) -> Result<(), Fail> {
     Ok(())
 }
 
+#[test]
+fn a_repeat_is_another_record(rt: HostRuntime) -> Result<(), Fail> {
+    let alloc = rt.alloc();
+    let mut book = Book::new(alloc, 2);
+    book.store(record(alloc, "bob", AcctKind::Update, "7", 0, "")?, false)?;
+    book.store(record(alloc, "bob", AcctKind::Update, "7", 0, "")?, false)?;
+    let twice = Tally { updates: 2, ..NONE };
+    assert_eq!(rt; book.tally(alloc, b"bob")?, twice);
+    let third = book.store(record(alloc, "bob", AcctKind::Update, "7", 0, "")?, false);
+    assert_eq!(rt; third, Err(StoreFault::Full));
+    assert_eq!(rt; book.tally(alloc, b"bob")?, twice);
+    Ok(())
+}
+
 // What became of one user's tasks, with a repeat of each kind, and another user's record of the
 // same task.
 fn worked_book(alloc: Global) -> Result<Book, Fail> {
@@ -154,6 +168,8 @@ fn marks_anew(rt: HostRuntime) -> Result<(), Fail> {
         ("eve", "reload", true),
         ("bob", "", true),
         ("bob", "show", false),
+        // A user who isn't in the policy.
+        ("zed", "reload", false),
     ];
     for (user, line, denied) in &entries {
         book.store(record(alloc, user, AcctKind::Stop, "1", 0, line)?, *denied)?;
@@ -164,10 +180,13 @@ fn marks_anew(rt: HostRuntime) -> Result<(), Fail> {
     )?;
     let mut users = Sequence::new(alloc);
     users.push(Bytes::from_slice(alloc, b"bob")?)?;
+    users.push(Bytes::from_slice(alloc, b"zed")?)?;
     let recount = recount_by(alloc, &book, users.as_slice(), &policy)?;
     assert_eq!(rt; book.tally(alloc, b"bob")?.drift, 1);
+    assert_eq!(rt; book.tally(alloc, b"zed")?.drift, 0);
     book.settle(recount);
     assert_eq!(rt; book.tally(alloc, b"bob")?.drift, 2);
     assert_eq!(rt; book.tally(alloc, b"eve")?.drift, 1);
+    assert_eq!(rt; book.tally(alloc, b"zed")?.drift, 1);
     Ok(())
 }

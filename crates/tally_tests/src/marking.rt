@@ -20,16 +20,16 @@ fn is_denial(verdict: Verdict) -> bool
     }
 }
 
-// Whether the policy denies the user's line.
+// Whether the policy denies the user's line; whoever isn't there is denied every line.
 fn denies(policy: &Policy, user: &[u8], line: &[u8]) -> bool
     ensures { result ≡ denied_by policy.now user.now line.now }
 {
     let Some(name) = Name::read(user) else {
-        return false;
+        return true;
     };
     match policy.plain_decide(&name, line) {
         Some(decision) => is_denial(decision.verdict),
-        None => false,
+        None => true,
     }
 }
 
