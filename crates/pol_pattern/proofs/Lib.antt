@@ -1,4 +1,5 @@
 pub mod Classes
+pub mod ClassBits
 pub mod Values
 pub mod Units
 pub mod Counts

@@ -1,3 +1,4 @@
+pub mod ClassBits
 pub mod Flat
 pub mod Sets
 pub mod Spelling

@@ -1,11 +1,10 @@
-use Rattle.std.proofs.Common.{◌≡◌, ◌+◌, false, not, Bool, List, get_or, ap, ◌∙◌, arith}
-use Rattle.pol_pattern.proofs.Classes.{at-class_where, class_by_symbols}
+use Rattle.std.proofs.Common.{◌∙◌, arith}
+use Rattle.std.proofs.lemmas.Nat.{xor_lt}
+use Rattle.pol_pattern.proofs.ClassBits.{turned}
 use Rattle.pol_pattern.proofs.flat.Class.complement.Goals as goal
 
+pub invariant_of-result : goal.invariant_of-result
+invariant_of-result c = xor_lt 95 _ _ c.self.invariant (omega arith)
+
 pub returns : goal.returns
-returns c = λ test is.
-    let inv = c.loop-i.invariant in
-    class_by_symbols c.loop-i.members _ inv.wide (λ k lt.
-    let before : get_or c.self.inside.members k false ≡ test (0x20 + k) =
-    ap (λ (m : List Bool). get_or m k false) (c.self.view_is ∙ is) ∙ at-class_where test k lt in
-    inv.done k (omega (arith, inv.wide)) ∙ ap not before)
+returns c = λ test is. turned _ test (c.self.view_is ∙ is)

@@ -1,11 +1,10 @@
-use Rattle.std.proofs.Common.{◌≡◌, ◌+◌, false, ◌||◌, ◌&&◌, leb, Bool, List, get_or, ap, ◌∙◌, arith}
-use Rattle.pol_pattern.proofs.Classes.{at-class_where, class_by_symbols}
+use Rattle.std.proofs.Common.{◌∙◌}
+use Rattle.pol_pattern.proofs.ClassBits.{with_bits-small, with_bits-range}
 use Rattle.pol_pattern.proofs.flat.Class.with_range.Goals as goal
+
+pub invariant_of-result : goal.invariant_of-result
+invariant_of-result c = with_bits-small _ _ _ _ c.symbols_below-through.ensures c.self.invariant
 
 pub returns : goal.returns
 returns c = λ test is.
-    let inv = c.loop-i.invariant in
-    class_by_symbols c.loop-i.members _ inv.wide (λ k lt.
-    let before : get_or c.self.inside.members k false ≡ test (0x20 + k) =
-    ap (λ (m : List Bool). get_or m k false) (c.self.view_is ∙ is) ∙ at-class_where test k lt in
-    inv.done k (omega (arith, inv.wide)) ∙ ap (λ (b : Bool). b || (leb c.args.first (0x20 + k) && leb (0x20 + k) c.args.last)) before)
+    with_bits-range _ _ _ _ _ _ test c.symbols_below-before.ensures c.symbols_below-through.ensures c.saturating_add.ensures (c.self.view_is ∙ is)
