@@ -1,12 +1,15 @@
-//! What every crate of the server shares: sequences, symbols, lines, numbers, and writing out.
+//! What every crate of the server shares: sequences and their equality, symbols, lines, numbers, and
+//! writing out.
 #![tactic(auto)]
 
+mod equality;
 mod lines;
 mod number;
 mod output;
 mod sequence;
 mod symbol;
 
+pub use equality::StructuralEq;
 pub use lines::{Lines, split_once, without_leading_spaces};
 pub use number::read_number;
 pub use output::send;

@@ -8,8 +8,10 @@ use std::marker::Model;
 
 /// What stands before the first separator, and what stands behind it.
 pub fn split_once(bytes: &[u8], separator: u8) -> Option<(&[u8], &[u8])>
-    ensures parts { option_map (λ parts. (parts.0.now, parts.1.now)) result ≡ split_at_first separator bytes.now }
-    ensures sizes { IfSome result (λ parts. length parts.0.now + length parts.1.now + 1 ≡ length bytes.now) }
+    ensures parts { option_map (λ parts. (parts.0.now, parts.1.now)) result
+        ≡ split_at_first separator bytes.now }
+    ensures sizes { IfSome result
+        (λ parts. length parts.0.now + length parts.1.now + 1 ≡ length bytes.now) }
 {
     for (at, byte) in bytes.iter().enumerate() {
         if *byte == separator {
@@ -55,7 +57,11 @@ impl<'a> Model for Lines<'a> {
 
     ghost Value = { Unread };
 
-    ghost view = { λ lines. record { number = lines.number; text = lines.rest.now; lines = lines_of lines.rest.now } };
+    ghost view = { λ lines. record {
+      number = lines.number;
+      text = lines.rest.now;
+      lines = lines_of lines.rest.now;
+    } };
 
     ghost invariant = { λ lines. lines.number + length lines.rest.now < 2 ^ 64 };
 }
@@ -85,21 +91,12 @@ impl<'a> Lines<'a> {
         self.rest
     }
 
-    /// The same lines, to be read apart.
-    pub fn copy(&self) -> Lines<'a>
-        ensures { result ≡ self.now }
-    {
-        Lines {
-            rest: self.rest,
-            number: self.number,
-        }
-    }
-
     /// Takes the next line, without its LF, and its number.
     pub fn take_line(&mut self) -> Option<(usize, &'a [u8])>
         ensures none { IfNone result ((self.old.lines ≡ []) × (self.new ≡ self.old)) }
         ensures some { IfSome result (λ taken. (taken.0 ≡ self.old.number)
-            × (self.old.lines ≡ taken.1.now ∷ self.new.lines) × (self.new.number ≡ self.old.number + 1)) }
+            × (self.old.lines ≡ taken.1.now ∷ self.new.lines)
+            × (self.new.number ≡ self.old.number + 1)) }
         ensures text { IfSome result (λ taken. TakesLine self.old taken.1.now self.new) }
     {
         if self.rest.is_empty() {

@@ -104,7 +104,8 @@ impl<T> Sequence<T> {
         T: Drop,
         requires from_in_bounds { from < length self.old }
         requires to_in_bounds { to < length self.old }
-        ensures { self.new ≡ option_map_or (insert (remove self.old from) to) (slice_get self.old from) self.old }
+        ensures { self.new
+            ≡ option_map_or (insert (remove self.old from) to) (slice_get self.old from) self.old }
     {
         let item = self.items.remove(from);
         let _ = self.items.insert(to, item);
@@ -121,13 +122,43 @@ impl Sequence<u8> {
         })
     }
 
+    /// A copy of the bytes.
+    pub fn copy(&self, alloc: Global) -> Result<Bytes, AllocError>
+        ensures { IfOk result (λ copy. copy ≡ self.now) }
+    {
+        Sequence::from_slice(alloc, self.as_slice())
+    }
+
     /// Adds the bytes at the end.
     pub fn extend_from_slice(&mut self, bytes: &[u8]) -> Result<(), AllocError>
         ensures ok { OnOk result (self.new ≡ self.old ++ bytes.now) }
         ensures err { OnErr result (self.new ≡ self.old) }
+        // No bytes take no memory.
+        ensures memory { OnErr result (0 < length bytes.now) }
     {
         self.items.extend_from_slice(bytes)
     }
+}
+
+impl<T: PartialEq> PartialEq for Sequence<T> {
+    ghost use Rattle.std.proofs.Common.{rules};
+    ghost use Rattle.std.specs.Cmp.Rules.{comparing};
+    ghost use Rattle.std.specs.Cmp.Lexicographic.{pointwise};
+
+    ghost eq = { pointwise T.eq };
+
+    ghost laws = { Prim.search (comparing, rules) };
+
+    fn eq(&self, other: &Sequence<T>) -> bool {
+        self.items == other.items
+    }
+}
+
+impl<T: Eq> Eq for Sequence<T> {
+    ghost use Rattle.std.proofs.Common.{rules};
+    ghost use Rattle.std.specs.Cmp.Rules.{comparing};
+
+    ghost laws = { Prim.search (comparing, rules) };
 }
 
 impl<T> From<Vec<T>> for Sequence<T> {

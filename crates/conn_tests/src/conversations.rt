@@ -32,8 +32,11 @@ fn frame<R: AllocGlobal>(rt: &R, text: &str) -> Result<Frame, Fail> {
 
 // A packet that is sent, with the pad taken off, and whether the connection closes.
 fn spelled<R: AllocGlobal>(rt: &R, sent: Sent, closes: bool) -> Result<String, Fail> {
-    let mut bytes = sent.bytes();
-    pad_in_place(&sent.header, &key()?, &mut bytes.as_mut_slice()[12..]);
+    let mut bytes = Vec::from_slice(rt.alloc(), sent.as_slice())?;
+    let Some((header, body)) = bytes.split_first_chunk_mut::<12>() else {
+        return Err(Fail::from("no packet"));
+    };
+    pad_in_place(&Header::read(header), &key()?, body);
     let mut text = hex::encode(rt.alloc(), bytes.as_slice())?;
     if closes {
         text.push_str(" closes")?;
@@ -95,7 +98,7 @@ fn says<R: Abort + AllocGlobal>(
     if conn.pending().is_some() {
         return Err(Fail::from("an answer is due"));
     }
-    let said = match conn.take(rt.alloc(), &key()?, frame)? {
+    let said = match conn.take(&key()?, frame)? {
         Step::Reply(sent, closes) => spelled(rt, sent, closes)?,
         Step::Asks(ask, slot) => {
             let mut text = asked(rt, &ask)?;

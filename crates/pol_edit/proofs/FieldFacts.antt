@@ -1,12 +1,7 @@
--- The sizes of numbers, and names as text.
-use Rattle.std.proofs.Common.{◌≡◌, ℕ, zero, suc, ◌+◌, ◌-◌, ◌*◌, ◌<◌, ◌≤◌, ◌&&◌, Bool, true, false, List, [], ◌∷◌, length, Option, Some, None, IsTrue, IfSome, nat_le, nat_lt, subst, refl, arith, if◌then◌else◌}
+-- The sizes of numbers.
+use Rattle.std.proofs.Common.{◌≡◌, ℕ, zero, suc, ◌+◌, ◌-◌, ◌*◌, ◌<◌, ◌≤◌, ◌&&◌, Bool, true, false, List, [], ◌∷◌, length, Option, Some, None, IfSome, nat_le, nat_lt, subst, refl, arith, if◌then◌else◌}
 use Rattle.std.proofs.lemmas.Bool.Decides.{nat_tests}
-use Rattle.std.proofs.lemmas.Str.{IsUtf8-from_ascii}
-use Rattle.std.specs.List.{list_all}
-use Rattle.std.specs.Str.{IsUtf8, IsAscii}
-use Rattle.std.proofs.lemmas.Bool.{and_parts}
 use Rattle.basics.specs.Number.{digits_after, number_of}
-use Rattle.pol_text.specs.Name.{is_name, is_name_byte}
 
 -- ten times the bound for each digit
 scaled : ℕ → ℕ → ℕ
@@ -43,19 +38,3 @@ four_digits text n e =
     digits_below 4 0 1 text (omega arith) few) in
     let small : n < 10000 = some_below (number_of 4 text) 10000 n e below in
     omega arith
-
--- ---- names
-
-name_byte : (byte : ℕ) → is_name_byte byte ≡ true → byte < 128
-unfolding is_name_byte
-name_byte byte test = grind (arith, nat_tests)
-
-name_bytes : (text : List ℕ) → list_all is_name_byte text ≡ true → IsAscii text
-name_bytes [] test i = omega arith
-name_bytes (byte ∷ text) test zero = name_byte byte (and_parts (is_name_byte byte) (list_all is_name_byte text) test).0
-name_bytes (byte ∷ text) test (suc i) = name_bytes text (and_parts (is_name_byte byte) (list_all is_name_byte text) test).1 i
-
-pub name_utf8 : (text : List ℕ) → IsTrue (is_name text) → IsUtf8 text
-name_utf8 text right =
-    let test : (nat_lt 0 (length text) && nat_le (length text) 32) && list_all is_name_byte text ≡ true = right in
-    IsUtf8-from_ascii text (name_bytes text (and_parts (nat_lt 0 (length text) && nat_le (length text) 32) (list_all is_name_byte text) test).1)

@@ -1,17 +1,18 @@
 -- What is spelled so is read.
 use Rattle.std.proofs.Common.{◌≡◌, ℕ, List, [], ◌∷◌, ◌++◌, Option, Some, None, codes, append-nil, append_assoc, refl, ap, ◌∙◌}
 use Rattle.std.specs.Option.{option_map}
-use Rattle.pol_text.specs.Name.{name_of}
-use Rattle.pol_text.specs.Text.{verdict_word}
-use Rattle.pol_text.specs.declared.subject.Kind.{Kind}
-use Rattle.pol_text.specs.declared.subject.Kind.TheVariants.{Group, User}
-use Rattle.pol_text.specs.declared.subject.Verdict.{Verdict}
-use Rattle.pol_text.specs.declared.subject.Verdict.TheVariants.{Permit, Deny}
-use Rattle.pol_text.specs.declared.subject.SubjectId.{SubjectId}
+use Rattle.pol_names.specs.Name.{name_of}
+use Rattle.pol_names.specs.Decision.{verdict_word}
+use Rattle.pol_names.specs.declared.subject_id.Kind.{Kind}
+use Rattle.pol_names.specs.declared.subject_id.Kind.TheVariants.{Group, User}
+use Rattle.pol_names.specs.declared.decision.Verdict.{Verdict}
+use Rattle.pol_names.specs.declared.decision.Verdict.TheVariants.{Permit, Deny}
+use Rattle.pol_names.specs.declared.subject_id.SubjectId.{SubjectId}
 use Rattle.pol_edit.specs.declared.edit.Edit.{Edit}
 use Rattle.pol_edit.specs.declared.edit.Edit.TheVariants.{AddGroup, AddUser, Remove, SetParent, SetLogin, SetEnable, SetPriv, InsertRule, RemoveRule, MoveRule}
 use Rattle.pol_edit.specs.EditText.{◌>>=◌, parted, subject_of, subject_before, parent_of_text, add_edit, add_of, move_of, secret_for, clear_of, priv_of, insert_of, drop_of, shift_of, edit_by, edit_of}
-use Rattle.pol_edit.specs.Spelling.{IsName, IsParent, SpellsNumber, subject_text, parent_text, SpellsWords, Spells}
+use Rattle.pol_names.specs.SubjectId.{subject_text}
+use Rattle.pol_edit.specs.Spelling.{IsName, IsParent, SpellsNumber, parent_text, SpellsWords, Spells}
 use Rattle.pol_edit.proofs.Spaces.{joined_4, joined_6, joined_7, split_whole, split_front, name_spaceless, number_spaceless}
 
 name_whole : (name : List ℕ) → IsName name → parted name ≡ None

@@ -6,7 +6,7 @@ use Rattle.std.proofs.lemmas.Bool.Decides.{nat_tests}
 use Rattle.std.proofs.lemmas.Bool.{and_parts, and_from, eqb-true}
 use Rattle.basics.specs.Lines.{split_at_first}
 use Rattle.basics.specs.Number.{digits_after, number_of}
-use Rattle.pol_text.specs.Name.{is_name, is_name_byte}
+use Rattle.pol_names.specs.Name.{is_name, is_name_byte}
 
 -- ---- the same, joined from the left and from the right
 

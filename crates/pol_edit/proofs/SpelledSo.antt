@@ -4,17 +4,18 @@ use Rattle.std.specs.Option.{option_map}
 use Rattle.std.specs.Str.{bytes_eq}
 use Rattle.std.proofs.lemmas.Slice.Eq.{bytes_eq-Decides}
 use Rattle.basics.specs.Symbol.{is_text}
-use Rattle.pol_text.specs.Name.{is_name, name_of}
-use Rattle.pol_text.specs.Text.{kind_word, verdict_word}
-use Rattle.pol_text.specs.declared.subject.Kind.{Kind}
-use Rattle.pol_text.specs.declared.subject.Kind.TheVariants.{Group, User}
-use Rattle.pol_text.specs.declared.subject.Verdict.{Verdict}
-use Rattle.pol_text.specs.declared.subject.Verdict.TheVariants.{Permit, Deny}
-use Rattle.pol_text.specs.declared.subject.SubjectId.{SubjectId}
+use Rattle.pol_names.specs.Name.{is_name, name_of}
+use Rattle.pol_names.specs.SubjectId.{kind_word, subject_text}
+use Rattle.pol_names.specs.Decision.{verdict_word}
+use Rattle.pol_names.specs.declared.subject_id.Kind.{Kind}
+use Rattle.pol_names.specs.declared.subject_id.Kind.TheVariants.{Group, User}
+use Rattle.pol_names.specs.declared.decision.Verdict.{Verdict}
+use Rattle.pol_names.specs.declared.decision.Verdict.TheVariants.{Permit, Deny}
+use Rattle.pol_names.specs.declared.subject_id.SubjectId.{SubjectId}
 use Rattle.pol_edit.specs.declared.edit.Edit.{Edit}
 use Rattle.pol_edit.specs.declared.edit.Edit.TheVariants.{Remove, SetParent, SetLogin, SetEnable, SetPriv, InsertRule, RemoveRule, MoveRule}
 use Rattle.pol_edit.specs.EditText.{◌>>=◌, parted, kind_of, verdict_of, count_of, subject_of, subject_before, parent_of_text, add_edit, added, add_of, move_of, secret_for, clear_of, priv_of, insert_of, drop_of, shift_of, edit_by, edit_of}
-use Rattle.pol_edit.specs.Spelling.{IsName, IsParent, subject_text, parent_text, SpellsWords, Spells}
+use Rattle.pol_edit.specs.Spelling.{IsName, IsParent, parent_text, SpellsWords, Spells}
 use Rattle.pol_edit.proofs.Spaces.{joined_4, joined_6, joined_7, parts_joined}
 
 -- ---- steps

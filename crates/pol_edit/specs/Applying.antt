@@ -2,14 +2,15 @@
 use Rattle.std.specs.Prelude.{◌≡◌, ℕ, ◌+◌, ◌-◌, nat_le, List, [], ◌∷◌, ◌++◌, length, Bool, not, ◌&&◌, is_some, Option, Some, None, Result, Ok, Err, ok_or, if◌then◌else◌}
 use Rattle.pol_pattern.specs.Reading.{pattern_of}
 use Rattle.pol_pattern.specs.declared.fault.PatternFault.{PatternFault}
-use Rattle.pol_text.specs.Secret.{is_secret}
-use Rattle.pol_text.specs.Policy.{same_kind, group_id, user_id, find_subject, all_of}
+use Rattle.pol_names.specs.Secret.{is_secret}
+use Rattle.pol_names.specs.SubjectId.{same_kind, group_id, user_id}
+use Rattle.pol_text.specs.Policy.{find_subject, all_of}
 use Rattle.pol_text.specs.Text.{new_subject}
 use Rattle.pol_text.specs.Change.{with_changed, without, is_parent, has_room_below, chain_fault, with_parent, with_login, with_enable, with_priv, with_rule_at, without_rule_at, with_rule_moved}
-use Rattle.pol_text.specs.declared.subject.Kind.{Kind}
-use Rattle.pol_text.specs.declared.subject.Kind.TheVariants.{Group, User}
-use Rattle.pol_text.specs.declared.subject.Verdict.{Verdict}
-use Rattle.pol_text.specs.declared.subject.SubjectId.{SubjectId}
+use Rattle.pol_names.specs.declared.subject_id.Kind.{Kind}
+use Rattle.pol_names.specs.declared.subject_id.Kind.TheVariants.{Group, User}
+use Rattle.pol_names.specs.declared.decision.Verdict.{Verdict}
+use Rattle.pol_names.specs.declared.subject_id.SubjectId.{SubjectId}
 use Rattle.pol_text.specs.declared.subject.Subject.{Subject}
 use Rattle.pol_text.specs.declared.fault.ChainFault.{ChainFault}
 use Rattle.pol_text.specs.declared.fault.ChainFault.TheVariants as chains

@@ -1,7 +1,7 @@
 -- How a refusal is printed.
 use Rattle.std.specs.Prelude.{ℕ, List, ◌++◌, codes}
 use Rattle.pol_pattern.specs.FaultText.{fault_text as pattern_fault_text}
-use Rattle.pol_edit.specs.Spelling.{subject_text}
+use Rattle.pol_names.specs.SubjectId.{subject_text}
 use Rattle.pol_edit.specs.declared.fault.EditFault.{EditFault}
 use Rattle.pol_edit.specs.declared.fault.EditFault.TheVariants.{BadEdit, NoSuch, Exists, InUse, Cycle, TooDeep, BadIndex, BadPattern, BadValue, Limit, TooManyStates, Memory}
 

@@ -19,10 +19,10 @@ use Rattle.std.specs.Prelude.{◌≡◌, ℕ, List, [], ◌++◌, codes, IsTrue,
 use Rattle.std.specs.Option.{option_map_or}
 use Rattle.basics.specs.Symbol.{is_text}
 use Rattle.basics.specs.Number.{number_of}
-use Rattle.pol_text.specs.Name.{is_name}
+use Rattle.pol_names.specs.Name.{is_name}
 use Rattle.pol_text.specs.Policy.{all_of}
-use Rattle.pol_text.specs.Text.{kind_word, verdict_word}
-use Rattle.pol_text.specs.declared.subject.SubjectId.{SubjectId}
+use Rattle.pol_names.specs.SubjectId.{subject_text}
+use Rattle.pol_names.specs.Decision.{verdict_word}
 use Rattle.pol_edit.specs.declared.edit.Edit.{Edit}
 use Rattle.pol_edit.specs.declared.edit.Edit.TheVariants.{AddGroup, AddUser, Remove, SetParent, SetLogin, SetEnable, SetPriv, InsertRule, RemoveRule, MoveRule}
 
@@ -35,10 +35,6 @@ IsParent parent = IsTrue (all_of is_name parent)
 -- the digits spell the number, also with leading zeros
 abbrev pub SpellsNumber : List ℕ → ℕ → Type 0
 SpellsNumber digits n = number_of 4 digits ≡ Some n
-
--- `group NAME` or `user NAME`
-abbrev pub subject_text : SubjectId → List ℕ
-subject_text subject = kind_word subject.kind ++ subject.name
 
 -- ` in PARENT`, or what stands where there is no parent
 abbrev pub parent_text : Option (List ℕ) → List ℕ → List ℕ

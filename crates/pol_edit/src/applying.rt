@@ -2,8 +2,9 @@
 
 ghost use Rattle.std.specs.Prelude.{◌≡◌, ◌⊎◌, ℕ, Ok, Err, false, nat_le, is_some, IsTrue, IfOk, IfErr, OnErr};
 ghost use Rattle.pol_pattern.specs.Reading.{pattern_of};
-ghost use Rattle.pol_text.specs.Secret.{is_secret};
-ghost use Rattle.pol_text.specs.Policy.{WellFormed, user_id, all_of};
+ghost use Rattle.pol_names.specs.Secret.{is_secret};
+ghost use Rattle.pol_names.specs.SubjectId.{user_id};
+ghost use Rattle.pol_text.specs.Policy.{WellFormed, all_of};
 ghost use Rattle.pol_text.specs.Change.{has_room_below, with_login, with_enable, with_priv};
 ghost use Rattle.pol_edit.specs.declared.fault.EditFault.TheVariants.{BadValue, Memory};
 ghost use Rattle.pol_edit.specs.Applying.{Applies, has_group as group_test, added_to, removed_from, moved_in, set_in, pattern_read, is_number as number_test, inserted_in, dropped_in, shifted_in, applied};
@@ -11,8 +12,9 @@ ghost use Rattle.pol_edit.specs.Applying.{Applies, has_group as group_test, adde
 use crate::edit::Edit;
 use crate::fault::EditFault;
 use basics::Bytes;
+use pol_names::{Kind, Name, Secret, SubjectId, Verdict};
 use pol_pattern::{Pattern, PatternFault};
-use pol_text::{ChainFault, Kind, Name, Policy, Rule, Secret, SubjectId, Verdict};
+use pol_text::{ChainFault, Policy, Rule};
 use std::alloc::Global;
 
 // ---- fields

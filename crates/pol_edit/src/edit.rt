@@ -1,7 +1,7 @@
 //! What an edit asks for.
 
 use basics::Bytes;
-use pol_text::{Name, SubjectId, Verdict};
+use pol_names::{Name, SubjectId, Verdict};
 
 /// An edit. Secrets and patterns are kept as they were written, and judged when the edit is applied;
 /// rules are counted from 1.

@@ -4,11 +4,11 @@ ghost use Rattle.std.specs.Prelude.{◌≡◌, Some};
 ghost use Rattle.pol_edit.specs.declared.fault.EditFault.TheVariants.{Memory};
 ghost use Rattle.pol_edit.specs.FaultText.{fault_text};
 
+use pol_names::SubjectId;
 use pol_pattern::PatternFault;
-use pol_text::{Name, SubjectId};
 use std::alloc::{AllocError, AllocFailed};
 use std::error::Error;
-use std::{fmt, str};
+use std::fmt;
 
 /// Why an edit is refused, the first that fits in this order.
 #[derive(Clone, Copy, Debug, PartialEq, Eq)]
@@ -39,16 +39,6 @@ pub enum EditFault {
     Memory,
 }
 
-// A name is ASCII.
-fn name_text(name: &Name) -> &str
-    ensures { result.now ≡ name.now }
-{
-    match str::from_utf8(name.as_slice()) {
-        Ok(text) => text,
-        Err(_) => unreachable!(),
-    }
-}
-
 impl fmt::Display for EditFault {
     ghost output = { λ fault. Some (fault_text fault) };
 
@@ -64,11 +54,7 @@ impl fmt::Display for EditFault {
             EditFault::BadPattern(fault) => write!(f, "8 BadPattern {fault}"),
             EditFault::BadValue => write!(f, "9 BadValue"),
             EditFault::Limit => write!(f, "10 Limit"),
-            EditFault::TooManyStates(subject) => {
-                let kind = subject.kind.keyword();
-                let name = name_text(&subject.name);
-                write!(f, "11 TooManyStates {kind}{name}")
-            }
+            EditFault::TooManyStates(subject) => write!(f, "11 TooManyStates {subject}"),
             EditFault::Memory => write!(f, "12 Memory"),
         }
     }

@@ -5,7 +5,7 @@ ghost use Rattle.std.specs.Option.{option_map};
 ghost use Rattle.pol_edit.specs.EditText.{kind_of, verdict_of, count_of, subject_of, subject_before as subject_in_front, parent_of_text};
 
 use basics::{read_number, split_once};
-use pol_text::{Kind, Name, SubjectId, Verdict};
+use pol_names::{Kind, Name, SubjectId, Verdict};
 
 /// Which kind of subject.
 pub(crate) fn kind(word: &[u8]) -> Option<Kind>

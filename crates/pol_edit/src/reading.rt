@@ -12,7 +12,7 @@ use crate::edit::Edit;
 use crate::fault::EditFault;
 use crate::fields::{count, kind, parent, subject, subject_before, verdict};
 use basics::{Bytes, is_text, split_once};
-use pol_text::{Kind, Name, SubjectId, Verdict};
+use pol_names::{Kind, Name, SubjectId, Verdict};
 use std::alloc::{AllocError, Global};
 
 // `NAME` or `NAME in PARENT`, behind the kind.

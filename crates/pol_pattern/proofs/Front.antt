@@ -5,10 +5,11 @@ use Rattle.std.proofs.lemmas.List.{at_drop_more, at_drop_all, drop-drop}
 use Rattle.pol_pattern.specs.declared.token.Token.{Token}
 use Rattle.pol_pattern.specs.declared.fault.PatternFault.{PatternFault}
 use Rattle.pol_pattern.specs.declared.fault.PatternFault.TheVariants as faults
-use Rattle.pol_pattern.specs.Reading.{◌>>=◌, token_at, Context, context_after, at_end, tokens_from, FailsUnlessMemory, IsUnlessMemory, reading, pattern_of}
-use Rattle.std.specs.Result.{MatchResult, IfOk, IsErrAnd}
-use Rattle.std.proofs.lemmas.Result.{err_from_is_err_and}
+use Rattle.pol_pattern.specs.Reading.{◌>>=◌, token_at, Context, context_after, at_end, tokens_from, reading, pattern_of}
+use Rattle.basics.specs.Memory.{Except}
+use Rattle.pol_pattern.specs.Memory.{is_memory}
 use Rattle.pol_pattern.specs.Flat.{Terms}
+use Rattle.pol_pattern.proofs.Faults.{fails_after}
 
 -- bytes that were taken are passed over
 pub tokens_from-skip : (place skip : ℕ) (context : Context) (bytes : List ℕ) → tokens_from place skip context bytes ≡ tokens_from (place + skip) 0 context (drop skip bytes)
@@ -86,47 +87,11 @@ pub last_open : (front : List Token) (opened : List ℕ) (last : ℕ) → slice_
 last_open front [] last is = absurd cc
 last_open front (first ∷ others) last is = let same : first ≡ last = cc in ap (λ (place : ℕ). Err (faults.Unclosed place)) same
 
--- a fault that the reading gives
-pub fails_as : {Y : Type 0} (fault : PatternFault) (read : Result Y PatternFault) → read ≡ Err fault → FailsUnlessMemory fault read
-fails_as faults.Memory read is = tt
-fails_as faults.TooLong read is = is
-fails_as (faults.Unprintable place) read is = is
-fails_as (faults.Unclosed place) read is = is
-fails_as (faults.Unopened place) read is = is
-fails_as (faults.NothingToRepeat place) read is = is
-fails_as (faults.BadClass place) read is = is
-fails_as (faults.BadEscape place) read is = is
-fails_as faults.TooDeep read is = is
-fails_as faults.TooLarge read is = is
-
--- a fault stays where more would be read
-pub fails_after : {X Y : Type 0} (fault : PatternFault) (read : Result X PatternFault) (f : X → Result Y PatternFault) → FailsUnlessMemory fault read → FailsUnlessMemory fault (read >>= f)
-fails_after faults.Memory read f is = tt
-fails_after faults.TooLong read f is = ap (λ r. r >>= f) is
-fails_after (faults.Unprintable place) read f is = ap (λ r. r >>= f) is
-fails_after (faults.Unclosed place) read f is = ap (λ r. r >>= f) is
-fails_after (faults.Unopened place) read f is = ap (λ r. r >>= f) is
-fails_after (faults.NothingToRepeat place) read f is = ap (λ r. r >>= f) is
-fails_after (faults.BadClass place) read f is = ap (λ r. r >>= f) is
-fails_after (faults.BadEscape place) read f is = ap (λ r. r >>= f) is
-fails_after faults.TooDeep read f is = ap (λ r. r >>= f) is
-fails_after faults.TooLarge read f is = ap (λ r. r >>= f) is
-
 -- a pattern that was read is its source
 pub pattern_is : (bytes : List ℕ) (flat : Terms) → reading bytes ≡ Ok flat → pattern_of bytes ≡ Ok bytes
 unfolding pattern_of
 pattern_is bytes flat is = rw is refl
 
-pub pattern_fails : (fault : PatternFault) (bytes : List ℕ) → FailsUnlessMemory fault (reading bytes) → FailsUnlessMemory fault (pattern_of bytes)
+pub pattern_fails : (fault : PatternFault) (bytes : List ℕ) → Except (is_memory fault) (reading bytes ≡ Err fault) → Except (is_memory fault) (pattern_of bytes ≡ Err fault)
 unfolding pattern_of
 pattern_fails fault bytes is = fails_after fault (reading bytes) (λ flat. Ok bytes) is
-
-read_again : (source p : List ℕ) (flat : Terms) → reading source ≡ Ok flat → pattern_of source ≡ Ok p → p ≡ source
-read_again source p flat is again =
-    let both : ◌≡◌ {A = Result (List ℕ) PatternFault} (Ok source) (Ok p) = sym (pattern_is source flat is) ∙ again in cc
-
--- reading a pattern's source again gives the pattern, or no memory
-pub copy_is : {E : Type 0} (read : Result (List ℕ) PatternFault) (copy : Result (List ℕ) E) (Q : PatternFault → E → Type 0) (source : List ℕ) (flat : Terms) → reading source ≡ Ok flat
-    → IsUnlessMemory (λ p. p) read (pattern_of source) → MatchResult read (λ p. copy ≡ Ok p) (λ fault. IsErrAnd copy (Q fault)) → IfOk copy (λ p. p ≡ source)
-copy_is (Ok p) copy Q source flat is exact step = rw step (read_again source p flat is exact)
-copy_is (Err fault) copy Q source flat is exact step = let p = err_from_is_err_and copy step in rw p.1 tt

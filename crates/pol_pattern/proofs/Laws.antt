@@ -2,13 +2,15 @@
 use Rattle.std.proofs.Common.{◌≡◌, ◌↔◌, ℕ, true, false, List, Result, Ok, Err, sym, ap, subst, refl, ◌∙◌}
 use Rattle.std.proofs.lemmas.Bool.{false≢true}
 use Rattle.pol_pattern.specs.declared.fault.PatternFault.{PatternFault}
-use Rattle.pol_pattern.specs.declared.fault.PatternFault.TheVariants as faults
 use Rattle.pol_pattern.specs.Flat.{Terms}
 use Rattle.pol_pattern.specs.Sets.{InTerms}
 use Rattle.pol_pattern.specs.Spelling.{Spells, Holds}
-use Rattle.pol_pattern.specs.Reading.{◌>>=◌, FailsUnlessMemory, reading, pattern_of}
+use Rattle.basics.specs.Memory.{Except}
+use Rattle.pol_pattern.specs.Memory.{is_memory}
+use Rattle.pol_pattern.specs.Reading.{◌>>=◌, reading, pattern_of}
 use Rattle.pol_pattern.specs.Matching.{matches_terms, matches_reading, matches}
-use Rattle.pol_pattern.proofs.Steps.{bind_ok, done, ok_is}
+use Rattle.pol_pattern.proofs.Faults.{except_map}
+use Rattle.pol_pattern.proofs.Steps.{bind_ok, done, ok_is, refused}
 use Rattle.pol_pattern.proofs.Completeness.{spells_reads}
 use Rattle.pol_pattern.proofs.Soundness.{reading_spells}
 use Rattle.pol_pattern.proofs.Held.{holds_in, in_holds, refused_unspelled}
@@ -38,34 +40,9 @@ pattern_spells bytes source e =
 -- ---- faults
 
 -- what is spelled is refused for no fault but memory
-is_only_memory : (fault : PatternFault) (flat : Terms) (source : List ℕ) → FailsUnlessMemory fault (done flat) → FailsUnlessMemory fault (done source)
-is_only_memory faults.Memory flat source h = tt
-is_only_memory faults.TooLong flat source h = absurd cc
-is_only_memory (faults.Unprintable place) flat source h = absurd cc
-is_only_memory (faults.Unclosed place) flat source h = absurd cc
-is_only_memory (faults.Unopened place) flat source h = absurd cc
-is_only_memory (faults.NothingToRepeat place) flat source h = absurd cc
-is_only_memory (faults.BadClass place) flat source h = absurd cc
-is_only_memory (faults.BadEscape place) flat source h = absurd cc
-is_only_memory faults.TooDeep flat source h = absurd cc
-is_only_memory faults.TooLarge flat source h = absurd cc
-
-pub refused_for_memory : (fault : PatternFault) (bytes : List ℕ) (flat : Terms) → Spells bytes flat → FailsUnlessMemory fault (reading bytes) → FailsUnlessMemory fault (done bytes)
-refused_for_memory fault bytes flat spelled h =
-    is_only_memory fault flat bytes (subst (λ (r : Result Terms PatternFault). FailsUnlessMemory fault r) (spells_reads bytes flat spelled) h)
-
--- a fault that the reading gives
-pub fails_as : {Y : Type 0} (fault : PatternFault) (read : Result Y PatternFault) → read ≡ Err fault → FailsUnlessMemory fault read
-fails_as faults.Memory read e = tt
-fails_as faults.TooLong read e = e
-fails_as (faults.Unprintable place) read e = e
-fails_as (faults.Unclosed place) read e = e
-fails_as (faults.Unopened place) read e = e
-fails_as (faults.NothingToRepeat place) read e = e
-fails_as (faults.BadClass place) read e = e
-fails_as (faults.BadEscape place) read e = e
-fails_as faults.TooDeep read e = e
-fails_as faults.TooLarge read e = e
+pub refused_for_memory : (fault : PatternFault) (bytes : List ℕ) (flat : Terms) → Spells bytes flat → Except (is_memory fault) (reading bytes ≡ Err fault) → Except (is_memory fault) (done bytes ≡ Err fault)
+refused_for_memory fault bytes flat spelled =
+    except_map (is_memory fault) (λ e. absurd (refused fault flat (sym e ∙ spells_reads bytes flat spelled)))
 
 -- ---- the test of a text, once it is known for flat forms
 

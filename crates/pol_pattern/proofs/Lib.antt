@@ -1,3 +1,4 @@
+pub mod Faults
 pub mod Classes
 pub mod ClassBits
 pub mod Values

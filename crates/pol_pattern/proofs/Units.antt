@@ -8,7 +8,7 @@ use Rattle.pol_pattern.specs.declared.flat.Factor.TheViews as views
 use Rattle.pol_pattern.specs.declared.flat.Factor.TheVariants as variants
 use Rattle.pol_pattern.specs.declared.flat.Factor.TheOpen.{Factor-F}
 use Rattle.pol_pattern.specs.declared.flat.Factor.TheFolds.{fold-roll-Factor, ind-Factor}
-use Rattle.pol_pattern.proofs.Values.{value_group}
+use Rattle.pol_pattern.specs.Values.{value_group}
 
 -- one group
 pub group_alternatives : (terms : Vec (Vec FactorValue)) (factors : List FactorValue) → factors ≡ views.Group terms ∷ [] → terms_value terms.items ≡ alternatives_of (term_value factors)

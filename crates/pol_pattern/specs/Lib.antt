@@ -1,8 +1,10 @@
 pub mod ClassBits
 pub mod Flat
+pub mod Values
 pub mod Sets
 pub mod Spelling
 pub mod FaultText
+pub mod Memory
 pub mod Reading
 pub mod Matching
 pub mod Sizes

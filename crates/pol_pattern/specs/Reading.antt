@@ -1,6 +1,6 @@
 -- Reading bytes from the left, with the first fault that is met. What a pattern is, and its flat form,
 -- say the trees of Spelling; that both agree stands on the contract of `Pattern::read`.
-use Rattle.std.specs.Prelude.{◌≡◌, ℕ, zero, suc, ◌+◌, ◌-◌, Bool, true, false, ◌==◌, ◌&&◌, ◌||◌, not, nat_lt, nat_le, if◌then◌else◌, List, [], ◌∷◌, length, drop, slice_index, Option, Some, None, Result, Ok, Err, position, option_map, slice_get}
+use Rattle.std.specs.Prelude.{ℕ, zero, suc, ◌+◌, ◌-◌, Bool, true, false, ◌==◌, ◌&&◌, ◌||◌, not, nat_lt, nat_le, if◌then◌else◌, List, [], ◌∷◌, length, drop, slice_index, Option, Some, None, Result, Ok, Err, position, option_map, slice_get}
 use Rattle.std.specs.Option.{option_and_then, option_map_or}
 use Rattle.std.specs.List.{list_any}
 use Rattle.basics.specs.Symbol.{is_symbol}
@@ -174,23 +174,3 @@ reading bytes =
 -- a pattern is seen by its source: the bytes where they have a reading, or its fault
 unfoldable pub pattern_of : List ℕ → Result (List ℕ) PatternFault
 pattern_of bytes = reading bytes >>= λ flat. Ok bytes
-
--- ---- what a function returned, against what was wanted
-
--- memory ran out, or the fault is the one that is wanted
-abbrev pub FailsUnlessMemory : {Y : Type 0} → PatternFault → Result Y PatternFault → Type 0
-FailsUnlessMemory faults.Memory wanted = Unit {0}
-FailsUnlessMemory faults.TooLong wanted = wanted ≡ Err faults.TooLong
-FailsUnlessMemory (faults.Unprintable place) wanted = wanted ≡ Err (faults.Unprintable place)
-FailsUnlessMemory (faults.Unclosed place) wanted = wanted ≡ Err (faults.Unclosed place)
-FailsUnlessMemory (faults.Unopened place) wanted = wanted ≡ Err (faults.Unopened place)
-FailsUnlessMemory (faults.NothingToRepeat place) wanted = wanted ≡ Err (faults.NothingToRepeat place)
-FailsUnlessMemory (faults.BadClass place) wanted = wanted ≡ Err (faults.BadClass place)
-FailsUnlessMemory (faults.BadEscape place) wanted = wanted ≡ Err (faults.BadEscape place)
-FailsUnlessMemory faults.TooDeep wanted = wanted ≡ Err faults.TooDeep
-FailsUnlessMemory faults.TooLarge wanted = wanted ≡ Err faults.TooLarge
-
--- the result, seen by view, is the wanted one, unless memory ran out
-abbrev pub IsUnlessMemory : {X Y : Type 0} → (X → Y) → Result X PatternFault → Result Y PatternFault → Type 0
-IsUnlessMemory view (Ok x) wanted = wanted ≡ Ok (view x)
-IsUnlessMemory view (Err fault) wanted = FailsUnlessMemory fault wanted

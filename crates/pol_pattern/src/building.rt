@@ -22,7 +22,8 @@ fn single<T: Drop>(alloc: Global, value: T) -> Result<Vec<T>, AllocError>
 
 /// The factors as alternatives: those of the group where they are exactly one group.
 fn alternatives(alloc: Global, mut factors: Term) -> Result<Vec<Term>, AllocError>
-    ensures { IfOk result (λ terms. terms_value terms.items ≡ alternatives_of (term_value factors.items)) }
+    ensures { IfOk result
+        (λ terms. terms_value terms.items ≡ alternatives_of (term_value factors.items)) }
 {
     let Some(last) = factors.pop() else {
         return single(alloc, factors);
@@ -44,14 +45,16 @@ fn alternatives(alloc: Global, mut factors: Term) -> Result<Vec<Term>, AllocErro
 
 /// Any number of texts of the factors, one after another.
 fn starred(alloc: Global, factors: Term) -> Result<Factor, AllocError>
-    ensures { IfOk result (λ factor. factor_value factor ≡ star (alternatives_of (term_value factors.items))) }
+    ensures { IfOk result
+        (λ factor. factor_value factor ≡ star (alternatives_of (term_value factors.items))) }
 {
     Ok(Factor::Star(alternatives(alloc, factors)?))
 }
 
 /// The factors of a unit, repeated.
 fn repeated(alloc: Global, mut factors: Term, repeat: Repeat) -> Result<Term, AllocError>
-    ensures { IfOk result (λ term. term_value term.items ≡ repeat_factors repeat (term_value factors.items)) }
+    ensures { IfOk result
+        (λ term. term_value term.items ≡ repeat_factors repeat (term_value factors.items)) }
 {
     match repeat {
         Repeat::Star => {
@@ -94,7 +97,8 @@ impl Level {
 
     /// Behind one more factor.
     fn with_factor(self, factor: Factor) -> Result<Level, AllocError>
-        ensures { IfOk result (λ level. level_value level ≡ level_with_atom (level_value self) (put (factor_value factor) empty)) }
+        ensures { let alone = put (factor_value factor) empty in
+            IfOk result (λ level. level_value level ≡ level_with_atom (level_value self) alone) }
     {
         let Level {
             done,
@@ -107,7 +111,8 @@ impl Level {
     }
 
     fn with_repeat(self, alloc: Global, repeat: Repeat) -> Result<Level, AllocError>
-        ensures { IfOk result (λ level. level_value level ≡ level_with_repeat (level_value self) repeat) }
+        ensures { IfOk result
+            (λ level. level_value level ≡ level_with_repeat (level_value self) repeat) }
     {
         let Level { done, before, last } = self;
         let last = repeated(alloc, last, repeat)?;
@@ -116,7 +121,8 @@ impl Level {
 
     /// The alternatives, with the present one.
     fn finished(self) -> Result<Vec<Term>, AllocError>
-        ensures { IfOk result (λ terms. terms_value terms.items ≡ level_finished (level_value self)) }
+        ensures { IfOk result
+            (λ terms. terms_value terms.items ≡ level_finished (level_value self)) }
     {
         let Level {
             mut done,
@@ -142,7 +148,8 @@ impl Level {
 
 /// The flat form of tokens.
 pub(crate) fn build(alloc: Global, tokens: &[Token]) -> Result<Vec<Term>, AllocError>
-    ensures { IfOk result (λ terms. terms_value terms.items ≡ build_terms fresh_level [] tokens.now) }
+    ensures { IfOk result
+        (λ terms. terms_value terms.items ≡ build_terms fresh_level [] tokens.now) }
 {
     let mut outer = Vec::new(alloc);
     let mut level = Level::fresh(alloc);

@@ -1,7 +1,7 @@
 //! Copies of factors.
 
-ghost use Rattle.std.specs.Prelude.{◌≡◌, map, IfOk};
-ghost use Rattle.pol_pattern.specs.Flat.{factor_value, term_value};
+ghost use Rattle.std.specs.Prelude.{◌≡◌, IfOk};
+ghost use Rattle.pol_pattern.specs.Flat.{factor_value, term_value, terms_value};
 
 use crate::flat::{Factor, Term};
 use std::alloc::{AllocError, Global};
@@ -19,9 +19,10 @@ impl Factor {
     }
 }
 
+/// A copy of alternatives.
 #[cycle(copy)]
-fn copy_terms(alloc: Global, terms: &[Term]) -> Result<Vec<Term>, AllocError>
-    ensures { IfOk result (λ copies. map (λ term. map factor_value term.items) copies.items ≡ map (λ term. map factor_value term.items) terms.now) }
+pub(crate) fn copy_terms(alloc: Global, terms: &[Term]) -> Result<Vec<Term>, AllocError>
+    ensures { IfOk result (λ copies. terms_value copies.items ≡ terms_value terms.now) }
 {
     let mut copies = Vec::new(alloc);
     for i in 0..terms.len() {

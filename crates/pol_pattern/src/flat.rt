@@ -16,7 +16,8 @@ use std::marker::Model;
 /// One bit for every symbol.
 const EVERY: u128 = (1 << 95) - 1;
 
-/// A set of symbols, in 16 bytes. A contract sees, of each of the 95 symbols in order, whether the class holds it.
+/// A set of symbols, in 16 bytes. A contract sees, of each of the 95 symbols in order, whether the
+/// class holds it.
 #[derive(Clone, Copy, Debug)]
 pub struct Class {
     // from the lowest on, one bit for each symbol, and no other bit

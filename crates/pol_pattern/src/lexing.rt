@@ -1,7 +1,9 @@
 //! Cutting the bytes of a pattern into tokens.
 
 ghost use Rattle.std.specs.Prelude.{◌≡◌, ◌+◌, ◌<◌, ◌≤◌, ◌==◌, slice_index, length, slice_get, IfOk, IfSome};
-ghost use Rattle.pol_pattern.specs.Reading.{class_symbol_at, item_at, class_at, token_at, tokens_from, outermost as outermost_context, context_after, IsUnlessMemory};
+ghost use Rattle.pol_pattern.specs.Reading.{class_symbol_at, item_at, class_at, token_at, tokens_from, outermost as outermost_context, context_after};
+ghost use Rattle.basics.specs.Memory.{GivesUnlessMemory};
+ghost use Rattle.pol_pattern.specs.Memory.{is_memory};
 
 use crate::fault::PatternFault;
 use crate::flat::Class;
@@ -165,7 +167,8 @@ impl Context {
 
 /// The tokens of a pattern, or the first fault.
 pub(crate) fn tokens(alloc: Global, bytes: &[u8]) -> Result<Vec<Token>, PatternFault>
-    ensures { IsUnlessMemory (λ tokens. tokens.items) result (tokens_from 0 0 outermost_context bytes.now) }
+    ensures { GivesUnlessMemory is_memory (λ tokens. tokens.items) result
+        (tokens_from 0 0 outermost_context bytes.now) }
 {
     let mut tokens = Vec::new(alloc);
     let mut context = Context::outermost();

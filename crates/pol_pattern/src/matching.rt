@@ -19,7 +19,8 @@ const MARKS: usize = 400;
 #[cycle(ends)]
 fn factor_ends<'a>(factor: &Factor, before: bool, marks: &'a [bool]) -> (bool, &'a [bool])
     requires { factor_positions (factor_value factor.now) ≤ length marks.now }
-    ensures ends { let part = factor_value factor.now in result.0 ≡ factor_ends part before (take (factor_positions part) marks.now) }
+    ensures ends { let part = factor_value factor.now in
+        result.0 ≡ factor_ends part before (take (factor_positions part) marks.now) }
     ensures rest { result.1.now ≡ drop (factor_positions (factor_value factor.now)) marks.now }
 {
     match factor {
@@ -35,7 +36,8 @@ fn factor_ends<'a>(factor: &Factor, before: bool, marks: &'a [bool]) -> (bool, &
 #[cycle(ends)]
 fn term_ends<'a>(factors: &[Factor], before: bool, marks: &'a [bool]) -> (bool, &'a [bool])
     requires { term_positions (term_value factors.now) ≤ length marks.now }
-    ensures ends { let part = term_value factors.now in result.0 ≡ term_ends part before (take (term_positions part) marks.now) }
+    ensures ends { let part = term_value factors.now in
+        result.0 ≡ term_ends part before (take (term_positions part) marks.now) }
     ensures rest { result.1.now ≡ drop (term_positions (term_value factors.now)) marks.now }
 {
     let mut ends = before;
@@ -49,7 +51,8 @@ fn term_ends<'a>(factors: &[Factor], before: bool, marks: &'a [bool]) -> (bool, 
 #[cycle(ends)]
 fn terms_end<'a>(terms: &[Term], before: bool, marks: &'a [bool]) -> (bool, &'a [bool])
     requires { terms_positions (terms_value terms.now) ≤ length marks.now }
-    ensures ends { let part = terms_value terms.now in result.0 ≡ terms_end part before (take (terms_positions part) marks.now) }
+    ensures ends { let part = terms_value terms.now in
+        result.0 ≡ terms_end part before (take (terms_positions part) marks.now) }
     ensures rest { result.1.now ≡ drop (terms_positions (terms_value terms.now)) marks.now }
 {
     let mut ends = false;
@@ -62,14 +65,16 @@ fn terms_end<'a>(terms: &[Term], before: bool, marks: &'a [bool]) -> (bool, &'a 
     (ends, rest)
 }
 
-// ---- one more symbol: moves the part's marks, which come first in the given ones; says whether the
-// text before the symbol can end just behind the part, and how many marks the part has
+// ---- one more symbol: moves the part's marks, which come first in the given ones; says whether
+// the text before the symbol can end just behind the part, and how many marks the part has
 
 #[cycle(moved)]
 fn move_factor(factor: &Factor, before: bool, symbol: u8, marks: &mut [bool]) -> (bool, usize)
     requires { factor_positions (factor_value factor.now) ≤ length marks.old }
-    ensures moved { let part = factor_value factor.now in marks.new ≡ factor_moved part before symbol (take (factor_positions part) marks.old) ++ drop (factor_positions part) marks.old }
-    ensures ends { let part = factor_value factor.now in result.0 ≡ factor_ends part before (take (factor_positions part) marks.old) }
+    ensures moved { let part = factor_value factor.now in let count = factor_positions part in
+        marks.new ≡ factor_moved part before symbol (take count marks.old) ++ drop count marks.old }
+    ensures ends { let part = factor_value factor.now in
+        result.0 ≡ factor_ends part before (take (factor_positions part) marks.old) }
     ensures count { result.1 ≡ factor_positions (factor_value factor.now) }
 {
     match factor {
@@ -90,8 +95,10 @@ fn move_factor(factor: &Factor, before: bool, symbol: u8, marks: &mut [bool]) ->
 #[cycle(moved)]
 fn move_term(factors: &[Factor], before: bool, symbol: u8, marks: &mut [bool]) -> (bool, usize)
     requires { term_positions (term_value factors.now) ≤ length marks.old }
-    ensures moved { let part = term_value factors.now in marks.new ≡ term_moved part before symbol (take (term_positions part) marks.old) ++ drop (term_positions part) marks.old }
-    ensures ends { let part = term_value factors.now in result.0 ≡ term_ends part before (take (term_positions part) marks.old) }
+    ensures moved { let part = term_value factors.now in let count = term_positions part in
+        marks.new ≡ term_moved part before symbol (take count marks.old) ++ drop count marks.old }
+    ensures ends { let part = term_value factors.now in
+        result.0 ≡ term_ends part before (take (term_positions part) marks.old) }
     ensures count { result.1 ≡ term_positions (term_value factors.now) }
 {
     let mut ends = before;
@@ -107,8 +114,10 @@ fn move_term(factors: &[Factor], before: bool, symbol: u8, marks: &mut [bool]) -
 #[cycle(moved)]
 fn move_terms(terms: &[Term], before: bool, symbol: u8, marks: &mut [bool]) -> (bool, usize)
     requires { terms_positions (terms_value terms.now) ≤ length marks.old }
-    ensures moved { let part = terms_value terms.now in marks.new ≡ terms_moved part before symbol (take (terms_positions part) marks.old) ++ drop (terms_positions part) marks.old }
-    ensures ends { let part = terms_value terms.now in result.0 ≡ terms_end part before (take (terms_positions part) marks.old) }
+    ensures moved { let part = terms_value terms.now in let count = terms_positions part in
+        marks.new ≡ terms_moved part before symbol (take count marks.old) ++ drop count marks.old }
+    ensures ends { let part = terms_value terms.now in
+        result.0 ≡ terms_end part before (take (terms_positions part) marks.old) }
     ensures count { result.1 ≡ terms_positions (terms_value terms.now) }
 {
     let mut ends = false;
@@ -125,7 +134,7 @@ fn move_terms(terms: &[Term], before: bool, symbol: u8, marks: &mut [bool]) -> (
 
 /// Whether the terms hold the text.
 pub fn holds(terms: &[Term], text: &[u8]) -> bool
-    requires { terms_positions (terms_value terms.now) ≤ 400 }
+    requires { terms_positions (terms_value terms.now) ≤ MARKS }
     ensures { result ≡ matches_terms (terms_value terms.now) text.now }
 {
     let mut marks = [false; MARKS];

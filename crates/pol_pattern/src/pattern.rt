@@ -1,14 +1,21 @@
 //! A pattern: a set of texts, by the bytes that spell it.
 
-ghost use Rattle.std.specs.Prelude.{◌≡◌, ◌↔◌, ℕ, List, IfOk, Ok, IsTrue};
+ghost use Rattle.std.specs.Prelude.{◌≡◌, ◌↔◌, ◌<◌, ◌≤◌, ℕ, List, length, position, nat_eq, IfOk, IfSome, Ok, Err, IsTrue};
+ghost use Rattle.std.specs.Cmp.Lexicographic.{pointwise};
+ghost use Rattle.std.specs.Cmp.Rules.{comparing};
+ghost use Rattle.std.proofs.Common.{rules};
+ghost use Rattle.basics.specs.Memory.{GivesUnlessMemory};
+ghost use Rattle.pol_pattern.specs.Memory.{is_memory};
 ghost use Rattle.pol_pattern.specs.Flat.{Terms, terms_value};
 ghost use Rattle.pol_pattern.specs.Spelling.{Spells, Holds};
 ghost use Rattle.pol_pattern.specs.Languages.{LanguageLaws};
 ghost use Rattle.pol_pattern.specs.Matching.{matches};
-ghost use Rattle.pol_pattern.specs.Reading.{reading as reading_of, pattern_of, IsUnlessMemory};
+ghost use Rattle.pol_pattern.specs.Reading.{reading as reading_of, pattern_of, is_unprintable};
 
+use crate::copying::copy_terms;
 use crate::fault::PatternFault;
 use crate::flat::Term;
+use crate::reading::BYTES;
 use crate::{matching, reading};
 use basics::Bytes;
 use std::alloc::{AllocError, Global};
@@ -33,18 +40,38 @@ impl Model for Pattern {
     ghost invariant = { λ p. reading p.source ≡ Ok (terms_value p.terms.items) };
 }
 
+// Patterns are equal if their sources are.
+impl PartialEq for Pattern {
+    ghost eq = { pointwise nat_eq };
+
+    ghost laws = { Prim.search (comparing, rules) };
+
+    fn eq(&self, other: &Pattern) -> bool {
+        self.source.as_slice() == other.source.as_slice()
+    }
+}
+
+impl Eq for Pattern {
+    ghost laws = { Prim.search (comparing, rules) };
+}
+
 impl Pattern {
     /// Reads a pattern (docs/POLICY.md, "Patterns"). Its size is judged before anything is built.
     pub fn read(alloc: Global, bytes: &[u8]) -> Result<Pattern, PatternFault>
         // Which bytes are read, and which fault it is.
-        ensures exact { IsUnlessMemory (λ p. p) result (pattern_of bytes.now) }
+        ensures exact { GivesUnlessMemory is_memory (λ p. p) result (pattern_of bytes.now) }
 
         // What is read is spelled so.
         ensures found { IfOk result (λ p. (flat : Terms) × Spells p flat) }
 
         // What is spelled so is read, unless memory runs out.
         ensures only { (flat : Terms) → Spells bytes.now flat
-            → IsUnlessMemory (λ p. p) result (Ok bytes.now) }
+            → GivesUnlessMemory is_memory (λ p. p) result (Ok bytes.now) }
+
+        // What is refused before anything is built is refused without fail.
+        ensures too_long { BYTES < length bytes.now → result ≡ Err PatternFault.TooLong }
+        ensures unprintable { length bytes.now ≤ BYTES → IfSome (position is_unprintable bytes.now)
+            (λ place. result ≡ Err (PatternFault.Unprintable place)) }
     {
         let terms = reading::flat(alloc, bytes)?;
         let source = Bytes::from_slice(alloc, bytes)?;
@@ -65,15 +92,20 @@ impl Pattern {
     pub fn terms(&self) -> &[Term]
         ensures flat { reading_of self.now ≡ Ok (terms_value result.now) }
         ensures spelled { Spells self.now (terms_value result.now) }
+
+        // Whatever else the source spells is that.
+        ensures only { (flat : Terms) → Spells self.now flat → flat ≡ terms_value result.now }
     {
         &self.terms
     }
 
-    /// A copy of the pattern. The source is read again: sources are short.
+    /// A copy of the pattern.
     pub fn copy(&self, alloc: Global) -> Result<Pattern, AllocError>
         ensures { IfOk result (λ p. p ≡ self.now) }
     {
-        Pattern::read(alloc, self.source.as_slice()).map_err(|_| AllocError)
+        let source = Bytes::from_slice(alloc, self.source.as_slice())?;
+        let terms = copy_terms(alloc, &self.terms)?;
+        Ok(Pattern { source, terms })
     }
 
     /// Whether the pattern holds the text. Takes no memory, and time by the text's length, the

@@ -1,8 +1,10 @@
 //! Reading the bytes of a pattern.
 
-ghost use Rattle.std.specs.Prelude.{◌≡◌, position};
+ghost use Rattle.std.specs.Prelude.{◌≡◌, ◌<◌, ◌≤◌, length, position, Err, IfSome};
+ghost use Rattle.basics.specs.Memory.{GivesUnlessMemory};
 ghost use Rattle.pol_pattern.specs.Flat.{terms_value};
-ghost use Rattle.pol_pattern.specs.Reading.{is_unprintable, reading, IsUnlessMemory};
+ghost use Rattle.pol_pattern.specs.Memory.{is_memory};
+ghost use Rattle.pol_pattern.specs.Reading.{is_unprintable, reading};
 
 use crate::building::build;
 use crate::fault::PatternFault;
@@ -13,7 +15,7 @@ use basics::is_symbol;
 use std::alloc::Global;
 
 /// How many bytes a pattern may have.
-const BYTES: usize = 200;
+pub(crate) const BYTES: usize = 200;
 
 /// The place of the first byte that is no symbol.
 fn unprintable_at(bytes: &[u8]) -> Option<usize>
@@ -25,7 +27,11 @@ fn unprintable_at(bytes: &[u8]) -> Option<usize>
 /// The flat form of a pattern, or the first fault.
 #[tactic(auto, unfolding(crate::specs::Reading::reading))]
 pub(crate) fn flat(alloc: Global, bytes: &[u8]) -> Result<Vec<Term>, PatternFault>
-    ensures { IsUnlessMemory (λ terms. terms_value terms.items) result (reading bytes.now) }
+    ensures exact { GivesUnlessMemory is_memory (λ terms. terms_value terms.items) result
+        (reading bytes.now) }
+    ensures too_long { BYTES < length bytes.now → result ≡ Err PatternFault.TooLong }
+    ensures unprintable { length bytes.now ≤ BYTES → IfSome (position is_unprintable bytes.now)
+        (λ place. result ≡ Err (PatternFault.Unprintable place)) }
 {
     if bytes.len() > BYTES {
         return Err(PatternFault::TooLong);

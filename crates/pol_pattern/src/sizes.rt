@@ -15,7 +15,7 @@ pub(crate) const FACTORS: usize = 400;
 const CAP: usize = FACTORS + 1;
 
 fn capped_sum(a: usize, b: usize) -> usize
-    ensures { result ≡ min 401 (a + b) }
+    ensures { result ≡ min CAP (a + b) }
 {
     a.saturating_add(b).min(CAP)
 }
@@ -44,8 +44,9 @@ impl Sizes {
 
     /// Behind one more factor.
     fn with_factor(self, size: usize, is_group: bool) -> Sizes
-        ensures { (level : Level) (factors : TermValue) → self ≡ size_of level → size ≡ min 401 (term_size factors)
-            → is_group ≡ is_one_group factors → result ≡ size_of (level_with_atom level factors) }
+        ensures { (level : Level) (factors : TermValue) → self ≡ size_of level
+            → size ≡ min CAP (term_size factors) → is_group ≡ is_one_group factors
+            → result ≡ size_of (level_with_atom level factors) }
     {
         Sizes {
             done: self.done,
@@ -56,7 +57,8 @@ impl Sizes {
     }
 
     fn with_repeat(self, repeat: Repeat) -> Sizes
-        ensures { (level : Level) → self ≡ size_of level → result ≡ size_of (level_with_repeat level repeat) }
+        ensures { (level : Level) → self ≡ size_of level
+            → result ≡ size_of (level_with_repeat level repeat) }
     {
         // the alternatives of a group are starred without it
         let star = capped_sum(self.last, usize::from(!self.last_is_group));
@@ -74,13 +76,15 @@ impl Sizes {
     }
 
     fn finished(self) -> usize
-        ensures { (level : Level) → self ≡ size_of level → result ≡ min 401 (terms_size (level_finished level)) }
+        ensures { (level : Level) → self ≡ size_of level
+            → result ≡ min CAP (terms_size (level_finished level)) }
     {
         capped_sum(self.done, capped_sum(self.before, self.last))
     }
 
     fn with_bar(self) -> Sizes
-        ensures { (level : Level) → self ≡ size_of level → result ≡ size_of (level_with_bar level) }
+        ensures { (level : Level) → self ≡ size_of level
+            → result ≡ size_of (level_with_bar level) }
     {
         Sizes {
             done: self.finished(),
@@ -91,9 +95,9 @@ impl Sizes {
     }
 }
 
-/// The size of the flat form of tokens, or 401 where it is larger.
+/// The size of the flat form of tokens, counted up to the cap.
 pub(crate) fn size(alloc: Global, tokens: &[Token]) -> Result<usize, AllocError>
-    ensures { IfOk result (λ n. n ≡ min 401 (terms_size (build fresh_level [] tokens.now))) }
+    ensures { IfOk result (λ n. n ≡ min CAP (terms_size (build fresh_level [] tokens.now))) }
 {
     let mut outer = Vec::new(alloc);
     let mut level = Sizes::fresh();

@@ -3,11 +3,11 @@ use Rattle.std.proofs.Common.{◌≡◌, ℕ, zero, suc, ◌+◌, ◌-◌, ◌<�
 use Rattle.std.specs.List.{list_all}
 use Rattle.std.specs.Option.{option_map_or, unwrap_or}
 use Rattle.pol_pattern.specs.Matching.{matches}
-use Rattle.pol_text.specs.declared.subject.SubjectId.{SubjectId}
+use Rattle.pol_names.specs.declared.subject_id.SubjectId.{SubjectId}
 use Rattle.pol_text.specs.declared.subject.Rule.{Rule}
 use Rattle.pol_text.specs.declared.subject.Subject.{Subject}
-use Rattle.pol_text.specs.declared.subject.Decision.{Decision}
-use Rattle.pol_text.specs.declared.subject.By.TheVariants as by
+use Rattle.pol_names.specs.declared.decision.Decision.{Decision}
+use Rattle.pol_names.specs.declared.decision.By.TheVariants as by
 use Rattle.pol_text.specs.Policy.{id_of, parent_of, ends_within, chain_within, FollowsParent, Entry, numbered, entries_along, first_entry, first_match}
 use Rattle.pol_text.proofs.SubjectFacts.{list_all_here}
 

@@ -2,9 +2,10 @@
 use Rattle.std.proofs.Common.{◌≡◌, ℕ, zero, suc, ◌+◌, ◌-◌, ◌≤◌, Bool, true, false, not, cond, ◌&&◌, ◌||◌, List, [], ◌∷◌, length, Option, None, Some, ◌⊎◌, inl, inr, refl, sym, arith}
 use Rattle.std.specs.List.{list_all, list_any}
 use Rattle.std.specs.Option.{option_map_or, option_and_then}
-use Rattle.pol_text.specs.declared.subject.SubjectId.{SubjectId}
+use Rattle.pol_names.specs.declared.subject_id.SubjectId.{SubjectId}
 use Rattle.pol_text.specs.declared.subject.Subject.{Subject}
-use Rattle.pol_text.specs.Policy.{same_id, id_of, group_id, find_subject, parent_of, ends_within}
+use Rattle.pol_names.specs.SubjectId.{same_id, group_id}
+use Rattle.pol_text.specs.Policy.{id_of, find_subject, parent_of, ends_within}
 use Rattle.pol_text.proofs.SettingFacts.{and_left, and_right, and_both}
 use Rattle.pol_text.proofs.RightFacts.{or_false}
 

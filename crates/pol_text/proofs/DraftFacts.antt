@@ -3,35 +3,34 @@ use Rattle.std.proofs.Common.{◌≡◌, ℕ, ◌+◌, Bool, true, false, not, c
 use Rattle.std.specs.List.{list_any}
 use Rattle.std.proofs.lemmas.Bool.Decides.{nat_tests}
 use Rattle.std.proofs.lemmas.List.{map-append}
-use Rattle.pol_text.specs.declared.subject.Kind.{Kind}
-use Rattle.pol_text.specs.declared.subject.SubjectId.{SubjectId}
+use Rattle.pol_names.specs.declared.subject_id.Kind.{Kind}
+use Rattle.pol_names.specs.declared.subject_id.SubjectId.{SubjectId}
 use Rattle.pol_text.specs.declared.subject.Subject.{Subject}
 use Rattle.pol_text.specs.declared.fault.PolicyRefusal.{PolicyRefusal}
 use Rattle.pol_text.specs.declared.fault.PolicyRefusal.TheVariants.{Repeated, Limit}
 use Rattle.pol_text.specs.declared.fault.PolicyFault.{PolicyFault}
 use Rattle.pol_text.specs.declared.fault.LineFault.{LineFault}
 use Rattle.pol_text.specs.declared.fault.LineFault.TheVariants as lines
-use Rattle.pol_text.specs.contracts.subject.SubjectIdPartialEq.TheImpl as derived
-use Rattle.pol_text.specs.Policy.{same_id, id_of, find_subject}
+use Rattle.pol_names.specs.SubjectId.{same_id}
+use Rattle.pol_text.specs.Policy.{id_of, find_subject}
 use Rattle.pol_text.specs.Draft.{LineFails, at_place}
 use Rattle.pol_text.specs.Text.{Draft, subjects_of, new_subject, with_subject, with_present, behind_first, split_last, ◌>>=◌, with_line, with_lines, FailsUnlessMemory}
-use Rattle.pol_text.proofs.SubjectFacts.{same_is}
 
 abbrev pub ids_of : Draft → List SubjectId
 ids_of draft = map (λ entry. id_of entry.1) draft
 
-any_found : (id : SubjectId) (draft : Draft) → list_any (derived.eq-value.it id) (ids_of draft) ≡ is_some (find_subject id (subjects_of draft))
+any_found : (id : SubjectId) (draft : Draft) → list_any (same_id id) (ids_of draft) ≡ is_some (find_subject id (subjects_of draft))
 any_found id [] = refl
-any_found id (entry ∷ rest) = rw (same_is id (id_of entry.1), any_found id rest) (by (same_id id (id_of entry.1)))
+any_found id (entry ∷ rest) = rw (any_found id rest) (by (same_id id (id_of entry.1)))
   where
     by : (b : Bool) → (b || is_some (find_subject id (subjects_of rest))) ≡ is_some (cond b (Some entry.1) (find_subject id (subjects_of rest)))
     by true = refl
     by false = refl
 
 -- whether there is such a subject is what the set says of its id
-there_is : (id : SubjectId) (draft : Draft) (keys : List SubjectId) (added : Bool) → keys ≡ ids_of draft → added ≡ not (list_any (derived.eq-value.it id) keys)
+there_is : (id : SubjectId) (draft : Draft) (keys : List SubjectId) (added : Bool) → keys ≡ ids_of draft → added ≡ not (list_any (same_id id) keys)
     → added ≡ not (is_some (find_subject id (subjects_of draft)))
-there_is id draft keys added e is = is ∙ ap (λ (ids : List SubjectId). not (list_any (derived.eq-value.it id) ids)) e ∙ ap not (any_found id draft)
+there_is id draft keys added e is = is ∙ ap (λ (ids : List SubjectId). not (list_any (same_id id) ids)) e ∙ ap not (any_found id draft)
 
 not_false : (b : Bool) → false ≡ not b → b ≡ true
 not_false true h = refl
@@ -42,7 +41,7 @@ not_true true h = h
 not_true false h = refl
 
 pub subject_repeated : (line : ℕ) (kind : Kind) (name : List ℕ) (parent : Option (List ℕ)) (draft : Draft) (keys : List SubjectId) (added : Bool)
-    → keys ≡ ids_of draft → added ≡ not (list_any (derived.eq-value.it (record { kind = kind; name = name })) keys) → added ≡ false
+    → keys ≡ ids_of draft → added ≡ not (list_any (same_id (record { kind = kind; name = name })) keys) → added ≡ false
     → with_subject line kind name parent draft ≡ Err Repeated
 unfolding with_subject
 subject_repeated line kind name parent draft keys added e is old =
@@ -50,12 +49,12 @@ subject_repeated line kind name parent draft keys added e is old =
     rw there refl
 
 absent : (kind : Kind) (name : List ℕ) (draft : Draft) (keys : List SubjectId) (added : Bool)
-    → keys ≡ ids_of draft → added ≡ not (list_any (derived.eq-value.it (record { kind = kind; name = name })) keys) → added ≡ true
+    → keys ≡ ids_of draft → added ≡ not (list_any (same_id (record { kind = kind; name = name })) keys) → added ≡ true
     → is_some (find_subject (record { kind = kind; name = name }) (subjects_of draft)) ≡ false
 absent kind name draft keys added e is new = not_true _ (sym new ∙ there_is (record { kind = kind; name = name }) draft keys added e is)
 
 pub subject_over : (line : ℕ) (kind : Kind) (name : List ℕ) (parent : Option (List ℕ)) (draft : Draft) (keys : List SubjectId) (added : Bool)
-    → keys ≡ ids_of draft → added ≡ not (list_any (derived.eq-value.it (record { kind = kind; name = name })) keys) → added ≡ true → 1024 ≤ length draft
+    → keys ≡ ids_of draft → added ≡ not (list_any (same_id (record { kind = kind; name = name })) keys) → added ≡ true → 1024 ≤ length draft
     → with_subject line kind name parent draft ≡ Err Limit
 unfolding with_subject
 subject_over line kind name parent draft keys added e is new full =
@@ -63,7 +62,7 @@ subject_over line kind name parent draft keys added e is new full =
     rw (absent kind name draft keys added e is new, test) refl
 
 pub subject_added : (line : ℕ) (kind : Kind) (name : List ℕ) (parent : Option (List ℕ)) (draft : Draft) (keys : List SubjectId) (added : Bool)
-    → keys ≡ ids_of draft → added ≡ not (list_any (derived.eq-value.it (record { kind = kind; name = name })) keys) → added ≡ true → length draft < 1024
+    → keys ≡ ids_of draft → added ≡ not (list_any (same_id (record { kind = kind; name = name })) keys) → added ≡ true → length draft < 1024
     → with_subject line kind name parent draft ≡ Ok (draft ++ (line, new_subject kind name parent) ∷ [])
 unfolding with_subject
 subject_added line kind name parent draft keys added e is new room =

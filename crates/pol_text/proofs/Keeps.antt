@@ -6,11 +6,12 @@ use Rattle.std.specs.Str.{bytes_eq}
 use Rattle.std.specs.Cmp.Lexicographic.{bytes_decides}
 use Rattle.std.proofs.lemmas.Bool.{and_parts, and_from, or_parts, or_right, not-true, false_from_ne_true}
 use Rattle.std.proofs.lemmas.List.{length-map}
-use Rattle.pol_text.specs.declared.subject.Kind.{Kind}
-use Rattle.pol_text.specs.declared.subject.Kind.TheVariants.{Group, User}
-use Rattle.pol_text.specs.declared.subject.SubjectId.{SubjectId}
+use Rattle.pol_names.specs.declared.subject_id.Kind.{Kind}
+use Rattle.pol_names.specs.declared.subject_id.Kind.TheVariants.{Group, User}
+use Rattle.pol_names.specs.declared.subject_id.SubjectId.{SubjectId}
 use Rattle.pol_text.specs.declared.subject.Subject.{Subject}
-use Rattle.pol_text.specs.Policy.{same_kind, same_id, id_of, group_id, find_subject, parent_of, ends_within, all_distinct, all_of, is_right_subject, has_parent, WellFormed}
+use Rattle.pol_names.specs.SubjectId.{same_kind, same_id, group_id}
+use Rattle.pol_text.specs.Policy.{id_of, find_subject, parent_of, ends_within, all_distinct, all_of, is_right_subject, has_parent, WellFormed}
 use Rattle.pol_text.specs.Places.{changed_at}
 use Rattle.pol_text.specs.Change.{with_changed}
 

@@ -5,14 +5,13 @@ use Rattle.std.specs.List.{list_any, list_all}
 use Rattle.std.proofs.lemmas.Bool.{and_parts, and_from, or_parts, or_from, cond-false, not-true, not_from_false}
 use Rattle.std.proofs.lemmas.List.Folds.{list_all-append}
 use Rattle.std.proofs.lemmas.List.{map_push}
-use Rattle.pol_text.specs.declared.subject.SubjectId.{SubjectId}
+use Rattle.pol_names.specs.declared.subject_id.SubjectId.{SubjectId}
 use Rattle.pol_text.specs.declared.subject.Subject.{Subject}
-use Rattle.pol_text.specs.Name.{is_name}
-use Rattle.pol_text.specs.Policy.{same_id, id_of, group_id, find_subject, ends_within, all_distinct, all_of, is_right_subject, has_parent, WellFormed}
+use Rattle.pol_names.specs.Name.{is_name}
+use Rattle.pol_names.specs.SubjectId.{same_id, group_id}
+use Rattle.pol_text.specs.Policy.{id_of, find_subject, ends_within, all_distinct, all_of, is_right_subject, has_parent, WellFormed}
 use Rattle.pol_text.specs.Change.{has_room_below}
 use Rattle.indexmap.specs.IndexSet.{insert_key}
-use Rattle.pol_text.specs.contracts.subject.SubjectIdPartialEq.TheImpl as derived
-use Rattle.pol_text.proofs.SubjectFacts.{same_is}
 use Rattle.pol_text.proofs.Keeps.{all_found, all_from, all_both, differs_back, same_id_is, found_same}
 use Rattle.pol_text.proofs.RightSubject.{right_parts}
 
@@ -133,11 +132,10 @@ module _ (p : List Subject) (w : WellFormed p) where
 
 -- the list of kinds and names grows by the new one
 pub added_keys : (id : SubjectId) (p : List Subject) (keys kept new : List SubjectId) → keys ≡ map id_of p → kept ≡ keys → find_subject id p ≡ None
-    → new ≡ insert_key derived.eq-value.it kept id → new ≡ map id_of p ++ id ∷ []
+    → new ≡ insert_key same_id kept id → new ≡ map id_of p ++ id ∷ []
 added_keys id p keys kept new fields same absent e =
-    let looked : list_any (derived.eq-value.it id) kept ≡ list_any (same_id id) kept = λ i. list_any (λ x. same_is id x i) kept in
-    let none : list_any (derived.eq-value.it id) kept ≡ false = looked ∙ ap (list_any (same_id id)) (same ∙ fields) ∙ absent_any id p absent in
-    e ∙ cond-false (list_any (derived.eq-value.it id) kept) kept (kept ++ id ∷ []) none ∙ ap (λ l. l ++ id ∷ []) (same ∙ fields)
+    let none : list_any (same_id id) kept ≡ false = ap (list_any (same_id id)) (same ∙ fields) ∙ absent_any id p absent in
+    e ∙ cond-false (list_any (same_id id) kept) kept (kept ++ id ∷ []) none ∙ ap (λ l. l ++ id ∷ []) (same ∙ fields)
 
 -- a group's name is a name
 pub group_name : (p : List Subject) → WellFormed p → (parent : Option (List ℕ)) → all_of (λ name. is_some (find_subject (group_id name) p)) parent ≡ true → all_of is_name parent ≡ true

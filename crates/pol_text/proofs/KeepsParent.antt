@@ -2,10 +2,11 @@
 use Rattle.std.proofs.Common.{◌≡◌, ℕ, zero, suc, ◌<◌, Bool, true, false, not, List, [], ◌∷◌, length, map, Option, None, Some, refl, sym, ap, subst, ◌∙◌, arith, is_some, slice_get, if◌then◌else◌}
 use Rattle.std.specs.Option.{option_map_or}
 use Rattle.std.specs.List.{list_all, position}
-use Rattle.pol_text.specs.declared.subject.SubjectId.{SubjectId}
+use Rattle.pol_names.specs.declared.subject_id.SubjectId.{SubjectId}
 use Rattle.pol_text.specs.declared.subject.Subject.{Subject}
 use Rattle.pol_text.specs.declared.fault.ChainFault.TheVariants.{Cycle, TooDeep}
-use Rattle.pol_text.specs.Policy.{same_id, id_of, group_id, find_subject, ends_within, all_of, WellFormed}
+use Rattle.pol_names.specs.SubjectId.{same_id, group_id}
+use Rattle.pol_text.specs.Policy.{id_of, find_subject, ends_within, all_of, WellFormed}
 use Rattle.pol_text.specs.Places.{changed_at}
 use Rattle.pol_text.specs.Change.{with_changed, with_parent, chain_fault}
 use Rattle.pol_text.proofs.RightSubject.{right_from}

@@ -4,11 +4,12 @@ use Rattle.std.specs.Option.{option_map_or, option_and_then}
 use Rattle.std.specs.List.{list_any, list_all}
 use Rattle.std.specs.Str.{bytes_eq}
 use Rattle.std.proofs.lemmas.Bool.{and_parts, and_from, and_right, or_parts, or_from, not-true, not_from_false, false_from_ne_true}
-use Rattle.pol_text.specs.declared.subject.Kind.{Kind}
-use Rattle.pol_text.specs.declared.subject.Kind.TheVariants.{Group, User}
-use Rattle.pol_text.specs.declared.subject.SubjectId.{SubjectId}
+use Rattle.pol_names.specs.declared.subject_id.Kind.{Kind}
+use Rattle.pol_names.specs.declared.subject_id.Kind.TheVariants.{Group, User}
+use Rattle.pol_names.specs.declared.subject_id.SubjectId.{SubjectId}
 use Rattle.pol_text.specs.declared.subject.Subject.{Subject}
-use Rattle.pol_text.specs.Policy.{same_id, id_of, group_id, find_subject, ends_within, all_distinct, all_of, is_right_subject, has_parent, WellFormed}
+use Rattle.pol_names.specs.SubjectId.{same_id, group_id}
+use Rattle.pol_text.specs.Policy.{id_of, find_subject, ends_within, all_distinct, all_of, is_right_subject, has_parent, WellFormed}
 use Rattle.pol_text.specs.Change.{without, is_parent}
 use Rattle.pol_text.proofs.Keeps.{all_found, all_from, all_both, same_id_is, any_at}
 use Rattle.pol_text.proofs.Placed.{AreFields, Placed}

@@ -1,4 +1,3 @@
-pub mod NameFacts
 pub mod SubjectFacts
 pub mod ChainFacts
 pub mod RefusalLines

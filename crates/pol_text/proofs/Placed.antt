@@ -5,10 +5,11 @@ use Rattle.std.specs.List.{position}
 use Rattle.std.proofs.lemmas.Bool.{or_left}
 use Rattle.std.proofs.lemmas.List.{length-map}
 use Rattle.std.proofs.lemmas.List.Quantifiers.{position-Some}
-use Rattle.pol_text.specs.declared.subject.Kind.TheVariants.{User}
-use Rattle.pol_text.specs.declared.subject.SubjectId.{SubjectId}
+use Rattle.pol_names.specs.declared.subject_id.Kind.TheVariants.{User}
+use Rattle.pol_names.specs.declared.subject_id.SubjectId.{SubjectId}
 use Rattle.pol_text.specs.declared.subject.Subject.{Subject}
-use Rattle.pol_text.specs.Policy.{same_kind, same_id, id_of, find_subject, is_right_subject, WellFormed}
+use Rattle.pol_names.specs.SubjectId.{same_kind, same_id}
+use Rattle.pol_text.specs.Policy.{id_of, find_subject, is_right_subject, WellFormed}
 use Rattle.pol_text.specs.Change.{with_changed}
 use Rattle.pol_text.proofs.SubjectFacts.{found_at, found_nowhere}
 use Rattle.pol_text.proofs.RightSubject.{Right, right_parts, right_from}

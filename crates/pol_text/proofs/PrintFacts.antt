@@ -3,7 +3,8 @@ use Rattle.std.proofs.Common.{◌≡◌, ℕ, ◌+◌, ◌<◌, List, [], ◌∷
 use Rattle.std.proofs.lemmas.List.{take_more, map-append}
 use Rattle.pol_text.specs.declared.subject.Rule.{Rule}
 use Rattle.pol_text.specs.declared.subject.Subject.{Subject}
-use Rattle.pol_text.specs.Text.{text_of_lines, policy_lines, subject_lines, rule_line, verdict_word}
+use Rattle.pol_names.specs.Decision.{verdict_word}
+use Rattle.pol_text.specs.Text.{text_of_lines, policy_lines, subject_lines, rule_line}
 
 pub text_of_lines-append : (a b : List (List ℕ)) → text_of_lines (a ++ b) ≡ text_of_lines a ++ text_of_lines b
 text_of_lines-append [] b = refl

@@ -9,17 +9,18 @@ use Rattle.std.proofs.lemmas.List.{map-append, length-map}
 use Rattle.std.proofs.lemmas.List.Folds.{list_all-append, list_any-append}
 use Rattle.basics.specs.Symbol.{is_text}
 use Rattle.basics.specs.Lines.{split_at_first, lines_of, without_leading_spaces}
-use Rattle.pol_text.specs.declared.subject.Kind.{Kind}
-use Rattle.pol_text.specs.declared.subject.Kind.TheVariants.{Group, User}
-use Rattle.pol_text.specs.declared.subject.Verdict.TheVariants.{Permit, Deny}
-use Rattle.pol_text.specs.declared.subject.SubjectId.{SubjectId}
+use Rattle.pol_names.specs.declared.subject_id.Kind.{Kind}
+use Rattle.pol_names.specs.declared.subject_id.Kind.TheVariants.{Group, User}
+use Rattle.pol_names.specs.declared.decision.Verdict.TheVariants.{Permit, Deny}
+use Rattle.pol_names.specs.declared.subject_id.SubjectId.{SubjectId}
 use Rattle.pol_text.specs.declared.subject.Subject.{Subject}
 use Rattle.pol_text.specs.declared.fault.PolicyRefusal.{PolicyRefusal}
 use Rattle.pol_text.specs.declared.fault.PolicyRefusal.TheVariants.{BadLine, BadName, Repeated, Limit, NoSubject, NoSuchParent, Cycle, TooDeep}
 use Rattle.pol_text.specs.declared.fault.PolicyFault.TheVariants.{Refused}
 use Rattle.pol_text.specs.Draft.{RightDraft}
-use Rattle.pol_text.specs.Name.{is_name, name_of}
-use Rattle.pol_text.specs.Policy.{same_kind, same_id, id_of, find_subject, all_distinct, all_of, is_right_subject, has_parent, ends_within, WellFormed}
+use Rattle.pol_names.specs.Name.{is_name, name_of}
+use Rattle.pol_names.specs.SubjectId.{same_kind, same_id}
+use Rattle.pol_text.specs.Policy.{id_of, find_subject, all_distinct, all_of, is_right_subject, has_parent, ends_within, WellFormed}
 use Rattle.pol_text.specs.Text.{◌>>=◌, Draft, subjects_of, named, is_field, with_parent, heading, new_subject, with_subject, behind_first, split_last, with_present, with_login, with_enable, with_priv, with_rule, with_words, is_blank, with_trimmed, with_line, at_line, with_lines, checked, with_right_chains, policy_of}
 use Rattle.pol_text.proofs.SettingFacts.{and_left, and_right, right_parts, right_whole, Kept, login_kept, enable_kept, priv_kept, rule_kept}
 

@@ -3,8 +3,8 @@ use Rattle.std.proofs.Common.{◌≡◌, Bool, true, ◌&&◌, length, refl, nat
 use Rattle.std.specs.List.{list_all}
 use Rattle.std.proofs.lemmas.Bool.{and_parts}
 use Rattle.pol_text.specs.declared.subject.Subject.{Subject}
-use Rattle.pol_text.specs.Name.{is_name}
-use Rattle.pol_text.specs.Secret.{is_secret}
+use Rattle.pol_names.specs.Name.{is_name}
+use Rattle.pol_names.specs.Secret.{is_secret}
 use Rattle.pol_text.specs.Policy.{all_of, is_right_rule, has_right_secrets, is_right_subject}
 
 pub record Right (s : Subject) : Type 0 where

@@ -10,19 +10,22 @@ use Rattle.std.proofs.lemmas.List.Folds.{list_all-append, list_any-append}
 use Rattle.basics.specs.Symbol.{is_text, is_symbol}
 use Rattle.basics.specs.Lines.{split_at_first, lines_of, onto_first}
 use Rattle.pol_pattern.specs.Reading.{pattern_of}
-use Rattle.pol_text.specs.declared.subject.Kind.{Kind}
-use Rattle.pol_text.specs.declared.subject.Kind.TheVariants.{Group, User}
-use Rattle.pol_text.specs.declared.subject.Verdict.{Verdict}
-use Rattle.pol_text.specs.declared.subject.Verdict.TheVariants.{Permit, Deny}
+use Rattle.pol_names.specs.declared.subject_id.Kind.{Kind}
+use Rattle.pol_names.specs.declared.subject_id.Kind.TheVariants.{Group, User}
+use Rattle.pol_names.specs.declared.decision.Verdict.{Verdict}
+use Rattle.pol_names.specs.declared.decision.Verdict.TheVariants.{Permit, Deny}
 use Rattle.pol_text.specs.declared.subject.Rule.{Rule}
-use Rattle.pol_text.specs.declared.subject.SubjectId.{SubjectId}
+use Rattle.pol_names.specs.declared.subject_id.SubjectId.{SubjectId}
 use Rattle.pol_text.specs.declared.subject.Subject.{Subject}
 use Rattle.pol_text.specs.declared.fault.PolicyRefusal.{PolicyRefusal}
 use Rattle.pol_text.specs.declared.fault.PolicyRefusal.TheVariants.{BadLine, NoSuchParent, Cycle, TooDeep}
-use Rattle.pol_text.specs.Name.{is_name, is_name_byte}
-use Rattle.pol_text.specs.Secret.{is_secret}
-use Rattle.pol_text.specs.Policy.{same_kind, same_id, id_of, find_subject, all_distinct, all_of, is_right_rule, is_right_subject, has_parent, ends_within, WellFormed}
-use Rattle.pol_text.specs.Text.{◌>>=◌, Draft, subjects_of, named, is_field, with_parent, heading, new_subject, with_subject, with_present, with_login, with_enable, with_priv, with_rule, with_words, with_trimmed, with_line, at_line, with_lines, checked, with_right_chains, policy_of, kind_word, verdict_word, heading_line, line_for, rule_line, subject_lines, policy_lines, text_of_lines, text_of}
+use Rattle.pol_names.specs.Name.{is_name, is_name_byte}
+use Rattle.pol_names.specs.Secret.{is_secret}
+use Rattle.pol_names.specs.SubjectId.{same_kind, same_id}
+use Rattle.pol_text.specs.Policy.{id_of, find_subject, all_distinct, all_of, is_right_rule, is_right_subject, has_parent, ends_within, WellFormed}
+use Rattle.pol_names.specs.SubjectId.{kind_word}
+use Rattle.pol_names.specs.Decision.{verdict_word}
+use Rattle.pol_text.specs.Text.{◌>>=◌, Draft, subjects_of, named, is_field, with_parent, heading, new_subject, with_subject, with_present, with_login, with_enable, with_priv, with_rule, with_words, with_trimmed, with_line, at_line, with_lines, checked, with_right_chains, policy_of, heading_line, line_for, rule_line, subject_lines, policy_lines, text_of_lines, text_of}
 use Rattle.pol_text.proofs.SettingFacts.{and_left, and_right, and_both, right_parts, rule_read}
 use Rattle.pol_text.proofs.DraftFacts.{present_is}
 use Rattle.pol_text.proofs.RightFacts.{bind_ok, first_ok, placed_ok, any_is, id_same, or_false, subjects-push}

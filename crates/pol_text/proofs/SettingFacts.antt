@@ -9,16 +9,17 @@ use Rattle.basics.specs.Number.{number_of}
 use Rattle.pol_pattern.specs.Reading.{pattern_of, reading}
 use Rattle.pol_pattern.specs.Flat.{Terms}
 use Rattle.pol_pattern.specs.declared.fault.PatternFault.{PatternFault}
-use Rattle.pol_text.specs.declared.subject.Kind.{Kind}
-use Rattle.pol_text.specs.declared.subject.Kind.TheVariants.{Group, User}
-use Rattle.pol_text.specs.declared.subject.Verdict.{Verdict}
+use Rattle.pol_names.specs.declared.subject_id.Kind.{Kind}
+use Rattle.pol_names.specs.declared.subject_id.Kind.TheVariants.{Group, User}
+use Rattle.pol_names.specs.declared.decision.Verdict.{Verdict}
 use Rattle.pol_text.specs.declared.subject.Subject.{Subject}
 use Rattle.pol_text.specs.declared.fault.PolicyRefusal.TheVariants.{BadLine, BadPattern, Limit}
 use Rattle.pol_text.specs.declared.setting.Setting.{Setting}
 use Rattle.pol_text.specs.declared.setting.Setting.TheVariants as settings
-use Rattle.pol_text.specs.Name.{is_name}
-use Rattle.pol_text.specs.Secret.{is_secret, secret_of}
-use Rattle.pol_text.specs.Policy.{same_kind, id_of, all_of, is_right_rule, has_right_secrets, is_right_subject}
+use Rattle.pol_names.specs.Name.{is_name}
+use Rattle.pol_names.specs.Secret.{is_secret, secret_of}
+use Rattle.pol_names.specs.SubjectId.{same_kind}
+use Rattle.pol_text.specs.Policy.{id_of, all_of, is_right_rule, has_right_secrets, is_right_subject}
 use Rattle.pol_text.specs.Setting.{changed_by}
 use Rattle.pol_text.specs.Text.{set_once, with_login, with_enable, with_priv, with_rule, level_of}
 

@@ -1,48 +1,17 @@
 -- Subjects by kind and name.
 use Rattle.std.proofs.Common.{◌≡◌, ℕ, suc, ◌+◌, ◌≤◌, Bool, true, false, not, cond, ◌&&◌, List, [], ◌∷◌, length, map, Option, None, Some, refl, sym, ap, ◌∙◌, arith, slice_get, get_or}
 use Rattle.std.specs.List.{position, position_or_len, list_all}
-use Rattle.std.specs.Str.{bytes_eq}
 use Rattle.std.proofs.lemmas.List.{length-map}
 use Rattle.std.proofs.lemmas.Grind.{common_steps}
 use Rattle.std.proofs.lemmas.Option.{slice_get_past, slice_get_read}
-use Rattle.std.proofs.lemmas.Bool.Decides.{nat_tests, same_from_decides, Decides-like, Decides-and, Decides-eqb}
-use Rattle.std.specs.Cmp.Lexicographic.{bytes_decides}
-use Rattle.std.specs.Prelude.{nat_eq, nat_lt, take, is_some, option_copied, IfSome, IsTrue, ◌<◌, zero}
+use Rattle.std.proofs.lemmas.Bool.Decides.{nat_tests}
+use Rattle.std.specs.Prelude.{nat_lt, is_some, option_copied, IfSome, IsTrue, ◌<◌, zero}
 use Rattle.std.specs.Option.{option_and_then}
 use Rattle.std.specs.Borrow.{Bor}
-use Rattle.pol_text.specs.Name.{filled}
-use Rattle.pol_text.proofs.NameFacts.{take-filled}
-use Rattle.pol_text.specs.declared.subject.Kind.{Kind}
-use Rattle.pol_text.specs.declared.subject.Kind.TheVariants.{Group, User}
-use Rattle.pol_text.specs.contracts.subject.Kind.{the_type}
-use Rattle.pol_text.specs.declared.subject.SubjectId.{SubjectId}
+use Rattle.pol_names.specs.declared.subject_id.SubjectId.{SubjectId}
 use Rattle.pol_text.specs.declared.subject.Subject.{Subject}
-use Rattle.pol_text.specs.contracts.subject.SubjectIdPartialEq.TheImpl as derived
-use Rattle.pol_text.specs.contracts.name.NamePartialEq.TheImpl as names
-use denote.Enum.Bare.{sameb}
-use Rattle.pol_text.specs.Policy.{same_kind, same_id, id_of, find_subject, group_id, parent_of}
-
-kind_is : (k l : Kind) → sameb the_type k l ≡ same_kind k l
-kind_is Group Group = refl
-kind_is Group User = refl
-kind_is User Group = refl
-kind_is User User = refl
-
-filled_back : (a b : List ℕ) → filled a ≡ filled b → length a ≡ length b → a ≡ b
-filled_back a b e same_length = sym (take-filled a (filled a) refl) ∙ ap (take (length a)) e ∙ ap (λ n. take n (filled b)) same_length ∙ take-filled b (filled b) refl
-
-name_is : (a b : List ℕ) → names.eq-value.it a b ≡ bytes_eq a b
-name_is a b =
-    same_from_decides (names.eq-value.it a b) (bytes_eq a b)
-    (Decides-like (names.eq-value.it a b) (λ (p : (filled a ≡ filled b) × (length a ≡ length b)). filled_back a b p.0 p.1) (λ e. (ap filled e, ap length e))
-    (Decides-and (bytes_eq (filled a) (filled b)) (nat_eq (length a) (length b)) (bytes_decides (filled a) (filled b)) (Decides-eqb (length a) (length b))))
-    (bytes_decides a b)
-
--- the derived comparison is that of the definitions
-pub same_is : (a b : SubjectId) → derived.eq-value.it a b ≡ same_id a b
-same_is a b = rw (← name_is a.name b.name) (ap (λ (t : Bool). t && names.eq-value.it a.name b.name) (kind_is a.kind b.kind))
-
--- ---- places
+use Rattle.pol_names.specs.SubjectId.{same_id, group_id}
+use Rattle.pol_text.specs.Policy.{id_of, find_subject, parent_of}
 
 -- the subject at the place of its kind and name
 at_place : (id : SubjectId) (policy : List Subject) → find_subject id policy ≡ slice_get policy (position_or_len (same_id id) (map id_of policy))
@@ -66,11 +35,6 @@ pub found_nowhere : (id : SubjectId) (policy : List Subject) → position (same_
 found_nowhere id policy e =
     let past : length (map id_of policy) ≤ position_or_len (same_id id) (map id_of policy) = grind (arith, common_steps) in
     at_place id policy ∙ slice_get_past policy _ (rw (← length-map policy id_of) past)
-
--- what the look-up by the derived comparison says
-pub looked_up : (id : SubjectId) (policy : List Subject) (keys : List SubjectId) → keys ≡ map id_of policy
-    → position (derived.eq-value.it id) keys ≡ position (same_id id) (map id_of policy)
-looked_up id policy keys e = rw e (simp same_is)
 
 -- what a slice's `get` says
 pub got : {X : Type 0} (r : Option (Bor X)) (xs : List X) (i : ℕ) → is_some r ≡ nat_lt i (length xs) → IfSome r (λ x. x.now ≡ get_or xs i x.now)

@@ -1,5 +1,7 @@
-pub mod Name
-pub mod Secret
+pub use Rattle.pol_names.specs.Name
+pub use Rattle.pol_names.specs.Secret
+pub use Rattle.pol_names.specs.SubjectId
+pub use Rattle.pol_names.specs.Decision
 pub mod Policy
 pub mod Places
 pub mod Change

@@ -3,40 +3,23 @@ use Rattle.std.specs.Prelude.{◌≡◌, ◌≤◌, ℕ, zero, suc, nat_le, List
 use Rattle.std.specs.Option.{option_and_then, option_map_or, option_or}
 use Rattle.std.specs.Result.{is_ok}
 use Rattle.std.specs.List.{list_any, list_all}
-use Rattle.std.specs.Str.{bytes_eq}
 use Rattle.pol_pattern.specs.Reading.{pattern_of}
 use Rattle.pol_pattern.specs.Matching.{matches}
-use Rattle.pol_text.specs.Name.{is_name}
-use Rattle.pol_text.specs.Secret.{is_secret}
-use Rattle.pol_text.specs.declared.subject.Kind.{Kind}
-use Rattle.pol_text.specs.declared.subject.Kind.TheVariants.{Group, User}
-use Rattle.pol_text.specs.declared.subject.Verdict.TheVariants.{Deny}
-use Rattle.pol_text.specs.declared.subject.SubjectId.{SubjectId}
+use Rattle.pol_names.specs.Name.{is_name}
+use Rattle.pol_names.specs.Secret.{is_secret}
+use Rattle.pol_names.specs.SubjectId.{same_kind, same_id, group_id, user_id}
+use Rattle.pol_names.specs.declared.subject_id.Kind.TheVariants.{User}
+use Rattle.pol_names.specs.declared.decision.Verdict.TheVariants.{Deny}
+use Rattle.pol_names.specs.declared.subject_id.SubjectId.{SubjectId}
 use Rattle.pol_text.specs.declared.subject.Rule.{Rule}
 use Rattle.pol_text.specs.declared.subject.Subject.{Subject}
-use Rattle.pol_text.specs.declared.subject.By.TheVariants as by
-use Rattle.pol_text.specs.declared.subject.Decision.{Decision}
+use Rattle.pol_names.specs.declared.decision.By.TheVariants as by
+use Rattle.pol_names.specs.declared.decision.Decision.{Decision}
 
 -- ---- subjects by name
 
-abbrev pub same_kind : Kind → Kind → Bool
-same_kind Group Group = true
-same_kind Group User = false
-same_kind User Group = false
-same_kind User User = true
-
--- a group and a user may have the same name
-abbrev pub same_id : SubjectId → SubjectId → Bool
-same_id a b = same_kind a.kind b.kind && bytes_eq a.name b.name
-
 abbrev pub id_of : Subject → SubjectId
 id_of subject = record { kind = subject.kind; name = subject.name }
-
-abbrev pub group_id : List ℕ → SubjectId
-group_id name = record { kind = Group; name = name }
-
-abbrev pub user_id : List ℕ → SubjectId
-user_id name = record { kind = User; name = name }
 
 -- the subject of this kind and name
 abbrev pub find_subject : SubjectId → List Subject → Option Subject

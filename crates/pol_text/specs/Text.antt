@@ -9,13 +9,15 @@ use Rattle.basics.specs.Lines.{split_at_first, without_leading_spaces, lines_of}
 use Rattle.basics.specs.Number.{number_of}
 use Rattle.pol_pattern.specs.Reading.{pattern_of}
 use Rattle.pol_pattern.specs.declared.fault.PatternFault.{PatternFault}
-use Rattle.pol_text.specs.Name.{name_of}
-use Rattle.pol_text.specs.Secret.{secret_of}
-use Rattle.pol_text.specs.Policy.{same_kind, find_subject, has_parent, ends_within}
-use Rattle.pol_text.specs.declared.subject.Kind.{Kind}
-use Rattle.pol_text.specs.declared.subject.Kind.TheVariants.{Group, User}
-use Rattle.pol_text.specs.declared.subject.Verdict.{Verdict}
-use Rattle.pol_text.specs.declared.subject.Verdict.TheVariants.{Permit, Deny}
+use Rattle.pol_names.specs.Name.{name_of}
+use Rattle.pol_names.specs.Secret.{secret_of}
+use Rattle.pol_names.specs.SubjectId.{same_kind, kind_word}
+use Rattle.pol_names.specs.Decision.{verdict_word}
+use Rattle.pol_text.specs.Policy.{find_subject, has_parent, ends_within}
+use Rattle.pol_names.specs.declared.subject_id.Kind.{Kind}
+use Rattle.pol_names.specs.declared.subject_id.Kind.TheVariants.{Group, User}
+use Rattle.pol_names.specs.declared.decision.Verdict.{Verdict}
+use Rattle.pol_names.specs.declared.decision.Verdict.TheVariants.{Permit, Deny}
 use Rattle.pol_text.specs.declared.subject.Rule.{Rule}
 use Rattle.pol_text.specs.declared.subject.Subject.{Subject}
 use Rattle.pol_text.specs.declared.fault.PolicyRefusal.{PolicyRefusal}
@@ -180,14 +182,6 @@ unfoldable pub policy_of : List ℕ → Result (List Subject) PolicyFault
 policy_of text = with_lines 1 (lines_of text) [] >>= with_right_chains
 
 -- ---- the printed form
-
-abbrev pub kind_word : Kind → List ℕ
-kind_word Group = codes "group "
-kind_word User = codes "user "
-
-abbrev pub verdict_word : Verdict → List ℕ
-verdict_word Permit = codes "permit "
-verdict_word Deny = codes "deny "
 
 abbrev pub heading_line : Subject → List ℕ
 heading_line subject = kind_word subject.kind ++ subject.name ++ option_map_or (λ parent. codes " in " ++ parent) subject.parent []

@@ -4,9 +4,10 @@ ghost use Rattle.std.specs.Prelude.{◌≡◌, map, IfOk};
 ghost use Rattle.std.specs.Option.{option_copied};
 ghost use Rattle.pol_text.specs.Policy.{id_of, find_subject, parent_of as parent_among, ends_within as chain_ends_within, chain_within};
 
-use crate::subject::{Subject, SubjectId};
+use crate::subject::Subject;
 use basics::Sequence;
 use indexmap::IndexSet;
+use pol_names::SubjectId;
 use std::alloc::{AllocError, Global};
 
 /// The subject of this kind and name. A hash look-up.

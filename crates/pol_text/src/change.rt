@@ -4,22 +4,22 @@ ghost use Rattle.std.specs.Prelude.{◌≡◌, ◌<◌, ◌≤◌, ◌∷◌, �
 ghost use Rattle.std.specs.List.{list_all};
 ghost use Rattle.std.specs.Option.{option_map_or, option_copied};
 ghost use Rattle.std.specs.Result.{result_err};
-ghost use Rattle.pol_text.specs.Name.{is_name};
-ghost use Rattle.pol_text.specs.Secret.{is_secret};
-ghost use Rattle.pol_text.specs.Policy.{same_id, id_of, group_id, find_subject, ends_within as ends_test, all_of, is_right_rule};
+ghost use Rattle.pol_names.specs.Name.{is_name};
+ghost use Rattle.pol_names.specs.Secret.{is_secret};
+ghost use Rattle.pol_names.specs.SubjectId.{same_id, group_id};
+ghost use Rattle.pol_text.specs.Policy.{id_of, find_subject, ends_within as ends_test, all_of, is_right_rule};
 ghost use Rattle.pol_text.specs.Change.{with_changed, without, is_parent, has_room_below, chain_fault, with_parent, with_login, with_enable, with_priv, with_rule_at, without_rule_at, with_rule_moved};
 ghost use Rattle.pol_text.specs.Places.{changed_at};
 ghost use Rattle.pol_text.specs.Text.{new_subject};
-ghost use Rattle.pol_text.specs.declared.subject.Kind.TheVariants.{Group, User};
+ghost use Rattle.pol_names.specs.declared.subject_id.Kind.TheVariants.{Group, User};
 
 use crate::chains::ends_within;
 use crate::fault::ChainFault;
-use crate::name::Name;
 use crate::policy::Policy;
-use crate::secret::Secret;
-use crate::subject::{Kind, Rule, Subject, SubjectId};
+use crate::subject::{Rule, Subject};
 use basics::Sequence;
 use indexmap::IndexSet;
+use pol_names::{Kind, Name, Secret, SubjectId};
 use std::alloc::{AllocError, Global};
 
 // Where the subject stands among all subjects, counted from 0.

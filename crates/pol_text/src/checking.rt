@@ -13,9 +13,10 @@ use crate::draft::{Draft, Parts};
 use crate::fault::{PolicyFault, PolicyRefusal};
 use crate::policy::Policy;
 use crate::reading::read_lines;
-use crate::subject::{Subject, SubjectId};
+use crate::subject::Subject;
 use basics::Sequence;
 use indexmap::IndexSet;
+use pol_names::SubjectId;
 use std::alloc::Global;
 
 // The place of the first subject whose parent isn't among the subjects.

@@ -7,12 +7,12 @@ ghost use Rattle.pol_text.specs.Policy.{id_of};
 ghost use Rattle.pol_text.specs.Text.{subjects_of, with_subject, with_present};
 
 use crate::fault::{LineFault, PolicyRefusal};
-use crate::name::Name;
 use crate::policy::Policy;
 use crate::setting::Setting;
-use crate::subject::{Kind, Subject, SubjectId};
+use crate::subject::Subject;
 use basics::Sequence;
 use indexmap::IndexSet;
+use pol_names::{Kind, Name, SubjectId};
 use std::alloc::{AllocError, Global};
 use std::marker::Model;
 

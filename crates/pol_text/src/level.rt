@@ -4,7 +4,8 @@ ghost use Rattle.std.specs.Prelude.{◌≡◌};
 ghost use Rattle.pol_text.specs.Policy.{chain, first_level, level_of as level_by};
 
 use crate::policy::Policy;
-use crate::subject::{Subject, SubjectId};
+use crate::subject::Subject;
+use pol_names::SubjectId;
 
 impl Policy {
     // The nearest level along the chain of the subject.

@@ -6,10 +6,10 @@ ghost use Rattle.pol_text.specs.Policy.{WellFormed, is_right_subject, find_subje
 ghost use Rattle.pol_text.specs.declared.subject.Subject.{Subject as SubjectValue};
 
 use crate::chains;
-use crate::name::Name;
-use crate::subject::{By, Decision, Subject, SubjectId, Verdict};
+use crate::subject::Subject;
 use basics::Sequence;
 use indexmap::IndexSet;
+use pol_names::{By, Decision, Name, SubjectId, Verdict};
 use std::alloc::{AllocError, Global};
 use std::marker::Model;
 

@@ -2,22 +2,13 @@
 
 ghost use Rattle.std.specs.Prelude.{◌≡◌, Ok, ◌++◌, ◌∷◌, [], codes, map, IfOk, OnOk};
 ghost use Rattle.std.specs.Fmt.{decimal};
-ghost use Rattle.pol_text.specs.Text.{verdict_word as word_of_verdict, heading_line, line_for, rule_line, subject_lines, text_of_lines, text_of, policy_of};
+ghost use Rattle.pol_text.specs.Text.{heading_line, line_for, rule_line, subject_lines, text_of_lines, text_of, policy_of};
 
 use crate::policy::Policy;
-use crate::secret::Secret;
-use crate::subject::{Rule, Subject, Verdict};
+use crate::subject::{Rule, Subject};
 use basics::Bytes;
+use pol_names::Secret;
 use std::alloc::{AllocError, Global};
-
-fn verdict_word(verdict: Verdict) -> &'static [u8]
-    ensures { result.now ≡ word_of_verdict verdict }
-{
-    match verdict {
-        Verdict::Permit => b"permit ",
-        Verdict::Deny => b"deny ",
-    }
-}
 
 // Two parts of a line, and LF.
 fn print_line(text: &mut Bytes, front: &[u8], back: &[u8]) -> Result<(), AllocError>
@@ -71,7 +62,11 @@ fn print_rules(text: &mut Bytes, rules: &[Rule]) -> Result<(), AllocError>
     ensures { OnOk result (text.new ≡ text.old ++ text_of_lines (map rule_line rules.now)) }
 {
     'rules: for rule in rules {
-        print_line(text, verdict_word(rule.verdict), rule.pattern.source())?;
+        print_line(
+            text,
+            rule.verdict.keyword().as_bytes(),
+            rule.pattern.source(),
+        )?;
     }
     Ok(())
 }

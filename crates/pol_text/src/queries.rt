@@ -6,9 +6,9 @@ ghost use Rattle.std.specs.Str.{bytes_eq};
 ghost use Rattle.pol_text.specs.Change.{has_room_below as room_test, is_parent as parent_test};
 
 use crate::chains;
-use crate::name::Name;
 use crate::policy::Policy;
-use crate::subject::{Subject, SubjectId};
+use crate::subject::Subject;
+use pol_names::{Name, SubjectId};
 
 // Whether the group is the parent of the subject.
 fn is_below(group: &Name, subject: &Subject) -> bool

@@ -7,10 +7,9 @@ ghost use Rattle.pol_text.specs.Text.{IsUnlessMemory, named as name_wanted, is_f
 
 use crate::draft::Draft;
 use crate::fault::{LineFault, PolicyFault, PolicyRefusal};
-use crate::name::Name;
 use crate::setting::Setting;
-use crate::subject::{Kind, Verdict};
 use basics::{Lines, is_text, split_once, without_leading_spaces};
+use pol_names::{Kind, Name, Verdict};
 use std::alloc::Global;
 
 fn named(text: &[u8]) -> Result<Name, PolicyRefusal>

@@ -2,18 +2,18 @@
 
 ghost use Rattle.std.specs.Prelude.{◌≡◌, Ok, Err, ok_or, if◌then◌else◌};
 ghost use Rattle.pol_text.specs.declared.fault.PolicyRefusal.TheVariants.{BadLine, BadValue};
-ghost use Rattle.pol_text.specs.declared.subject.Kind.TheVariants.{Group};
+ghost use Rattle.pol_names.specs.declared.subject_id.Kind.TheVariants.{Group};
 ghost use Rattle.pol_text.specs.Draft.{LineGives};
-ghost use Rattle.pol_text.specs.Policy.{same_kind};
-ghost use Rattle.pol_text.specs.Secret.{secret_of};
+ghost use Rattle.pol_names.specs.SubjectId.{same_kind};
+ghost use Rattle.pol_names.specs.Secret.{secret_of};
 ghost use Rattle.pol_text.specs.Setting.{changed_by};
 ghost use Rattle.pol_text.specs.Text.{level_of, pattern_read, with_login as login_set, with_enable as enable_set, with_priv as priv_set, with_rule as rule_added};
 
 use crate::fault::{LineFault, PolicyRefusal};
 use crate::policy::Policy;
-use crate::secret::Secret;
-use crate::subject::{Kind, Rule, Subject, Verdict};
+use crate::subject::{Rule, Subject};
 use basics::read_number;
+use pol_names::{Kind, Secret, Verdict};
 use pol_pattern::{Pattern, PatternFault};
 use std::alloc::Global;
 

@@ -1,68 +1,14 @@
 //! Groups and users, and what decides.
 
 ghost use Rattle.std.specs.Prelude.{◌≡◌, ◌≤◌, length, IfOk};
-ghost use Rattle.pol_text.specs.Text.{kind_word};
-ghost use Rattle.pol_text.specs.Policy.{id_of, group_id, user_id, first_match as first_of};
+ghost use Rattle.pol_names.specs.SubjectId.{kind_word};
+ghost use Rattle.pol_names.specs.SubjectId.{group_id, user_id};
+ghost use Rattle.pol_text.specs.Policy.{id_of, first_match as first_of};
 
-use crate::name::Name;
-use crate::secret::Secret;
 use basics::Sequence;
+use pol_names::{By, Decision, Kind, Name, Secret, SubjectId, Verdict};
 use pol_pattern::Pattern;
 use std::alloc::{AllocError, Global};
-
-#[derive(Clone, Copy, Debug, PartialEq, Eq, Hash)]
-pub enum Kind {
-    Group,
-    User,
-}
-
-impl Kind {
-    /// The word that such a subject begins with wherever it is named, and the space behind it.
-    pub fn keyword(self) -> &'static str
-        ensures value { result.now ≡ kind_word self }
-        ensures fits { length result.now ≤ 6 }
-    {
-        match self {
-            Kind::Group => "group ",
-            Kind::User => "user ",
-        }
-    }
-}
-
-/// Which subject: a group and a user may have the same name.
-#[derive(Clone, Copy, Debug, PartialEq, Eq, Hash)]
-pub struct SubjectId {
-    pub kind: Kind,
-    pub name: Name,
-}
-
-impl SubjectId {
-    /// The group of this name.
-    pub fn group(name: Name) -> SubjectId
-        ensures { result ≡ group_id name }
-    {
-        SubjectId {
-            kind: Kind::Group,
-            name,
-        }
-    }
-
-    /// The user of this name.
-    pub fn user(name: Name) -> SubjectId
-        ensures { result ≡ user_id name }
-    {
-        SubjectId {
-            kind: Kind::User,
-            name,
-        }
-    }
-}
-
-#[derive(Clone, Copy, Debug, PartialEq, Eq)]
-pub enum Verdict {
-    Permit,
-    Deny,
-}
 
 /// A rule: what it says of the command lines that its pattern holds.
 #[derive(Debug, Drop)]
@@ -168,17 +114,4 @@ fn copy_rules(alloc: Global, rules: &Sequence<Rule>) -> Result<Sequence<Rule>, A
         copies.push(copy)?;
     }
     Ok(copies)
-}
-
-/// What decided: a rule, by its owner and its number there, from 1, or that no rule matched.
-#[derive(Clone, Copy, Debug, PartialEq, Eq)]
-pub enum By {
-    Rule(SubjectId, u16),
-    Default,
-}
-
-#[derive(Clone, Copy, Debug, PartialEq, Eq)]
-pub struct Decision {
-    pub verdict: Verdict,
-    pub by: By,
 }

@@ -2,7 +2,8 @@
 
 use pol_edit::{EditFault, apply, read_edit};
 use pol_pattern::PatternFault;
-use pol_text::{Name, Policy, SubjectId};
+use pol_names::{Name, SubjectId};
+use pol_text::Policy;
 use std::process::Abort;
 use std::test::Fail;
 

@@ -1,6 +1,7 @@
 //! Policies: their text, chains and decisions.
 
-use pol_text::{By, Decision, Kind, Name, Policy, PolicyFault, PolicyRefusal, SubjectId, Verdict};
+use pol_names::{By, Decision, Kind, Name, SubjectId, Verdict};
+use pol_text::{Policy, PolicyFault, PolicyRefusal};
 use std::process::Abort;
 use std::test::Fail;
 

@@ -7,7 +7,8 @@ use Rattle.std.proofs.lemmas.List.{take-append-drop, length-take, length-drop}
 use Rattle.std.proofs.lemmas.Nat.{be_bytes_2}
 use Rattle.tac_wire.specs.declared.body.BodyFault.{BodyFault}
 use Rattle.tac_wire.specs.declared.body.BodyFault.TheVariants.{Short, LengthSum}
-use Rattle.tac_wire.specs.Body.{Gives}
+use Rattle.basics.specs.Memory.{GivesUnlessMemory}
+use Rattle.tac_wire.specs.Body.{is_memory}
 use Rattle.tac_authen.specs.declared.continuation.Continue.{Continue}
 use Rattle.tac_authen.specs.Continue.{continue_bytes, continue_of}
 use Rattle.tac_authen.proofs.StartFacts.{passed}
@@ -39,6 +40,6 @@ continue-found (m0 ∷ m1 ∷ d0 ∷ d1 ∷ flags ∷ rest) answer fits e =
     subst (λ (a : Continue). body ≡ continue_bytes a) tests.2 same
 continue-found body answer fits e = absurd cc
 
-pub is_found : (body : List ℕ) (r : Result Continue BodyFault) → ((i : ℕ) → get_or body i 0 < 256) → Gives r (continue_of body) → IfOk r (λ answer. body ≡ continue_bytes answer)
+pub is_found : (body : List ℕ) (r : Result Continue BodyFault) → ((i : ℕ) → get_or body i 0 < 256) → GivesUnlessMemory is_memory (λ body. body) r (continue_of body) → IfOk r (λ answer. body ≡ continue_bytes answer)
 is_found body (Ok answer) fits e = continue-found body answer fits e
 is_found body (Err fault) fits e = tt

@@ -7,7 +7,8 @@ use Rattle.std.proofs.lemmas.List.{length-append}
 use Rattle.std.proofs.lemmas.List.Sums.{sum_by-cons}
 use Rattle.tac_wire.specs.declared.body.BodyFault.{BodyFault}
 use Rattle.tac_wire.specs.declared.body.BodyFault.TheVariants.{Short, LengthSum}
-use Rattle.tac_wire.specs.Body.{Gives}
+use Rattle.basics.specs.Memory.{GivesUnlessMemory}
+use Rattle.tac_wire.specs.Body.{is_memory}
 use Rattle.tac_wire.specs.Cut.{cut}
 use Rattle.tac_wire.proofs.CutFacts.{concat-cut, lengths-cut, cut-concat}
 use Rattle.tac_authen.specs.declared.start.Start.{Start}
@@ -67,6 +68,6 @@ start_of-start_bytes start =
     let fielded : answer (cut lens all) ≡ answer parts = ap answer again in
     fielded ∙ rw (long, whole) refl
 
-pub is_found : (body : List ℕ) (r : Result Start BodyFault) → Gives r (start_of body) → IfOk r (λ start. body ≡ start_bytes start)
+pub is_found : (body : List ℕ) (r : Result Start BodyFault) → GivesUnlessMemory is_memory (λ body. body) r (start_of body) → IfOk r (λ start. body ≡ start_bytes start)
 is_found body (Ok start) e = start-found body start e
 is_found body (Err fault) e = tt

@@ -1,7 +1,9 @@
 //! Answers of the client within an authentication.
 
-ghost use Rattle.std.specs.Prelude.{◌≡◌, ◌<◌, length, IfOk, Ok};
-ghost use Rattle.tac_wire.specs.Body.{Gives};
+ghost use Rattle.std.specs.Prelude.{◌≡◌, ◌<◌, length, IfOk, IsOk, Ok, Err};
+ghost use Rattle.basics.specs.Memory.{GivesUnlessMemory};
+ghost use Rattle.tac_wire.specs.declared.body.BodyFault.TheVariants.{Memory};
+ghost use Rattle.tac_wire.specs.Body.{is_memory};
 ghost use Rattle.tac_wire.specs.Flag.{has_flag};
 ghost use Rattle.tac_authen.specs.Continue.{continue_bytes, continue_of};
 
@@ -34,7 +36,8 @@ impl Continue {
 
 // Each fault in its order.
 fn read_fields(alloc: Global, body: &[u8]) -> Result<Continue, BodyFault>
-    ensures { Gives result (continue_of body.now) }
+    ensures exact { GivesUnlessMemory is_memory (λ body. body) result (continue_of body.now) }
+    ensures memory { result ≡ Err Memory → IsOk (continue_of body.now) }
 {
     if body.len() < 5 {
         return Err(BodyFault::Short);
@@ -56,15 +59,17 @@ fn read_fields(alloc: Global, body: &[u8]) -> Result<Continue, BodyFault>
 /// The answer that a body spells (RFC 8907, section 5.3).
 ///
 /// `Short` where the fixed part isn't whole; `LengthSum` where the lengths don't add up to the
-/// body's; `Memory` in place of any answer where memory ran out.
+/// body's; `Memory` where memory ran out for the fields of a body that is one.
 pub fn read_continue(alloc: Global, body: &[u8]) -> Result<Continue, BodyFault>
-    ensures exact { Gives result (continue_of body.now) }
+    ensures exact { GivesUnlessMemory is_memory (λ body. body) result (continue_of body.now) }
+    // A refusal is given without fail: only a body of its kind takes memory.
+    ensures memory { result ≡ Err Memory → IsOk (continue_of body.now) }
     // No byte is lost, and none ignored.
     ensures found { IfOk result (λ answer. body.now ≡ continue_bytes answer) }
     // Each body that spells an answer is read, unless memory runs out.
     ensures only { (answer : Continue) → length answer.user_msg < 65536 →
         length answer.extra < 65536 → body.now ≡ continue_bytes answer →
-        Gives result (Ok answer) }
+        GivesUnlessMemory is_memory (λ body. body) result (Ok answer) }
 {
     read_fields(alloc, body)
 }

@@ -4,7 +4,7 @@ ghost use Rattle.std.specs.Prelude.{◌≡◌, ℕ, ◌≤◌, length, slice_ind
 ghost use Rattle.tac_authen.specs.Reply.{is_noecho, bytes_with, reply_bytes, reply_of};
 
 use arrayvec::ArrayVec;
-use tac_wire::BodyFault;
+use tac_wire::{BodyFault, MESSAGE_MAX, Message, REPLY_MAX, message_of};
 
 /// What comes of an authentication, or is asked next (RFC 8907, section 5.2). Numbers without a
 /// name are read as they are.
@@ -32,19 +32,17 @@ pub struct AuthenReply {
     /// Whether the client is not to show what the user types.
     pub noecho: bool,
     /// The field server_msg.
-    pub msg: ArrayVec<u8, 64>,
+    pub msg: Message,
 }
 
 /// The flag of a reply whose answer is not to be shown.
 const NOECHO: u8 = 0x01;
 
-/// How many bytes a server_msg has at most.
-const MSG_MAX: usize = 64;
-
 // The spelling, with what the type of a text says of it.
 fn spelled(reply: &AuthenReply) -> ArrayVec<u8, 96>
     ensures value { result.items ≡ reply_bytes reply.now }
-    ensures short { length reply.now.msg.items ≤ 64 }
+    ensures short { length reply.now.msg.items ≤ MESSAGE_MAX }
+    ensures fits { length result.items ≤ REPLY_MAX }
 {
     let msg = reply.msg.as_slice();
     let [high, low] = (msg.len() as u16).to_be_bytes();
@@ -60,6 +58,7 @@ fn spelled(reply: &AuthenReply) -> ArrayVec<u8, 96>
 /// The spelling of a reply with no other flag than NOECHO (RFC 8907, section 5.2). Takes no memory.
 pub fn write_reply(reply: &AuthenReply) -> ArrayVec<u8, 96>
     ensures value { result.items ≡ reply_bytes reply.now }
+    ensures fits { length result.items ≤ REPLY_MAX }
     // What was written is read again.
     ensures again { reply_of result.items ≡ Ok reply.now }
 {
@@ -79,15 +78,13 @@ fn read_fields(body: &[u8]) -> Result<AuthenReply, BodyFault>
     if fields.len() != msg_len + data_len {
         return Err(BodyFault::LengthSum);
     }
-    if msg_len > MSG_MAX || data_len > 0 {
+    if msg_len > MESSAGE_MAX || data_len > 0 {
         return Err(BodyFault::TooLong);
     }
-    let mut msg = ArrayVec::new();
-    msg.try_extend_from_slice(fields).unwrap();
     Ok(AuthenReply {
         status: AuthenStatus(fixed[0]),
         noecho: fixed[1] & NOECHO != 0,
-        msg,
+        msg: message_of(fields),
     })
 }
 
@@ -102,7 +99,7 @@ pub fn read_reply(body: &[u8]) -> Result<AuthenReply, BodyFault>
     ensures found { IfOk result (λ reply. body.now ≡ bytes_with (slice_index body.now 1) reply) }
     ensures noecho { IfOk result (λ reply. reply.noecho ≡ is_noecho (slice_index body.now 1)) }
     // Each body that spells a reply of this server is read, whatever the flags other than NOECHO.
-    ensures only { (flags : ℕ) → (reply : AuthenReply) → length reply.msg.items ≤ 64 →
+    ensures only { (flags : ℕ) → (reply : AuthenReply) → length reply.msg.items ≤ MESSAGE_MAX →
         reply.noecho ≡ is_noecho flags → body.now ≡ bytes_with flags reply →
         result ≡ Ok reply }
 {

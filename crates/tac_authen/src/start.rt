@@ -1,7 +1,9 @@
 //! Starts of an authentication.
 
-ghost use Rattle.std.specs.Prelude.{◌≡◌, IfOk, Ok};
-ghost use Rattle.tac_wire.specs.Body.{Gives};
+ghost use Rattle.std.specs.Prelude.{◌≡◌, IfOk, IsOk, Ok, Err};
+ghost use Rattle.basics.specs.Memory.{GivesUnlessMemory};
+ghost use Rattle.tac_wire.specs.declared.body.BodyFault.TheVariants.{Memory};
+ghost use Rattle.tac_wire.specs.Body.{is_memory};
 ghost use Rattle.tac_authen.specs.Start.{start_bytes, start_of};
 
 use basics::Bytes;
@@ -59,7 +61,8 @@ pub struct Start {
 
 // Each fault in its order.
 fn read_fields(alloc: Global, body: &[u8]) -> Result<Start, BodyFault>
-    ensures { Gives result (start_of body.now) }
+    ensures exact { GivesUnlessMemory is_memory (λ body. body) result (start_of body.now) }
+    ensures memory { result ≡ Err Memory → IsOk (start_of body.now) }
 {
     if body.len() < 8 {
         return Err(BodyFault::Short);
@@ -92,13 +95,16 @@ fn read_fields(alloc: Global, body: &[u8]) -> Result<Start, BodyFault>
 /// The start that a body spells (RFC 8907, section 5.1).
 ///
 /// `Short` where the fixed part isn't whole; `LengthSum` where the lengths don't add up to the
-/// body's; `Memory` in place of any answer where memory ran out.
+/// body's; `Memory` where memory ran out for the fields of a body that is one.
 pub fn read_start(alloc: Global, body: &[u8]) -> Result<Start, BodyFault>
-    ensures exact { Gives result (start_of body.now) }
+    ensures exact { GivesUnlessMemory is_memory (λ body. body) result (start_of body.now) }
+    // A refusal is given without fail: only a body of its kind takes memory.
+    ensures memory { result ≡ Err Memory → IsOk (start_of body.now) }
     // No byte is lost, and none ignored.
     ensures found { IfOk result (λ start. body.now ≡ start_bytes start) }
     // Each body that spells a start is read, unless memory runs out.
-    ensures only { (start : Start) → body.now ≡ start_bytes start → Gives result (Ok start) }
+    ensures only { (start : Start) → body.now ≡ start_bytes start →
+        GivesUnlessMemory is_memory (λ body. body) result (Ok start) }
 {
     read_fields(alloc, body)
 }

@@ -1,7 +1,6 @@
-pub mod LengthFacts
+pub mod JudgedFacts
 pub mod TableFacts
 pub mod CountFacts
-pub mod OpenFacts
-pub mod StandsFacts
-pub mod AskFacts
+pub mod StandingFacts
+pub mod Laws
 pub mod Examples

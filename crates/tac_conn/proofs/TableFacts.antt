@@ -6,8 +6,12 @@ use Rattle.std.proofs.lemmas.Bool.{ltb-true, ltb-false, eqb-true, eq-eqb, eqb-fa
 use Rattle.std.proofs.lemmas.List.{take_all, drop_all}
 use Rattle.std.proofs.lemmas.List.Edits.{remove-append_left}
 use Rattle.tac_conn.specs.declared.session.Session.{Session}
-use Rattle.tac_conn.specs.Kept.{without, with_session, place_in, session_in, settled, HasEachOnce}
-use Rattle.tac_conn.specs.Standing.{one_if}
+use Rattle.tac_conn.specs.Sessions.{without, with_session, place_in, session_in, settled, HasEachOnce}
+
+-- one for a session that is there
+abbrev pub one_if : Bool → ℕ
+one_if true = 1
+one_if false = 0
 
 abbrev has_id : ℕ → Session → Bool
 has_id id session = session.id == id

@@ -1,13 +1,13 @@
 //! What is asked of the desk, which has the policy and the records, and what it answers.
 
-use basics::Bytes;
-use pol_text::By;
+use basics::{Bytes, StructuralEq};
+use pol_names::By;
 use tac_authen::Service;
 use tac_request::Record;
 use tac_wire::Header;
 
 /// How a user proves to be the one named.
-#[derive(Debug, Drop)]
+#[derive(Debug, Drop, PartialEq, Eq)]
 pub enum Proof {
     /// The password itself.
     Plain(Bytes),
@@ -20,7 +20,7 @@ pub enum Proof {
 }
 
 /// What is asked of the desk.
-#[derive(Debug, Drop)]
+#[derive(Debug, Drop, PartialEq, Eq)]
 pub enum Ask {
     /// Whether the proof is this user's, for this service.
     Authenticate {
@@ -35,6 +35,12 @@ pub enum Ask {
     },
     /// That this record be stored.
     Account(Record),
+}
+
+impl StructuralEq for Ask {
+    ghost use Rattle.std.proofs.Common.{rules};
+
+    ghost identical = { Prim.search rules };
 }
 
 /// Which of these is asked.
@@ -66,9 +72,15 @@ pub enum Answer {
     BookFull,
 }
 
+impl StructuralEq for Answer {
+    ghost use Rattle.std.proofs.Common.{rules};
+
+    ghost identical = { Prim.search rules };
+}
+
 impl Answer {
     ghost use Rattle.std.specs.Prelude.{◌≡◌};
-    ghost use Rattle.tac_conn.specs.Reply.{kind_of_answer};
+    ghost use Rattle.tac_conn.specs.Ask.{kind_of_answer};
 
     /// What the answer is to.
     pub fn kind(self) -> AskKind
@@ -95,7 +107,7 @@ pub struct Slot {
 
 impl Slot {
     ghost use Rattle.std.specs.Prelude.{◌≡◌};
-    ghost use Rattle.tac_conn.specs.Kept.{kind_asked};
+    ghost use Rattle.tac_conn.specs.Ask.{kind_asked};
 
     /// What was asked.
     pub fn kind(self) -> AskKind

@@ -1,23 +1,32 @@
 //! A connection.
 
-ghost use Rattle.std.specs.Prelude.{◌≡◌, [], ◌∷◌, List, None, Some, IsTrue, IfOk, OnOk, OnErr};
-ghost use Rattle.tac_conn.specs.Reply.{kind_of_answer};
-ghost use Rattle.tac_conn.specs.Standing.{Packet, clear, outcome as outcome_of, reply_to, closes_with};
-ghost use Rattle.tac_conn.specs.Kept.{Stands, HasItsSlot, pending_of, closed_of, kind_asked, sent as sent_value, step_of, step_closes as step_closes_value, slot_in as slot_value, single_with as single_value, outcome_in, conn_after};
+ghost use Rattle.std.specs.Prelude.{◌≡◌, ◌≤◌, [], ◌∷◌, List, false, not, None, Some, Ok, IsTrue, IfOk, IfSome, OnOk, OnErr};
+ghost use Rattle.std.specs.Option.{option_map};
+ghost use Rattle.tac_conn.specs.Ask.{kind_of_answer, kind_asked};
+ghost use Rattle.tac_conn.specs.Packet.{clear, sent};
+ghost use Rattle.tac_conn.specs.Reply.{IsReplyTo, packet_of, answer_body};
+ghost use Rattle.tac_conn.specs.Judging as judging;
+ghost use Rattle.tac_conn.specs.History as history;
+ghost use Rattle.tac_conn.specs.Standing as standing;
+ghost use Rattle.tac_conn.specs.declared.ask.Answer.{Answer as AnswerValue};
+ghost use Rattle.tac_conn.specs.declared.packet.Packet.{Packet as PacketValue};
+ghost use Rattle.tac_conn.specs.declared.step.Step.TheVariants as steps;
 
 use crate::ask::{Answer, Slot};
-use crate::judged::Judged;
-use crate::packet::judge;
-use crate::reply::{answer_body, sent};
-use crate::session::{Session, settle};
+use crate::judging::judge;
+use crate::outcome::{Outcome, reply_in};
+use crate::packet::{Packet, clear_packet};
+use crate::reply;
+use crate::session::{Session, find_session, settle};
 use crate::step::{Sent, Step};
 use basics::Sequence;
 use std::alloc::{AllocError, Global};
-use tac_wire::{Frame, Header, Key, pad_in_place};
+use tac_wire::{Frame, Header, Key};
 
 /// One connection: what is kept of the packets that came on it.
 #[derive(Debug, Drop)]
 pub struct Conn {
+    alloc: Global,
     // whether the first packet asked for many sessions, once it came
     single: Option<bool>,
     closed: bool,
@@ -27,7 +36,7 @@ pub struct Conn {
 
 // Whether the connection is single, once a packet of this header came.
 fn single_with(single: Option<bool>, header: &Header) -> bool
-    ensures { result ≡ single_value single header.now }
+    ensures { result ≡ standing.single_with single header.now }
 {
     match single {
         Some(single) => single,
@@ -35,35 +44,14 @@ fn single_with(single: Option<bool>, header: &Header) -> bool
     }
 }
 
-// Whether the connection closes, at once or with the answer.
-fn step_closes(step: &Step) -> bool
-    ensures { result ≡ step_closes_value step.now }
-{
-    match step {
-        Step::Reply(_, closes) => *closes,
-        Step::Asks(_, slot) => !slot.single,
-        Step::Silent => false,
-        Step::Close => true,
-    }
-}
-
-// The slot that waits for its answer.
-fn slot_in(step: &Step) -> Option<Slot>
-    ensures { result ≡ slot_value step.now }
-{
-    match step {
-        Step::Asks(_, slot) => Some(*slot),
-        _ => None,
-    }
-}
-
 impl Conn {
     /// A connection on which nothing came yet. Takes no memory.
     pub fn new(alloc: Global) -> Conn
-        ensures stands { Stands result [] }
-        ensures pending { pending_of result ≡ None }
+        ensures stands { standing.Stands result [] }
+        ensures pending { standing.pending_of result ≡ None }
     {
         Conn {
+            alloc,
             single: None,
             closed: false,
             sessions: Sequence::new(alloc),
@@ -73,87 +61,121 @@ impl Conn {
 
     /// The slot of the packet whose answer is waited for.
     pub fn pending(&self) -> Option<Slot>
-        ensures { result ≡ pending_of self.now }
+        ensures { result ≡ standing.pending_of self.now }
     {
         self.pending
     }
 
-    // Takes a clear packet, on a connection that is open.
-    #[tactic(auto, unfolding(crate::specs::Kept::outcome_in))]
-    fn take_clear(
-        &mut self,
-        alloc: Global,
-        key: &Key,
-        header: &Header,
-        body: &[u8],
-    ) -> Result<Step, AllocError>
-        ensures ok { let packet : Packet = record { header = header.now; body = body.now } in
-            OnOk result (self.new ≡ conn_after self.old packet (outcome_in self.old packet)) }
-        ensures step { let packet : Packet = record { header = header.now; body = body.now } in
-            IfOk result (λ step. step ≡ step_of key.now (outcome_in self.old packet)) }
+    // What a packet comes to, on a connection that is open.
+    #[tactic(auto, unfolding(crate::specs::Standing::outcome_in, crate::specs::Standing::is_read_in))]
+    fn judge(&self, packet: &Packet) -> Result<Outcome, AllocError>
+        ensures outcome { IfOk result
+            (λ outcome. outcome ≡ standing.outcome_in self.now packet.now) }
+        ensures memory { OnErr result (IsTrue (standing.is_read_in self.now packet.now)) }
+    {
+        let sessions = self.sessions.as_slice();
+        judge(
+            self.alloc,
+            single_with(self.single, &packet.header),
+            sessions.len(),
+            find_session(sessions, packet.header.session),
+            packet,
+        )
+    }
+
+    // Does what a packet of this header comes to.
+    fn follow(&mut self, key: &Key, header: &Header, outcome: Outcome) -> Result<Step, AllocError>
+        ensures ok { OnOk result (self.new ≡ standing.conn_after self.old header.now outcome) }
+        ensures step { IfOk result (λ step. step ≡ standing.step_of key.now outcome) }
         ensures err { OnErr result (self.new ≡ self.old) }
+        ensures memory { OnErr result (IsTrue (judging.leaves_open outcome)) }
     {
         let single = single_with(self.single, header);
-        let Judged { step, session } = judge(
-            alloc,
-            key,
-            single,
-            self.sessions.as_slice(),
-            header,
-            body,
-        )?;
+        let (step, session) = outcome.into_step(key);
         settle(&mut self.sessions, header.session, session)?;
         self.single = Some(single);
-        self.closed = step_closes(&step);
-        self.pending = slot_in(&step);
+        self.closed = step.closes();
+        self.pending = step.slot();
         Ok(step)
     }
 
-    // Takes a packet on a connection that is open: the pad is taken off first.
-    fn take_open(&mut self, alloc: Global, key: &Key, frame: Frame) -> Result<Step, AllocError>
-        ensures ok { OnOk result (self.new ≡ conn_after self.old (clear key.now frame) (outcome_in self.old (clear key.now frame))) }
-        ensures step { IfOk result (λ step. step ≡ step_of key.now (outcome_in self.old (clear key.now frame))) }
+    // Takes a packet on a connection that is open.
+    fn take_open(&mut self, key: &Key, frame: Frame) -> Result<Step, AllocError>
+        ensures ok { let packet = clear key.now frame in
+            let outcome = standing.outcome_in self.old packet in
+            OnOk result (self.new ≡ standing.conn_after self.old packet.header outcome) }
+        ensures step { IfOk result (λ step.
+            step ≡ standing.step_of key.now (standing.outcome_in self.old (clear key.now frame))) }
         ensures err { OnErr result (self.new ≡ self.old) }
+        ensures memory { OnErr result
+            (IsTrue (standing.is_read_in self.old (clear key.now frame))) }
     {
-        let Frame { header, body } = frame;
-        let mut body = body.into_vec();
-        pad_in_place(&header, key, body.as_mut_slice());
-        self.take_clear(alloc, key, &header, body.as_slice())
+        let packet = clear_packet(key, frame);
+        let outcome = self.judge(&packet)?;
+        self.follow(key, &packet.header, outcome)
     }
 
     /// Takes a packet that came, with the pad on its body, where no answer is waited for.
     ///
     /// A closed connection answers [`Step::Close`] and stays as it is. The error is want of memory:
     /// nothing has changed, and the packet is gone.
-    pub fn take(&mut self, alloc: Global, key: &Key, frame: Frame) -> Result<Step, AllocError>
-        requires { pending_of self.old ≡ None }
+    pub fn take(&mut self, key: &Key, frame: Frame) -> Result<Step, AllocError>
+        requires { standing.pending_of self.old ≡ None }
         // What is done is what the packet comes to, by the clear packets that came before it.
-        ensures step { (earlier : List Packet) → Stands self.old earlier →
-            IfOk result (λ step. step ≡ step_of key.now (outcome_of earlier (clear key.now frame))) }
-        ensures stands { (earlier : List Packet) → Stands self.old earlier →
-            OnOk result (Stands self.new (clear key.now frame ∷ earlier)) }
-        ensures pending { IfOk result (λ step. pending_of self.new ≡ slot_value step) }
-        ensures kind { IfOk result HasItsSlot }
-        ensures closed { IsTrue (closed_of self.old) → self.new ≡ self.old }
+        ensures step { (earlier : List PacketValue) → standing.Stands self.old earlier →
+            let outcome = history.outcome earlier (clear key.now frame) in
+            IfOk result (λ step. step ≡ standing.step_of key.now outcome) }
+        ensures stands { (earlier : List PacketValue) → standing.Stands self.old earlier →
+            OnOk result (standing.Stands self.new (clear key.now frame ∷ earlier)) }
+        ensures pending { IfOk result
+            (λ step. standing.pending_of self.new ≡ standing.slot_in step) }
+        ensures kind { IfOk result standing.HasItsSlot }
+        ensures closed { IsTrue (standing.closed_of self.old) →
+            (result ≡ Ok steps.Close) × (self.new ≡ self.old) }
         ensures err { OnErr result (self.new ≡ self.old) }
+        // Only a packet that is read takes memory: what is refused as it stands is so without fail.
+        ensures memory { (earlier : List PacketValue) → standing.Stands self.old earlier →
+            OnErr result (IsTrue (history.is_read_after earlier (clear key.now frame))) }
+
+        // Nothing is granted unless the desk is asked.
+        ensures ungranted { (earlier : List PacketValue) (packet : PacketValue) →
+            standing.GrantsNothing (history.outcome earlier packet) }
+        // A connection that isn't single has at most one open session.
+        ensures alone { (packets : List PacketValue) → history.is_single packets ≡ false →
+            history.open_sessions packets ≤ 1 }
     {
         if self.closed {
             return Ok(Step::Close);
         }
-        self.take_open(alloc, key, frame)
+        self.take_open(key, frame)
     }
 
-    /// The reply that carries the desk's answer, and whether the connection closes then. The slot is
-    /// the one that waits, and the answer is one to what was asked. Takes no memory.
+    /// The reply that carries the desk's answer, and whether the connection closes then. The slot
+    /// is the one that waits, and the answer is one to what was asked. Takes no memory.
     pub fn give(&mut self, key: &Key, slot: Slot, answer: Answer) -> (Sent, bool)
-        requires pending { pending_of self.old ≡ Some slot }
+        requires pending { standing.pending_of self.old ≡ Some slot }
         requires kind { kind_of_answer answer ≡ kind_asked slot }
-        ensures reply { result.0 ≡ sent_value key.now (reply_to slot answer) }
-        ensures closes { result.1 ≡ closes_with slot }
-        ensures pending { pending_of self.new ≡ None }
-        ensures stands { (packets : List Packet) → Stands self.old packets → Stands self.new packets }
+        // It is the reply to the packets that came, with this answer.
+        ensures reply { (packet : PacketValue) (earlier : List PacketValue) →
+            standing.Stands self.old (packet ∷ earlier) →
+            let reply = judging.reply_of (history.outcome earlier packet) answer in
+            Some result.0 ≡ option_map (λ reply. sent key.now (packet_of reply)) reply }
+        ensures closes { (packet : PacketValue) (earlier : List PacketValue) →
+            standing.Stands self.old (packet ∷ earlier) →
+            result.1 ≡ judging.closes (history.outcome earlier packet) }
+        ensures slot { let reply = judging.reply_in slot (answer_body answer) in
+            result ≡ (sent key.now (packet_of reply), not slot.single) }
+        ensures pending { standing.pending_of self.new ≡ None }
+        ensures stands { (packets : List PacketValue) →
+            standing.Stands self.old packets → standing.Stands self.new packets }
+
+        // Each reply has its packet's version, type and session, and the next seq_no.
+        ensures header { (packet : PacketValue) (earlier : List PacketValue) (told : AnswerValue) →
+            IfSome (judging.reply_of (history.outcome earlier packet) told)
+            (IsReplyTo packet.header) }
     {
         self.pending = None;
-        (sent(key, &slot.header, answer_body(answer)), !slot.single)
+        let reply = reply_in(slot, reply::answer_body(answer));
+        (Sent::new(key, &reply), !slot.single)
     }
 }

@@ -1,103 +1,90 @@
 //! What an answer of the client within an authentication comes to.
 
-ghost use Rattle.std.specs.Prelude.{◌≡◌, IfOk};
-ghost use Rattle.tac_conn.specs.declared.step.Step.TheVariants.{Asks};
-ghost use Rattle.tac_conn.specs.declared.ask.Ask.TheVariants.{Authenticate};
-ghost use Rattle.tac_conn.specs.declared.ask.Proof.TheVariants.{Plain};
-ghost use Rattle.tac_conn.specs.Standing.{aborted as aborted_outcome, name_outcome, typed_outcome, continue_outcome};
-ghost use Rattle.tac_conn.specs.Kept.{step_of, judged_of, session_named, awaited_user};
+ghost use Rattle.std.specs.Prelude.{◌≡◌, is_ok, IsTrue, IfOk, OnErr};
+ghost use Rattle.std.specs.Result.{result_ok};
+ghost use Rattle.tac_authen.specs.Continue.{continue_of};
+ghost use Rattle.tac_conn.specs.Judging as judging;
 
 use crate::ask::{Ask, Proof, Slot};
-use crate::ending::fails;
-use crate::judged::Judged;
-use crate::reply::{secret_question, sent};
-use crate::session::{Session, Waiting};
-use crate::step::Step;
+use crate::outcome::{Outcome, breaks, ends, reply_in};
+use crate::reply::{fail, secret_question};
+use crate::session::Session;
 use basics::Bytes;
 use std::alloc::{AllocError, Global};
-use tac_authen::{Continue, Service};
-use tac_wire::Key;
+use tac_authen::{Continue, read_continue};
+use tac_wire::well_formed;
 
 // The client gives up: nothing is sent.
-fn aborted(key: &Key, slot: Slot) -> Step
-    ensures { result ≡ step_of key.now (aborted_outcome slot) }
+fn aborted(slot: Slot) -> Outcome
+    ensures { result ≡ judging.aborted slot }
 {
     if slot.single {
-        Step::Silent
+        Outcome::Silent
     } else {
-        Step::Close
+        Outcome::Close
     }
 }
 
 // The name that was asked for: the empty one is none.
-fn named(key: &Key, slot: Slot, session: &Session, name: Bytes) -> Judged
-    ensures { result ≡ judged_of key.now (session_named session.now name) (name_outcome slot name) }
+fn named(slot: Slot, session: &Session, name: Bytes) -> Outcome
+    ensures { result ≡ judging.name_outcome slot session.now name }
 {
     if name.is_empty() {
-        return Judged::over(fails(key, slot));
+        return ends(slot, fail());
     }
-    Judged {
-        step: Step::Reply(sent(key, &slot.header, secret_question()), false),
-        session: Some(Session {
-            id: session.id,
-            service: session.service,
-            waiting: Waiting::LaterSecret(name),
-        }),
-    }
-}
-
-// The desk is asked whether the password is this user's.
-fn typed_secret(
-    alloc: Global,
-    slot: Slot,
-    service: Service,
-    user: &[u8],
-    secret: Bytes,
-) -> Result<Step, AllocError>
-    ensures { IfOk result (λ step. step ≡ Asks (Authenticate user.now service (Plain secret)) slot) }
-{
-    let user = Bytes::from_slice(alloc, user)?;
-    let ask = Ask::Authenticate {
-        user,
-        service,
-        proof: Proof::Plain(secret),
+    let next = Session {
+        id: session.id,
+        last_seq: slot.header.seq,
+        service: session.service,
+        user: Some(name),
     };
-    Ok(Step::Asks(ask, slot))
+    Outcome::Question(reply_in(slot, secret_question()), next)
 }
 
 // What was typed in this session.
-fn typed(
-    alloc: Global,
-    key: &Key,
-    slot: Slot,
-    session: &Session,
-    text: Bytes,
-) -> Result<Judged, AllocError>
-    ensures { IfOk result (λ judged. judged ≡ judged_of key.now (session_named session.now text)
-        (typed_outcome slot session.now.service (awaited_user session.now.waiting) text)) }
+fn typed(alloc: Global, slot: Slot, session: &Session, text: Bytes) -> Result<Outcome, AllocError>
+    ensures { IfOk result
+        (λ outcome. outcome ≡ judging.typed_outcome slot session.now session.now.user text) }
 {
-    match &session.waiting {
-        Waiting::Name => Ok(named(key, slot, session, text)),
-        Waiting::Secret(user) | Waiting::LaterSecret(user) => {
-            let step = typed_secret(alloc, slot, session.service, user.as_slice(), text)?;
-            Ok(Judged::over(step))
-        }
-    }
+    let Some(user) = &session.user else {
+        return Ok(named(slot, session, text));
+    };
+    let ask = Ask::Authenticate {
+        user: user.copy(alloc)?,
+        service: session.service,
+        proof: Proof::Plain(text),
+    };
+    Ok(Outcome::Asks(ask, slot))
 }
 
-/// What an answer comes to in this session.
-pub(crate) fn answered(
+// A CONTINUE that is one.
+fn answered(
     alloc: Global,
-    key: &Key,
     slot: Slot,
     session: &Session,
     answer: Continue,
-) -> Result<Judged, AllocError>
-    ensures { IfOk result (λ judged. judged ≡ judged_of key.now (session_named session.now answer.user_msg)
-        (continue_outcome slot session.now.service (awaited_user session.now.waiting) answer)) }
+) -> Result<Outcome, AllocError>
+    ensures { IfOk result (λ outcome. outcome ≡ judging.continue_outcome slot session.now answer) }
 {
     if answer.is_abort() {
-        return Ok(Judged::over(aborted(key, slot)));
+        return Ok(aborted(slot));
     }
-    typed(alloc, key, slot, session, answer.user_msg)
+    typed(alloc, slot, session, answer.user_msg)
+}
+
+/// What the body of a CONTINUE comes to in this session.
+pub(crate) fn judge_continue(
+    alloc: Global,
+    slot: Slot,
+    session: &Session,
+    body: &[u8],
+) -> Result<Outcome, AllocError>
+    ensures outcome { IfOk result (λ outcome.
+        outcome ≡ judging.continue_read slot session.now (result_ok (continue_of body.now))) }
+    ensures memory { OnErr result (IsTrue (is_ok (continue_of body.now))) }
+{
+    match well_formed(read_continue(alloc, body))? {
+        Some(answer) => answered(alloc, slot, session, answer),
+        None => Ok(breaks(slot)),
+    }
 }

@@ -4,10 +4,11 @@
 
 mod accounting;
 mod ask;
+mod authorisation;
 mod conn;
 mod continuation;
-mod ending;
-mod judged;
+mod judging;
+mod outcome;
 mod packet;
 mod reply;
 mod session;
@@ -16,7 +17,7 @@ mod step;
 
 pub use ask::{Answer, Ask, AskKind, Proof, Slot};
 pub use conn::Conn;
-pub use pol_text::{By, Decision, Kind, Name, SubjectId};
+pub use pol_names::{By, Decision, Kind, Name, SubjectId};
 pub use step::{Sent, Step};
 pub use tac_authen::Service;
 pub use tac_request::{AcctKind, Record};

@@ -1,191 +1,176 @@
 //! The replies of the server: fixed texts, denials and levels.
 
-ghost use Rattle.std.specs.Prelude.{◌≡◌, ◌+◌, ◌<◌, ◌≤◌, ◌++◌, length, Some};
+ghost use Rattle.std.specs.Prelude.{◌≡◌, ◌+◌, ◌<◌, ◌≤◌, ◌++◌, length};
 ghost use Rattle.std.specs.Fmt.{decimal};
 ghost use Rattle.arrayvec.specs.ArrayVec.{array_vec_len};
-ghost use Rattle.pol_text.specs.Text.{kind_word as word_of_kind};
-ghost use Rattle.tac_authen.specs.Reply.{reply_bytes};
-ghost use Rattle.tac_request.specs.AuthorReply.{author_reply};
-ghost use Rattle.tac_request.specs.AcctReply.{acct_reply};
-ghost use Rattle.tac_conn.specs.Reply.{authen as authen_value, refusal as refusal_value, permission as permission_value, author_error as author_error_value, denial as denial_text, question_to as question_value, secret_question as secret_value, bad_body as bad_body_value, answer_body as answer_value, acct_error as acct_error_value, success as success_value};
-ghost use Rattle.tac_conn.specs.Standing.{packet_with};
-ghost use Rattle.tac_conn.specs.Kept.{sent as sent_value};
+ghost use Rattle.pol_names.specs.SubjectId.{kind_word};
+ghost use Rattle.tac_conn.specs.Reply as replies;
 
 use crate::ask::{Answer, AskKind};
-use crate::step::Sent;
 use arrayvec::ArrayVec;
-use pol_text::{By, SubjectId};
+use pol_names::{By, SubjectId};
 use tac_authen::{AuthenReply, AuthenStatus, write_reply};
 use tac_request::{
     AcctReply, AcctStatus, AuthorReply, AuthorStatus, write_acct_reply, write_author_reply,
 };
-use tac_wire::{Header, Key, pad_in_place};
+use tac_wire::{Header, MESSAGE_MAX, Message, REPLY_MAX, decimal_digits, message_of};
 
-/// The text of a FAIL that says no more.
-pub(crate) const FAILED: &[u8] = b"Authentication failed";
-
-// Adds a piece for which there is room.
-fn put(text: &mut ArrayVec<u8, 64>, piece: &[u8])
-    requires { array_vec_len text.old + length piece.now ≤ 64 }
-    ensures { text.new.items ≡ text.old.items ++ piece.now }
-{
-    text.try_extend_from_slice(piece).unwrap();
+/// What a reply says.
+#[derive(Debug, Drop)]
+pub(crate) enum ReplyBody {
+    Authentication(AuthenReply),
+    Authorisation(AuthorReply),
+    Accounting(AcctReply),
+    /// Nothing, to a packet of a type that isn't served.
+    Empty,
 }
 
-// A text that there is room for.
-fn message(text: &[u8]) -> ArrayVec<u8, 64>
-    requires { length text.now ≤ 64 }
-    ensures { result.items ≡ text.now }
-{
-    let mut msg = ArrayVec::new();
-    put(&mut msg, text);
-    msg
+impl ReplyBody {
+    /// The spelling of the body. Takes no memory.
+    pub(crate) fn write(&self) -> ArrayVec<u8, 96>
+        ensures value { result.items ≡ replies.body_bytes self.now }
+        ensures fits { length result.items ≤ REPLY_MAX }
+    {
+        match self {
+            ReplyBody::Authentication(reply) => write_reply(reply),
+            ReplyBody::Authorisation(reply) => write_author_reply(reply),
+            ReplyBody::Accounting(reply) => write_acct_reply(reply),
+            ReplyBody::Empty => ArrayVec::new(),
+        }
+    }
 }
 
-// A body as it is sent.
-fn short(written: ArrayVec<u8, 96>) -> ArrayVec<u8, 84>
-    requires { array_vec_len written ≤ 84 }
-    ensures { result.items ≡ written.items }
-{
-    let mut body = ArrayVec::new();
-    body.try_extend_from_slice(written.as_slice()).unwrap();
-    body
+/// A reply before it is spelled. The length in its header is set then.
+#[derive(Debug, Drop)]
+pub(crate) struct Reply {
+    pub(crate) header: Header,
+    pub(crate) body: ReplyBody,
 }
 
-/// The body of an authentication reply that shows what is typed.
-pub(crate) fn authen(status: AuthenStatus, text: &[u8]) -> ArrayVec<u8, 84>
-    requires { length text.now ≤ 64 }
-    ensures { result.items ≡ reply_bytes (authen_value status.0 text.now) }
+// An authentication reply that shows what is typed.
+fn authentication(status: AuthenStatus, text: &[u8]) -> ReplyBody
+    requires { length text.now ≤ MESSAGE_MAX }
+    ensures { result ≡ replies.authen status text.now }
 {
-    let written = write_reply(&AuthenReply {
+    ReplyBody::Authentication(AuthenReply {
         status,
         noecho: false,
-        msg: message(text),
-    });
-    short(written)
+        msg: message_of(text),
+    })
 }
 
-/// The body that asks for a password, which is not to be shown.
-pub(crate) fn secret_question() -> ArrayVec<u8, 84>
-    ensures { result.items ≡ reply_bytes secret_value }
+/// PASS.
+pub(crate) fn pass() -> ReplyBody
+    ensures { result ≡ replies.pass }
 {
-    let written = write_reply(&AuthenReply {
+    authentication(AuthenStatus::PASS, b"")
+}
+
+/// FAIL, which says no more.
+pub(crate) fn fail() -> ReplyBody
+    ensures { result ≡ replies.fail }
+{
+    authentication(AuthenStatus::FAIL, b"Authentication failed")
+}
+
+/// ERROR with this text.
+pub(crate) fn authen_error(text: &[u8]) -> ReplyBody
+    requires { length text.now ≤ MESSAGE_MAX }
+    ensures { result ≡ replies.authen_error text.now }
+{
+    authentication(AuthenStatus::ERROR, text)
+}
+
+/// GETPASS: a password is asked for, which is not to be shown.
+pub(crate) fn secret_question() -> ReplyBody
+    ensures { result ≡ replies.secret_question }
+{
+    ReplyBody::Authentication(AuthenReply {
         status: AuthenStatus::GETPASS,
         noecho: true,
-        msg: message(b"Password: "),
-    });
-    short(written)
+        msg: message_of(b"Password: "),
+    })
 }
 
-/// The body that asks a user of this name for the password, or for the name where it is empty.
-pub(crate) fn question_to(user: &[u8]) -> ArrayVec<u8, 84>
-    ensures { result.items ≡ reply_bytes (question_value user.now) }
+/// What a user of this name is asked for: the password, or the name where it is empty.
+pub(crate) fn question_to(user: &[u8]) -> ReplyBody
+    ensures { result ≡ replies.question_to user.now }
 {
     match user {
-        [] => authen(AuthenStatus::GETUSER, b"Username: "),
+        [] => authentication(AuthenStatus::GETUSER, b"Username: "),
         _ => secret_question(),
     }
 }
 
-/// The body of a refusal with this text.
-pub(crate) fn refusal(text: &[u8]) -> ArrayVec<u8, 84>
-    requires { length text.now ≤ 64 }
-    ensures { result.items ≡ author_reply (refusal_value text.now) }
+// An authorisation reply with this text, without a level.
+fn authorisation(status: AuthorStatus, text: &[u8]) -> ReplyBody
+    requires { length text.now ≤ MESSAGE_MAX }
+    ensures { result ≡ replies.author status text.now }
 {
-    let written = write_author_reply(&AuthorReply {
-        status: AuthorStatus::FAIL,
-        msg: message(text),
+    ReplyBody::Authorisation(AuthorReply {
+        status,
+        msg: message_of(text),
         priv_lvl: None,
-    });
-    short(written)
+    })
+}
+
+/// FAIL with this text.
+pub(crate) fn refusal(text: &[u8]) -> ReplyBody
+    requires { length text.now ≤ MESSAGE_MAX }
+    ensures { result ≡ replies.refusal text.now }
+{
+    authorisation(AuthorStatus::FAIL, text)
 }
 
 // PASS_ADD without text, perhaps with a level.
-fn pass_add(level: Option<u8>) -> ArrayVec<u8, 96>
-    ensures { result.items ≡ author_reply (permission_value level) }
+fn permission(level: Option<u8>) -> ReplyBody
+    ensures { result ≡ replies.permission level }
 {
-    write_author_reply(&AuthorReply {
+    ReplyBody::Authorisation(AuthorReply {
         status: AuthorStatus::PASS_ADD,
         msg: ArrayVec::new(),
         priv_lvl: level,
     })
 }
 
-// The body of a permission with a level.
-fn with_level(level: u8) -> ArrayVec<u8, 84>
-    ensures { result.items ≡ author_reply (permission_value (Some level)) }
+// SUCCESS without text.
+fn success() -> ReplyBody
+    ensures { result ≡ replies.success }
 {
-    short(pass_add(Some(level)))
-}
-
-// The body of a permission.
-fn permission(level: Option<u8>) -> ArrayVec<u8, 84>
-    ensures { result.items ≡ author_reply (permission_value level) }
-{
-    match level {
-        None => short(pass_add(None)),
-        Some(level) => with_level(level),
-    }
-}
-
-// The body of an authorisation ERROR.
-fn author_error(text: &[u8]) -> ArrayVec<u8, 84>
-    requires { length text.now ≤ 64 }
-    ensures { result.items ≡ author_reply (author_error_value text.now) }
-{
-    let written = write_author_reply(&AuthorReply {
-        status: AuthorStatus::ERROR,
-        msg: message(text),
-        priv_lvl: None,
-    });
-    short(written)
-}
-
-// The body of an accounting SUCCESS.
-fn success() -> ArrayVec<u8, 84>
-    ensures { result.items ≡ acct_reply success_value }
-{
-    let written = write_acct_reply(&AcctReply {
+    ReplyBody::Accounting(AcctReply {
         status: AcctStatus::SUCCESS,
         msg: ArrayVec::new(),
-    });
-    short(written)
+    })
 }
 
-/// The body of an accounting ERROR.
-pub(crate) fn acct_error(text: &[u8]) -> ArrayVec<u8, 84>
-    requires { length text.now ≤ 64 }
-    ensures { result.items ≡ acct_reply (acct_error_value text.now) }
+/// An accounting ERROR with this text.
+pub(crate) fn acct_error(text: &[u8]) -> ReplyBody
+    requires { length text.now ≤ MESSAGE_MAX }
+    ensures { result ≡ replies.acct_error text.now }
 {
-    let written = write_acct_reply(&AcctReply {
+    ReplyBody::Accounting(AcctReply {
         status: AcctStatus::ERROR,
-        msg: message(text),
-    });
-    short(written)
+        msg: message_of(text),
+    })
 }
 
-/// The body that says that a body is none of its kind.
-pub(crate) fn bad_body(kind: AskKind) -> ArrayVec<u8, 84>
-    ensures { result.items ≡ bad_body_value kind }
+/// The ERROR that says that a body is none of its kind.
+pub(crate) fn bad_body(kind: AskKind) -> ReplyBody
+    ensures { result ≡ replies.bad_body kind }
 {
     match kind {
-        AskKind::Authentication => authen(AuthenStatus::ERROR, b"bad body"),
-        AskKind::Authorisation => author_error(b"bad body"),
+        AskKind::Authentication => authen_error(b"bad body"),
+        AskKind::Authorisation => authorisation(AuthorStatus::ERROR, b"bad body"),
         AskKind::Accounting => acct_error(b"bad body"),
     }
 }
 
-// Adds the decimal digits of a number, for which there is room.
-fn put_number(text: &mut ArrayVec<u8, 64>, number: u16)
-    requires { array_vec_len text.old + length (decimal number) ≤ 64 }
-    ensures { text.new.items ≡ text.old.items ++ decimal number }
+// Adds a piece for which there is room.
+fn put(text: &mut Message, piece: &[u8])
+    requires { array_vec_len text.old + length piece.now ≤ MESSAGE_MAX }
+    ensures { text.new.items ≡ text.old.items ++ piece.now }
 {
-    if number < 10 {
-        put(text, &[b'0' + number as u8]);
-        return;
-    }
-    put_number(text, number / 10);
-    put(text, &[b'0' + (number % 10) as u8]);
+    text.try_extend_from_slice(piece).unwrap();
 }
 
 const DENIED_BY: &[u8] = b"denied by ";
@@ -193,34 +178,36 @@ const DENIED_BY: &[u8] = b"denied by ";
 const RULE: &[u8] = b" rule ";
 
 // `denied by OWNER rule N`.
-fn denied_by(owner: &SubjectId, number: u16) -> ArrayVec<u8, 64>
-    ensures { result.items ≡ DENIED_BY.now ++ word_of_kind owner.now.kind ++ owner.now.name ++ RULE.now ++ decimal number }
+fn denied_by(owner: &SubjectId, number: u16) -> Message
+    ensures { result.items ≡ DENIED_BY.now ++ kind_word owner.now.kind ++ owner.now.name
+        ++ RULE.now ++ decimal number }
 {
     let mut text = ArrayVec::new();
     put(&mut text, DENIED_BY);
     put(&mut text, owner.kind.keyword().as_bytes());
     put(&mut text, owner.name.as_slice());
     put(&mut text, RULE);
-    put_number(&mut text, number);
+    put(&mut text, decimal_digits(number).as_slice());
     text
 }
 
-fn denial(by: By) -> ArrayVec<u8, 64>
-    ensures { result.items ≡ denial_text by }
+// Whom a denial names.
+fn denial(by: By) -> Message
+    ensures { result.items ≡ replies.denial by }
 {
     match by {
         By::Rule(owner, number) => denied_by(&owner, number),
-        By::Default => message(b"denied by default"),
+        By::Default => message_of(b"denied by default"),
     }
 }
 
-/// The body that carries an answer of the desk.
-pub(crate) fn answer_body(answer: Answer) -> ArrayVec<u8, 84>
-    ensures { result.items ≡ answer_value answer }
+/// What carries an answer of the desk.
+pub(crate) fn answer_body(answer: Answer) -> ReplyBody
+    ensures { result ≡ replies.answer_body answer }
 {
     match answer {
-        Answer::Pass => authen(AuthenStatus::PASS, b""),
-        Answer::Fail => authen(AuthenStatus::FAIL, FAILED),
+        Answer::Pass => pass(),
+        Answer::Fail => fail(),
         Answer::UnknownUser => refusal(b"unknown user"),
         Answer::Unprintable => refusal(b"unprintable command"),
         Answer::Denied(by) => refusal(denial(by).as_slice()),
@@ -228,16 +215,4 @@ pub(crate) fn answer_body(answer: Answer) -> ArrayVec<u8, 84>
         Answer::Stored => success(),
         Answer::BookFull => acct_error(b"records full"),
     }
-}
-
-/// The packet with this header, but for the length, and this body.
-pub(crate) fn sent(key: &Key, header: &Header, mut body: ArrayVec<u8, 84>) -> Sent
-    ensures { result ≡ sent_value key.now (packet_with header.now body.items) }
-{
-    let header = Header {
-        length: body.len() as u32,
-        ..*header
-    };
-    pad_in_place(&header, key, body.as_mut_slice());
-    Sent { header, body }
 }

@@ -1,26 +1,25 @@
 //! What a START comes to.
 
-ghost use Rattle.std.specs.Prelude.{◌≡◌, ◌≤◌, length, IfOk};
-ghost use Rattle.tac_conn.specs.Standing.{is_supported as supported_value, ascii_outcome, chap_proof as chap_value, chap_outcome, proven_outcome, start_outcome};
-ghost use Rattle.tac_conn.specs.Kept.{step_of, judged_of, session_started as started_value};
+ghost use Rattle.std.specs.Prelude.{◌≡◌, ◌≤◌, length, is_ok, IsTrue, IfOk, OnErr};
+ghost use Rattle.std.specs.Result.{result_ok};
+ghost use Rattle.tac_authen.specs.Start.{start_of};
+ghost use Rattle.tac_conn.specs.Judging as judging;
 
 use crate::ask::{Ask, Proof, Slot};
-use crate::ending::{errs, fails};
-use crate::judged::Judged;
-use crate::reply::{question_to, sent};
-use crate::session::{Session, Waiting};
-use crate::step::Step;
+use crate::outcome::{Outcome, breaks, ends, reply_in};
+use crate::reply::{authen_error, fail, question_to};
+use crate::session::Session;
 use basics::Bytes;
 use std::alloc::{AllocError, Global};
-use tac_authen::{Action, AuthenType, Service, Start};
-use tac_wire::Key;
+use tac_authen::{Action, AuthenType, Start, read_start};
+use tac_wire::well_formed;
 
 /// How many sessions of a connection are open at once at most.
 const MAX_SESSIONS: usize = 16;
 
 // Whether this action is served, by this way of authentication.
 fn is_supported(start: &Start) -> bool
-    ensures { result ≡ supported_value start.now }
+    ensures { result ≡ judging.is_supported start.now }
 {
     start.action == Action::LOGIN
         && (start.authen_type == AuthenType::ASCII
@@ -28,28 +27,34 @@ fn is_supported(start: &Start) -> bool
             || start.authen_type == AuthenType::CHAP)
 }
 
+// A name, where it isn't empty.
+fn given(name: Bytes) -> Option<Bytes>
+    ensures { result ≡ judging.given name }
+{
+    if name.is_empty() { None } else { Some(name) }
+}
+
 // ASCII: the name is asked for, or the password.
-fn ascii(key: &Key, count: usize, slot: Slot, service: Service, user: Bytes) -> Judged
-    ensures { result ≡ judged_of key.now (started_value slot.header service user) (ascii_outcome count slot user) }
+fn ascii(count: usize, slot: Slot, start: Start) -> Outcome
+    ensures { result ≡ judging.ascii_outcome count slot start }
 {
     if count >= MAX_SESSIONS {
-        return Judged::over(errs(key, slot, b"too many sessions"));
+        return ends(slot, authen_error(b"too many sessions"));
     }
-    let question = question_to(user.as_slice());
-    Judged {
-        step: Step::Reply(sent(key, &slot.header, question), false),
-        session: Some(Session {
-            id: slot.header.session,
-            service,
-            waiting: Waiting::after_start(user),
-        }),
-    }
+    let question = question_to(start.user.as_slice());
+    let session = Session {
+        id: slot.header.session,
+        last_seq: slot.header.seq,
+        service: start.service,
+        user: given(start.user),
+    };
+    Outcome::Question(reply_in(slot, question), session)
 }
 
 // The id, the challenge, and the response in the last 16 bytes.
 fn chap_proof(alloc: Global, extra: &[u8]) -> Result<Proof, AllocError>
     requires { 17 ≤ length extra.now }
-    ensures { IfOk result (λ proof. proof ≡ chap_value extra.now) }
+    ensures { IfOk result (λ proof. proof ≡ judging.chap_proof extra.now) }
 {
     let response_at = extra.len() - 16;
     let challenge = Bytes::from_slice(alloc, &extra[1..response_at])?;
@@ -62,11 +67,11 @@ fn chap_proof(alloc: Global, extra: &[u8]) -> Result<Proof, AllocError>
     })
 }
 
-fn chap(alloc: Global, key: &Key, slot: Slot, start: Start) -> Result<Step, AllocError>
-    ensures { IfOk result (λ step. step ≡ step_of key.now (chap_outcome slot start)) }
+fn chap(alloc: Global, slot: Slot, start: Start) -> Result<Outcome, AllocError>
+    ensures { IfOk result (λ outcome. outcome ≡ judging.chap_outcome slot start) }
 {
     if start.extra.len() < 17 {
-        return Ok(fails(key, slot));
+        return Ok(ends(slot, fail()));
     }
     let proof = chap_proof(alloc, start.extra.as_slice())?;
     let ask = Ask::Authenticate {
@@ -74,43 +79,59 @@ fn chap(alloc: Global, key: &Key, slot: Slot, start: Start) -> Result<Step, Allo
         service: start.service,
         proof,
     };
-    Ok(Step::Asks(ask, slot))
+    Ok(Outcome::Asks(ask, slot))
 }
 
-// PAP and CHAP, which need the minor version 1.
-fn proven(alloc: Global, key: &Key, slot: Slot, start: Start) -> Result<Step, AllocError>
-    ensures { IfOk result (λ step. step ≡ step_of key.now (proven_outcome slot start)) }
+fn pap(slot: Slot, start: Start) -> Outcome
+    ensures { result ≡ judging.pap_outcome slot start }
 {
-    if slot.header.version % 16 == 0 {
-        return Ok(errs(key, slot, b"unsupported"));
-    }
-    if start.authen_type != AuthenType::PAP {
-        return chap(alloc, key, slot, start);
-    }
     let ask = Ask::Authenticate {
         user: start.user,
         service: start.service,
         proof: Proof::Plain(start.extra),
     };
-    Ok(Step::Asks(ask, slot))
+    Outcome::Asks(ask, slot)
 }
 
-/// What a START comes to, with so many sessions open.
-pub(crate) fn started(
-    alloc: Global,
-    key: &Key,
-    count: usize,
-    slot: Slot,
-    start: Start,
-) -> Result<Judged, AllocError>
-    ensures { IfOk result (λ judged. judged ≡ judged_of key.now (started_value slot.header start.service start.user) (start_outcome count slot start)) }
+// PAP and CHAP, which need the minor version 1.
+fn at_once(alloc: Global, slot: Slot, start: Start) -> Result<Outcome, AllocError>
+    ensures { IfOk result (λ outcome. outcome ≡ judging.at_once_outcome slot start) }
+{
+    if slot.header.version % 16 == 0 {
+        return Ok(ends(slot, authen_error(b"unsupported")));
+    }
+    if start.authen_type == AuthenType::PAP {
+        return Ok(pap(slot, start));
+    }
+    chap(alloc, slot, start)
+}
+
+// A START that is one, with so many sessions open.
+fn started(alloc: Global, count: usize, slot: Slot, start: Start) -> Result<Outcome, AllocError>
+    ensures { IfOk result (λ outcome. outcome ≡ judging.start_outcome count slot start) }
 {
     if !is_supported(&start) {
-        return Ok(Judged::over(errs(key, slot, b"unsupported")));
+        return Ok(ends(slot, authen_error(b"unsupported")));
     }
     if start.authen_type == AuthenType::ASCII {
-        return Ok(ascii(key, count, slot, start.service, start.user));
+        return Ok(ascii(count, slot, start));
     }
-    let step = proven(alloc, key, slot, start)?;
-    Ok(Judged::over(step))
+    at_once(alloc, slot, start)
+}
+
+/// What the body of a START comes to, with so many sessions open.
+pub(crate) fn judge_start(
+    alloc: Global,
+    count: usize,
+    slot: Slot,
+    body: &[u8],
+) -> Result<Outcome, AllocError>
+    ensures outcome { IfOk result
+        (λ outcome. outcome ≡ judging.start_read count slot (result_ok (start_of body.now))) }
+    ensures memory { OnErr result (IsTrue (is_ok (start_of body.now))) }
+{
+    match well_formed(read_start(alloc, body))? {
+        Some(start) => started(alloc, count, slot, start),
+        None => Ok(breaks(slot)),
+    }
 }

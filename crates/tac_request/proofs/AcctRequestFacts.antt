@@ -2,7 +2,8 @@
 use Rattle.std.proofs.Common.{◌≡◌, ℕ, List, [], ◌∷◌, Result, Ok, Err, refl, ap, ◌∙◌}
 use Rattle.std.specs.Prelude.{IfOk}
 use Rattle.tac_wire.specs.declared.body.BodyFault.{BodyFault}
-use Rattle.tac_wire.specs.Body.{Gives}
+use Rattle.basics.specs.Memory.{GivesUnlessMemory}
+use Rattle.tac_wire.specs.Body.{is_memory}
 use Rattle.tac_request.specs.declared.author_request.AuthorRequest.{AuthorRequest}
 use Rattle.tac_request.specs.declared.acct_request.AcctRequest.{AcctRequest}
 use Rattle.tac_request.specs.AuthorRequest.{author_request_of}
@@ -26,6 +27,6 @@ acct_request_of-acct_request request =
     let fields : AuthorRequest = record { authen_method = request.authen_method; priv_lvl = request.priv_lvl; authen_type = request.authen_type; authen_service = request.authen_service; user = request.user; port = request.port; rem_addr = request.rem_addr; args = request.args } in
     ap (flagged request.flags) (author_request_of-author_request fields)
 
-pub is_found : (body : List ℕ) (r : Result AcctRequest BodyFault) → Gives r (acct_request_of body) → IfOk r (λ request. body ≡ acct_request request)
+pub is_found : (body : List ℕ) (r : Result AcctRequest BodyFault) → GivesUnlessMemory is_memory (λ body. body) r (acct_request_of body) → IfOk r (λ request. body ≡ acct_request request)
 is_found body (Ok request) e = acct_request-found body request e
 is_found body (Err fault) e = tt

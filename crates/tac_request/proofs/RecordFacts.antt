@@ -1,16 +1,17 @@
 -- What the flags of an accounting request mean, and the seconds that digits tell.
-use Rattle.std.proofs.Common.{◌≡◌, ◌≢◌, ℕ, zero, suc, ◌*◌, ◌/◌, ◌%◌, ◌<◌, bit_and, Bool, true, false, cond, List, Some, None, Result, Ok, Err, refl, sym, ◌∙◌, arith, rules}
+use Rattle.std.proofs.Common.{◌≡◌, ◌≢◌, ℕ, zero, suc, ◌*◌, ◌/◌, ◌%◌, ◌<◌, ◌^◌, ltb, length, codes, bit_and, Bool, true, false, cond, List, Some, None, Result, Ok, Err, refl, sym, ◌∙◌, arith, rules}
 use Rattle.std.proofs.lemmas.Nat.Bits.{and_pow, and_high}
 use Rattle.std.specs.Char.{is_ascii_digit}
+use Rattle.std.specs.Fmt.{decimal}
 use Rattle.std.specs.List.{list_all}
 use Rattle.std.specs.Result.{result_ok}
 use Rattle.std.specs.Str.{IsUtf8}
 use Rattle.std.specs.Str.Parse.{digits_value, ParsesUnsigned}
 use Rattle.std.proofs.lemmas.Bool.{and_parts, lt-ltb, ltb-true, false≢true}
-use Rattle.std.proofs.lemmas.Fmt.{IsAscii-from_digits}
+use Rattle.std.proofs.lemmas.Fmt.{IsAscii-from_digits, decimal_is_IsNumeral, decimal_nonempty, digits_decimal}
 use Rattle.std.proofs.lemmas.Str.{IsUtf8-from_ascii}
 use Rattle.std.proofs.lemmas.Str.Parse.{IsNumeralModel, numerals_by_value, parse_digits}
-use Rattle.tac_request.specs.Record.{kind_of, seconds_of}
+use Rattle.tac_request.specs.Record.{kind_of, seconds_of, first_under, elapsed_of}
 
 -- the three flags are those of what the mask leaves
 same_bits : (flags : ℕ) → bit_and flags 14 ≡ flags / 2 % 8 * 2 → (bit_and flags 2 ≡ bit_and (bit_and flags 14) 2) × (bit_and flags 4 ≡ bit_and (bit_and flags 14) 4) × (bit_and flags 8 ≡ bit_and (bit_and flags 14) 8)
@@ -72,3 +73,16 @@ seconds_of-parsed {E} text (Err error) all parses =
 -- digits are text
 pub digits-IsUtf8 : (text : List ℕ) → list_all is_ascii_digit text ≡ true → IsUtf8 text
 digits-IsUtf8 text all = IsUtf8-from_ascii text (IsAscii-from_digits text (digits.to text all))
+
+-- the digits of a number tell it
+seconds_of-decimal : (n : ℕ) → n < 2 ^ 32 → seconds_of (decimal n) ≡ Some n
+seconds_of-decimal n small =
+    let value : digits_value 10 (decimal n) ≡ n = (decimal_is_IsNumeral n (omega arith)).1 in
+    let all : list_all is_ascii_digit (decimal n) ≡ true = digits_decimal digits n (omega arith) in
+    let some : ltb 0 (length (decimal n)) ≡ true = lt-ltb _ _ (decimal_nonempty n (omega arith)) in
+    let fits : ltb n (2 ^ 32) ≡ true = lt-ltb _ _ small in
+    rw (value, all, some, fits) refl
+
+-- printed seconds are read as themselves
+pub elapsed_of-decimal : (args : List (List ℕ)) (n : ℕ) → n < 2 ^ 32 → first_under (codes "elapsed_time") args ≡ Some (decimal n) → elapsed_of args ≡ n
+elapsed_of-decimal args n small e = rw (e, seconds_of-decimal n small) refl

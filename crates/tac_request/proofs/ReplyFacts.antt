@@ -1,5 +1,5 @@
 -- The level of a reply, and a reply and the body that spells it.
-use Rattle.std.proofs.Common.{◌≡◌, ℕ, zero, suc, ◌+◌, ◌/◌, ◌%◌, ◌<◌, ◌≤◌, Bool, true, false, cond, ltb, eqb, List, [], ◌∷◌, ◌++◌, Option, Some, None, length, get_or, map, take, drop, sum, Result, Ok, Err, refl, sym, ap, subst, ◌∙◌, append_assoc, arith, inl, inr, ◌&&◌, ◌||◌}
+use Rattle.std.proofs.Common.{◌≡◌, ℕ, zero, suc, ◌+◌, ◌<◌, ◌≤◌, Bool, true, false, cond, ltb, eqb, List, [], ◌∷◌, ◌++◌, Option, Some, None, length, get_or, map, take, drop, sum, Result, Ok, Err, refl, sym, ap, subst, ◌∙◌, append_assoc, arith, ◌&&◌, ◌||◌}
 use Rattle.std.specs.Prelude.{IfOk, IfSome}
 use Rattle.std.specs.List.{concat}
 use Rattle.std.specs.Fmt.{decimal}
@@ -7,13 +7,13 @@ use Rattle.std.specs.Int.{w16, to_be_bytes, from_be_bytes}
 use Rattle.std.specs.Option.{option_map, ok_or}
 use Rattle.std.specs.Str.{bytes_eq}
 use Rattle.std.specs.Str.Parse.{digits_value}
-use Rattle.std.proofs.lemmas.Bool.{cases_lt, and_parts, or_parts, ltb-true, ltb-false, lt-ltb, le-ltb, eqb-true, eq-eqb, false≢true}
+use Rattle.std.proofs.lemmas.Bool.{and_parts, or_parts, ltb-true, ltb-false, lt-ltb, le-ltb, eqb-true, eq-eqb, false≢true}
 use Rattle.std.proofs.lemmas.List.{take_at, drop_at, take_all, take-append-drop, length-append, length-take, length-drop, length-map}
 use Rattle.std.proofs.lemmas.Nat.{be_bytes_2, from_be_bytes-to_be_bytes_2}
 use Rattle.std.specs.Bool.{then_some}
 use Rattle.std.proofs.lemmas.Option.{cond_some, same_Some}
 use Rattle.std.proofs.lemmas.Slice.Eq.{bytes_eq-Decides}
-use Rattle.std.proofs.lemmas.Fmt.{decimal_is_IsNumeral, decimal_digit, decimal_step}
+use Rattle.std.proofs.lemmas.Fmt.{decimal_is_IsNumeral}
 use Rattle.tac_wire.specs.declared.body.BodyFault.{BodyFault}
 use Rattle.tac_wire.specs.declared.body.BodyFault.TheVariants.{Short, LengthSum, TooLong}
 use Rattle.tac_wire.specs.Cut.{cut}
@@ -21,33 +21,6 @@ use Rattle.tac_wire.proofs.CutFacts.{concat-cut, lengths-cut, length-cut, cut-co
 use Rattle.tac_request.specs.declared.author_reply.AuthorReply.{AuthorReply}
 use Rattle.tac_request.specs.AuthorReply.{level_argument, level_arguments, level_of, level_among, msg_len, data_len, lengths_of, fields_of, author_reply, author_reply_of}
 use Rattle.tac_request.proofs.RequestFacts.{sum-cons, sum-lengths}
-
--- ---- the digits of a level
-
-pub decimal_two : (n : ℕ) → 10 ≤ n → n < 100 → decimal n ≡ (48 + n / 10 % 10) ∷ (48 + n % 10) ∷ []
-decimal_two n low high =
-    let tens : n / 10 ≡ n / 10 % 10 = omega arith in
-    rw (decimal_step n low (omega arith), decimal_digit (n / 10) (omega arith)) (ap (λ (k : ℕ). (48 + k) ∷ (48 + n % 10) ∷ []) tens)
-
-pub decimal_three : (n : ℕ) → 100 ≤ n → n < 256 → decimal n ≡ (48 + n / 100) ∷ (48 + n / 10 % 10) ∷ (48 + n % 10) ∷ []
-decimal_three n low high =
-    let hundreds : n / 10 / 10 ≡ n / 100 = omega arith in
-    rw (decimal_step n (omega arith) (omega arith), decimal_step (n / 10) (omega arith) (omega arith), decimal_digit (n / 10 / 10) (omega arith))
-    (ap (λ (k : ℕ). (48 + k) ∷ (48 + n / 10 % 10) ∷ (48 + n % 10) ∷ []) hundreds)
-
--- one digit after another: hundreds from 100, tens from 10, and ones
-pub level_argument_by_digits : (n : ℕ) (name first second all : List ℕ) → n < 256 → (100 ≤ n → first ≡ name ++ (48 + n / 100) ∷ []) → (n < 100 → first ≡ name) → (10 ≤ n → second ≡ first ++ (48 + n / 10 % 10) ∷ [])
-    → (n < 10 → second ≡ first) → all ≡ second ++ (48 + n % 10) ∷ [] → all ≡ name ++ decimal n
-level_argument_by_digits n name first second all small hundreds none tens one last =
-    elim (cases_lt n 10) [
-      | inl below ↦
-          let small_digit : n % 10 ≡ n = omega arith in
-          rw (decimal_digit n below) (last ∙ rw (one below, none (omega arith), small_digit) refl)
-      | inr ten ↦ elim (cases_lt n 100) [
-        | inl below ↦ rw (decimal_two n ten below) (last ∙ rw (tens ten, none below, append_assoc) refl)
-        | inr hundred ↦ rw (decimal_three n hundred small) (last ∙ rw (tens ten, hundreds hundred) (simp append_assoc))
-      ]
-    ]
 
 -- ---- the level in an argument
 

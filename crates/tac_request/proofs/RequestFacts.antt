@@ -7,7 +7,8 @@ use Rattle.std.proofs.lemmas.List.{take_at, drop_at, take-append-drop, length-ap
 use Rattle.std.proofs.lemmas.List.Sums.{sum_by-cons}
 use Rattle.tac_wire.specs.declared.body.BodyFault.{BodyFault}
 use Rattle.tac_wire.specs.declared.body.BodyFault.TheVariants.{Short, LengthSum}
-use Rattle.tac_wire.specs.Body.{Gives}
+use Rattle.basics.specs.Memory.{GivesUnlessMemory}
+use Rattle.tac_wire.specs.Body.{is_memory}
 use Rattle.tac_wire.specs.Cut.{cut}
 use Rattle.tac_wire.proofs.CutFacts.{concat-cut, lengths-cut, length-cut, cut-concat}
 use Rattle.tac_request.specs.declared.author_request.AuthorRequest.{AuthorRequest}
@@ -117,6 +118,6 @@ author_request_of-author_request request =
     let fielded : answer (length fields) parts ≡ answer (length fields) (user ∷ port ∷ rem_addr ∷ args) = ap (answer (length fields)) again in
     summed ∙ fielded ∙ rw (long, whole) refl
 
-pub is_found : (body : List ℕ) (r : Result AuthorRequest BodyFault) → Gives r (author_request_of body) → IfOk r (λ request. body ≡ author_request request)
+pub is_found : (body : List ℕ) (r : Result AuthorRequest BodyFault) → GivesUnlessMemory is_memory (λ body. body) r (author_request_of body) → IfOk r (λ request. body ≡ author_request request)
 is_found body (Ok request) e = author_request-found body request e
 is_found body (Err fault) e = tt

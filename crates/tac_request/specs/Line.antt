@@ -34,3 +34,9 @@ line_of args =
     if list_all has_sign args
     then shell_line (slice_get (values_under (codes "service") args) 0) (slice_get (values_under (codes "cmd") args) 0) (values_under (codes "cmd-arg") args)
     else BadArgument
+
+-- the arguments make a line
+abbrev pub IsLine : LineOf → Type 0
+IsLine (Line line) = Unit {0}
+IsLine BadArgument = ⊥
+IsLine NotShell = ⊥

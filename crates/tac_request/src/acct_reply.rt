@@ -3,9 +3,8 @@
 ghost use Rattle.std.specs.Prelude.{◌≡◌, ◌≤◌, length, IfOk, Ok};
 ghost use Rattle.tac_request.specs.AcctReply.{acct_reply, acct_reply_of};
 
-use crate::author_reply::MSG_MAX;
 use arrayvec::ArrayVec;
-use tac_wire::BodyFault;
+use tac_wire::{BodyFault, MESSAGE_MAX, Message, REPLY_MAX, message_of};
 
 /// Whether a record was taken (RFC 8907, section 7.2). Numbers without a name are read as they are.
 #[derive(Clone, Copy, Debug, PartialEq, Eq)]
@@ -22,13 +21,14 @@ impl AcctStatus {
 pub struct AcctReply {
     pub status: AcctStatus,
     /// The field server_msg.
-    pub msg: ArrayVec<u8, 64>,
+    pub msg: Message,
 }
 
 // The spelling, with what the type of a text says of it.
 fn spelled(reply: &AcctReply) -> ArrayVec<u8, 96>
     ensures value { result.items ≡ acct_reply reply.now }
-    ensures short { length reply.now.msg.items ≤ 64 }
+    ensures fits { length result.items ≤ REPLY_MAX }
+    ensures short { length reply.now.msg.items ≤ MESSAGE_MAX }
 {
     let msg = reply.msg.as_slice();
     let [high, low] = (msg.len() as u16).to_be_bytes();
@@ -43,6 +43,7 @@ fn spelled(reply: &AcctReply) -> ArrayVec<u8, 96>
 /// The one spelling of a reply (RFC 8907, section 7.2). Takes no memory.
 pub fn write_acct_reply(reply: &AcctReply) -> ArrayVec<u8, 96>
     ensures value { result.items ≡ acct_reply reply.now }
+    ensures fits { length result.items ≤ REPLY_MAX }
     // What was written is read again.
     ensures again { acct_reply_of result.items ≡ Ok reply.now }
 {
@@ -62,14 +63,12 @@ fn read_fields(body: &[u8]) -> Result<AcctReply, BodyFault>
     if fields.len() != msg_len + data_len {
         return Err(BodyFault::LengthSum);
     }
-    if msg_len > MSG_MAX || data_len > 0 {
+    if msg_len > MESSAGE_MAX || data_len > 0 {
         return Err(BodyFault::TooLong);
     }
-    let mut msg = ArrayVec::new();
-    msg.try_extend_from_slice(fields).unwrap();
     Ok(AcctReply {
         status: AcctStatus(fixed[4]),
-        msg,
+        msg: message_of(fields),
     })
 }
 
@@ -83,7 +82,7 @@ pub fn read_acct_reply(body: &[u8]) -> Result<AcctReply, BodyFault>
     // No byte is lost, and none ignored.
     ensures found { IfOk result (λ reply. body.now ≡ acct_reply reply) }
     // Each body that spells a reply of this server is read.
-    ensures only { (reply : AcctReply) → length reply.msg.items ≤ 64 →
+    ensures only { (reply : AcctReply) → length reply.msg.items ≤ MESSAGE_MAX →
         body.now ≡ acct_reply reply → result ≡ Ok reply }
 {
     read_fields(body)

@@ -1,7 +1,9 @@
 //! Bodies of accounting requests.
 
-ghost use Rattle.std.specs.Prelude.{◌≡◌, IfOk, Ok};
-ghost use Rattle.tac_wire.specs.Body.{Gives};
+ghost use Rattle.std.specs.Prelude.{◌≡◌, IfOk, IsOk, Ok, Err};
+ghost use Rattle.basics.specs.Memory.{GivesUnlessMemory};
+ghost use Rattle.tac_wire.specs.declared.body.BodyFault.TheVariants.{Memory};
+ghost use Rattle.tac_wire.specs.Body.{is_memory};
 ghost use Rattle.tac_request.specs.AcctRequest.{acct_request, acct_request_of};
 
 use crate::author_request::{AuthorRequest, read_author_request};
@@ -25,7 +27,8 @@ pub struct AcctRequest {
 
 // The flags, and behind them the fields that an authorisation request has too.
 fn read_fields(alloc: Global, body: &[u8]) -> Result<AcctRequest, BodyFault>
-    ensures { Gives result (acct_request_of body.now) }
+    ensures exact { GivesUnlessMemory is_memory (λ body. body) result (acct_request_of body.now) }
+    ensures memory { result ≡ Err Memory → IsOk (acct_request_of body.now) }
 {
     let Some((flags, rest)) = body.split_first() else {
         return Err(BodyFault::Short);
@@ -56,14 +59,17 @@ fn read_fields(alloc: Global, body: &[u8]) -> Result<AcctRequest, BodyFault>
 /// The request that a body spells (RFC 8907, section 7.1).
 ///
 /// `Short` where the fixed part, with the lengths of the arguments, isn't whole; `LengthSum` where
-/// the lengths don't add up to the body's; `Memory` in place of any answer where memory ran out.
+/// the lengths don't add up to the body's; `Memory` where memory ran out for the
+/// fields of a body that is one.
 pub fn read_acct_request(alloc: Global, body: &[u8]) -> Result<AcctRequest, BodyFault>
-    ensures exact { Gives result (acct_request_of body.now) }
+    ensures exact { GivesUnlessMemory is_memory (λ body. body) result (acct_request_of body.now) }
+    // A refusal is given without fail: only a body of its kind takes memory.
+    ensures memory { result ≡ Err Memory → IsOk (acct_request_of body.now) }
     // No byte is lost, and none ignored.
     ensures found { IfOk result (λ request. body.now ≡ acct_request request) }
     // Each body that spells a request is read, unless memory runs out.
     ensures only { (request : AcctRequest) → body.now ≡ acct_request request →
-        Gives result (Ok request) }
+        GivesUnlessMemory is_memory (λ body. body) result (Ok request) }
 {
     read_fields(alloc, body)
 }

@@ -8,7 +8,7 @@ ghost use Rattle.tac_wire.specs.Cut.{cut};
 
 use crate::author_request::total;
 use arrayvec::ArrayVec;
-use tac_wire::BodyFault;
+use tac_wire::{BodyFault, MESSAGE_MAX, Message, REPLY_MAX, decimal_digits, message_of};
 
 /// What is decided (RFC 8907, section 6.2). Numbers without a name are read as they are.
 #[derive(Clone, Copy, Debug, PartialEq, Eq)]
@@ -29,16 +29,13 @@ impl AuthorStatus {
 pub struct AuthorReply {
     pub status: AuthorStatus,
     /// The field server_msg.
-    pub msg: ArrayVec<u8, 64>,
+    pub msg: Message,
     /// The level of the argument `priv-lvl`, where there is one.
     pub priv_lvl: Option<u8>,
 }
 
 /// The name and the sign of the argument that carries a level.
 const LEVEL_NAME: &[u8] = b"priv-lvl=";
-
-/// How many bytes a server_msg has at most.
-pub(crate) const MSG_MAX: usize = 64;
 
 // Adds bytes for which there is room.
 fn put(body: &mut ArrayVec<u8, 96>, bytes: &[u8])
@@ -54,13 +51,9 @@ fn level_argument(level: u8) -> ArrayVec<u8, 12>
 {
     let mut argument = ArrayVec::new();
     argument.try_extend_from_slice(LEVEL_NAME).unwrap();
-    if level >= 100 {
-        argument.push(b'0' + level / 100);
-    }
-    if level >= 10 {
-        argument.push(b'0' + level / 10 % 10);
-    }
-    argument.push(b'0' + level % 10);
+    argument
+        .try_extend_from_slice(decimal_digits(u16::from(level)).as_slice())
+        .unwrap();
     argument
 }
 
@@ -99,7 +92,8 @@ fn level_among(lengths: &[u8], argument: &[u8]) -> Option<Option<u8>>
 // The spelling, with what the types of a reply say of it.
 fn spelled(reply: &AuthorReply) -> ArrayVec<u8, 96>
     ensures value { result.items ≡ author_reply reply.now }
-    ensures short { length reply.now.msg.items ≤ 64 }
+    ensures fits { length result.items ≤ REPLY_MAX }
+    ensures short { length reply.now.msg.items ≤ MESSAGE_MAX }
     ensures small { IfSome reply.now.priv_lvl (λ level. level < 256) }
 {
     let msg = reply.msg.as_slice();
@@ -124,6 +118,7 @@ fn spelled(reply: &AuthorReply) -> ArrayVec<u8, 96>
 /// The one spelling of a reply (RFC 8907, section 6.2). Takes no memory.
 pub fn write_author_reply(reply: &AuthorReply) -> ArrayVec<u8, 96>
     ensures value { result.items ≡ author_reply reply.now }
+    ensures fits { length result.items ≤ REPLY_MAX }
     // What was written is read again.
     ensures again { author_reply_of result.items ≡ Ok reply.now }
 {
@@ -148,16 +143,14 @@ fn read_fields(body: &[u8]) -> Result<AuthorReply, BodyFault>
     if fields.len() != msg_len + data_len + total(lengths) as usize {
         return Err(BodyFault::LengthSum);
     }
-    if msg_len > MSG_MAX || data_len > 0 {
+    if msg_len > MESSAGE_MAX || data_len > 0 {
         return Err(BodyFault::TooLong);
     }
     let (text, argument) = fields.split_at(msg_len);
     let priv_lvl = level_among(lengths, argument).ok_or(BodyFault::TooLong)?;
-    let mut msg = ArrayVec::new();
-    msg.try_extend_from_slice(text).unwrap();
     Ok(AuthorReply {
         status: AuthorStatus(fixed[0]),
-        msg,
+        msg: message_of(text),
         priv_lvl,
     })
 }
@@ -172,7 +165,7 @@ pub fn read_author_reply(body: &[u8]) -> Result<AuthorReply, BodyFault>
     // No byte is lost, and none ignored.
     ensures found { IfOk result (λ reply. body.now ≡ author_reply reply) }
     // Each body that spells a reply of this server is read.
-    ensures only { (reply : AuthorReply) → length reply.msg.items ≤ 64 →
+    ensures only { (reply : AuthorReply) → length reply.msg.items ≤ MESSAGE_MAX →
         IfSome reply.priv_lvl (λ level. level < 256) → body.now ≡ author_reply reply →
         result ≡ Ok reply }
 {

@@ -1,7 +1,9 @@
 //! Bodies of authorisation requests.
 
-ghost use Rattle.std.specs.Prelude.{◌≡◌, ◌≤◌, length, sum, IfOk, Ok};
-ghost use Rattle.tac_wire.specs.Body.{Gives};
+ghost use Rattle.std.specs.Prelude.{◌≡◌, ◌≤◌, length, sum, IfOk, IsOk, Ok, Err};
+ghost use Rattle.basics.specs.Memory.{GivesUnlessMemory};
+ghost use Rattle.tac_wire.specs.declared.body.BodyFault.TheVariants.{Memory};
+ghost use Rattle.tac_wire.specs.Body.{is_memory};
 ghost use Rattle.tac_request.specs.AuthorRequest.{author_request, author_request_of};
 
 use basics::{Bytes, Sequence};
@@ -31,7 +33,8 @@ pub(crate) fn total(lengths: &[u8]) -> u32
 
 // Each fault in its order.
 fn read_fields(alloc: Global, body: &[u8]) -> Result<AuthorRequest, BodyFault>
-    ensures { Gives result (author_request_of body.now) }
+    ensures exact { GivesUnlessMemory is_memory (λ body. body) result (author_request_of body.now) }
+    ensures memory { result ≡ Err Memory → IsOk (author_request_of body.now) }
 {
     if body.len() < 8 {
         return Err(BodyFault::Short);
@@ -68,14 +71,17 @@ fn read_fields(alloc: Global, body: &[u8]) -> Result<AuthorRequest, BodyFault>
 /// The request that a body spells (RFC 8907, section 6.1).
 ///
 /// `Short` where the fixed part, with the lengths of the arguments, isn't whole; `LengthSum` where
-/// the lengths don't add up to the body's; `Memory` in place of any answer where memory ran out.
+/// the lengths don't add up to the body's; `Memory` where memory ran out for the
+/// fields of a body that is one.
 pub fn read_author_request(alloc: Global, body: &[u8]) -> Result<AuthorRequest, BodyFault>
-    ensures exact { Gives result (author_request_of body.now) }
+    ensures exact { GivesUnlessMemory is_memory (λ body. body) result (author_request_of body.now) }
+    // A refusal is given without fail: only a body of its kind takes memory.
+    ensures memory { result ≡ Err Memory → IsOk (author_request_of body.now) }
     // No byte is lost, and none ignored.
     ensures found { IfOk result (λ request. body.now ≡ author_request request) }
     // Each body that spells a request is read, unless memory runs out.
     ensures only { (request : AuthorRequest) → body.now ≡ author_request request →
-        Gives result (Ok request) }
+        GivesUnlessMemory is_memory (λ body. body) result (Ok request) }
 {
     read_fields(alloc, body)
 }

@@ -1,9 +1,9 @@
 //! The command line that a request is about.
 
-ghost use Rattle.std.specs.Prelude.{◌≡◌, ◌++◌, IfOk, OnOk, slice_get};
+ghost use Rattle.std.specs.Prelude.{◌≡◌, ◌++◌, IfOk, OnOk, OnErr, slice_get};
 ghost use Rattle.std.specs.Option.{option_copied};
 ghost use Rattle.std.specs.List.{flat_map, list_all};
-ghost use Rattle.tac_request.specs.Line.{has_sign, value_under as value_of, values_under, spaced, line_of};
+ghost use Rattle.tac_request.specs.Line.{has_sign, value_under as value_of, values_under, spaced, IsLine, line_of};
 
 use crate::argument::split_arg;
 use basics::Bytes;
@@ -53,7 +53,8 @@ pub(crate) fn first_value<'a>(args: &'a [Bytes], name: &[u8]) -> Option<&'a [u8]
 
 // Adds each `cmd-arg` behind a space.
 fn add_cmd_args(line: &mut Bytes, args: &[Bytes]) -> Result<(), AllocError>
-    ensures { OnOk result (line.new ≡ line.old ++ flat_map spaced (values_under CMD_ARG.now args.now)) }
+    ensures { OnOk result
+        (line.new ≡ line.old ++ flat_map spaced (values_under CMD_ARG.now args.now)) }
 {
     for argument in args {
         if let Some(value) = value_under(argument.as_slice(), CMD_ARG) {
@@ -67,7 +68,9 @@ fn add_cmd_args(line: &mut Bytes, args: &[Bytes]) -> Result<(), AllocError>
 /// The command line that a request's arguments make (RFC 8907, section 6.1): the value of the first
 /// `cmd`, and for each `cmd-arg` a space and its value. The error is want of memory.
 pub fn request_line(alloc: Global, args: &[Bytes]) -> Result<LineOf, AllocError>
-    ensures { IfOk result (λ line. line ≡ line_of args.now) }
+    ensures value { IfOk result (λ line. line ≡ line_of args.now) }
+    // Only a line takes memory.
+    ensures memory { OnErr result (IsLine (line_of args.now)) }
 {
     if !are_arguments(args) {
         return Ok(LineOf::BadArgument);

@@ -1,14 +1,15 @@
 //! What is recorded.
 
-ghost use Rattle.std.specs.Prelude.{◌≡◌, IfOk};
+ghost use Rattle.std.specs.Prelude.{◌≡◌, ◌<◌, ◌^◌, ℕ, IfOk, Some};
+ghost use Rattle.std.specs.Fmt.{decimal};
 ghost use Rattle.std.specs.Char.{is_ascii_digit};
 ghost use Rattle.std.specs.List.{list_all};
-ghost use Rattle.tac_request.specs.Record.{kind_of, seconds_of, task_of, elapsed_of, text_line, record_of};
+ghost use Rattle.tac_request.specs.Record.{kind_of, seconds_of, first_under, task_of, elapsed_of, text_line, record_of};
 ghost use Rattle.tac_request.specs.Line.{line_of};
 
 use crate::acct_request::AcctRequest;
 use crate::line::{LineOf, first_value, request_line};
-use basics::{Bytes, is_text};
+use basics::{Bytes, StructuralEq, is_text};
 use std::alloc::{AllocError, Global};
 
 /// What an accounting record tells of (RFC 8907, section 7.1).
@@ -48,7 +49,7 @@ pub fn acct_kind(flags: u8) -> Option<AcctKind>
 }
 
 /// An accounting record: what this server keeps of an accounting request.
-#[derive(Debug, Drop)]
+#[derive(Debug, Drop, PartialEq, Eq)]
 pub struct Record {
     pub user: Bytes,
     pub kind: AcctKind,
@@ -58,6 +59,12 @@ pub struct Record {
     pub elapsed: u32,
     /// The command line, where the arguments make one of symbols alone.
     pub line: Option<Bytes>,
+}
+
+impl StructuralEq for Record {
+    ghost use Rattle.std.proofs.Common.{rules};
+
+    ghost identical = { Prim.search rules };
 }
 
 fn are_digits(bytes: &[u8]) -> bool
@@ -80,6 +87,15 @@ fn seconds(digits: &[u8]) -> Option<u32>
     }
 }
 
+fn copy_line(alloc: Global, line: &Option<Bytes>) -> Result<Option<Bytes>, AllocError>
+    ensures { IfOk result (λ copy. copy ≡ line.now) }
+{
+    match line {
+        Some(line) => Ok(Some(line.copy(alloc)?)),
+        None => Ok(None),
+    }
+}
+
 // The value of the first `task_id`.
 fn task_id(alloc: Global, args: &[Bytes]) -> Result<Bytes, AllocError>
     ensures { IfOk result (λ task. task ≡ task_of args.now) }
@@ -87,11 +103,14 @@ fn task_id(alloc: Global, args: &[Bytes]) -> Result<Bytes, AllocError>
     Bytes::from_slice(alloc, first_value(args, b"task_id").unwrap_or(&[]))
 }
 
+/// The name of the argument that tells how long a task took.
+const ELAPSED_TIME: &[u8] = b"elapsed_time";
+
 // The seconds of the first `elapsed_time`, which counts even where it tells none.
 fn elapsed_time(args: &[Bytes]) -> u32
     ensures { result ≡ elapsed_of args.now }
 {
-    first_value(args, b"elapsed_time")
+    first_value(args, ELAPSED_TIME)
         .and_then(seconds)
         .unwrap_or(0)
 }
@@ -117,7 +136,11 @@ impl Record {
         request: AcctRequest,
         kind: AcctKind,
     ) -> Result<Record, AllocError>
-        ensures { IfOk result (λ kept. kept ≡ record_of request kind) }
+        ensures value { IfOk result (λ kept. kept ≡ record_of request kind) }
+        // Seconds that a client printed are read as themselves.
+        ensures printed { (n : ℕ) → n < 2 ^ 32 →
+            first_under ELAPSED_TIME.now request.args ≡ Some (decimal n) →
+            IfOk result (λ kept. kept.elapsed ≡ n) }
     {
         let args = request.args.as_slice();
         let task = task_id(alloc, args)?;
@@ -129,6 +152,19 @@ impl Record {
             task,
             elapsed,
             line,
+        })
+    }
+
+    /// An equal record. The error is want of memory.
+    pub fn copy(&self, alloc: Global) -> Result<Record, AllocError>
+        ensures { IfOk result (λ copy. copy ≡ self.now) }
+    {
+        Ok(Record {
+            user: self.user.copy(alloc)?,
+            kind: self.kind,
+            task: self.task.copy(alloc)?,
+            elapsed: self.elapsed,
+            line: copy_line(alloc, &self.line)?,
         })
     }
 }

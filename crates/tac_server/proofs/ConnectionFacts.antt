@@ -7,13 +7,21 @@ use Rattle.tac_wire.specs.declared.frame.FrameFault.{FrameFault}
 use Rattle.tac_wire.specs.declared.framer.Next.{Next}
 use Rattle.tac_wire.specs.declared.framer.Next.TheVariants.{Packet, Need, Fault, Ended}
 use Rattle.tac_wire.specs.Stream.{Parts, Tail, open_end, fault, Pending, unread, ended, Item, whole, refused, unfinished, cut, cut_within, only, first_item, parts_by, behind as before_parts, told, next_of, left_of, left_by, fed, continued, resumed, WasInFront, frame_bytes}
+use Rattle.tac_conn.specs.declared.ask.Ask.{Ask}
+use Rattle.tac_conn.specs.declared.ask.Slot.{Slot}
 use Rattle.tac_conn.specs.declared.conn.Conn.{Conn}
+use Rattle.tac_conn.specs.declared.outcome.Outcome.{Outcome}
+use Rattle.tac_conn.specs.declared.outcome.Outcome.TheVariants.{Question, Reply, Asks, Silent, Close}
+use Rattle.tac_conn.specs.declared.step.Step.TheVariants as steps
 use Rattle.tac_conn.specs.declared.step.Sent.{Sent}
-use Rattle.tac_conn.specs.Standing.{Packet as PacketValue, clear, outcome}
-use Rattle.tac_conn.specs.Kept.{Stands, pending_of, sent}
+use Rattle.tac_conn.specs.declared.packet.Packet.{Packet as PacketValue}
+use Rattle.tac_conn.specs.Packet.{clear, sent}
+use Rattle.tac_conn.specs.History.{outcome}
+use Rattle.tac_conn.specs.Standing.{step_of, Stands, pending_of}
 use Rattle.tac_server.specs.declared.desk.Desk.{Desk}
 use Rattle.tac_server.specs.declared.connection.Connection.{Connection}
-use Rattle.tac_server.specs.Serving.{Said, says, behind, unless_closed, closed_by, said_to, packets_of, said_on}
+use Rattle.tac_server.specs.Desk.{asked}
+use Rattle.tac_server.specs.Serving.{Said, says, answered, behind, unless_closed, closed_by, said_to, packets_of, said_on}
 use Rattle.tac_server.specs.Kept.{sent_under, Serves, IsReply}
 use Rattle.tac_server.proofs.ServingFacts.{said_to-none, said_to-next, said_on-parts, packets_of-next, unless_closed-true, unless_closed-false, behind_behind}
 
@@ -236,3 +244,19 @@ module _ (items : Items) (key : List ℕ) (pending : Pending) (conn : Conn) (des
               ∙ ap (λ (d : Desk). behind (p.replies ++ said_now.sent) (behind_it rest d)) (sym answer.2)
               ∙ ap (λ (ps : List PacketValue). behind (p.replies ++ said_now.sent) (said_to key desk_after ps (cut rest).packets (cut rest).tail)) history;
         }
+
+-- ---- an ask
+
+asks_so : (key : List ℕ) (said : Outcome) (ask : Ask) (slot : Slot) → steps.Asks ask slot ≡ step_of key said → said ≡ Asks ask slot
+asks_so key (Question reply session) ask slot e = absurd cc
+asks_so key (Reply reply ends) ask slot e = absurd cc
+asks_so key (Asks other place) ask slot e =
+    let same : other ≡ ask = cc in
+    let here : place ≡ slot = cc in
+    ap (λ (a : Ask). Asks a place) same ∙ ap (Asks ask) here
+asks_so key Silent ask slot e = absurd cc
+asks_so key Close ask slot e = absurd cc
+
+-- what is said where the desk was asked
+pub says_asked : (key : List ℕ) (desk : Desk) (said : Outcome) (ask : Ask) (slot : Slot) → steps.Asks ask slot ≡ step_of key said → says desk said ≡ answered slot (asked desk ask)
+says_asked key desk said ask slot e = ap (says desk) (asks_so key said ask slot e)

@@ -5,7 +5,7 @@ use Rattle.std.specs.BTreeMap.{BTreeMap, get, is_at}
 use Rattle.std.proofs.lemmas.Bool.{eq-eqb, eqb-true}
 use Rattle.std.proofs.lemmas.List.{map-append, take-append-drop}
 use Rattle.tac_conn.specs.declared.step.Sent.{Sent}
-use Rattle.tac_conn.specs.Kept.{sent}
+use Rattle.tac_conn.specs.Packet.{sent}
 use Rattle.tac_server.specs.declared.desk.Desk.{Desk}
 use Rattle.tac_server.specs.declared.connection.Connection.{Connection}
 use Rattle.tac_server.specs.declared.server.Server.{Server}

@@ -3,7 +3,9 @@ use Rattle.std.proofs.Common.{◌≡◌, ℕ, List, [], ◌∷◌, ◌++◌, len
 use Rattle.std.proofs.lemmas.List.{reverse-append, map-append}
 use Rattle.tac_wire.specs.declared.frame.Frame.{Frame}
 use Rattle.tac_wire.specs.Stream.{Parts, Tail, open_end, fault, cut, continued}
-use Rattle.tac_conn.specs.Standing.{Packet, clear, outcome}
+use Rattle.tac_conn.specs.declared.packet.Packet.{Packet}
+use Rattle.tac_conn.specs.Packet.{clear}
+use Rattle.tac_conn.specs.History.{outcome}
 use Rattle.tac_server.specs.declared.desk.Desk.{Desk}
 use Rattle.tac_server.specs.Serving.{Said, says, behind, unless_closed, closed_by, said_to, packets_of, said_on}
 

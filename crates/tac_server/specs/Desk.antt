@@ -5,13 +5,14 @@ use Rattle.std.specs.Option.{option_and_then}
 use Rattle.std.specs.Str.{bytes_eq}
 use Rattle.tac_wire.specs.Chap.{response_to}
 use Rattle.basics.specs.Symbol.{is_text}
-use Rattle.pol_text.specs.Name.{name_of}
-use Rattle.pol_text.specs.Policy.{user_id, find_subject, decision, level_of}
-use Rattle.pol_text.specs.declared.subject.Verdict.{Verdict}
-use Rattle.pol_text.specs.declared.subject.Verdict.TheVariants.{Permit, Deny}
+use Rattle.pol_names.specs.Name.{name_of}
+use Rattle.pol_names.specs.SubjectId.{user_id}
+use Rattle.pol_text.specs.Policy.{find_subject, decision, level_of}
+use Rattle.pol_names.specs.declared.decision.Verdict.{Verdict}
+use Rattle.pol_names.specs.declared.decision.Verdict.TheVariants.{Permit, Deny}
 use Rattle.pol_text.specs.declared.subject.Subject.{Subject}
-use Rattle.pol_text.specs.declared.subject.Decision.{Decision}
-use Rattle.pol_text.specs.declared.subject.By.{By}
+use Rattle.pol_names.specs.declared.decision.Decision.{Decision}
+use Rattle.pol_names.specs.declared.decision.By.{By}
 use Rattle.tac_authen.specs.declared.start.Service.{Service}
 use Rattle.tac_conn.specs.declared.ask.Ask.{Ask}
 use Rattle.tac_request.specs.declared.record.Record.{Record}

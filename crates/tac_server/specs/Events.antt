@@ -5,7 +5,7 @@ use Rattle.std.specs.List.{flat_map}
 use Rattle.std.specs.Fmt.{decimal}
 use Rattle.hex.specs.Hex.{encode_lower}
 use Rattle.tac_wire.specs.Header.{header_bytes}
-use Rattle.tac_conn.specs.Standing.{Packet}
+use Rattle.tac_conn.specs.declared.packet.Packet.{Packet}
 use Rattle.tac_server.specs.Serving.{Said, said_on}
 use Rattle.tac_server.specs.Server.{Connections, State, with_connection, heard}
 use Rattle.tac_server.specs.declared.event.Event.{Event}

@@ -4,8 +4,9 @@ use Rattle.std.specs.Option.{option_to_list}
 use Rattle.std.specs.BTreeMap.{BTreeMap, get}
 use Rattle.std.specs.Ordering.{nat_cmp}
 use Rattle.tac_wire.specs.Stream.{open_end, unread, cut}
-use Rattle.tac_conn.specs.Standing.{Packet}
-use Rattle.tac_conn.specs.Kept.{Stands, sent, pending_of}
+use Rattle.tac_conn.specs.declared.packet.Packet.{Packet}
+use Rattle.tac_conn.specs.Packet.{sent}
+use Rattle.tac_conn.specs.Standing.{Stands, pending_of}
 use Rattle.tac_conn.specs.declared.step.Sent.{Sent}
 use Rattle.tac_server.specs.Serving.{Said, packets_of, said_on}
 use Rattle.tac_server.specs.Events.{fault_in, text_of, after}

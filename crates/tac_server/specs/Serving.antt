@@ -1,8 +1,14 @@
 -- What the server says on a connection to the bytes that come on it (RFC 8907, section 4).
-use Rattle.std.specs.Prelude.{ℕ, List, [], ◌∷◌, ◌++◌, length, drop, map, reverse, Bool, true, false, if◌then◌else◌}
+use Rattle.std.specs.Prelude.{ℕ, List, [], ◌∷◌, ◌++◌, length, drop, map, reverse, Bool, true, false, not, if◌then◌else◌}
 use Rattle.tac_wire.specs.declared.frame.Frame.{Frame}
 use Rattle.tac_wire.specs.Stream.{Tail, open_end, fault, cut}
-use Rattle.tac_conn.specs.Standing.{Packet, Outcome, question, reply, asks, silent, close, outcome, reply_to, clear, closes_with}
+use Rattle.tac_conn.specs.declared.packet.Packet.{Packet}
+use Rattle.tac_conn.specs.declared.outcome.Outcome.{Outcome}
+use Rattle.tac_conn.specs.declared.outcome.Outcome.TheVariants.{Question, Reply, Asks, Silent, Close}
+use Rattle.tac_conn.specs.Packet.{clear}
+use Rattle.tac_conn.specs.Reply.{packet_of, answer_body}
+use Rattle.tac_conn.specs.Judging.{reply_in}
+use Rattle.tac_conn.specs.History.{outcome}
 use Rattle.tac_conn.specs.declared.ask.Slot.{Slot}
 use Rattle.tac_server.specs.declared.desk.Desk.{Desk}
 use Rattle.tac_server.specs.Desk.{Answered, asked}
@@ -17,15 +23,15 @@ pub record Said : Type 0 where
 
 -- a reply that is the desk's answer
 abbrev pub answered : Slot → Answered → Said
-answered slot told = record { sent = reply_to slot told.answer ∷ []; closes = closes_with slot; desk = told.desk }
+answered slot told = record { sent = packet_of (reply_in slot (answer_body told.answer)) ∷ []; closes = not slot.single; desk = told.desk }
 
 -- what is said to a packet that comes to this
 abbrev pub says : Desk → Outcome → Said
-says desk (question packet) = record { sent = packet ∷ []; closes = false; desk = desk }
-says desk (reply packet closes) = record { sent = packet ∷ []; closes = closes; desk = desk }
-says desk (asks ask slot) = answered slot (asked desk ask)
-says desk silent = record { sent = []; closes = false; desk = desk }
-says desk close = record { sent = []; closes = true; desk = desk }
+says desk (Question reply session) = record { sent = packet_of reply ∷ []; closes = false; desk = desk }
+says desk (Reply reply closes) = record { sent = packet_of reply ∷ []; closes = closes; desk = desk }
+says desk (Asks ask slot) = answered slot (asked desk ask)
+says desk Silent = record { sent = []; closes = false; desk = desk }
+says desk Close = record { sent = []; closes = true; desk = desk }
 
 -- ---- to a stream
 

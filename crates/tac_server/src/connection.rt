@@ -1,9 +1,14 @@
 //! One connection, and what the server says on it.
 
-ghost use Rattle.std.specs.Prelude.{◌≡◌, ◌++◌, ◌∷◌, [], List, ℕ, None, Some, IfOk, OnOk};
+ghost use Rattle.std.specs.Prelude.{◌≡◌, ◌++◌, ◌∷◌, [], List, ℕ, not, None, Some, IfOk, OnOk};
 ghost use Rattle.std.specs.Option.{option_to_list};
-ghost use Rattle.tac_conn.specs.Standing.{Packet, clear, outcome, reply_to as reply_packet, closes_with};
-ghost use Rattle.tac_conn.specs.Kept.{Stands, pending_of, kind_asked, kind_of_ask, sent as sent_value};
+ghost use Rattle.tac_conn.specs.declared.packet.Packet.{Packet};
+ghost use Rattle.tac_conn.specs.Ask.{kind_asked, kind_of_ask};
+ghost use Rattle.tac_conn.specs.Packet.{clear, sent as sent_value};
+ghost use Rattle.tac_conn.specs.Reply.{packet_of, answer_body};
+ghost use Rattle.tac_conn.specs.Judging.{reply_in};
+ghost use Rattle.tac_conn.specs.History.{outcome};
+ghost use Rattle.tac_conn.specs.Standing.{Stands, pending_of};
 ghost use Rattle.tac_server.specs.Desk.{asked};
 ghost use Rattle.tac_server.specs.Serving.{says, unless_closed, said_on};
 ghost use Rattle.tac_server.specs.Kept.{Serves, IsReply, IsSaidTo};
@@ -32,7 +37,7 @@ fn answer_to(
 ) -> Result<(Sent, bool), AllocError>
     requires pending { pending_of conn.old ≡ Some slot }
     requires kind { kind_asked slot ≡ kind_of_ask ask }
-    ensures reply { IfOk result (λ reply. reply ≡ (sent_value key.now (reply_packet slot (asked desk.old ask).answer), closes_with slot)) }
+    ensures reply { IfOk result (λ reply. reply ≡ (sent_value key.now (packet_of (reply_in slot (answer_body (asked desk.old ask).answer))), not slot.single)) }
     ensures desk { OnOk result (desk.new ≡ (asked desk.old ask).desk) }
     ensures pending { OnOk result (pending_of conn.new ≡ None) }
     ensures stands { (packets : List Packet) → Stands conn.old packets → OnOk result (Stands conn.new packets) }
@@ -46,7 +51,6 @@ fn answer_to(
 // What is sent for a packet, if anything, and whether the connection closes. One that still waits
 // for an answer lost it for want of memory, and says no more.
 fn reply_to(
-    alloc: Global,
     key: &Key,
     desk: &mut Desk,
     conn: &mut Conn,
@@ -58,7 +62,7 @@ fn reply_to(
     if conn.pending().is_some() {
         return Ok((None, true));
     }
-    match conn.take(alloc, key, frame)? {
+    match conn.take(key, frame)? {
         Step::Reply(reply, closes) => Ok((Some(reply), closes)),
         Step::Asks(ask, slot) => {
             let (reply, closes) = answer_to(key, desk, conn, ask, slot)?;
@@ -97,7 +101,6 @@ impl Connection {
     /// it completes, and answers whether the connection closes.
     pub(crate) fn take_piece(
         &mut self,
-        alloc: Global,
         key: &Key,
         desk: &mut Desk,
         piece: &[u8],
@@ -116,7 +119,7 @@ impl Connection {
                 Next::Need => return Ok(false),
                 Next::Fault(_) | Next::Ended => return Ok(true),
             };
-            let (reply, closes) = reply_to(alloc, key, desk, &mut self.conn, frame)?;
+            let (reply, closes) = reply_to(key, desk, &mut self.conn, frame)?;
             add(sent, reply)?;
             if closes {
                 return Ok(true);

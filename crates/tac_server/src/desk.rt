@@ -2,15 +2,15 @@
 
 ghost use Rattle.std.specs.Prelude.{◌≡◌, [], IfOk, OnOk};
 ghost use Rattle.std.specs.Option.{option_copied};
-ghost use Rattle.tac_conn.specs.Reply.{kind_of_answer};
-ghost use Rattle.tac_conn.specs.Kept.{kind_of_ask};
+ghost use Rattle.tac_conn.specs.Ask.{kind_of_answer, kind_of_ask};
 ghost use Rattle.tac_server.specs.Desk.{secret_for as secret_value, is_proof_of as proof_test, user_named, authentication as authentication_value, level_for as level_of_line, decided as decided_value, authorisation as authorisation_value, denies as denies_test, stored, asked};
 ghost use Rattle.tac_server.specs.Server.{max_records};
 ghost use Rattle.tac_tally.specs.Recount.{is_denied as denied_test};
 ghost use Rattle.tac_conn.specs.declared.ask.AskKind.TheVariants as AskKind;
 
 use basics::is_text;
-use pol_text::{Decision, Name, Policy, Secret, Subject, SubjectId, Verdict};
+use pol_names::{Decision, Name, Secret, SubjectId, Verdict};
+use pol_text::{Policy, Subject};
 use std::alloc::{AllocError, Global};
 use tac_conn::{Answer, Ask, Proof, Service};
 use tac_tally::{Book, Record, StoreFault};

@@ -103,7 +103,7 @@ impl Server {
         let Some(connection) = self.connections.get_mut(&number) else {
             return Err(ServerFault::NoConnection);
         };
-        let closes = connection.take_piece(self.alloc, &self.key, &mut self.desk, piece, sent)?;
+        let closes = connection.take_piece(&self.key, &mut self.desk, piece, sent)?;
         if closes {
             self.connections.remove(&number);
         }

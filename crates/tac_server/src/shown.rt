@@ -3,8 +3,8 @@
 ghost use Rattle.std.specs.Prelude.{◌≡◌, ◌++◌, List, OnOk, string_bytes};
 ghost use Rattle.std.specs.List.{flat_map};
 ghost use Rattle.tac_wire.specs.Header.{header_bytes};
-ghost use Rattle.tac_conn.specs.Standing.{Packet};
-ghost use Rattle.tac_conn.specs.Kept.{sent as sent_value};
+ghost use Rattle.tac_conn.specs.declared.packet.Packet.{Packet};
+ghost use Rattle.tac_conn.specs.Packet.{sent as sent_value};
 ghost use Rattle.tac_server.specs.Serving.{Said};
 ghost use Rattle.tac_server.specs.Kept.{sent_under};
 ghost use Rattle.tac_server.specs.Events.{reply_line, shown};
@@ -13,14 +13,18 @@ use arrayvec::ArrayVec;
 use std::alloc::{AllocError, Global};
 use std::fmt::Write;
 use tac_conn::Sent;
-use tac_wire::{Key, pad_in_place};
+use tac_wire::{Header, Key, pad_in_place};
 
 // The bytes of a sent packet, with the pad taken off.
 fn clear_bytes(key: &Key, sent: &Sent) -> ArrayVec<u8, 96>
     ensures { (packet : Packet) → sent.now ≡ sent_value key.now packet → result.items ≡ header_bytes packet.header ++ packet.body }
 {
-    let mut bytes = sent.bytes();
-    pad_in_place(&sent.header, key, &mut bytes.as_mut_slice()[12..]);
+    let mut bytes = ArrayVec::new();
+    let Some((head, _)) = sent.as_slice().split_first_chunk::<12>() else {
+        return bytes;
+    };
+    bytes.try_extend_from_slice(sent.as_slice()).unwrap();
+    pad_in_place(&Header::read(head), key, &mut bytes.as_mut_slice()[12..]);
     bytes
 }
 

@@ -5,12 +5,11 @@ use Rattle.std.proofs.lemmas.Bool.{cond-true}
 use Rattle.std.proofs.lemmas.List.{map-append}
 use Rattle.std.proofs.lemmas.List.Elements.{filter-append}
 use Rattle.std.proofs.lemmas.List.Sums.{fold-append}
-use Rattle.pol_text.specs.Policy.{same_kind, same_id, id_of, group_id, chain_ids}
-use Rattle.pol_text.specs.contracts.subject.SubjectIdPartialEq.TheImpl as derived
-use Rattle.pol_text.specs.declared.subject.Kind.TheVariants.{User}
+use Rattle.pol_names.specs.SubjectId.{same_kind, same_id, group_id}
+use Rattle.pol_text.specs.Policy.{id_of, chain_ids}
+use Rattle.pol_names.specs.declared.subject_id.Kind.TheVariants.{User}
 use Rattle.pol_text.specs.declared.subject.Subject.{Subject}
-use Rattle.pol_text.specs.declared.subject.SubjectId.{SubjectId}
-use Rattle.pol_text.proofs.SubjectFacts.{same_is}
+use Rattle.pol_names.specs.declared.subject_id.SubjectId.{SubjectId}
 use Rattle.tac_tally.specs.Book.{Entry}
 use Rattle.tac_tally.specs.Tally.{tally_of, is_user_below, plus, no_tally, IsBelow}
 use Rattle.tac_tally.specs.declared.tally.Tally.{Tally}
@@ -56,16 +55,11 @@ sums-user policy group entries seen n total total' tally s below is small is' h 
   });
 }
 
-same_search : {X : Type 0} (p q : X → Bool) → ((x : X) → p x ≡ q x) → (xs : List X) → list_any p xs ≡ list_any q xs
-same_search p q same [] = refl
-same_search p q same (x ∷ xs) = rw (same x, same_search p q same xs) refl
-
 -- a search of the chain finds the group
 pub chain_holds : (policy : List Subject) (group : List ℕ) (s : Subject) (ids chain : List SubjectId) (id holder : SubjectId) (answer : Bool)
-    → answer ≡ list_any (λ y. derived.eq-value.it y holder) ids → ids ≡ chain → chain ≡ chain_ids policy id → id ≡ id_of s → holder ≡ group_id group → s.kind ≡ User
+    → answer ≡ list_any (λ y. same_id y holder) ids → ids ≡ chain → chain ≡ chain_ids policy id → id ≡ id_of s → holder ≡ group_id group → s.kind ≡ User
     → answer ≡ is_user_below policy group s
 chain_holds policy group s ids chain id holder answer found same is of at user =
     let chain_is = same ∙ is ∙ ap (chain_ids policy) of in
-    found ∙ same_search (λ y. derived.eq-value.it y holder) (λ y. same_id y holder) (λ y. same_is y holder) ids
-    ∙ ap (λ h. list_any (λ y. same_id y h) ids) at ∙ ap (list_any (λ y. same_id y (group_id group))) chain_is
+    found ∙ ap (λ h. list_any (λ y. same_id y h) ids) at ∙ ap (list_any (λ y. same_id y (group_id group))) chain_is
     ∙ ap (λ k. same_kind k User && list_any (λ y. same_id y (group_id group)) (chain_ids policy (id_of s))) (sym user)

@@ -7,3 +7,4 @@ pub mod Scan
 pub mod Groups
 pub mod Marks
 pub mod Settled
+pub mod AllMarks

@@ -45,6 +45,14 @@ with_mark denies users entry = if is_one_of users entry.item.user then record en
 abbrev pub remarked : (List ℕ → List ℕ → Bool) → List (List ℕ) → List Entry → List Entry
 remarked denies users entries = map (with_mark denies users) entries
 
+-- the records, and beside each its mark
+abbrev pub marked : (List ℕ → List ℕ → Bool) → List Record → List Entry
+marked denies records = map (λ item. record { item = item; denied = is_denied denies item }) records
+
+-- for each record its mark anew
+abbrev pub recount_of_all : (List ℕ → List ℕ → Bool) → List Record → List (Option Bool)
+recount_of_all denies records = map (λ item. Some (is_denied denies item)) records
+
 -- each call from f on, at a user and a line, that doesn't run out of memory answers what denies gives
 abbrev pub Computes : {F : Type 0} → Mut F (Bor (List ℕ) × (Bor (List ℕ) × Unit {0})) (Result Bool AllocError) → (List ℕ → List ℕ → Bool) → F → Type 0
 Computes g denies = AlwaysReturns g (λ a r. IfOk r (λ denied. denied ≡ denies a.0.now a.1.0.now))

@@ -5,8 +5,9 @@ use Rattle.std.specs.Str.{bytes_eq}
 use Rattle.tac_request.specs.declared.record.AcctKind.{AcctKind}
 use Rattle.tac_request.specs.declared.record.AcctKind.TheVariants.{Begin, Stop, Watch, Update}
 use Rattle.pol_text.specs.declared.subject.Subject.{Subject}
-use Rattle.pol_text.specs.declared.subject.Kind.TheVariants.{User}
-use Rattle.pol_text.specs.Policy.{same_kind, same_id, id_of, group_id, chain_ids}
+use Rattle.pol_names.specs.declared.subject_id.Kind.TheVariants.{User}
+use Rattle.pol_names.specs.SubjectId.{same_kind, same_id, group_id}
+use Rattle.pol_text.specs.Policy.{id_of, chain_ids}
 use Rattle.tac_tally.specs.Book.{Entry}
 use Rattle.tac_tally.specs.declared.tally.Tally.{Tally}
 

@@ -4,7 +4,7 @@ ghost use Rattle.std.specs.Prelude.{◌≡◌, ◌↔◌, ◌≤◌, [], length,
 ghost use Rattle.tac_tally.specs.declared.book.StoreFault.TheVariants.{Full, Memory};
 ghost use Rattle.tac_tally.specs.Book.{items, IsFull, with_entry};
 
-use std::alloc::{AllocError, AllocFailed, Global};
+use std::alloc::{AllocFailed, Global};
 use std::marker::Model;
 use tac_request::Record;
 
@@ -17,14 +17,6 @@ pub enum StoreFault {
     Memory,
 }
 
-impl From<AllocError> for StoreFault {
-    ghost from_gives = { λ _ fault. fault ≡ Memory };
-
-    fn from(_error: AllocError) -> StoreFault {
-        StoreFault::Memory
-    }
-}
-
 impl<T: Drop> From<AllocFailed<T>> for StoreFault {
     ghost from_gives = { λ _ fault. fault ≡ Memory };
 
@@ -33,8 +25,8 @@ impl<T: Drop> From<AllocFailed<T>> for StoreFault {
     }
 }
 
-/// Accounting records in the order in which they came, at most so many. Beside each stands its mark:
-/// whether the present policy denies its line.
+/// Accounting records in the order in which they came, at most so many. Beside each stands its
+/// mark: whether the present policy denies its line.
 #[derive(Drop)]
 pub struct Book {
     pub(crate) records: Vec<Record>,
@@ -49,9 +41,13 @@ impl Model for Book {
 
     ghost Value = { Contents };
 
-    ghost view = { λ book. record { entries = beside book.records.items book.marks.items; limit = book.limit } };
+    ghost view = { λ book. record {
+      entries = beside book.records.items book.marks.items;
+      limit = book.limit;
+    } };
 
-    ghost invariant = { λ book. (length book.marks.items ≡ length book.records.items) × (length book.records.items ≤ book.limit) };
+    ghost invariant = { λ book. (length book.marks.items ≡ length book.records.items)
+        × (length book.records.items ≤ book.limit) };
 }
 
 impl Book {
@@ -104,8 +100,8 @@ impl Book {
         self.records.len() >= self.limit
     }
 
-    /// Stores a record behind the others, with its mark: whether the present policy denies its line,
-    /// false where it has none. A repeat is another record. Amortised constant time.
+    /// Stores a record behind the others, with its mark: whether the present policy denies its
+    /// line, false where it has none. A repeat is another record. Amortised constant time.
     pub fn store(&mut self, record: Record, denied: bool) -> Result<(), StoreFault>
         ensures ok { OnOk result (self.new ≡ with_entry «record» denied self.old) }
 

@@ -7,7 +7,8 @@ ghost use Rattle.tac_tally.specs.Counting.{HoldsOpen};
 
 use crate::book::Book;
 use crate::tally::Tally;
-use pol_text::{Kind, Name, Policy, Subject, SubjectId};
+use pol_names::{Kind, Name, SubjectId};
+use pol_text::{Policy, Subject};
 use std::alloc::{AllocError, Global};
 use std::collections::BTreeSet;
 use tac_request::{AcctKind, Record};
@@ -15,7 +16,8 @@ use tac_request::{AcctKind, Record};
 // One more record of a user, whose open tasks the set holds.
 fn turn<'a>(open: &mut BTreeSet<&'a [u8]>, record: &'a Record) -> Result<(), AllocError>
     ensures { (entries : List Entry) (denied : Bool) → HoldsOpen «record».now.user entries open.old
-        → OnOk result (HoldsOpen «record».now.user (entries ++ record { item = «record».now; denied = denied } ∷ []) open.new) }
+        → OnOk result (HoldsOpen «record».now.user
+        (entries ++ record { item = «record».now; denied = denied } ∷ []) open.new) }
 {
     match record.kind {
         AcctKind::Begin => {
@@ -38,7 +40,8 @@ fn tally_in(
     marks: &[bool],
 ) -> Result<Tally, AllocError>
     requires { length marks.now ≡ length records.now }
-    ensures value { IfOk result (λ tally. tally ≡ tally_of user.now (beside records.now marks.now)) }
+    ensures value { IfOk result
+        (λ tally. tally ≡ tally_of user.now (beside records.now marks.now)) }
     ensures small { IfOk result (IsBelow (2 ^ 96)) }
 {
     let mut tally = Tally::NONE;
@@ -87,8 +90,8 @@ impl Book {
     }
 
     /// The sum of the tallies of the policy's users whose chain holds the group: those of the group
-    /// itself, and of the groups below it. Records of users that aren't in the policy don't count, and
-    /// a group that isn't there has no users. The error is want of memory.
+    /// itself, and of the groups below it. Records of users that aren't in the policy don't count,
+    /// and a group that isn't there has no users. The error is want of memory.
     /// One pass over all records for each of these users.
     pub fn group_tally(
         &self,
@@ -96,7 +99,8 @@ impl Book {
         policy: &Policy,
         group: &Name,
     ) -> Result<Tally, AllocError>
-        ensures { IfOk result (λ tally. tally ≡ group_tally_of policy.now group.now self.now.entries) }
+        ensures { IfOk result
+            (λ tally. tally ≡ group_tally_of policy.now group.now self.now.entries) }
     {
         let mut total = Tally::NONE;
         'subjects: for subject in policy.subjects() {

@@ -128,6 +128,13 @@ abbrev pub next_of : Pending → Next
 next_of (unread bytes) = told (first_item bytes)
 next_of ended = Ended
 
+-- a packet is told
+abbrev pub IsPacket : Next → Type 0
+IsPacket (Packet frame) = Unit {0}
+IsPacket Need = ⊥
+IsPacket (Fault reason) = ⊥
+IsPacket Ended = ⊥
+
 -- what is left of these bytes once their first item was told
 abbrev pub left_by : Item → List ℕ → Pending
 left_by (whole frame rest) bytes = unread rest

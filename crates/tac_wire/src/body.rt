@@ -1,11 +1,16 @@
 //! What the readers of bodies share.
 
-ghost use Rattle.std.specs.Prelude.{◌≡◌, ◌≤◌, length, sum, IfOk};
+ghost use Rattle.std.specs.Prelude.{◌≡◌, ◌↔◌, ◌≤◌, length, sum, Result, Err, IfOk, IsErr};
+ghost use Rattle.std.specs.Result.{result_ok};
+ghost use Rattle.basics.specs.Memory.{GivesUnlessMemory};
+ghost use Rattle.tac_wire.specs.declared.body.BodyFault.{BodyFault as Fault};
 ghost use Rattle.tac_wire.specs.declared.body.BodyFault.TheVariants.{Memory};
+ghost use Rattle.tac_wire.specs.Body.{is_memory};
 ghost use Rattle.tac_wire.specs.Cut.{cut as fields_of};
 
+use arrayvec::ArrayVec;
 use basics::{Bytes, Sequence};
-use std::alloc::{AllocError, AllocFailed, Global};
+use std::alloc::{AllocError, Global};
 
 /// Why a body could not be read.
 #[derive(Clone, Copy, Debug, PartialEq, Eq)]
@@ -29,16 +34,41 @@ impl From<AllocError> for BodyFault {
     }
 }
 
-impl<T: Drop> From<AllocFailed<T>> for BodyFault {
-    ghost from_gives = { λ _ fault. fault ≡ Memory };
-
-    fn from(_error: AllocFailed<T>) -> BodyFault {
-        BodyFault::Memory
+/// What was read of a body; nothing where it is none of its kind. The error is want of memory.
+pub fn well_formed<T>(read: Result<T, BodyFault>) -> Result<Option<T>, AllocError>
+    ensures told { (wanted : Result T Fault)
+        → GivesUnlessMemory is_memory (λ body. body) read wanted
+        → IfOk result (λ body. body ≡ result_ok wanted) }
+    ensures err { IsErr result ↔ (read ≡ Err Memory) }
+{
+    match read {
+        Ok(body) => Ok(Some(body)),
+        Err(BodyFault::Memory) => Err(AllocError),
+        Err(_) => Ok(None),
     }
 }
 
-/// Copies the fields of these lengths that the bytes begin with, one after another. The lengths add
-/// up to no more than there are bytes. The error is want of memory.
+/// How many bytes the field server_msg of a reply has at most.
+pub const MESSAGE_MAX: usize = 64;
+
+/// How many bytes the body of a reply of this server has at most.
+pub const REPLY_MAX: usize = 84;
+
+/// The field server_msg of a reply.
+pub type Message = ArrayVec<u8, MESSAGE_MAX>;
+
+/// The text as a message.
+pub fn message_of(text: &[u8]) -> Message
+    requires { length text.now ≤ MESSAGE_MAX }
+    ensures { result.items ≡ text.now }
+{
+    let mut message = ArrayVec::new();
+    message.try_extend_from_slice(text).unwrap();
+    message
+}
+
+/// Copies the fields of these lengths that the bytes begin with, one after another. The lengths
+/// add up to no more than there are bytes. The error is want of memory.
 pub fn cut(alloc: Global, lengths: &[u8], bytes: &[u8]) -> Result<Sequence<Bytes>, AllocError>
     requires { sum lengths.now ≤ length bytes.now }
     ensures { IfOk result (λ fields. fields ≡ fields_of lengths.now bytes.now) }

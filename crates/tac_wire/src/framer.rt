@@ -1,7 +1,7 @@
 //! The packets of a stream that comes in pieces.
 
-ghost use Rattle.std.specs.Prelude.{◌≡◌, ◌++◌, List, ℕ, [], IfOk, OnOk, OnErr};
-ghost use Rattle.tac_wire.specs.Stream.{first_item as item_of, told, cut, parts_by, continued, unread, ended as no_more, fed, next_of, left_of, BeginsWith, WasInFront, IsTaken, frame_bytes, whole};
+ghost use Rattle.std.specs.Prelude.{◌≡◌, ◌≢◌, ◌<◌, ◌++◌, List, ℕ, [], length, IfOk, OnOk, OnErr};
+ghost use Rattle.tac_wire.specs.Stream as stream;
 ghost use Rattle.tac_wire.specs.declared.frame.Frame.{Frame as FrameValue};
 
 use crate::frame::{Frame, FrameFault, fault_of};
@@ -30,8 +30,8 @@ pub enum Next {
 ///
 /// A header is judged as soon as its twelve bytes are there, and a packet never waits for what
 /// follows it. The bytes of packets that were handed out stay in front until they are at least half
-/// of the buffer when more is fed, and are removed then: each byte is moved a constant number of times on average, so
-/// a stream handed over byte by byte costs linear time in all.
+/// of the buffer when more is fed, and are removed then: each byte is moved a constant number of
+/// times on average, so a stream handed over byte by byte costs linear time in all.
 #[derive(Debug, Drop)]
 pub struct Framer {
     alloc: Global,
@@ -43,20 +43,23 @@ pub struct Framer {
 
 impl Model for Framer {
     ghost use Rattle.std.specs.Prelude.{◌≡◌, ◌≤◌, [], drop, length, IsTrue, if◌then◌else◌};
-    ghost use Rattle.tac_wire.specs.Stream.{Pending, unread, ended as no_more};
+    ghost use Rattle.tac_wire.specs.Stream as stream;
 
-    ghost Value = { Pending };
+    ghost Value = { stream.Pending };
 
-    ghost view = { λ framer. if framer.ended then no_more else unread (drop framer.read framer.buffer.items) };
+    ghost view = { λ framer. if framer.ended then stream.ended
+        else stream.unread (drop framer.read framer.buffer.items) };
 
-    ghost invariant = { λ framer. (framer.read ≤ length framer.buffer.items) × (IsTrue framer.ended → framer.buffer.items ≡ []) };
+    ghost invariant = { λ framer. (framer.read ≤ length framer.buffer.items)
+        × (IsTrue framer.ended → framer.buffer.items ≡ []) };
 }
 
 // What these bytes begin with.
 #[tactic(auto, unfolding(crate::specs::Stream::first_item))]
 fn first_item(alloc: Global, bytes: &[u8]) -> Result<Next, AllocError>
-    ensures exact { IfOk result (λ next. next ≡ told (item_of bytes.now)) }
-    ensures found { IfOk result (λ next. BeginsWith next bytes.now) }
+    ensures exact { IfOk result (λ next. next ≡ stream.told (stream.first_item bytes.now)) }
+    ensures found { IfOk result (λ next. stream.BeginsWith next bytes.now) }
+    ensures memory { OnErr result (stream.IsPacket (stream.told (stream.first_item bytes.now))) }
 {
     let Some((head, rest)) = bytes.split_first_chunk::<HEADER>() else {
         return Ok(Next::Need);
@@ -76,7 +79,7 @@ fn first_item(alloc: Global, bytes: &[u8]) -> Result<Next, AllocError>
 impl Framer {
     /// The beginning of a stream. Takes no memory.
     pub fn new(alloc: Global) -> Framer
-        ensures { result ≡ unread [] }
+        ensures { result ≡ stream.unread [] }
     {
         Framer {
             alloc,
@@ -98,7 +101,7 @@ impl Framer {
 
     // Gives up the stream, with all that was kept of it.
     fn end(&mut self)
-        ensures { self.new ≡ no_more }
+        ensures { self.new ≡ stream.ended }
     {
         self.buffer = Vec::new(self.alloc);
         self.read = 0;
@@ -108,10 +111,13 @@ impl Framer {
     /// Takes the next piece of the stream; nothing after a fault was told. The error is want of
     /// memory, and changes nothing.
     pub fn feed(&mut self, piece: &[u8]) -> Result<(), AllocError>
-        ensures ok { OnOk result (self.new ≡ fed self.old piece.now) }
+        ensures ok { OnOk result (self.new ≡ stream.fed self.old piece.now) }
         ensures err { OnErr result (self.new ≡ self.old) }
+        // Only a piece that is kept takes memory.
+        ensures memory { OnErr result ((self.old ≢ stream.ended) × (0 < length piece.now)) }
         // However a stream is cut into pieces, the same packets, fault and rest come out.
-        ensures pieces { (bytes more : List ℕ) → cut (bytes ++ more) ≡ continued (cut bytes) more }
+        ensures pieces { (bytes more : List ℕ) →
+            stream.cut (bytes ++ more) ≡ stream.continued (stream.cut bytes) more }
     {
         if self.ended {
             return Ok(());
@@ -123,16 +129,19 @@ impl Framer {
     /// Tells what stands first in what is held, and removes it; a fault is told once. The error is
     /// want of memory for a packet's body, and changes nothing.
     pub fn next(&mut self) -> Result<Next, AllocError>
-        ensures told { IfOk result (λ next. next ≡ next_of self.old) }
-        ensures left { OnOk result (self.new ≡ left_of self.old) }
+        ensures told { IfOk result (λ next. next ≡ stream.next_of self.old) }
+        ensures left { OnOk result (self.new ≡ stream.left_of self.old) }
         ensures err { OnErr result (self.new ≡ self.old) }
+        // Only a packet takes memory, for its body: all else is told without fail.
+        ensures memory { OnErr result (stream.IsPacket (stream.next_of self.old)) }
         // No byte is lost, and none is added.
-        ensures found { IfOk result (λ next. WasInFront next self.old self.new) }
+        ensures found { IfOk result (λ next. stream.WasInFront next self.old self.new) }
         // Each packet that is taken is told as soon as it stands there, whatever follows.
-        ensures again { (frame : FrameValue) (rest : List ℕ) → IsTaken frame →
-            item_of (frame_bytes frame ++ rest) ≡ whole frame rest }
+        ensures again { (frame : FrameValue) (rest : List ℕ) → stream.IsTaken frame →
+            stream.first_item (stream.frame_bytes frame ++ rest) ≡ stream.whole frame rest }
         // One item after another, this gives the parts of the stream.
-        ensures items { (bytes : List ℕ) → cut bytes ≡ parts_by cut (item_of bytes) bytes }
+        ensures items { (bytes : List ℕ) →
+            stream.cut bytes ≡ stream.parts_by stream.cut (stream.first_item bytes) bytes }
     {
         if self.ended {
             return Ok(Next::Ended);

@@ -28,7 +28,8 @@ impl Key {
     /// How many symbols a key has at most.
     pub const MAX: usize = 128;
 
-    /// The key that the text is; `None` where it has no or over 128 bytes, or one that is no symbol.
+    /// The key that the text is; `None` where it has no or over 128 bytes, or one that is no
+    /// symbol.
     pub fn read(text: &[u8]) -> Option<Key>
         ensures { result ≡ key_of text.now }
     {

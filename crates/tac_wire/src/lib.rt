@@ -1,17 +1,19 @@
-//! The wire format that all kinds of packet share (RFC 8907, section 4): the stream of packets, their
-//! header, key and pad, the CHAP response, and what the readers of bodies have in common.
+//! The wire format that all kinds of packet share (RFC 8907, section 4): the stream of packets,
+//! their header, key and pad, the CHAP response, and what bodies have in common.
 #![tactic(auto)]
 
 mod body;
 mod chap;
+mod decimal;
 mod frame;
 mod framer;
 mod header;
 mod key;
 mod pad;
 
-pub use body::{BodyFault, cut};
+pub use body::{BodyFault, MESSAGE_MAX, Message, REPLY_MAX, cut, message_of, well_formed};
 pub use chap::chap_response;
+pub use decimal::decimal_digits;
 pub use frame::{Frame, FrameFault};
 pub use framer::{Framer, Next};
 pub use header::{Header, PacketType};

@@ -30,7 +30,8 @@ fn digest_after(header: &Header, key: &Key, previous: &[u8]) -> [u8; 16]
 pub fn pad_in_place(header: &Header, key: &Key, body: &mut [u8])
     ensures value { body.new ≡ padded header.now key.now body.old }
     // Padding twice gives the bytes back, whatever they are.
-    ensures twice { (bytes : List ℕ) → padded header.now key.now (padded header.now key.now bytes) ≡ bytes }
+    ensures twice { (bytes : List ℕ) →
+        padded header.now key.now (padded header.now key.now bytes) ≡ bytes }
 {
     let len = body.len();
     let mut digest = digest_after(header, key, &[]);

@@ -1,11 +1,11 @@
 -- What a policy denies.
 use Rattle.std.specs.Prelude.{ℕ, Bool, true, false, List}
 use Rattle.std.specs.Option.{option_map_or, option_and_then}
-use Rattle.pol_text.specs.Name.{name_of}
+use Rattle.pol_names.specs.Name.{name_of}
 use Rattle.pol_text.specs.Policy.{decide}
 use Rattle.pol_text.specs.declared.subject.Subject.{Subject}
-use Rattle.pol_text.specs.declared.subject.Verdict.{Verdict}
-use Rattle.pol_text.specs.declared.subject.Verdict.TheVariants.{Permit, Deny}
+use Rattle.pol_names.specs.declared.decision.Verdict.{Verdict}
+use Rattle.pol_names.specs.declared.decision.Verdict.TheVariants.{Permit, Deny}
 
 abbrev pub is_deny : Verdict → Bool
 is_deny Permit = false

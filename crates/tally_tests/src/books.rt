@@ -2,7 +2,8 @@
 
 use crate::marking::recount_by;
 use basics::{Bytes, Sequence};
-use pol_text::{Name, Policy};
+use pol_names::Name;
+use pol_text::Policy;
 use std::alloc::{AllocError, Global};
 use std::test::Fail;
 use tac_tally::{AcctKind, Book, Record, StoreFault, Tally};

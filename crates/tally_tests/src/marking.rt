@@ -6,7 +6,8 @@ ghost use Rattle.tac_tally.specs.Recount.{recount_of};
 ghost use Rattle.tally_tests.specs.Denial.{denied_by, is_deny};
 
 use basics::Bytes;
-use pol_text::{Name, Policy, Verdict};
+use pol_names::{Name, Verdict};
+use pol_text::Policy;
 use std::alloc::{AllocError, Global};
 use tac_tally::{Book, Recount};
 

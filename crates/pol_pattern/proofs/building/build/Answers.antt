@@ -7,7 +7,7 @@ use Rattle.pol_pattern.specs.declared.building.Level.{Level as LevelValue}
 use Rattle.pol_pattern.proofs.Levels.{atom_step, repeat_step, bar_step, open_step, close_step, stray_close, at_end_of_tokens, popped, none_around, stacked}
 use Rattle.std.proofs.lemmas.List.{map-append}
 use Rattle.std.proofs.lemmas.Result.{IfOk-weaker}
-use Rattle.pol_pattern.proofs.Values.{value_class, value_group}
+use Rattle.pol_pattern.specs.Values.{value_class, value_group}
 use Rattle.pol_pattern.proofs.Units.{nothing_left}
 use Rattle.pol_pattern.proofs.building.build.Goals as goal
 use Rattle.pol_pattern.proofs.building.build.Goals.{in-Atom+in_ok-level-in-Atom, in-Repeat+in_ok-level-in-Repeat, in-Bar+in_ok-level-in-Bar, in-Open+in_ok-push-in-Open, in-Close+in_ok-inner-in-Close+in-Some+in_ok-level-in-Close}

@@ -1,6 +1,6 @@
 use Rattle.std.proofs.Common.{ap, ◌∙◌}
 use Rattle.pol_pattern.specs.Flat.{star}
-use Rattle.pol_pattern.proofs.Values.{value_star}
+use Rattle.pol_pattern.specs.Values.{value_star}
 use Rattle.pol_pattern.proofs.building.starred.Goals as goal
 
 pub returns : goal.returns

@@ -2,7 +2,8 @@ use Rattle.std.proofs.Common.{◌+◌, ◌≤◌, length, get_or, drop, sym, ◌
 use Rattle.std.proofs.lemmas.Result.{err_from_is_err_and}
 use Rattle.pol_pattern.specs.Reading.{token_at, tokens_from, outermost}
 use Rattle.pol_pattern.proofs.Items.{rest_is}
-use Rattle.pol_pattern.proofs.Front.{token_read, token_refused, context_refused, tokens_end, nothing_open, last_open, fails_as}
+use Rattle.pol_pattern.proofs.Front.{token_read, token_refused, context_refused, tokens_end, nothing_open, last_open}
+use Rattle.pol_pattern.proofs.Faults.{fails_as}
 use Rattle.pol_pattern.proofs.lexing.tokens.Goals as goal
 
 pub returns-in_err-token : goal.returns-in_err-token

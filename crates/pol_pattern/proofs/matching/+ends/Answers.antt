@@ -3,7 +3,7 @@ use Rattle.std.proofs.Math.Bool.{or_assoc}
 use Rattle.std.proofs.lemmas.List.{take_rest, drop-drop}
 use Rattle.pol_pattern.specs.Flat.{Term, put, Terms, alt, factor_value, term_value, terms_value}
 use Rattle.pol_pattern.specs.Matching.{factor_positions, term_positions, terms_positions, term_ends, terms_end}
-use Rattle.pol_pattern.proofs.Values.{value_class, value_group, value_star}
+use Rattle.pol_pattern.specs.Values.{value_class, value_group, value_star}
 use Rattle.pol_pattern.proofs.Descent.{term_value-drop, terms_value-drop, factor_weight, term_weight-item, terms_weight-item}
 use Rattle.pol_pattern.proofs.Parts.{term_ends-put, terms_end-alt}
 use Rattle.pol_pattern.proofs.matching.+ends.Goals as goal

@@ -6,7 +6,7 @@ use Rattle.pol_pattern.specs.Flat.{Term, put, Terms, alt, factor_value, term_val
 use Rattle.pol_pattern.specs.Matching.{factor_positions, term_positions, terms_positions, factor_ends, term_ends, terms_end, factor_moved, term_moved, terms_moved}
 use Rattle.pol_pattern.proofs.Left.{length-factor_moved, length-term_moved}
 use Rattle.pol_pattern.proofs.Parts.{Writes, put_rest, part_writes, term_ends-put, terms_end-alt, term_moved-more, terms_moved-more}
-use Rattle.pol_pattern.proofs.Values.{value_group, value_star}
+use Rattle.pol_pattern.specs.Values.{value_group, value_star}
 use Rattle.pol_pattern.proofs.Descent.{term_value-drop, terms_value-drop, factor_weight, term_weight-item, terms_weight-item}
 use Rattle.pol_pattern.proofs.matching.+moved.Goals as goal
 use Rattle.pol_pattern.proofs.matching.+moved.Goals.{move_factor-then-before-2, move_factor-else-before-2}

@@ -1,7 +1,7 @@
 use Rattle.std.proofs.Common.{◌∙◌, ap, List}
 use Rattle.std.specs.List.{remove}
 use Rattle.tac_conn.specs.declared.session.Session.{Session}
-use Rattle.tac_conn.specs.Kept.{place_in}
+use Rattle.tac_conn.specs.Sessions.{place_in}
 use Rattle.tac_conn.proofs.TableFacts.{with_position, with_absent}
 use Rattle.tac_conn.proofs.session.keep_session.Goals as goal
 

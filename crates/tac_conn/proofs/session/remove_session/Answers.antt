@@ -1,6 +1,6 @@
 use Rattle.std.proofs.Common.{◌∙◌, ap, List}
 use Rattle.tac_conn.specs.declared.session.Session.{Session}
-use Rattle.tac_conn.specs.Kept.{place_in}
+use Rattle.tac_conn.specs.Sessions.{place_in}
 use Rattle.tac_conn.proofs.TableFacts.{remove-position, without_absent}
 use Rattle.tac_conn.proofs.session.remove_session.Goals as goal
 

@@ -1,6 +1,6 @@
 use Rattle.std.proofs.Common.{◌≡◌, ◌++◌, List, take, string_bytes}
 use Rattle.std.specs.List.{flat_map}
-use Rattle.tac_conn.specs.Standing.{Packet}
+use Rattle.tac_conn.specs.declared.packet.Packet.{Packet}
 use Rattle.tac_server.specs.Kept.{sent_under}
 use Rattle.tac_server.specs.Events.{reply_line}
 use Rattle.tac_server.proofs.shown.show_replies.Given as goal

@@ -2,8 +2,9 @@ use Rattle.std.proofs.Common.{◌≡◌, ◌<◌, ◌∷◌, ◌++◌, [], true,
 use Rattle.std.proofs.lemmas.List.{map_push}
 use Rattle.pol_text.specs.declared.subject.Subject.{Subject}
 use Rattle.std.proofs.lemmas.Bool.{or_right}
-use Rattle.pol_text.specs.declared.subject.Kind.TheVariants.{User}
-use Rattle.pol_text.specs.Policy.{same_kind, find_subject, id_of, all_of}
+use Rattle.pol_names.specs.declared.subject_id.Kind.TheVariants.{User}
+use Rattle.pol_names.specs.SubjectId.{same_kind}
+use Rattle.pol_text.specs.Policy.{find_subject, id_of, all_of}
 use Rattle.pol_text.specs.Change.{has_room_below}
 use Rattle.pol_text.specs.Text.{new_subject}
 use Rattle.pol_text.proofs.RightSubject.{right_from}

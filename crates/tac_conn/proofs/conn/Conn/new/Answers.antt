@@ -1,6 +1,6 @@
 use Rattle.std.proofs.Common.{refl}
-use Rattle.tac_conn.proofs.StandsFacts.{stands_new}
+use Rattle.tac_conn.proofs.StandingFacts.{stands_new}
 use Rattle.tac_conn.proofs.conn.Conn.new.Goals as goal
 
 pub returns-clause-stands : goal.returns-clause-stands
-returns-clause-stands c = stands_new _ refl refl c.new.ensures
+returns-clause-stands c = stands_new _ refl refl c.new.ensures refl

@@ -1,0 +1,4 @@
+pub mod Name
+pub mod Secret
+pub mod SubjectId
+pub mod Decision

@@ -1,0 +1,12 @@
+//! Whom a policy speaks of and what it decides: names, secrets, subjects' kinds and names, verdicts.
+#![tactic(auto)]
+
+mod decision;
+mod name;
+mod secret;
+mod subject_id;
+
+pub use decision::{By, Decision, Verdict};
+pub use name::Name;
+pub use secret::{Credential, Secret};
+pub use subject_id::{Kind, SubjectId};

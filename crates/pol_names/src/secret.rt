@@ -1,0 +1,103 @@
+//! What users log in and enable with.
+
+ghost use Rattle.std.specs.Prelude.{◌≡◌, ◌↔◌, false, IsTrue, IfOk};
+ghost use Rattle.std.specs.Cmp.Rules.{comparing};
+ghost use Rattle.std.specs.Str.{bytes_eq};
+ghost use Rattle.std.proofs.Common.{rules};
+ghost use Rattle.pol_names.specs.Secret.{credential_word, secret_of, is_secret as secret_test};
+
+use basics::{Bytes, is_text};
+use std::alloc::{AllocError, Global};
+use std::marker::Model;
+
+/// Which of a user's secrets: the one to log in with, or the one to enable with.
+#[derive(Clone, Copy, Debug, PartialEq, Eq)]
+pub enum Credential {
+    Login,
+    Enable,
+}
+
+impl Credential {
+    /// The word that the secret is set by, and the space behind it.
+    pub fn keyword(self) -> &'static str
+        ensures { result.now ≡ credential_word self }
+    {
+        match self {
+            Credential::Login => "login ",
+            Credential::Enable => "enable ",
+        }
+    }
+}
+
+/// 1 to 128 symbols. A contract sees them as a list.
+#[derive(Debug, Drop)]
+pub struct Secret {
+    text: Bytes,
+}
+
+impl Model for Secret {
+    ghost use Rattle.std.specs.Prelude.{List, ℕ, IsTrue};
+    ghost use Rattle.pol_names.specs.Secret.{is_secret};
+
+    ghost Value = { List ℕ };
+
+    ghost view = { λ secret. secret.text };
+
+    ghost invariant = { λ secret. IsTrue (is_secret secret.text) };
+}
+
+impl PartialEq for Secret {
+    ghost eq = { bytes_eq };
+
+    ghost laws = { Prim.search (comparing, rules) };
+
+    fn eq(&self, other: &Secret) -> bool
+        ensures eq { result ≡ bytes_eq self.now other.now }
+        ensures same { IsTrue result ↔ (self.now ≡ other.now) }
+    {
+        self.as_slice() == other.as_slice()
+    }
+}
+
+impl Eq for Secret {
+    ghost laws = { Prim.search (comparing, rules) };
+}
+
+fn is_secret(text: &[u8]) -> bool
+    ensures { result ≡ secret_test text.now }
+{
+    !text.is_empty() && text.len() <= Secret::MAX_LEN && is_text(text)
+}
+
+impl Secret {
+    /// The most symbols that a secret has.
+    pub const MAX_LEN: usize = 128;
+
+    /// The secret that the text is. A text that is none is told without a growth.
+    pub fn read(alloc: Global, text: &[u8]) -> Result<Option<Secret>, AllocError>
+        ensures read { IfOk result (λ secret. secret ≡ secret_of text.now) }
+        ensures none { secret_test text.now ≡ false → result ≡ Ok None }
+    {
+        if !is_secret(text) {
+            return Ok(None);
+        }
+        let text = Bytes::from_slice(alloc, text)?;
+        Ok(Some(Secret { text }))
+    }
+
+    /// The secret's symbols.
+    pub fn as_slice(&self) -> &[u8]
+        ensures value { result.now ≡ self.now }
+        ensures right { IsTrue (secret_test self.now) }
+    {
+        self.text.as_slice()
+    }
+
+    /// A copy of the secret.
+    pub fn copy(&self, alloc: Global) -> Result<Secret, AllocError>
+        ensures { IfOk result (λ copy. copy ≡ self.now) }
+    {
+        let text = Bytes::from_slice(alloc, self.text.as_slice())?;
+        Ok(Secret { text })
+    }
+}
