@@ -1,0 +1,10 @@
+mod WordFacts
+mod OrderUp
+mod Lists
+mod Finding
+mod Filling
+mod Reaching
+mod Classes
+mod Completing
+mod Seeking
+mod AlphabetFacts
