@@ -1,0 +1,14 @@
+pub mod Inversion
+pub mod Language
+pub mod LinearForms
+pub mod Residuals
+pub mod Tables
+pub mod Sameness
+pub mod Descent
+pub mod Joined
+pub mod Forming
+pub mod Sets
+pub mod SpanFacts
+pub mod RowFacts
+pub mod Among
+pub mod Steps

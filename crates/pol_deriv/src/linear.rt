@@ -1,0 +1,113 @@
+//! The linear forms of terms: what a text of the term begins with, and what stands behind it then
+//! (V. Antimirov, "Partial derivatives of regular expressions and finite automaton constructions",
+//! 1996).
+
+ghost use Rattle.std.specs.Prelude.{◌≡◌, ◌<◌, length, true, false, IsTrue, IfOk, MatchOption};
+ghost use Rattle.pol_pattern.specs.Flat as flat;
+ghost use Rattle.pol_deriv.specs.Linear as spec;
+ghost use Rattle.pol_deriv.specs.Nodes.{term_at, begins_with_terms, first_factor, rest_of};
+ghost use Rattle.pol_deriv.specs.Table.{Means, Grows};
+
+use crate::node::{Kind, Node, Number};
+use crate::table::Table;
+use pol_pattern::Class;
+use std::alloc::AllocError;
+
+/// By each symbol of the class one derivative is the next term.
+#[derive(Clone, Copy)]
+pub(crate) struct Monomial {
+    pub(crate) class: Class,
+    pub(crate) next: Number,
+}
+
+impl Table {
+    ghost use Rattle.pol_deriv.specs.Forms.{IsForm};
+
+    /// The linear form of a term, where another stands behind it.
+    #[cycle(linear)]
+    pub(crate) fn linear(
+        &mut self,
+        term: Number,
+        behind: Number,
+    ) -> Result<Vec<Monomial>, AllocError>
+        requires term { term < length self.old }
+        requires behind { behind < length self.old }
+        ensures grows { Grows self.old self.new }
+        ensures exact { let pairs = spec.linear (term_at self.old term) (term_at self.old behind) in
+            IfOk result (λ form. IsForm self.new form.items pairs) }
+    {
+        let mut form = Vec::new(self.alloc());
+        let mut at = term;
+        'factors: loop {
+            match self.node(at) {
+                Node::Empty => return Ok(form),
+                Node::Class { class, rest } => {
+                    let next = self.join(rest, behind)?;
+                    form.push(Monomial { class, next })?;
+                    return Ok(form);
+                }
+                Node::Group { .. } | Node::Star { .. } | Node::Alternative { .. } => {
+                    let (mut begun, rest) = self.linear_terms(at, behind)?;
+                    form.append(&mut begun)?;
+                    match rest {
+                        Some(rest) => at = rest,
+                        None => return Ok(form),
+                    }
+                }
+            }
+        }
+    }
+
+    /// What stands behind each term of the group or star that a term begins with, where another
+    /// stands behind the whole.
+    fn continuation(&mut self, term: Number, behind: Number) -> Result<Number, AllocError>
+        requires term { term < length self.old }
+        requires behind { behind < length self.old }
+        requires begins { IsTrue (begins_with_terms (term_at self.old term)) }
+        ensures grows { Grows self.old self.new }
+        ensures meant { let whole = term_at self.old term in
+            let rest = flat.join_term (rest_of whole) (term_at self.old behind) in
+            IfOk result (λ n. Means self.new n (spec.continuation (first_factor whole) rest)) }
+    {
+        let (kind, rest) = self.end(term);
+        match kind {
+            Kind::Group => self.join(rest, behind),
+            Kind::Star => self.join(term, behind),
+        }
+    }
+
+    /// The linear form of the group or star that a term begins with, where another stands behind
+    /// the term; and the rest of the term, if the group or star holds the empty text.
+    #[cycle(linear)]
+    fn linear_terms(
+        &mut self,
+        term: Number,
+        behind: Number,
+    ) -> Result<(Vec<Monomial>, Option<Number>), AllocError>
+        requires term { term < length self.old }
+        requires behind { behind < length self.old }
+        requires begins { IsTrue (begins_with_terms (term_at self.old term)) }
+        ensures grows { Grows self.old self.new }
+        ensures exact { let whole = term_at self.old term in
+            let rest = flat.join_term (rest_of whole) (term_at self.old behind) in
+            let pairs = spec.factor_linear (first_factor whole) rest in
+            IfOk result (λ begun. IsForm self.new begun.0.items pairs) }
+        ensures rest { let whole = term_at self.old term in
+            let holds_empty = spec.factor_holds_empty (first_factor whole) in
+            IfOk result (λ begun. MatchOption begun.1 (holds_empty ≡ false)
+            (λ n. (holds_empty ≡ true) × (n < term) × Means self.new n (rest_of whole))) }
+    {
+        let (kind, rest) = self.end(term);
+        let next = self.continuation(term, behind)?;
+        let mut holds_empty = matches!(kind, Kind::Star);
+        let mut form = Vec::new(self.alloc());
+        let mut at = term;
+        'terms: while let Node::Alternative { first, rest, .. } = self.node(at) {
+            holds_empty |= self.holds_empty(first);
+            let mut begun = self.linear(first, next)?;
+            form.append(&mut begun)?;
+            at = rest;
+        }
+        Ok((form, holds_empty.then_some(rest)))
+    }
+}
