@@ -1,0 +1,39 @@
+//! What is reported of a policy: which rules decide nothing, by which lines rules are reached, and
+//! what a change lets users do, or no longer do.
+#![tactic(auto)]
+
+use basics::{Bytes, Sequence};
+use pol_names::{Name, SubjectId};
+
+/// A user for whom a change of the policy changes a decision.
+#[derive(Debug, Drop)]
+pub struct Changed {
+    pub user: Name,
+    /// The least line that is permitted now and was denied before, if there is one.
+    pub permits: Option<Bytes>,
+    /// The least line that is denied now and was permitted before, if there is one.
+    pub denies: Option<Bytes>,
+}
+
+/// The users for whom a change of the policy changes a decision: those of the new policy in its
+/// order, and then those of the old one alone.
+pub type Changes = Sequence<Changed>;
+
+/// A rule that decides no line of a subject, since earlier ones decide all that it matches.
+#[derive(Clone, Copy, Debug, PartialEq, Eq)]
+pub struct Shadowed {
+    pub subject: SubjectId,
+    pub owner: SubjectId,
+    /// The rule's number in its owner, from 1.
+    pub number: u16,
+}
+
+/// A rule along a subject's chain, and the least line of the subject that it decides.
+#[derive(Debug, Drop)]
+pub struct Reached {
+    pub owner: SubjectId,
+    /// The rule's number in its owner, from 1.
+    pub number: u16,
+    /// The least line, if the rule decides any.
+    pub text: Option<Bytes>,
+}
