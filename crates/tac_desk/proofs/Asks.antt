@@ -1,0 +1,99 @@
+-- A login passes exactly for a user who is there, and proves to know the secret.
+use Rattle.std.proofs.Common.{◌≡◌, ◌↔◌, ℕ, List, [], ◌∷◌, ◌++◌, Bool, true, false, cond, if◌then◌else◌, Option, Some, None, Result, Ok, refl, sym, ap, ◌∙◌}
+use Rattle.std.specs.Option.{option_and_then}
+use Rattle.std.proofs.lemmas.Slice.Eq.{bytes_eq-Decides}
+use Rattle.tac_wire.specs.Chap.{response_to}
+use Rattle.basics.specs.Symbol.{is_text}
+use Rattle.pol_text.specs.Policy.{decision}
+use Rattle.pol_names.specs.declared.decision.Verdict.{Verdict}
+use Rattle.pol_names.specs.declared.decision.Verdict.TheVariants.{Permit, Deny}
+use Rattle.pol_text.specs.declared.subject.Subject.{Subject}
+use Rattle.pol_names.specs.declared.decision.By.{By}
+use Rattle.tac_request.specs.declared.record.Record.{Record}
+use Rattle.tac_authen.specs.declared.start.Service.{Service}
+use Rattle.tac_conn.specs.declared.ask.Proof.{Proof}
+use Rattle.tac_conn.specs.declared.ask.Proof.TheVariants.{Plain, Chap}
+use Rattle.tac_conn.specs.declared.ask.Ask.{Ask}
+use Rattle.tac_conn.specs.declared.ask.Ask.TheVariants.{Authenticate, Authorise, Account}
+use Rattle.tac_conn.specs.declared.ask.Answer.{Answer}
+use Rattle.tac_conn.specs.declared.ask.Answer.TheVariants.{Pass, Fail, Unprintable, Stored, BookFull}
+use Rattle.tac_conn.specs.declared.ask.AskKind.{AskKind}
+use Rattle.tac_conn.specs.declared.ask.AskKind.TheVariants.{Authentication, Authorisation, Accounting}
+use Rattle.tac_conn.specs.Ask.{kind_of_answer}
+use Rattle.tac_desk.specs.Meaning.{Meaning}
+use Rattle.tac_desk.specs.Asking.{user_named, secret_for, is_proof_of, authenticated, authentication, Proves, LogsIn, level_for, by_verdict, decided, authorised, is_full, Answered, stored, asked, Passes}
+
+proves_true : (secret : List ℕ) (proof : Proof) → is_proof_of secret proof ≡ true → Proves secret proof
+proves_true secret (Plain password) = (bytes_eq-Decides password secret).0
+proves_true secret (Chap id challenge response) = (bytes_eq-Decides response (response_to id secret challenge)).0
+
+true_proves : (secret : List ℕ) (proof : Proof) → Proves secret proof → is_proof_of secret proof ≡ true
+true_proves secret (Plain password) = (bytes_eq-Decides password secret).1
+true_proves secret (Chap id challenge response) = (bytes_eq-Decides response (response_to id secret challenge)).1
+
+passed : (b : Bool) → cond b Pass Fail ≡ Pass → b ≡ true
+passed true e = refl
+passed false e = cc
+
+module _ (policy : List Subject) (name : List ℕ) (service : Service) (proof : Proof) where
+  by_secret : (user : Subject) (secret : Option (List ℕ)) → user_named policy name ≡ Some user → secret_for service user ≡ secret
+      → authenticated secret proof ≡ Pass → LogsIn policy name service proof
+  by_secret user None known has e = absurd cc
+  by_secret user (Some secret) known has e = record {
+    user = user;
+    secret = secret;
+    known = known;
+    has = has;
+    proves = proves_true secret proof (passed (is_proof_of secret proof) e);
+  }
+
+  by_user : (user : Option Subject) → user_named policy name ≡ user → authenticated (option_and_then (secret_for service) user) proof ≡ Pass → LogsIn policy name service proof
+  by_user None known e = absurd cc
+  by_user (Some user) known e = by_secret user (secret_for service user) known refl e
+
+  logged_in : LogsIn policy name service proof → authentication policy name service proof ≡ Pass
+  logged_in h = rw (h.known, h.has, true_proves h.secret proof h.proves) refl
+
+-- ---- an answer is of its ask's kind
+
+by_verdict_kind : (verdict : Verdict) (level : Option ℕ) (by : By) → kind_of_answer (by_verdict verdict level by) ≡ Authorisation
+by_verdict_kind Permit level by = refl
+by_verdict_kind Deny level by = refl
+
+authorised_kind : (policy : List Subject) (name line : List ℕ) (user : Option Subject) → kind_of_answer (authorised policy name line user) ≡ Authorisation
+authorised_kind policy name line None = refl
+authorised_kind policy name line (Some user) = printable (is_text line)
+  where
+    printable : (b : Bool) → kind_of_answer (if b then decided policy name line (decision policy user line) else Unprintable) ≡ Authorisation
+    printable true = by_verdict_kind (decision policy user line).verdict (level_for policy name line) (decision policy user line).by
+    printable false = refl
+
+stored_kind : (meaning : Meaning) (item : Record) → kind_of_answer (stored meaning item).answer ≡ Accounting
+stored_kind meaning item = full (is_full meaning)
+  where
+    full : (b : Bool) → let told : Answered = (if b then record { answer = BookFull; meaning = meaning }
+        else record { answer = Stored; meaning = record meaning { records = meaning.records ++ item ∷ [] } }) in kind_of_answer told.answer ≡ Accounting
+    full true = refl
+    full false = refl
+
+other_kind : (answer : Answer) (kind : AskKind) → kind_of_answer answer ≡ kind → (Authentication ≡ kind → ⊥) → answer ≡ Pass → ⊥
+other_kind answer kind is not is_pass = not (ap kind_of_answer (sym is_pass) ∙ is)
+
+-- ---- who passes
+
+module _ (meaning : Meaning) where
+  passes : (ask : Ask) → (asked meaning ask).answer ≡ Pass → Passes meaning ask
+  passes (Authenticate name service proof) e = by_user meaning.policy name service proof (user_named meaning.policy name) refl e
+  passes (Authorise name line) e =
+      other_kind _ Authorisation (authorised_kind meaning.policy name line (user_named meaning.policy name)) (λ other. cc) e
+  passes (Account item) e = other_kind _ Accounting (stored_kind meaning item) (λ other. cc) e
+
+  pass : (ask : Ask) → Passes meaning ask → (asked meaning ask).answer ≡ Pass
+  pass (Authenticate name service proof) h = logged_in meaning.policy name service proof h
+  pass (Authorise name line) h = absurd h
+  pass (Account item) h = absurd h
+
+-- the answer that is wanted says so exactly for whom it should
+pub passes_exactly : {E : Type 0} (meaning : Meaning) (ask : Ask) (answer : Answer) → answer ≡ (asked meaning ask).answer
+    → (◌≡◌ {A = Result Answer E} (Ok answer) (Ok Pass)) ↔ Passes meaning ask
+passes_exactly meaning ask answer is = (λ e. passes meaning ask (sym is ∙ cc), λ h. ap (λ a. Ok a) (is ∙ pass meaning ask h))

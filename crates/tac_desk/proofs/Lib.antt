@@ -1,0 +1,5 @@
+pub mod Asks
+pub mod Edits
+pub mod Reports
+pub mod MarkFacts
+pub mod TallyFacts

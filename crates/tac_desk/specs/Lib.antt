@@ -1,0 +1,7 @@
+pub mod Meaning
+pub mod Unless
+pub mod Asking
+pub mod Editing
+pub mod Reporting
+pub mod FaultText
+pub mod Kept

@@ -1,0 +1,75 @@
+-- What a question to the desk is answered.
+use Rattle.std.specs.Prelude.{◌≡◌, ℕ, List, Bool, true, false, is_some, Option, Some, None, Result, Ok, Err, if◌then◌else◌}
+use Rattle.pol_text.specs.Policy.{find_subject, decision, decide}
+use Rattle.pol_names.specs.declared.subject_id.Kind.{Kind}
+use Rattle.pol_names.specs.declared.subject_id.Kind.TheVariants.{Group, User}
+use Rattle.pol_names.specs.declared.decision.Verdict.{Verdict}
+use Rattle.pol_names.specs.declared.decision.Verdict.TheVariants.{Permit, Deny}
+use Rattle.pol_text.specs.declared.subject.Subject.{Subject}
+use Rattle.tac_tally.specs.Book.{Entry}
+use Rattle.tac_tally.specs.Recount.{marked}
+use Rattle.tac_tally.specs.Tally.{tally_of, group_tally_of}
+use Rattle.tac_tally.specs.declared.tally.Tally.{Tally}
+use Rattle.tac_desk.specs.Meaning.{Meaning}
+use Rattle.tac_desk.specs.Asking.{user_named}
+use Rattle.tac_desk.specs.declared.query.Query.{Query}
+use Rattle.tac_desk.specs.declared.query.Query.TheVariants as queries
+use Rattle.tac_desk.specs.declared.query.Report.{Report}
+use Rattle.tac_desk.specs.declared.query.Report.TheVariants as reports
+use Rattle.tac_desk.specs.declared.query.QueryFault.{QueryFault}
+use Rattle.tac_desk.specs.declared.query.QueryFault.TheVariants.{NoSuch, Memory}
+
+-- ---- tallies
+
+abbrev pub denies_by : Verdict → Bool
+denies_by Permit = false
+denies_by Deny = true
+
+abbrev pub denies_to : List Subject → List ℕ → Option Subject → Bool
+denies_to policy line None = true
+denies_to policy line (Some user) = denies_by (decision policy user line).verdict
+
+-- whether the policy denies this line to this user; a user whom it doesn't have may do nothing
+abbrev pub denies : List Subject → List ℕ → List ℕ → Bool
+denies policy name line = denies_to policy line (user_named policy name)
+
+-- the records, and beside each whether the present policy denies its line
+abbrev pub entries : Meaning → List Entry
+entries meaning = marked (denies meaning.policy) meaning.records
+
+-- the user needn't be in the policy; a group must be
+abbrev pub tally_at : Meaning → Kind → List ℕ → Result Tally QueryFault
+tally_at meaning User name = Ok (tally_of name (entries meaning))
+tally_at meaning Group name =
+    if is_some (find_subject (record { kind = Group; name = name }) meaning.policy)
+    then Ok (group_tally_of meaning.policy name (entries meaning)) else Err NoSuch
+
+abbrev pub tally_report : Result Tally QueryFault → Result Report QueryFault
+tally_report (Ok tally) = Ok (reports.Tally tally)
+tally_report (Err fault) = Err fault
+
+-- ---- all questions
+
+-- the desk answers the question so
+abbrev pub Reports : Meaning → Query → Result Report QueryFault → Type 0
+Reports meaning queries.Policy answer = answer ≡ Ok (reports.Policy meaning.policy)
+Reports meaning (queries.Tally subject) answer = answer ≡ tally_report (tally_at meaning subject.kind subject.name)
+Reports meaning (queries.Why user line) answer = answer ≡ Ok (reports.Why (decide meaning.policy user line))
+Reports meaning queries.Records answer = answer ≡ Ok (reports.Records meaning.records)
+
+-- no other answer is right
+abbrev pub IsOnly : Meaning → Query → Result Report QueryFault → Type 0
+IsOnly meaning query answer = (other : Result Report QueryFault) → Reports meaning query other → answer ≡ other
+
+-- whether the report is one to this question
+abbrev pub is_report_to : Query → Report → Bool
+is_report_to queries.Policy (reports.Policy policy) = true
+is_report_to (queries.Tally subject) (reports.Tally tally) = true
+is_report_to (queries.Why user line) (reports.Why decision) = true
+is_report_to queries.Records (reports.Records records) = true
+is_report_to _ _ = false
+
+-- whether the fault is want of memory
+abbrev pub is_memory : QueryFault → Bool
+is_memory NoSuch = false
+is_memory Memory = true

@@ -1,0 +1,61 @@
+//! Who a user is: whether a proof is one of the user's secret.
+
+ghost use Rattle.std.specs.Prelude.{◌≡◌};
+ghost use Rattle.std.specs.Option.{option_copied};
+ghost use Rattle.tac_desk.specs.Asking as asking;
+
+use pol_names::{Name, Secret, SubjectId};
+use pol_text::{Policy, Subject};
+use tac_conn::{Answer, Proof, Service};
+use tac_wire::chap_response;
+
+// What the user proves to know: ENABLE asks for another secret than all other services.
+fn secret_for(service: Service, user: &Subject) -> Option<&Secret>
+    ensures { option_copied result ≡ asking.secret_for service user.now }
+{
+    if service == Service::ENABLE {
+        user.enable.as_ref()
+    } else {
+        user.login.as_ref()
+    }
+}
+
+// Whether the proof is one of this secret.
+fn is_proof_of(secret: &[u8], proof: &Proof) -> bool
+    ensures { result ≡ asking.is_proof_of secret.now proof.now }
+{
+    match proof {
+        Proof::Plain(password) => password.as_slice() == secret,
+        Proof::Chap {
+            id,
+            challenge,
+            response,
+        } => *response == chap_response(*id, secret, challenge.as_slice()),
+    }
+}
+
+// The user of this name; what is no name names none.
+fn user_of<'a>(policy: &'a Policy, name: &[u8]) -> Option<&'a Subject>
+    ensures { option_copied result ≡ asking.user_named policy.now name.now }
+{
+    let name = Name::read(name)?;
+    policy.find(&SubjectId::user(name))
+}
+
+/// Whether the proof is this user's, for this service. Takes no memory.
+pub(crate) fn authentication(
+    policy: &Policy,
+    name: &[u8],
+    service: Service,
+    proof: &Proof,
+) -> Answer
+    ensures { result ≡ asking.authentication policy.now name.now service proof.now }
+{
+    let Some(user) = user_of(policy, name) else {
+        return Answer::Fail;
+    };
+    match secret_for(service, user) {
+        Some(secret) if is_proof_of(secret.as_slice(), proof) => Answer::Pass,
+        _ => Answer::Fail,
+    }
+}

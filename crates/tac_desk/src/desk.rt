@@ -1,0 +1,62 @@
+//! What a desk is, however it keeps what it stands for.
+
+ghost use Rattle.std.specs.Prelude.{◌≡◌, ◌↔◌, false, Err, IsOk, IsTrue, IfOk, OnOk, OnErr};
+ghost use Rattle.tac_conn.specs.Ask.{kind_of_ask, kind_of_answer};
+ghost use Rattle.tac_desk.specs.Meaning.{Meaning};
+ghost use Rattle.tac_desk.specs.Unless.{UnlessMemory};
+ghost use Rattle.tac_desk.specs.Asking.{asked, stores, Passes};
+ghost use Rattle.tac_desk.specs.Editing as editing;
+ghost use Rattle.tac_desk.specs.Reporting as reporting;
+ghost use Rattle.tac_desk.specs.declared.query.QueryFault.TheVariants.{NoSuch};
+
+use crate::query::{Query, QueryFault, Report};
+use crate::thrice::Thrice;
+use pol_edit::{Edit, EditFault};
+use pol_report::Changes;
+use std::alloc::AllocError;
+use tac_conn::{Answer, Ask};
+
+/// A desk: it answers the asks of connections, takes edits of its policy, and answers questions.
+/// Each call is one step, and what it answers depends on what the desk stands for, and on nothing
+/// else: the policy, the accepted records, and how many are accepted.
+pub trait Desk: Drop {
+    /// What the desk stands for.
+    ghost meaning: { Self → Meaning };
+
+    /// Answers what is asked for a packet. A refusal is want of memory.
+    fn ask(&mut self, ask: &Ask) -> Result<Answer, AllocError>
+        ensures answer { IfOk result (λ answer.
+            answer ≡ (asked (meaning self.old) ask.now).answer) }
+        ensures after { OnOk result
+            (meaning self.new ≡ (asked (meaning self.old) ask.now).meaning) }
+        ensures kind { IfOk result (λ answer. kind_of_answer answer ≡ kind_of_ask ask.now) }
+
+        // A login passes exactly for a user who is there, and proves to know the secret.
+        ensures passes { (result ≡ Ok Answer.Pass) ↔ Passes (meaning self.old) ask.now }
+
+        // Only a record that is to be stored takes memory, and a refusal changes nothing.
+        ensures sure { stores (meaning self.old) ask.now ≡ false → IsOk result }
+        ensures err { OnErr result (meaning self.new ≡ meaning self.old) };
+
+    /// Makes an edit, and answers what it changes for users. A refused edit changes nothing, also
+    /// where memory ran out.
+    fn edit(&mut self, edit: &Edit) -> Result<Thrice<Changes>, EditFault>
+        ensures found { UnlessMemory editing.is_memory result
+            (editing.Edits (meaning self.old) edit.now result (meaning self.new)) }
+        ensures only { UnlessMemory editing.is_memory result
+            (editing.IsOnly (meaning self.old) edit.now result (meaning self.new)) }
+        ensures err { OnErr result (meaning self.new ≡ meaning self.old) };
+
+    /// Answers a question, and changes nothing.
+    fn query(&mut self, query: &Query) -> Result<Thrice<Report>, QueryFault>
+        ensures found { UnlessMemory reporting.is_memory result
+            (reporting.Reports (meaning self.old) query.now result) }
+        ensures only { UnlessMemory reporting.is_memory result
+            (reporting.IsOnly (meaning self.old) query.now result) }
+        ensures kind { IfOk result (λ report. IsTrue (reporting.is_report_to query.now report)) }
+
+        // A refusal takes no memory.
+        ensures sure { reporting.Reports (meaning self.old) query.now (Err NoSuch) →
+            result ≡ Err NoSuch }
+        ensures after { meaning self.new ≡ meaning self.old };
+}

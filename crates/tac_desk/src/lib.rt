@@ -1,0 +1,15 @@
+//! The desk: what answers the asks of connections, edits of the policy, and questions.
+#![tactic(auto)]
+
+mod authentication;
+mod authorisation;
+mod desk;
+mod plain;
+mod query;
+mod tallies;
+mod thrice;
+
+pub use desk::Desk;
+pub use plain::PlainDesk;
+pub use query::{Query, QueryFault, Report};
+pub use thrice::Thrice;

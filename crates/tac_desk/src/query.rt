@@ -1,0 +1,80 @@
+//! Questions to a desk, and what they are answered.
+
+use basics::{Bytes, Sequence};
+use pol_names::{Decision, Name, SubjectId};
+use pol_text::Policy;
+use std::alloc::{AllocError, AllocFailed};
+use std::error::Error;
+use std::fmt;
+use tac_tally::{Record, Tally};
+
+/// A question to a desk.
+#[derive(Debug, Drop)]
+pub enum Query {
+    /// What the policy is.
+    Policy,
+    /// What the records of a user, or those of a group's users, count up to.
+    Tally(SubjectId),
+    /// What the policy says of a user's command line, and by which rule.
+    Why { user: Name, line: Bytes },
+    /// Which records there are.
+    Records,
+}
+
+/// What a question is answered.
+#[derive(Drop)]
+pub enum Report {
+    Policy(Policy),
+    Tally(Tally),
+    /// Nothing where the policy has no such user.
+    Why(Option<Decision>),
+    /// In the order in which they came.
+    Records(Sequence<Record>),
+}
+
+/// Why a question isn't answered.
+#[derive(Clone, Copy, Debug, PartialEq, Eq)]
+pub enum QueryFault {
+    /// The policy has no such group.
+    NoSuch,
+    /// Memory ran out.
+    Memory,
+}
+
+impl fmt::Display for QueryFault {
+    ghost use Rattle.std.specs.Prelude.{Some};
+    ghost use Rattle.tac_desk.specs.FaultText.{fault_text};
+
+    ghost output = { λ fault. Some (fault_text fault) };
+
+    fn fmt<W: fmt::Write>(&self, f: &mut fmt::Formatter<W>) -> fmt::Result {
+        match self {
+            QueryFault::NoSuch => write!(f, "2 NoSuch"),
+            QueryFault::Memory => write!(f, "12 Memory"),
+        }
+    }
+}
+
+impl Error for QueryFault {}
+
+impl From<AllocError> for QueryFault {
+    ghost use Rattle.std.specs.Prelude.{◌≡◌};
+    ghost use Rattle.tac_desk.specs.declared.query.QueryFault.TheVariants.{Memory};
+
+    ghost from_gives = { λ _ fault. fault ≡ Memory };
+
+    fn from(_error: AllocError) -> QueryFault {
+        QueryFault::Memory
+    }
+}
+
+impl<T: Drop> From<AllocFailed<T>> for QueryFault {
+    ghost use Rattle.std.specs.Prelude.{◌≡◌};
+    ghost use Rattle.tac_desk.specs.declared.query.QueryFault.TheVariants.{Memory};
+
+    ghost from_gives = { λ _ fault. fault ≡ Memory };
+
+    fn from(_error: AllocFailed<T>) -> QueryFault {
+        QueryFault::Memory
+    }
+}
