@@ -1,0 +1,13 @@
+//! Tests of the desk and its console, against answers that were worked out by hand.
+#![tactic(auto)]
+
+#[cfg(test)]
+mod asks;
+#[cfg(test)]
+mod edits;
+#[cfg(test)]
+mod questions;
+#[cfg(test)]
+mod sizes;
+#[cfg(test)]
+mod support;

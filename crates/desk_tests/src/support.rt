@@ -1,0 +1,245 @@
+//! What the tests share: conversations with a desk.
+
+use basics::Bytes;
+use pol_edit::EditFault;
+use pol_text::Policy;
+use std::alloc::{AllocError, Global};
+use std::process::Abort;
+use std::test::Fail;
+use tac_conn::{Answer, Ask, Proof, Service};
+use tac_console::{Asked, read_console, write_edit_answer, write_query_answer};
+use tac_desk::{Desk, PlainDesk};
+use tac_tally::{AcctKind, Record};
+
+/// What a console prints of a line, at any desk.
+pub(crate) fn console<D: Desk>(
+    alloc: Global,
+    desk: &mut D,
+    line: &[u8],
+    out: &mut Vec<u8>,
+) -> Result<(), AllocError> {
+    match read_console(alloc, line)? {
+        Asked::Edit(edit) => match desk.edit(&edit) {
+            Ok(changes) => write_edit_answer(alloc, out, &Ok(&changes.first)),
+            Err(fault) => write_edit_answer(alloc, out, &Err(fault)),
+        },
+        Asked::Query(query) => match desk.query(&query) {
+            Ok(report) => write_query_answer(alloc, out, &query, &Ok(&report.first)),
+            Err(fault) => write_query_answer(alloc, out, &query, &Err(fault)),
+        },
+        Asked::Neither => write_edit_answer(alloc, out, &Err(EditFault::BadEdit)),
+    }
+}
+
+// A record; the empty line stands for none.
+fn record(user: Bytes, kind: AcctKind, task: Bytes, elapsed: u32, line: Bytes) -> Record {
+    Record {
+        user,
+        kind,
+        task,
+        elapsed,
+        line: if line.is_empty() { None } else { Some(line) },
+    }
+}
+
+// What stands behind a `%`: two digits, and bytes that stand for themselves; or nothing.
+fn push_shown(bytes: &mut Bytes, part: &[u8]) -> Result<(), AllocError> {
+    if let [high, low, rest @ ..] = part {
+        bytes.push(digit(*high) << 4 | digit(*low))?;
+        bytes.extend_from_slice(rest)?;
+    }
+    Ok(())
+}
+
+// The bytes that a text in percent form shows.
+fn bytes(alloc: Global, text: &str) -> Result<Bytes, AllocError> {
+    let mut bytes = Bytes::new(alloc);
+    for (at, part) in text.split('%').enumerate() {
+        if at == 0 {
+            bytes.extend_from_slice(part.as_bytes())?;
+        } else {
+            push_shown(&mut bytes, part.as_bytes())?;
+        }
+    }
+    Ok(bytes)
+}
+
+// The value of a hexadecimal digit.
+fn digit(byte: u8) -> u8 {
+    match byte {
+        b'0'..=b'9' => byte - b'0',
+        b'A'..=b'F' => byte - b'A' + 10,
+        _ => 0,
+    }
+}
+
+// The first word of a text, and what is behind the space.
+fn word(text: &str) -> (&str, &str) {
+    text.split_once(' ').unwrap_or((text, ""))
+}
+
+fn kind(word: &str) -> AcctKind {
+    match word {
+        "start" => AcctKind::Begin,
+        "stop" => AcctKind::Stop,
+        "watchdog" => AcctKind::Watch,
+        _ => AcctKind::Update,
+    }
+}
+
+// `USER KIND TASK SECONDS LINE`, of which user, task and line are in percent form.
+fn account(alloc: Global, words: &str) -> Result<Ask, Fail> {
+    let (user, rest) = word(words);
+    let (verb, rest) = word(rest);
+    let (task, rest) = word(rest);
+    let (seconds, line) = word(rest);
+    Ok(Ask::Account(record(
+        bytes(alloc, user)?,
+        kind(verb),
+        bytes(alloc, task)?,
+        seconds.parse::<u32>()?,
+        bytes(alloc, line)?,
+    )))
+}
+
+// `login NAME PASSWORD`, `enable NAME PASSWORD`, `chap NAME RESPONSE` to the challenge `c` with the
+// id `a`, `run NAME LINE` or `record ..`.
+fn ask(alloc: Global, words: &str) -> Result<Ask, Fail> {
+    let (verb, rest) = word(words);
+    if verb == "record" {
+        return account(alloc, rest);
+    }
+    let (name, rest) = word(rest);
+    let user = Bytes::from_slice(alloc, name.as_bytes())?;
+    let text = Bytes::from_slice(alloc, rest.as_bytes())?;
+    Ok(match verb {
+        "login" => Ask::Authenticate {
+            user,
+            service: Service::LOGIN,
+            proof: Proof::Plain(text),
+        },
+        "enable" => Ask::Authenticate {
+            user,
+            service: Service::ENABLE,
+            proof: Proof::Plain(text),
+        },
+        "chap" => Ask::Authenticate {
+            user,
+            service: Service::PPP,
+            proof: Proof::Chap {
+                id: b'a',
+                challenge: Bytes::from_slice(alloc, b"c")?,
+                response: u128::from_str_radix(rest, 16)?.to_be_bytes(),
+            },
+        },
+        _ => Ask::Authorise { user, line: text },
+    })
+}
+
+/// What a desk answers, in a word.
+pub(crate) fn asked(desk: &mut PlainDesk, ask: &Ask) -> Result<&'static str, AllocError> {
+    let answer = match desk.ask(ask) {
+        Ok(answer) => answer,
+        Err(error) => return Err(error),
+    };
+    Ok(match answer {
+        Answer::Pass => "pass",
+        Answer::Fail => "fail",
+        Answer::UnknownUser => "unknown user",
+        Answer::Unprintable => "unprintable",
+        Answer::Denied(_) => "denied",
+        Answer::Permitted(_) => "permitted",
+        Answer::Stored => "stored",
+        Answer::BookFull => "full",
+    })
+}
+
+// A conversation with a desk: what was printed, against what is wanted.
+#[derive(Drop)]
+struct Conversation {
+    alloc: Global,
+    desk: PlainDesk,
+    printed: Vec<u8>,
+    wanted: String,
+}
+
+impl Conversation {
+    fn new(alloc: Global, policy: &str, limit: usize) -> Result<Conversation, Fail> {
+        let policy = Policy::read(alloc, policy.as_bytes())?;
+        Ok(Conversation {
+            alloc,
+            desk: PlainDesk::new(alloc, policy, limit)?,
+            printed: Vec::new(alloc),
+            wanted: String::new(alloc),
+        })
+    }
+
+    fn compare<R: Abort>(&self, rt: &R) -> Result<(), Fail> {
+        let printed = str::from_utf8(self.printed.as_slice())?;
+        let wanted = self.wanted.as_str();
+        assert!(rt; printed == wanted, "wanted\n{wanted}printed\n{printed}");
+        Ok(())
+    }
+
+    fn type_line(&mut self, line: &str) -> Result<(), Fail> {
+        console(
+            self.alloc,
+            &mut self.desk,
+            line.as_bytes(),
+            &mut self.printed,
+        )?;
+        Ok(())
+    }
+
+    fn ask(&mut self, words: &str) -> Result<(), Fail> {
+        let ask = ask(self.alloc, words)?;
+        let answer = asked(&mut self.desk, &ask)?;
+        self.printed.extend_from_slice(answer.as_bytes())?;
+        self.printed.push(b'\n')?;
+        Ok(())
+    }
+
+    fn want(&mut self, line: &str) -> Result<(), Fail> {
+        self.wanted.push_str(line)?;
+        self.wanted.push_str("\n")?;
+        Ok(())
+    }
+
+    fn go_on<R: Abort>(&mut self, rt: &R, line: &str) -> Result<(), Fail> {
+        if line.starts_with('#') {
+            return Ok(());
+        }
+        if let Some(line) = line.strip_prefix("> ") {
+            self.compare(rt)?;
+            return self.type_line(line);
+        }
+        if let Some(words) = line.strip_prefix("? ") {
+            self.compare(rt)?;
+            return self.ask(words);
+        }
+        self.want(line)
+    }
+}
+
+/// Holds conversations with desks of a policy, which keep at most so many records.
+///
+/// A paragraph is a conversation: behind `> ` a line of the console, behind `? ` what a connection
+/// asks, and behind each the lines that are answered. A line that begins with `#` is a comment.
+pub(crate) fn converses<R: Abort + AllocGlobal>(
+    rt: &R,
+    policy: &str,
+    limit: usize,
+    text: &str,
+) -> Result<(), Fail> {
+    let mut conversation = Conversation::new(rt.alloc(), policy, limit)?;
+    for line in text.lines() {
+        let line = line.trim_start();
+        if line.is_empty() {
+            conversation.compare(rt)?;
+            conversation = Conversation::new(rt.alloc(), policy, limit)?;
+        } else {
+            conversation.go_on(rt, line)?;
+        }
+    }
+    conversation.compare(rt)
+}

@@ -1,0 +1,6 @@
+mod Spaces
+mod PercentFacts
+pub mod Apart
+mod QueryFound
+mod QueryBack
+pub mod Lines

@@ -1,0 +1,81 @@
+-- A line is an edit, a question, or neither, in one way.
+use Rattle.std.proofs.Common.{◌≡◌, ℕ, Bool, true, false, List, [], ◌∷◌, Some, None, Result, Ok, Err, ◌⊎◌, codes, nat_eq, inl, inr, refl, sym, ◌∙◌}
+use Rattle.std.specs.List.{list_any, starts_with}
+use Rattle.pol_edit.specs.Spelling.{SpellsWords as SpellsEditWords, Spells as SpellsEdit}
+use Rattle.pol_edit.specs.declared.edit.Edit.{Edit}
+use Rattle.pol_edit.specs.declared.edit.Edit.TheVariants.{AddGroup, AddUser, Remove, SetParent, SetLogin, SetEnable, SetPriv, InsertRule, RemoveRule, MoveRule}
+use Rattle.pol_edit.specs.declared.fault.EditFault.{EditFault}
+use Rattle.pol_edit.specs.declared.fault.EditFault.TheVariants.{BadEdit, Memory}
+use Rattle.tac_desk.specs.declared.query.Query.{Query}
+use Rattle.tac_desk.specs.declared.query.Query.TheVariants.{Policy, Tally, Why, Records}
+use Rattle.tac_console.specs.ConsoleText.{query_of}
+use Rattle.tac_console.specs.Spelling.{SpellsWords, SpellsQuery, Spells}
+use Rattle.tac_console.specs.declared.asked.Asked.{Asked}
+use Rattle.tac_console.specs.declared.asked.Asked.TheVariants as asks
+use Rattle.tac_console.proofs.QueryFound as found
+use Rattle.tac_console.proofs.QueryBack as back
+
+-- whether a line begins as an edit does
+abbrev begins_edit : List ℕ → Bool
+begins_edit line =
+    list_any (starts_with nat_eq line)
+    (codes "add" ∷ codes "rem" ∷ codes "mov" ∷ codes "log" ∷ codes "ena" ∷ codes "cle" ∷ codes "pri" ∷ codes "ins" ∷ codes "dro" ∷ codes "shi" ∷ [])
+
+edits_begin : (line : List ℕ) (edit : Edit) → SpellsEditWords line edit → begins_edit line ≡ true
+edits_begin line (AddGroup name parent) h = rw h.0 refl
+edits_begin line (AddUser name parent) h = rw h.0 refl
+edits_begin line (Remove subject) h = rw h.0 refl
+edits_begin line (SetParent subject parent) h = rw h.0 refl
+edits_begin line (SetLogin user (Some text)) h = rw h.0 refl
+edits_begin line (SetLogin user None) h = rw h.0 refl
+edits_begin line (SetEnable user (Some text)) h = rw h.0 refl
+edits_begin line (SetEnable user None) h = rw h.0 refl
+edits_begin line (SetPriv subject (Some level)) h = rw h.1 refl
+edits_begin line (SetPriv subject None) h = rw h.0 refl
+edits_begin line (InsertRule subject at verdict pattern) h = rw h.1 refl
+edits_begin line (RemoveRule subject at) h = rw h.1 refl
+edits_begin line (MoveRule subject from to) h = rw h.2 refl
+
+queries_begin : (line : List ℕ) (query : Query) → SpellsWords line query → begins_edit line ≡ false
+queries_begin line Policy h = rw h refl
+queries_begin line (Tally subject) h = rw h.0 refl
+queries_begin line (Why user text) h = elim h.0 [ inl spaced ↦ rw spaced refl | inr alone ↦ rw alone.0 refl ]
+queries_begin line Records h = rw h refl
+
+pub apart : (line : List ℕ) (edit : Edit) (query : Query) → SpellsEdit line edit → SpellsQuery line query → ⊥
+apart line edit query h k =
+    let yes : begins_edit line ≡ true = edits_begin line edit h.1 in
+    let no : begins_edit line ≡ false = queries_begin line query k.1 in
+    cc
+
+pub query_found : (line : List ℕ) (query : Query) → query_of line ≡ Some query → SpellsQuery line query
+query_found = found.query_found
+
+same_query : (query other : Query) → Some query ≡ Some other → asks.Query query ≡ asks.Query other
+same_query query other e = cc
+
+-- where a question is read, the line spells nothing else
+pub query_only : (line : List ℕ) (query : Query) → query_of line ≡ Some query → (asked : Asked) → Spells line asked → asks.Query query ≡ asked
+query_only line query e (asks.Edit edit) h = absurd (apart line edit query h (query_found line query e))
+query_only line query e (asks.Query other) h = same_query query other (sym e ∙ back.query_back line other h)
+query_only line query e asks.Neither h = absurd (h.1 query (query_found line query e))
+
+-- where none is read, the line spells none
+pub no_query : (line : List ℕ) → query_of line ≡ None → (query : Query) → SpellsQuery line query → ⊥
+no_query line none query h = let some = back.query_back line query h in cc
+
+refusals_differ : BadEdit ≡ Memory → ⊥
+refusals_differ e = cc
+
+-- where no edit is read, the line spells none
+pub no_edit : (line : List ℕ) (fault : EditFault) → fault ≡ BadEdit
+    → ((edit : Edit) → SpellsEdit line edit → (◌≡◌ {A = Result Edit EditFault} (Err fault) (Ok edit)) ⊎ (◌≡◌ {A = Result Edit EditFault} (Err fault) (Err Memory)))
+    → (edit : Edit) → SpellsEdit line edit → ⊥
+no_edit line fault is read edit h = elim (read edit h) [ inl made ↦ absurd cc | inr refused ↦ refusals_differ (sym is ∙ cc) ]
+
+-- where nothing is read, the line spells nothing
+pub neither_only : (line : List ℕ) → ((edit : Edit) → SpellsEdit line edit → ⊥) → ((query : Query) → SpellsQuery line query → ⊥)
+    → (asked : Asked) → Spells line asked → asks.Neither ≡ asked
+neither_only line edits queries (asks.Edit edit) h = absurd (edits edit h)
+neither_only line edits queries (asks.Query query) h = absurd (queries query h)
+neither_only line edits queries asks.Neither h = refl

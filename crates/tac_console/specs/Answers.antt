@@ -1,0 +1,116 @@
+-- How answers are printed (docs/CONSOLE.md). Every line ends in LF.
+use Rattle.std.specs.Prelude.{ℕ, suc, List, [], ◌∷◌, ◌++◌, codes, Option, Some, None, Result, Ok, Err}
+use Rattle.std.specs.List.{flat_map}
+use Rattle.std.specs.Option.{option_map_or}
+use Rattle.std.specs.Fmt.{decimal}
+use Rattle.std.specs.Borrow.{Bor}
+use Rattle.pol_text.specs.Text.{text_of}
+use Rattle.pol_names.specs.declared.decision.Verdict.{Verdict}
+use Rattle.pol_names.specs.declared.decision.Verdict.TheVariants.{Permit, Deny}
+use Rattle.pol_names.specs.declared.decision.By.{By}
+use Rattle.pol_names.specs.declared.decision.By.TheVariants as by
+use Rattle.pol_names.specs.declared.decision.Decision.{Decision}
+use Rattle.pol_names.specs.declared.subject_id.SubjectId.{SubjectId}
+use Rattle.pol_names.specs.SubjectId.{subject_text}
+use Rattle.pol_edit.specs.FaultText as edit_faults
+use Rattle.pol_edit.specs.declared.fault.EditFault.{EditFault}
+use Rattle.pol_report.specs.declared.Changed.{Changed}
+use Rattle.tac_request.specs.declared.record.AcctKind.{AcctKind}
+use Rattle.tac_request.specs.declared.record.AcctKind.TheVariants.{Begin, Stop, Watch, Update}
+use Rattle.tac_request.specs.declared.record.Record.{Record}
+use Rattle.tac_tally.specs.declared.tally.Tally.{Tally}
+use Rattle.tac_desk.specs.FaultText as query_faults
+use Rattle.tac_desk.specs.declared.query.Query.{Query}
+use Rattle.tac_desk.specs.declared.query.Query.TheVariants as queries
+use Rattle.tac_desk.specs.declared.query.Report.{Report}
+use Rattle.tac_desk.specs.declared.query.Report.TheVariants as reports
+use Rattle.tac_desk.specs.declared.query.QueryFault.{QueryFault}
+use Rattle.tac_console.specs.Percent.{percent_form}
+
+-- an answer whose value is lent
+abbrev pub answer_lent : {A E : Type 0} → Result (Bor A) E → Result A E
+answer_lent (Ok value) = Ok value.now
+answer_lent (Err fault) = Err fault
+
+-- a refusal's number and name, and what it adds
+abbrev pub refused : List ℕ → List ℕ
+refused fault = codes "refused " ++ fault ++ 10 ∷ []
+
+-- ---- edits
+
+-- a line where there is a text
+abbrev pub change_line : List ℕ → List ℕ → Option (List ℕ) → List ℕ
+change_line user what text = option_map_or (λ text. codes "user " ++ user ++ what ++ text ++ 10 ∷ []) text []
+
+abbrev pub changed_lines : Changed → List ℕ
+changed_lines changed =
+    change_line changed.user (codes " now permits: ") changed.permits ++ change_line changed.user (codes " now denies: ") changed.denies
+
+abbrev pub edit_answer : Result (List Changed) EditFault → List ℕ
+edit_answer (Ok changes) = codes "ok" ++ 10 ∷ flat_map changed_lines changes
+edit_answer (Err fault) = refused (edit_faults.fault_text fault)
+
+-- ---- tallies
+
+abbrev pub tally_line : SubjectId → Tally → List ℕ
+tally_line subject tally =
+    codes "tally " ++ subject_text subject ++ codes " starts " ++ decimal tally.starts ++ codes " stops " ++ decimal tally.stops
+    ++ codes " watchdogs " ++ decimal tally.watchdogs ++ codes " updates " ++ decimal tally.updates
+    ++ codes " open " ++ decimal tally.open_tasks ++ codes " elapsed " ++ decimal tally.elapsed ++ codes " drift " ++ decimal tally.drift ++ 10 ∷ []
+
+abbrev pub tally_text : Query → Tally → List ℕ
+tally_text (queries.Tally subject) tally = tally_line subject tally
+tally_text _ tally = []
+
+-- ---- decisions
+
+abbrev pub verdict_text : Verdict → List ℕ
+verdict_text Permit = codes "permitted by "
+verdict_text Deny = codes "denied by "
+
+-- the rule's owner, and its number there
+abbrev pub by_text : By → List ℕ
+by_text (by.Rule owner number) = subject_text owner ++ codes " rule " ++ decimal number
+by_text by.Default = codes "default"
+
+abbrev pub why_line : Option Decision → List ℕ
+why_line None = codes "unknown user" ++ 10 ∷ []
+why_line (Some decision) = verdict_text decision.verdict ++ by_text decision.by ++ 10 ∷ []
+
+-- ---- records
+
+abbrev pub kind_text : AcctKind → List ℕ
+kind_text Begin = codes "start"
+kind_text Stop = codes "stop"
+kind_text Watch = codes "watchdog"
+kind_text Update = codes "update"
+
+-- the line of a record comes last, where there is one
+abbrev pub line_field : Option (List ℕ) → List ℕ
+line_field line = option_map_or (λ line. codes " line " ++ percent_form line) line []
+
+abbrev pub record_line : ℕ → Record → List ℕ
+record_line number item =
+    codes "record " ++ decimal number ++ codes " user " ++ percent_form item.user ++ codes " " ++ kind_text item.kind
+    ++ codes " task " ++ percent_form item.task ++ codes " elapsed " ++ decimal item.elapsed ++ line_field item.line ++ 10 ∷ []
+
+-- the first of these has this number
+abbrev pub record_lines : ℕ → List Record → List ℕ
+record_lines number [] = []
+record_lines number (item ∷ rest) = record_line number item ++ record_lines (suc number) rest
+
+abbrev pub records_text : List Record → List ℕ
+records_text [] = codes "none" ++ 10 ∷ []
+records_text (item ∷ rest) = record_lines 1 (item ∷ rest)
+
+-- ---- questions
+
+abbrev pub report_text : Query → Report → List ℕ
+report_text query (reports.Policy policy) = text_of policy
+report_text query (reports.Tally tally) = tally_text query tally
+report_text query (reports.Why decision) = why_line decision
+report_text query (reports.Records records) = records_text records
+
+abbrev pub query_answer : Query → Result Report QueryFault → List ℕ
+query_answer query (Ok report) = report_text query report
+query_answer query (Err fault) = refused (query_faults.fault_text fault)

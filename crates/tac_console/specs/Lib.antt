@@ -1,0 +1,5 @@
+pub mod ConsoleText
+pub mod Spelling
+pub mod Percent
+pub mod Answers
+pub mod Apart

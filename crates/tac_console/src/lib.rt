@@ -1,0 +1,14 @@
+//! The console of a desk: its lines, and how they are answered.
+#![tactic(auto)]
+
+mod adding;
+mod asked;
+mod edit_answer;
+mod percent;
+mod query_answer;
+mod reading;
+
+pub use asked::Asked;
+pub use edit_answer::write_edit_answer;
+pub use query_answer::write_query_answer;
+pub use reading::read_console;

@@ -1,0 +1,167 @@
+//! How a question is answered.
+
+ghost use Rattle.std.specs.Prelude.{◌≡◌, ◌++◌, ◌∷◌, ℕ, List, IsTrue, IfOk, OnOk, OnErr};
+ghost use Rattle.std.specs.Result.{ForOk};
+ghost use Rattle.tac_desk.specs.FaultText as faults;
+ghost use Rattle.tac_desk.specs.Reporting.{is_report_to};
+ghost use Rattle.tac_request.specs.declared.record.Record.{Record as RecordValue};
+ghost use Rattle.tac_console.specs.Answers as answers;
+ghost use Rattle.tac_console.specs.Apart.{HasNoBlank, AreApart};
+
+use crate::adding::add;
+use crate::percent::write_percent;
+use basics::Bytes;
+use pol_names::{By, Decision, SubjectId, Verdict};
+use std::alloc::{AllocError, Global};
+use std::io;
+use std::io::Write;
+use tac_desk::{Query, QueryFault, Report};
+use tac_tally::{AcctKind, Record, Tally};
+
+// ---- tallies
+
+fn write_tally(out: &mut Vec<u8>, subject: &SubjectId, tally: &Tally) -> io::Result<()>
+    ensures { OnOk result
+        (out.new.items ≡ out.old.items ++ answers.tally_line subject.now tally.now) }
+{
+    let Tally {
+        starts,
+        stops,
+        watchdogs,
+        updates,
+        open_tasks,
+        elapsed,
+        drift,
+    } = tally;
+    write!(out, "tally {subject} starts {starts} stops {stops}")?;
+    write!(out, " watchdogs {watchdogs} updates {updates}")?;
+    writeln!(out, " open {open_tasks} elapsed {elapsed} drift {drift}")?;
+    Ok(())
+}
+
+// ---- decisions
+
+fn verdict_text(verdict: Verdict) -> &'static str
+    ensures { result.now ≡ answers.verdict_text verdict }
+{
+    match verdict {
+        Verdict::Permit => "permitted by ",
+        Verdict::Deny => "denied by ",
+    }
+}
+
+fn write_why(out: &mut Vec<u8>, decision: Option<Decision>) -> io::Result<()>
+    ensures { OnOk result (out.new.items ≡ out.old.items ++ answers.why_line decision) }
+{
+    let Some(decision) = decision else {
+        return writeln!(out, "unknown user");
+    };
+    let verdict = verdict_text(decision.verdict);
+    match decision.by {
+        By::Rule(owner, number) => writeln!(out, "{verdict}{owner} rule {number}"),
+        By::Default => writeln!(out, "{verdict}default"),
+    }
+}
+
+// ---- records
+
+fn kind_text(kind: AcctKind) -> &'static str
+    ensures { result.now ≡ answers.kind_text kind }
+{
+    match kind {
+        AcctKind::Begin => "start",
+        AcctKind::Stop => "stop",
+        AcctKind::Watch => "watchdog",
+        AcctKind::Update => "update",
+    }
+}
+
+// The field of a record's line, where there is one.
+fn write_line_field(out: &mut Vec<u8>, line: &Option<Bytes>) -> io::Result<()>
+    ensures { OnOk result (out.new.items ≡ out.old.items ++ answers.line_field line.now) }
+{
+    let Some(line) = line else {
+        return Ok(());
+    };
+    write!(out, " line ")?;
+    write_percent(out, line.as_slice())?;
+    Ok(())
+}
+
+fn write_record(out: &mut Vec<u8>, number: usize, item: &Record) -> io::Result<()>
+    ensures { OnOk result (out.new.items ≡ out.old.items ++ answers.record_line number item.now) }
+{
+    let kind = kind_text(item.kind);
+    let elapsed = item.elapsed;
+    write!(out, "record {number} user ")?;
+    write_percent(out, item.user.as_slice())?;
+    write!(out, " {kind} task ")?;
+    write_percent(out, item.task.as_slice())?;
+    write!(out, " elapsed {elapsed}")?;
+    write_line_field(out, &item.line)?;
+    out.push(b'\n')?;
+    Ok(())
+}
+
+fn write_records(out: &mut Vec<u8>, records: &[Record]) -> io::Result<()>
+    ensures { OnOk result (out.new.items ≡ out.old.items ++ answers.records_text records.now) }
+{
+    if records.is_empty() {
+        return writeln!(out, "none");
+    }
+    'records: for (at, item) in records.iter().enumerate() {
+        write_record(out, at + 1, item)?;
+    }
+    Ok(())
+}
+
+// ---- all reports
+
+fn report_text(alloc: Global, query: &Query, report: &Report) -> io::Result<Vec<u8>>
+    requires { IsTrue (is_report_to query.now report.now) }
+    ensures { IfOk result (λ text. text.items ≡ answers.report_text query.now report.now) }
+{
+    let mut text = Vec::new(alloc);
+    match (report, query) {
+        (Report::Policy(policy), _) => return Ok(policy.print(alloc)?.into_vec()),
+        (Report::Tally(tally), Query::Tally(subject)) => write_tally(&mut text, subject, tally)?,
+        (Report::Tally(_), _) => unreachable!(),
+        (Report::Why(decision), _) => write_why(&mut text, *decision)?,
+        (Report::Records(records), _) => write_records(&mut text, records.as_slice())?,
+    }
+    Ok(text)
+}
+
+// Why a question isn't answered.
+fn refused(alloc: Global, fault: QueryFault) -> io::Result<Vec<u8>>
+    ensures { IfOk result (λ text. text.items ≡ answers.refused (faults.fault_text fault)) }
+{
+    let mut text = Vec::new(alloc);
+    writeln!(text, "refused {fault}")?;
+    Ok(text)
+}
+
+/// Adds how a question is answered, or why it isn't. The error is want of memory, and adds nothing.
+/// Linear in what is added.
+#[tactic(auto, using(crate::proofs::Apart::percent_visible, crate::proofs::Apart::records_apart))]
+pub fn write_query_answer(
+    alloc: Global,
+    out: &mut Vec<u8>,
+    query: &Query,
+    answer: &Result<&Report, QueryFault>,
+) -> Result<(), AllocError>
+    // The report is one to this question.
+    requires { ForOk answer.now (λ report. IsTrue (is_report_to query.now report.now)) }
+    ensures ok { OnOk result (out.new.items ≡ out.old.items
+        ++ answers.query_answer query.now (answers.answer_lent answer.now)) }
+    ensures err { OnErr result (out.new.items ≡ out.old.items) }
+
+    // Records that are printed alike are the same, since a field has no blank and no line end.
+    ensures fields { (text : List ℕ) → HasNoBlank text }
+    ensures apart { (a b : List RecordValue) → AreApart a b }
+{
+    match answer {
+        Ok(report) => add(out, report_text(alloc, query, report)),
+        Err(fault) => add(out, refused(alloc, *fault)),
+    }
+}
