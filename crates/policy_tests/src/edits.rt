@@ -1,7 +1,6 @@
 //! Edits: their lines, and what they make of a policy.
 
 use pol_edit::{EditFault, apply, read_edit};
-use pol_pattern::PatternFault;
 use pol_names::{Name, SubjectId};
 use pol_text::Policy;
 use std::process::Abort;
@@ -13,185 +12,188 @@ fn edit<R: AllocGlobal>(rt: &R, policy: &mut Policy, line: &str) -> Result<(), E
     apply(rt.alloc(), policy, &edit)
 }
 
-// Of the policy of this text the lines make the policy of the other.
-fn makes<R: Abort + AllocGlobal>(
-    rt: &R,
-    before: &str,
-    lines: &[&str],
-    after: &str,
-) -> Result<(), Fail> {
-    let mut policy = Policy::read(rt.alloc(), before.as_bytes())?;
-    for line in lines {
-        edit(rt, &mut policy, line)?;
-    }
+// The policy is printed so.
+fn prints<R: Abort + AllocGlobal>(rt: &R, policy: &Policy, expected: &str) -> Result<(), Fail> {
     let text = policy.print(rt.alloc())?;
     let printed = str::from_utf8(text.as_slice())?;
     assert!(rt;
-        printed == after,
-        "expected\n{after}printed\n{printed}after {lines:?}"
+        printed == expected,
+        "expected\n{expected}printed\n{printed}"
     );
     Ok(())
 }
 
-// The line is refused so, and the policy is as before.
+// Of the policy of the first text the edits, one a line, make that of the other.
+fn makes<R: Abort + AllocGlobal>(
+    rt: &R,
+    before: &str,
+    edits: &str,
+    after: &str,
+) -> Result<(), Fail> {
+    let mut policy = Policy::read(rt.alloc(), before.as_bytes())?;
+    for line in edits.lines() {
+        edit(rt, &mut policy, line)?;
+    }
+    prints(rt, &policy, after)
+}
+
+// The line is refused so, as it is printed, and the policy is as before.
 fn refuses<R: Abort + AllocGlobal>(
     rt: &R,
     before: &str,
     line: &str,
-    fault: EditFault,
+    expected: &str,
 ) -> Result<(), Fail> {
     let mut policy = Policy::read(rt.alloc(), before.as_bytes())?;
     match edit(rt, &mut policy, line) {
         Ok(()) => assert!(rt; false, "{line} is accepted"),
-        Err(found) => assert_eq!(rt; found, fault, "{line}"),
+        Err(fault) => {
+            let printed = format!(in rt.alloc(); "{fault}")?;
+            assert!(rt; printed.as_str() == expected, "{printed} for {line}");
+        }
     }
-    let text = policy.print(rt.alloc())?;
-    assert!(rt; text.as_slice() == before.as_bytes(), "{line}");
+    prints(rt, &policy, before)
+}
+
+// Each line is refused with what stands before it, up to a colon and a blank.
+fn refuses_each<R: Abort + AllocGlobal>(rt: &R, policy: &str, lines: &str) -> Result<(), Fail> {
+    for case in lines.lines() {
+        match case.trim_start().split_once(": ") {
+            Some((fault, line)) => refuses(rt, policy, line, fault)?,
+            None => assert!(rt; case.trim_start().is_empty(), "{case}"),
+        }
+    }
     Ok(())
 }
+
+const THREE: &str = "group all\npermit x\ngroup ops in all\nuser bob in ops\n";
 
 #[test]
 fn edits_of_subjects(rt: HostRuntime) -> Result<(), Fail> {
     makes(
         &rt,
         "",
-        &[
-            "add group all",
-            "add group ops in all",
-            "add user bob in ops",
-            "add user all",
-        ],
+        "add group all\nadd group ops in all\nadd user bob in ops\nadd user all\n",
         "group all\ngroup ops in all\nuser bob in ops\nuser all\n",
     )?;
-    let three = "group all\npermit x\ngroup ops in all\nuser bob in ops\n";
     makes(
         &rt,
-        three,
-        &["remove user bob", "remove group ops"],
+        THREE,
+        "remove user bob\nremove group ops\n",
         "group all\npermit x\n",
     )?;
     makes(
         &rt,
-        three,
-        &["move user bob in all", "move group ops out"],
+        THREE,
+        "move user bob in all\nmove group ops out\n",
         "group all\npermit x\ngroup ops\nuser bob in all\n",
-    )?;
+    )
+}
+
+#[test]
+fn edits_of_settings(rt: HostRuntime) -> Result<(), Fail> {
     makes(
         &rt,
-        three,
-        &[
-            "login bob  x ",
-            "enable bob y",
-            "priv user bob 0",
-            "priv group ops 15",
-            "login bob z",
-            "clear enable bob",
-        ],
+        THREE,
+        "login bob  x \nenable bob y\npriv user bob 0\npriv group ops 15\nlogin bob z\nclear enable bob\n",
         "group all\npermit x\ngroup ops in all\npriv 15\nuser bob in ops\nlogin z\npriv 0\n",
     )?;
     // Clearing what isn't set, and setting what is, are fine.
     makes(
         &rt,
-        three,
-        &[
-            "clear login bob",
-            "clear enable bob",
-            "clear priv user bob",
-            "move user bob in ops",
-        ],
-        three,
+        THREE,
+        "clear login bob\nclear enable bob\nclear priv user bob\nmove user bob in ops\n",
+        THREE,
     )
 }
+
+const FOUR: &str = "user u\npermit a\npermit b\npermit c\npermit d\n";
 
 #[test]
 fn edits_of_rules(rt: HostRuntime) -> Result<(), Fail> {
     makes(
         &rt,
         "group g\n",
-        &[
-            "insert group g 1 permit b",
-            "insert group g 1 deny a",
-            "insert group g 3 permit ",
-            "insert group g 0003 deny  x",
-        ],
+        "insert group g 1 permit b\ninsert group g 1 deny a\ninsert group g 3 permit \n\
+         insert group g 0003 deny  x\n",
         "group g\ndeny a\npermit b\ndeny  x\npermit \n",
     )?;
-    let four = "user u\npermit a\npermit b\npermit c\npermit d\n";
     makes(
         &rt,
-        four,
-        &["drop user u 2", "drop user u 3"],
+        FOUR,
+        "drop user u 2\ndrop user u 3\n",
         "user u\npermit a\npermit c\n",
     )?;
     makes(
         &rt,
-        four,
-        &["shift user u 1 3"],
+        FOUR,
+        "shift user u 1 3\n",
         "user u\npermit b\npermit c\npermit a\npermit d\n",
     )?;
     makes(
         &rt,
-        four,
-        &["shift user u 4 2"],
+        FOUR,
+        "shift user u 4 2\n",
         "user u\npermit a\npermit d\npermit b\npermit c\n",
     )?;
-    makes(&rt, four, &["shift user u 2 2"], four)
+    makes(&rt, FOUR, "shift user u 2 2\n", FOUR)
 }
+
+/// One a line; the first is empty.
+const NO_EDITS: &str = "
+add
+add group
+add group 
+add group a,b
+add group a b
+add group a in
+add group a in 
+add group a in b c
+add groups a
+Add group a
+ add group a
+add  group a
+add group a\u{7f}
+remove bob
+remove user
+remove user bob 
+move user bob
+move user bob on ops
+move user bob in
+move user bob out 
+login bob
+login user bob\u{1f}
+login b,b x
+clear login
+clear login bob x
+clear priv bob
+clear secret bob
+priv user bob
+priv user bob x
+priv user bob 00015
+priv user bob 5 
+insert group ops 1
+insert group ops 1 permit
+insert group ops 1 allow x
+insert group ops one permit x
+insert group ops 00001 permit x
+insert group ops  1 permit x
+drop group ops
+drop group ops x
+drop group ops 1 
+shift group ops 1
+shift group ops 1 2 3
+policy
+";
 
 #[test]
 fn lines_that_are_no_edit(rt: HostRuntime) -> Result<(), Fail> {
-    let lines = [
-        "",
-        "add",
-        "add group",
-        "add group ",
-        "add group a,b",
-        "add group a b",
-        "add group a in",
-        "add group a in ",
-        "add group a in b c",
-        "add groups a",
-        "Add group a",
-        " add group a",
-        "add  group a",
-        "add group a\u{7f}",
-        "remove bob",
-        "remove user",
-        "remove user bob ",
-        "move user bob",
-        "move user bob on ops",
-        "move user bob in",
-        "move user bob out ",
-        "login bob",
-        "login user bob\u{1f}",
-        "login b,b x",
-        "clear login",
-        "clear login bob x",
-        "clear priv bob",
-        "clear secret bob",
-        "priv user bob",
-        "priv user bob x",
-        "priv user bob 00015",
-        "priv user bob 5 ",
-        "insert group ops 1",
-        "insert group ops 1 permit",
-        "insert group ops 1 allow x",
-        "insert group ops one permit x",
-        "insert group ops 00001 permit x",
-        "insert group ops  1 permit x",
-        "drop group ops",
-        "drop group ops x",
-        "drop group ops 1 ",
-        "shift group ops 1",
-        "shift group ops 1 2 3",
-        "policy",
-    ];
-    for line in &lines {
+    for line in NO_EDITS.lines() {
         refuses(
             &rt,
             "group ops\npermit a\nuser bob in ops\n",
             line,
-            EditFault::BadEdit,
+            "1 BadEdit",
         )?;
     }
     Ok(())
@@ -199,75 +201,76 @@ fn lines_that_are_no_edit(rt: HostRuntime) -> Result<(), Fail> {
 
 #[test]
 fn refusals(rt: HostRuntime) -> Result<(), Fail> {
-    let policy = "group base\ngroup ops in base\npermit a\ndeny b\nuser bob in ops\n";
-    let cases = [
-        ("add user eve in none", EditFault::NoSuch),
-        ("remove user ops", EditFault::NoSuch),
-        ("move user eve in ops", EditFault::NoSuch),
-        ("move user bob in none", EditFault::NoSuch),
-        ("login eve x", EditFault::NoSuch),
-        ("login ops x", EditFault::NoSuch),
-        ("clear enable eve", EditFault::NoSuch),
-        ("priv user eve 1", EditFault::NoSuch),
-        ("insert group bob 1 permit x", EditFault::NoSuch),
-        ("drop user eve 1", EditFault::NoSuch),
-        ("shift user eve 1 1", EditFault::NoSuch),
-        ("add user bob", EditFault::Exists),
-        ("add group ops in base", EditFault::Exists),
-        ("remove group ops", EditFault::InUse),
-        ("move group base in ops", EditFault::Cycle),
-        ("move group base in base", EditFault::Cycle),
-        ("insert group ops 0 permit x", EditFault::BadIndex),
-        ("insert group ops 4 permit x", EditFault::BadIndex),
-        ("drop group ops 3", EditFault::BadIndex),
-        ("drop group ops 0", EditFault::BadIndex),
-        ("drop user bob 1", EditFault::BadIndex),
-        ("shift group ops 1 3", EditFault::BadIndex),
-        ("shift group ops 3 1", EditFault::BadIndex),
-        ("shift group ops 0 1", EditFault::BadIndex),
-        (
-            "insert group ops 1 permit *a",
-            EditFault::BadPattern(PatternFault::NothingToRepeat(0)),
-        ),
-        ("login bob ", EditFault::BadValue),
-        ("enable bob ", EditFault::BadValue),
-        ("priv user bob 16", EditFault::BadValue),
-        // The first of two.
-        ("add user bob in none", EditFault::NoSuch),
-        ("login eve ", EditFault::NoSuch),
-        ("priv group none 16", EditFault::NoSuch),
-        ("insert user eve 9 permit *", EditFault::NoSuch),
-        ("insert group ops 9 permit *", EditFault::BadIndex),
-    ];
-    for (line, fault) in &cases {
-        refuses(&rt, policy, line, *fault)?;
-    }
-    Ok(())
-}
+    refuses_each(
+        &rt,
+        "group base\ngroup ops in base\npermit a\ndeny b\nuser bob in ops\n",
+        "
+        2 NoSuch: add user eve in none
+        2 NoSuch: remove user ops
+        2 NoSuch: move user eve in ops
+        2 NoSuch: move user bob in none
+        2 NoSuch: login eve x
+        2 NoSuch: login ops x
+        2 NoSuch: clear enable eve
+        2 NoSuch: priv user eve 1
+        2 NoSuch: insert group bob 1 permit x
+        2 NoSuch: drop user eve 1
+        2 NoSuch: shift user eve 1 1
+        3 Exists: add user bob
+        3 Exists: add group ops in base
+        4 InUse: remove group ops
+        5 Cycle: move group base in ops
+        5 Cycle: move group base in base
+        7 BadIndex: insert group ops 0 permit x
+        7 BadIndex: insert group ops 4 permit x
+        7 BadIndex: drop group ops 3
+        7 BadIndex: drop group ops 0
+        7 BadIndex: drop user bob 1
+        7 BadIndex: shift group ops 1 3
+        7 BadIndex: shift group ops 3 1
+        7 BadIndex: shift group ops 0 1
+        8 BadPattern 5 NothingToRepeat at 0: insert group ops 1 permit *a
+        9 BadValue: login bob 
+        9 BadValue: enable bob 
+        9 BadValue: priv user bob 16
 
-#[test]
-fn a_secret_of_129_symbols(rt: HostRuntime) -> Result<(), Fail> {
-    let sixty_four = "0123456789abcdef0123456789abcdef0123456789abcdef0123456789abcdef";
-    let mut line = String::from_str(rt.alloc(), "login bob ")?;
-    line.push_str(sixty_four)?;
-    line.push_str(sixty_four)?;
-    let mut policy = Policy::read(rt.alloc(), b"user bob\n")?;
-    edit(&rt, &mut policy, line.as_str())?;
-    line.push_str("x")?;
-    refuses(&rt, "user bob\n", line.as_str(), EditFault::BadValue)
+        2 NoSuch: add user bob in none
+        2 NoSuch: login eve 
+        2 NoSuch: priv group none 16
+        2 NoSuch: insert user eve 9 permit *
+        7 BadIndex: insert group ops 9 permit *
+        ",
+    )
 }
 
 #[test]
 fn chains_that_grow_too_long(rt: HostRuntime) -> Result<(), Fail> {
-    let eight = "group a\ngroup b in a\ngroup c in b\ngroup d in c\ngroup e in d\n\
-                 group f in e\ngroup g in f\ngroup h in g\ngroup x\nuser u in x\n";
-    refuses(&rt, eight, "add user v in h", EditFault::TooDeep)?;
-    refuses(&rt, eight, "move user u in h", EditFault::TooDeep)?;
     // A chain that only leads through the subject counts too, and a cycle comes first.
-    refuses(&rt, eight, "move group x in g", EditFault::TooDeep)?;
-    refuses(&rt, eight, "move group a in x", EditFault::TooDeep)?;
-    refuses(&rt, eight, "move group a in h", EditFault::Cycle)?;
-    refuses(&rt, eight, "add user u in h", EditFault::Exists)
+    refuses_each(
+        &rt,
+        "group a\ngroup b in a\ngroup c in b\ngroup d in c\ngroup e in d\n\
+         group f in e\ngroup g in f\ngroup h in g\ngroup x\nuser u in x\n",
+        "
+        6 TooDeep: add user v in h
+        6 TooDeep: move user u in h
+        6 TooDeep: move group x in g
+        6 TooDeep: move group a in x
+        5 Cycle: move group a in h
+        3 Exists: add user u in h
+        ",
+    )
+}
+
+#[test]
+fn a_secret_of_129_symbols(rt: HostRuntime) -> Result<(), Fail> {
+    let mut line = String::from_str(rt.alloc(), "login bob ")?;
+    for _ in 0..8 {
+        line.push_str("0123456789abcdef")?;
+    }
+    let mut policy = Policy::read(rt.alloc(), b"user bob\n")?;
+    edit(&rt, &mut policy, line.as_str())?;
+    line.push_str("x")?;
+    refuses(&rt, "user bob\n", line.as_str(), "9 BadValue")
 }
 
 fn rules_of_first(policy: &Policy) -> usize {
@@ -278,7 +281,7 @@ fn rules_of_first(policy: &Policy) -> usize {
 }
 
 #[test]
-fn as_many_as_there_may_be(rt: HostRuntime) -> Result<(), Fail> {
+fn as_many_rules_as_there_may_be(rt: HostRuntime) -> Result<(), Fail> {
     let mut policy = Policy::read(rt.alloc(), b"group g\n")?;
     for number in 1..=256 {
         edit(&rt, &mut policy, "insert group g 1 permit x")?;
@@ -290,7 +293,13 @@ fn as_many_as_there_may_be(rt: HostRuntime) -> Result<(), Fail> {
     }
     assert!(rt; edit(&rt, &mut policy, "insert group g 257 deny x") == Err(EditFault::Limit));
     assert_eq!(rt; rules_of_first(&policy), 256);
-    for number in 1..1024 {
+    Ok(())
+}
+
+#[test]
+fn as_many_subjects_as_there_may_be(rt: HostRuntime) -> Result<(), Fail> {
+    let mut policy = Policy::new(rt.alloc());
+    for number in 1..=1024 {
         let line = format!(in rt.alloc(); "add user u{number}")?;
         edit(&rt, &mut policy, line.as_str())?;
     }
@@ -303,19 +312,9 @@ fn as_many_as_there_may_be(rt: HostRuntime) -> Result<(), Fail> {
 #[test]
 fn printed_refusals(rt: HostRuntime) -> Result<(), Fail> {
     let ops = SubjectId::group(Name::read(b"ops").ok_or("no name")?);
-    let cases = [
-        (EditFault::BadEdit, "1 BadEdit"),
-        (EditFault::NoSuch, "2 NoSuch"),
-        (
-            EditFault::BadPattern(PatternFault::NothingToRepeat(0)),
-            "8 BadPattern 5 NothingToRepeat at 0",
-        ),
-        (EditFault::TooManyStates(ops), "11 TooManyStates group ops"),
-        (EditFault::Memory, "12 Memory"),
-    ];
-    for (fault, expected) in &cases {
-        let printed = format!(in rt.alloc(); "{fault}")?;
-        assert!(rt; printed.as_str() == *expected, "{printed}");
-    }
+    let states = format!(in rt.alloc(); "{}", EditFault::TooManyStates(ops))?;
+    assert!(rt; states.as_str() == "11 TooManyStates group ops");
+    let memory = format!(in rt.alloc(); "{}", EditFault::Memory)?;
+    assert!(rt; memory.as_str() == "12 Memory");
     Ok(())
 }
