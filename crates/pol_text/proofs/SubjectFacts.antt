@@ -77,3 +77,9 @@ parent_right p subject policy r all e = by subject.parent e
         none None k = tt
         none (Some s) k = absurd cc
     by (Some n) h = found_right p (group_id n) policy r all h
+
+-- where a subject stands is where it is found
+pub indexed : (id : SubjectId) (policy : List Subject) (place : Option ℕ) → position (same_id id) (map id_of policy) ≡ place
+    → find_subject id policy ≡ option_and_then (slice_get policy) place
+indexed id policy None e = found_nowhere id policy e
+indexed id policy (Some k) e = found_at id policy k e

@@ -1,8 +1,9 @@
 //! Questions about the groups of a policy.
 
-ghost use Rattle.std.specs.Prelude.{◌≡◌, false};
-ghost use Rattle.std.specs.Option.{option_map_or};
+ghost use Rattle.std.specs.Prelude.{◌≡◌, false, slice_get};
+ghost use Rattle.std.specs.Option.{option_map_or, option_and_then};
 ghost use Rattle.std.specs.Str.{bytes_eq};
+ghost use Rattle.pol_text.specs.Policy.{find_subject};
 ghost use Rattle.pol_text.specs.Change.{has_room_below as room_test, is_parent as parent_test};
 
 use crate::chains;
@@ -21,6 +22,13 @@ fn is_below(group: &Name, subject: &Subject) -> bool
 }
 
 impl Policy {
+    /// Where the subject of this kind and name stands, counted from 0. A hash look-up.
+    pub fn index_of(&self, id: &SubjectId) -> Option<usize>
+        ensures { find_subject id.now self.now ≡ option_and_then (slice_get self.now) result }
+    {
+        self.places.get_index_of(id)
+    }
+
     /// Whether the group is there, and one more subject may stand below it.
     pub fn has_room_below(&self, group: &Name) -> bool
         ensures { result ≡ room_test group.now self.now }
