@@ -1,0 +1,101 @@
+//! Sending to writers that take little, are interrupted, or fail.
+
+use crate::output::{SendFailed, send};
+use std::io::{self, ErrorKind, Write};
+use std::process::Abort;
+use std::test::Fail;
+
+/// Answers each write by one letter: `i` is an interruption, `x` another error, and a digit a write
+/// that takes at most so many bytes. A write behind the last letter takes all.
+#[derive(Drop)]
+struct Scripted<'a> {
+    letters: &'a [u8],
+    taken: Vec<u8>,
+}
+
+impl Write for Scripted<'_> {
+    fn write(&mut self, buf: &[u8]) -> io::Result<usize> {
+        let mut room = buf.len();
+        if let Some((letter, rest)) = self.letters.split_first() {
+            self.letters = rest;
+            match *letter {
+                b'i' => return Err(io::Error::from(ErrorKind::Interrupted)),
+                b'x' => return Err(io::Error::from(ErrorKind::StorageFull)),
+                letter => room = usize::from(letter.wrapping_sub(b'0')).min(room),
+            }
+        }
+        self.taken.extend_from_slice(&buf[..room])?;
+        Ok(room)
+    }
+
+    fn flush(&mut self) -> io::Result<()> {
+        Ok(())
+    }
+}
+
+// Sends eight bytes. Wanted are how many are taken and whether that is a success, with no letter
+// left.
+fn sends<R: Abort + AllocGlobal>(
+    rt: &R,
+    letters: &str,
+    wanted: usize,
+    succeeds: bool,
+) -> Result<(), Fail> {
+    let bytes = b"abcdefgh";
+    let mut writer = Scripted {
+        letters: letters.as_bytes(),
+        taken: Vec::new(rt.alloc()),
+    };
+    let (sent, outcome) = send(&mut writer, bytes);
+    let expected = if succeeds { Ok(()) } else { Err(SendFailed) };
+    assert_eq!(rt; outcome, expected, "by {letters:?}");
+    assert_eq!(rt; sent, wanted, "by {letters:?}");
+    assert!(rt;
+        writer.taken.as_slice() == &bytes[..wanted.min(8)],
+        "by {letters:?}"
+    );
+    assert!(rt; writer.letters.is_empty(), "by {letters:?}");
+    Ok(())
+}
+
+#[test]
+fn whole(rt: HostRuntime) -> Result<(), Fail> {
+    for letters in [
+        "",
+        "8",
+        "9",
+        "11111111",
+        "3",
+        "i",
+        "iii",
+        "3i1ii2i2",
+        "i11111",
+    ] {
+        sends(&rt, letters, 8, true)?;
+    }
+    Ok(())
+}
+
+#[test]
+fn failing_at_each_byte(rt: HostRuntime) -> Result<(), Fail> {
+    let mut letters = String::new(rt.alloc());
+    for taken in 0..8 {
+        for failure in ["x", "0", "ix", "i0"] {
+            let script = format!(in rt.alloc(); "{letters}{failure}")?;
+            sends(&rt, script.as_str(), taken, false)?;
+        }
+        letters.push('1')?;
+    }
+    sends(&rt, letters.as_str(), 8, true)
+}
+
+// Where there is nothing to send, the writer isn't asked.
+#[test]
+fn nothing(rt: HostRuntime) {
+    let mut writer = Scripted {
+        letters: b"x",
+        taken: Vec::new(rt.alloc()),
+    };
+    assert_eq!(rt; send(&mut writer, b""), (0, Ok(())));
+    assert_eq!(rt; writer.letters.len(), 1);
+}
