@@ -1,0 +1,224 @@
+-- The packets of a stream, one taken after another.
+use Rattle.std.proofs.Common.{◌≡◌, ℕ, zero, suc, ◌≤◌, ◌<◌, List, [], ◌∷◌, ◌++◌, length, take, drop, map, reverse, Ok, Err, IfOk, OnErr, Result, refl, sym, ap, ◌∙◌, length-append, ◌⊎◌, inl, inr, arith}
+use Rattle.std.proofs.lemmas.List.{map-append, reverse-append, take-append-le, drop-append-le}
+use Rattle.std.specs.declared.alloc.AllocError.{AllocError}
+use Rattle.tac_wire.specs.declared.frame.Frame.{Frame}
+use Rattle.tac_wire.specs.declared.frame.FrameFault.{FrameFault}
+use Rattle.tac_wire.specs.declared.framer.Next.{Next}
+use Rattle.tac_wire.specs.declared.framer.Next.TheVariants as nexts
+use Rattle.tac_wire.specs.Stream.{Parts, Tail, open_end, fault, Pending, unread, Item, whole, refused, unfinished, cut, cut_within, only, first_item, parts_by, told, next_of, left_of, left_by, fed, continued, IsPacket}
+use Rattle.tac_conn.specs.declared.packet.Packet.{Packet}
+use Rattle.tac_conn.specs.declared.step.Step.{Step}
+use Rattle.tac_conn.specs.declared.step.Step.TheVariants as steps
+use Rattle.tac_conn.specs.Packet.{clear}
+use Rattle.tac_conn.specs.History.{outcome}
+use Rattle.tac_conn.specs.Standing as conns
+use Rattle.tac_stream.specs.declared.stream.Stream.{Stream}
+use Rattle.tac_stream.specs.declared.turn.Turn.{Turn}
+use Rattle.tac_stream.specs.declared.turn.Turn.TheVariants.{Reply, Asks, Silent, Need, Close}
+use Rattle.tac_stream.specs.Turns.{packets_of, turn_of, next_turn}
+use Rattle.tac_stream.specs.Kept.{Stands, StandsAfter}
+
+-- ---- lists
+
+next_of_list : (n : ℕ) (xs : List Frame) (x : Frame) (more : List Frame) → drop n xs ≡ x ∷ more
+    → (take (suc n) xs ≡ take n xs ++ x ∷ []) × (drop (suc n) xs ≡ more) × (n < length xs)
+next_of_list zero [] x more e = absurd cc
+next_of_list zero (y ∷ ys) x more e =
+    let here : y ≡ x = cc in
+    let rest : ys ≡ more = cc in
+    (ap (λ (f : Frame). f ∷ []) here, rest, omega arith)
+next_of_list (suc n) [] x more e = absurd cc
+next_of_list (suc n) (y ∷ ys) x more e =
+    let found = next_of_list n ys x more e in (ap (λ (fs : List Frame). y ∷ fs) found.0, found.1, omega (arith, found.2))
+
+packets_of-append : (key : List ℕ) (first second : List Frame) → packets_of key (first ++ second) ≡ packets_of key second ++ packets_of key first
+packets_of-append key first second = ap reverse (map-append (clear key) first second) ∙ reverse-append (map (clear key) first) (map (clear key) second)
+
+-- ---- the beginning
+
+cut_none : cut [] ≡ only (open_end [])
+unfolding cut cut_within
+cut_none = refl
+
+pub stands_new : (key : List ℕ) (stream : Stream) → stream.framer ≡ unread [] → conns.Stands stream.conn [] → Stands key stream [] 0
+stands_new key stream framer conn = record {
+  held = [];
+  framer = framer;
+  left = rw cut_none refl;
+  within = omega arith;
+  conn = conn;
+}
+
+-- ---- more bytes
+
+module _ (law : (bytes more : List ℕ) → cut (bytes ++ more) ≡ continued (cut bytes) more) (key : List ℕ) (old new : Stream) (bytes piece : List ℕ) (taken : ℕ)
+    (now : new.framer ≡ fed old.framer piece) (same : new.conn ≡ old.conn) (s : Stands key old bytes taken) where
+  goes_on : (packets : List Frame) (tail : Tail) → cut bytes ≡ record { packets = packets; tail = tail } → Stands key new (bytes ++ piece) taken
+  goes_on packets (fault reason) e =
+      let whole_cut : cut (bytes ++ piece) ≡ record { packets = packets; tail = fault reason } = law bytes piece ∙ ap (λ (p : Parts). continued p piece) e in
+      let left : cut s.held ≡ record { packets = drop taken packets; tail = fault reason } = s.left ∙ ap (λ (p : Parts). record { packets = drop taken p.packets; tail = p.tail }) e in
+      record {
+        held = s.held ++ piece;
+        framer = now ∙ ap (λ (p : Pending). fed p piece) s.framer;
+        left = rw whole_cut (law s.held piece ∙ ap (λ (p : Parts). continued p piece) left);
+        within = rw whole_cut (rw e at s.within);
+        conn = rw (same, whole_cut) (rw e at s.conn);
+      }
+  goes_on packets (open_end rest) e =
+      let more = cut (rest ++ piece) in
+      let whole_cut : cut (bytes ++ piece) ≡ record { packets = packets ++ more.packets; tail = more.tail } = law bytes piece ∙ ap (λ (p : Parts). continued p piece) e in
+      let left : cut s.held ≡ record { packets = drop taken packets; tail = open_end rest } = s.left ∙ ap (λ (p : Parts). record { packets = drop taken p.packets; tail = p.tail }) e in
+      let within : taken ≤ length packets = rw e at s.within in
+      record {
+        held = s.held ++ piece;
+        framer = now ∙ ap (λ (p : Pending). fed p piece) s.framer;
+        left = rw (whole_cut, drop-append-le taken packets more.packets within) (law s.held piece ∙ ap (λ (p : Parts). continued p piece) left);
+        within = rw whole_cut (omega (arith, length-append packets more.packets));
+        conn = rw (same, whole_cut, take-append-le taken packets more.packets within) (rw e at s.conn);
+      }
+
+  pub stands_fed : Stands key new (bytes ++ piece) taken
+  stands_fed = goes_on (cut bytes).packets (cut bytes).tail refl
+
+-- ---- the same packets
+
+-- it stands for the same, closed or not
+stands_same : (key : List ℕ) (old new : Stream) (bytes : List ℕ) (taken : ℕ) → new.framer ≡ old.framer → new.conn ≡ old.conn → Stands key old bytes taken → Stands key new bytes taken
+stands_same key old new bytes taken framer conn s = record { held = s.held; framer = framer ∙ s.framer; left = s.left; within = s.within; conn = rw conn s.conn }
+
+after_same : (turn : Turn) (key : List ℕ) (old new : Stream) (bytes : List ℕ) (taken : ℕ) → new.framer ≡ old.framer → new.conn ≡ old.conn → StandsAfter turn key old bytes taken → StandsAfter turn key new bytes taken
+after_same (Reply reply ends) key old new bytes taken framer conn s = stands_same key old new bytes (suc taken) framer conn s
+after_same (Asks ask slot) key old new bytes taken framer conn s = stands_same key old new bytes (suc taken) framer conn s
+after_same Silent key old new bytes taken framer conn s = stands_same key old new bytes (suc taken) framer conn s
+after_same Need key old new bytes taken framer conn s = stands_same key old new bytes taken framer conn s
+after_same Close key old new bytes taken framer conn s = tt
+
+pub result_after : (result : Result Turn AllocError) (key : List ℕ) (old new : Stream) (bytes : List ℕ) (taken : ℕ) → new.framer ≡ old.framer → new.conn ≡ old.conn
+    → IfOk result (λ turn. StandsAfter turn key old bytes taken) → IfOk result (λ turn. StandsAfter turn key new bytes taken)
+result_after (Ok turn) key old new bytes taken framer conn s = after_same turn key old new bytes taken framer conn s
+result_after (Err error) key old new bytes taken framer conn s = s
+
+-- a packet was taken
+pub taken_after : (step : Step) (key : List ℕ) (new : Stream) (bytes : List ℕ) (taken : ℕ) → Stands key new bytes (suc taken) → StandsAfter (turn_of step) key new bytes taken
+taken_after (steps.Reply reply ends) key new bytes taken s = s
+taken_after (steps.Asks ask slot) key new bytes taken s = s
+taken_after steps.Silent key new bytes taken s = s
+taken_after steps.Close key new bytes taken s = tt
+
+-- what holds anyway holds at an error
+pub on_err : {T E : Type 0} (result : Result T E) (P : Type 0) → P → OnErr result P
+on_err (Ok value) P p = tt
+on_err (Err error) P p = p
+
+-- ---- what stands first
+
+module _ (items : (bytes : List ℕ) → cut bytes ≡ parts_by cut (first_item bytes) bytes) (key : List ℕ) (old : Stream) (bytes : List ℕ) (taken : ℕ) (s : Stands key old bytes taken) where
+  parts : Item → Parts
+  parts item = parts_by cut item s.held
+
+  -- the packets that are left, by the item that stands first
+  left_is : (item : Item) → first_item s.held ≡ item
+      → (drop taken (cut bytes).packets ≡ (parts_by cut item s.held).packets) × ((cut bytes).tail ≡ (parts_by cut item s.held).tail)
+  left_is item e =
+      let same : record { packets = drop taken (cut bytes).packets; tail = (cut bytes).tail } ≡ parts_by cut item s.held =
+      sym s.left ∙ items s.held ∙ ap (λ (i : Item). parts_by cut i s.held) e in
+      (ap (λ (p : Parts). p.packets) same, ap (λ (p : Parts). p.tail) same)
+
+  told_is : (next : Next) → next ≡ next_of old.framer → next ≡ told (first_item s.held)
+  told_is next e = e ∙ ap next_of s.framer
+
+  packet_told : (item : Item) (frame : Frame) → nexts.Packet frame ≡ told item → (rest : List ℕ) × (item ≡ whole frame rest)
+  packet_told (whole other rest) frame e = (rest, let same : nexts.Packet frame ≡ nexts.Packet other = e in cc)
+  packet_told (refused reason) frame e = absurd (no e)
+    where
+      no : nexts.Packet frame ≡ nexts.Fault reason → ⊥
+      no e = cc
+  packet_told unfinished frame e = absurd (no e)
+    where
+      no : nexts.Packet frame ≡ nexts.Need → ⊥
+      no e = cc
+
+  need_told : (item : Item) → nexts.Need ≡ told item → item ≡ unfinished
+  need_told (whole frame rest) e = cc
+  need_told (refused reason) e = cc
+  need_told unfinished e = refl
+
+  fault_told : (item : Item) (reason : FrameFault) → nexts.Fault reason ≡ told item → item ≡ refused reason
+  fault_told (whole frame rest) reason e = cc
+  fault_told (refused other) reason e = cc
+  fault_told unfinished reason e = cc
+
+  not_ended : (item : Item) → nexts.Ended ≡ told item → ⊥
+  not_ended (whole frame rest) e = cc
+  not_ended (refused reason) e = cc
+  not_ended unfinished e = cc
+
+  module _ (frame : Frame) (e : nexts.Packet frame ≡ next_of old.framer) where
+    earlier : List Packet
+    earlier = packets_of key (take taken (cut bytes).packets)
+
+    found : (rest : List ℕ) × (first_item s.held ≡ whole frame rest)
+    found = packet_told (first_item s.held) frame (told_is (nexts.Packet frame) e)
+
+    first_left : drop taken (cut bytes).packets ≡ frame ∷ (cut found.0).packets
+    unfolding found
+    first_left = (left_is (whole frame found.0) found.1).0
+
+    pub packet_within : taken < length (cut bytes).packets
+    packet_within = (next_of_list taken (cut bytes).packets frame (cut found.0).packets first_left).2
+
+    -- a packet is taken
+    pub packet_turn : (step : Step) → step ≡ conns.step_of key (outcome (packets_of key (take taken (cut bytes).packets)) (clear key frame)) → turn_of step ≡ next_turn key bytes taken
+    unfolding next_turn
+    packet_turn step is = rw (first_left, is) refl
+
+    pub packet_stands : (new : Stream) → new.framer ≡ left_of old.framer → conns.Stands new.conn (clear key frame ∷ packets_of key (take taken (cut bytes).packets))
+        → Stands key new bytes (suc taken)
+    unfolding found
+    packet_stands new framer conn =
+        let next = next_of_list taken (cut bytes).packets frame (cut found.0).packets first_left in
+        let history : packets_of key (take (suc taken) (cut bytes).packets) ≡ clear key frame ∷ packets_of key (take taken (cut bytes).packets) =
+        ap (packets_of key) next.0 ∙ packets_of-append key (take taken (cut bytes).packets) (frame ∷ []) in
+        record {
+          held = found.0;
+          framer = framer ∙ ap left_of s.framer ∙ ap (λ (i : Item). left_by i s.held) found.1;
+          left = sym (rw (next.1, (left_is (whole frame found.0) found.1).1) refl);
+          within = omega (arith, next.2);
+          conn = rw history conn;
+        }
+
+  -- no packet is left
+  pub need_turn : nexts.Need ≡ next_of old.framer → Need ≡ next_turn key bytes taken
+  unfolding next_turn
+  need_turn e =
+      let left = left_is unfinished (need_told (first_item s.held) (told_is nexts.Need e)) in rw (left.0, left.1) refl
+
+  pub need_stands : (new : Stream) → nexts.Need ≡ next_of old.framer → new.framer ≡ left_of old.framer → new.conn ≡ old.conn → Stands key new bytes taken
+  need_stands new e framer same = record {
+    held = s.held;
+    framer = framer ∙ ap left_of s.framer ∙ ap (λ (i : Item). left_by i s.held) (need_told (first_item s.held) (told_is nexts.Need e));
+    left = s.left;
+    within = s.within;
+    conn = rw same s.conn;
+  }
+
+  pub fault_turn : (reason : FrameFault) → nexts.Fault reason ≡ next_of old.framer → Close ≡ next_turn key bytes taken
+  unfolding next_turn
+  fault_turn reason e =
+      let left = left_is (refused reason) (fault_told (first_item s.held) reason (told_is (nexts.Fault reason) e)) in rw (left.0, left.1) refl
+
+  pub ended_turn : nexts.Ended ≡ next_of old.framer → Close ≡ next_turn key bytes taken
+  ended_turn e = absurd (not_ended (first_item s.held) (told_is nexts.Ended e))
+
+  -- a packet stands first, so one is left
+  pub packet_left : (next : Next) → next ≡ next_of old.framer → IsPacket next → taken < length (cut bytes).packets
+  packet_left (nexts.Packet frame) e packet = packet_within frame e
+  packet_left nexts.Need e packet = absurd packet
+  packet_left (nexts.Fault reason) e packet = absurd packet
+  packet_left nexts.Ended e packet = absurd packet
+
+  -- nothing is read behind what stands first
+  pub close_turn : (next : Next) → next ≡ next_of old.framer → ((reason : FrameFault) × (next ≡ nexts.Fault reason)) ⊎ (next ≡ nexts.Ended) → Close ≡ next_turn key bytes taken
+  close_turn next f (inl (reason, e)) = fault_turn reason (sym e ∙ f)
+  close_turn next f (inr e) = ended_turn (sym e ∙ f)

@@ -1,0 +1,28 @@
+use Rattle.std.proofs.Common.{refl, sym, ◌∙◌}
+use Rattle.tac_stream.proofs.StreamFacts.{on_err, packet_left, need_turn, close_turn, packet_turn, packet_stands, taken_after}
+use Rattle.tac_stream.proofs.stream.Stream.first_turn.Goals as goal
+
+pub returns-in_err-frame-clause-memory : goal.returns-in_err-frame-clause-memory
+returns-in_err-frame-clause-memory c = λ bytes taken s.
+    on_err c.from_residual.result _ (packet_left c.in_err-frame.ensures.items c.args.key.now c.args.self.now bytes taken s _ refl c.in_err-frame.ensures.memory)
+
+pub returns-in-Need-clause-turn : goal.returns-in-Need-clause-turn
+returns-in-Need-clause-turn c = λ bytes taken s.
+    need_turn c.in_ok-frame.ensures.items c.args.key.now c.args.self.now bytes taken s (sym c.in-Need.is ∙ c.in_ok-frame.ensures.told)
+
+pub returns-in-Fault-clause-turn : goal.returns-in-Fault-clause-turn
+returns-in-Fault-clause-turn c = λ bytes taken s.
+    close_turn c.in_ok-frame.ensures.items c.args.key.now c.args.self.now bytes taken s c.in_ok-frame.field-0 c.in_ok-frame.ensures.told c.in-Fault.is
+
+pub returns-in-Ok-clause-turn : goal.returns-in-Ok-clause-turn
+returns-in-Ok-clause-turn c = λ bytes taken s.
+    c.from.ensures
+    ∙ packet_turn c.in_ok-frame.ensures.items c.args.key.now c.args.self.now bytes taken s c.in-Packet.frame (sym c.in-Packet.is ∙ c.in_ok-frame.ensures.told)
+    c.in-Ok.step (c.in-Ok.ensures.step _ s.conn)
+
+pub returns-in-Ok-clause-stands : goal.returns-in-Ok-clause-stands
+returns-in-Ok-clause-stands c = λ bytes taken s.
+    rw c.from.ensures
+    (taken_after c.in-Ok.step c.args.key.now _ bytes taken
+    (packet_stands c.in_ok-frame.ensures.items c.args.key.now c.args.self.now bytes taken s c.in-Packet.frame (sym c.in-Packet.is ∙ c.in_ok-frame.ensures.told)
+    _ c.in_ok-frame.ensures.left (c.in-Ok.ensures.stands _ s.conn)))

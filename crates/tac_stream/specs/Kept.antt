@@ -1,0 +1,43 @@
+-- What is kept of a connection, and what it stands for.
+use Rattle.std.specs.Prelude.{◌≡◌, ◌≤◌, ℕ, suc, List, length, take, drop, Bool, true, false, Option, None, Result, Ok, Err}
+use Rattle.std.specs.declared.alloc.AllocError.{AllocError}
+use Rattle.tac_wire.specs.Stream.{unread, cut}
+use Rattle.tac_conn.specs.declared.ask.Slot.{Slot}
+use Rattle.tac_conn.specs.Standing as conns
+use Rattle.tac_stream.specs.Turns.{packets_of, turn_closes}
+use Rattle.tac_stream.specs.declared.turn.Turn.{Turn}
+use Rattle.tac_stream.specs.declared.turn.Turn.TheVariants.{Reply, Asks, Silent, Need, Close}
+use Rattle.tac_stream.specs.declared.stream.Stream.{Stream}
+
+abbrev pub closed_of : Stream → Bool
+closed_of stream = stream.closed
+
+-- the slot that waits for its answer
+abbrev pub pending_of : Stream → Option Slot
+pending_of stream = conns.pending_of stream.conn
+
+-- it is open, and no answer is waited for
+abbrev pub IsReady : Stream → Type 0
+IsReady stream = (closed_of stream ≡ false) × (pending_of stream ≡ None)
+
+-- it stands for a connection on which these bytes came: so many of their packets were taken, and what is held has the
+-- others, and the same tail
+pub record Stands (key : List ℕ) (stream : Stream) (bytes : List ℕ) (taken : ℕ) : Type 0 where
+  pub held : List ℕ
+  pub framer : stream.framer ≡ unread held
+  pub left : cut held ≡ record { packets = drop taken (cut bytes).packets; tail = (cut bytes).tail }
+  pub within : taken ≤ length (cut bytes).packets
+  pub conn : conns.Stands stream.conn (packets_of key (take taken (cut bytes).packets))
+
+-- what it stands for after this turn: the packet was taken, if there was one; closed, it stands for nothing
+abbrev pub StandsAfter : Turn → List ℕ → Stream → List ℕ → ℕ → Type 0
+StandsAfter (Reply reply ends) key stream bytes taken = Stands key stream bytes (suc taken)
+StandsAfter (Asks ask slot) key stream bytes taken = Stands key stream bytes (suc taken)
+StandsAfter Silent key stream bytes taken = Stands key stream bytes (suc taken)
+StandsAfter Need key stream bytes taken = Stands key stream bytes taken
+StandsAfter Close key stream bytes taken = Unit {0}
+
+-- whether it closes: where memory ran out, a packet is lost
+abbrev pub closes_by : Result Turn AllocError → Bool
+closes_by (Ok turn) = turn_closes turn
+closes_by (Err error) = true

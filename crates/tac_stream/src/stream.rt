@@ -1,0 +1,146 @@
+//! A connection and the bytes that came on it.
+
+ghost use Rattle.std.specs.Prelude.{◌≡◌, ◌<◌, ◌++◌, List, ℕ, [], length, true, false, not, None, Some, Ok, IfOk, OnOk, OnErr};
+ghost use Rattle.tac_wire.specs.Stream.{cut, continued};
+ghost use Rattle.tac_conn.specs.Ask.{kind_asked, kind_of_answer};
+ghost use Rattle.tac_conn.specs.Packet.{sent};
+ghost use Rattle.tac_conn.specs.Reply.{packet_of, answer_body};
+ghost use Rattle.tac_conn.specs.Judging.{reply_in};
+ghost use Rattle.tac_stream.specs.Turns as turns;
+ghost use Rattle.tac_stream.specs.Kept as kept;
+ghost use Rattle.tac_stream.specs.declared.turn.Turn.TheVariants as told;
+
+use crate::turn::Turn;
+use std::alloc::{AllocError, Global};
+use tac_conn::{Answer, Conn, Sent, Slot};
+use tac_wire::{Framer, Key, Next};
+
+/// An open connection: the packets that came on it, and the beginning of one that isn't whole yet.
+#[derive(Debug, Drop)]
+pub struct Stream {
+    framer: Framer,
+    conn: Conn,
+    closed: bool,
+}
+
+// Whether the connection closes: where memory ran out, a packet is lost.
+fn closes(turn: &Result<Turn, AllocError>) -> bool
+    ensures { result ≡ kept.closes_by turn.now }
+{
+    match turn {
+        Ok(turn) => turn.closes(),
+        Err(_) => true,
+    }
+}
+
+impl Stream {
+    /// A connection on which nothing came yet. Takes no memory.
+    pub fn new(alloc: Global) -> Stream
+        ensures stands { (key : List ℕ) → kept.Stands key result [] 0 }
+        ensures ready { kept.IsReady result }
+    {
+        Stream {
+            framer: Framer::new(alloc),
+            conn: Conn::new(alloc),
+            closed: false,
+        }
+    }
+
+    /// Takes the next bytes that came; nothing once the connection is closed. The error is want of
+    /// memory, and changes nothing. Amortised linear in the piece.
+    pub fn feed(&mut self, piece: &[u8]) -> Result<(), AllocError>
+        ensures stands { (key bytes : List ℕ) (taken : ℕ) → kept.closed_of self.old ≡ false →
+            kept.Stands key self.old bytes taken →
+            OnOk result (kept.Stands key self.new (bytes ++ piece.now) taken) }
+        ensures closed { kept.closed_of self.new ≡ kept.closed_of self.old }
+        ensures pending { kept.pending_of self.new ≡ kept.pending_of self.old }
+        ensures over { kept.closed_of self.old ≡ true → (result ≡ Ok tt) × (self.new ≡ self.old) }
+        ensures err { OnErr result (self.new ≡ self.old) }
+        // No bytes take no memory.
+        ensures memory { OnErr result (0 < length piece.now) }
+        // However bytes are cut into pieces, the same packets, fault and rest come out.
+        ensures pieces { kept.closed_of self.old ≡ false → (bytes more : List ℕ) →
+            cut (bytes ++ more) ≡ continued (cut bytes) more }
+    {
+        if self.closed {
+            return Ok(());
+        }
+        self.framer.feed(piece)
+    }
+
+    // The turn of what stands first.
+    fn first_turn(&mut self, key: &Key) -> Result<Turn, AllocError>
+        requires { kept.pending_of self.old ≡ None }
+        ensures turn { (bytes : List ℕ) (taken : ℕ) → kept.Stands key.now self.old bytes taken →
+            IfOk result (λ turn. turn ≡ turns.next_turn key.now bytes taken) }
+        ensures stands { (bytes : List ℕ) (taken : ℕ) → kept.Stands key.now self.old bytes taken →
+            IfOk result (λ turn. kept.StandsAfter turn key.now self.new bytes taken) }
+        ensures pending { IfOk result (λ turn. kept.pending_of self.new ≡ turns.slot_in turn) }
+        ensures kind { IfOk result turns.HasItsSlot }
+        ensures memory { (bytes : List ℕ) (taken : ℕ) → kept.Stands key.now self.old bytes taken →
+            OnErr result (taken < length (cut bytes).packets) }
+    {
+        let frame = match self.framer.next()? {
+            Next::Packet(frame) => frame,
+            Next::Need => return Ok(Turn::Need),
+            Next::Fault(_) | Next::Ended => return Ok(Turn::Close),
+        };
+        match self.conn.take(key, frame) {
+            Ok(step) => Ok(Turn::from(step)),
+            Err(error) => Err(error),
+        }
+    }
+
+    /// Tells what is to be done next, and takes the packet that it is done for.
+    ///
+    /// A closed connection answers [`Turn::Close`] and stays as it is; so does one that waits for
+    /// an answer, which then closes. The error is want of memory for a packet: that packet is
+    /// gone, and the connection is closed.
+    pub fn next(&mut self, key: &Key) -> Result<Turn, AllocError>
+        ensures turn { (bytes : List ℕ) (taken : ℕ) → kept.IsReady self.old →
+            kept.Stands key.now self.old bytes taken →
+            IfOk result (λ turn. turn ≡ turns.next_turn key.now bytes taken) }
+        ensures stands { (bytes : List ℕ) (taken : ℕ) → kept.IsReady self.old →
+            kept.Stands key.now self.old bytes taken →
+            IfOk result (λ turn. kept.StandsAfter turn key.now self.new bytes taken) }
+        ensures closed { kept.closed_of self.new ≡ kept.closes_by result }
+        ensures pending { kept.IsReady self.old →
+            IfOk result (λ turn. kept.pending_of self.new ≡ turns.slot_in turn) }
+        ensures kind { IfOk result turns.HasItsSlot }
+        ensures over { kept.closed_of self.old ≡ true →
+            (result ≡ Ok told.Close) × (self.new ≡ self.old) }
+
+        // Only a whole packet takes memory.
+        ensures memory { (bytes : List ℕ) (taken : ℕ) → kept.Stands key.now self.old bytes taken →
+            OnErr result (taken < length (cut bytes).packets) }
+    {
+        if self.closed {
+            return Ok(Turn::Close);
+        }
+        if self.conn.pending().is_some() {
+            self.closed = true;
+            return Ok(Turn::Close);
+        }
+        let turn = self.first_turn(key);
+        self.closed = closes(&turn);
+        turn
+    }
+
+    /// The reply that carries the desk's answer, and whether the connection closes then. The slot
+    /// is the one that waits, and the answer is one to what was asked. Takes no memory.
+    pub fn give(&mut self, key: &Key, slot: Slot, answer: Answer) -> (Sent, bool)
+        requires pending { kept.pending_of self.old ≡ Some slot }
+        requires kind { kind_of_answer answer ≡ kind_asked slot }
+        ensures reply { let reply = reply_in slot (answer_body answer) in
+            result ≡ (sent key.now (packet_of reply), not slot.single) }
+        ensures pending { kept.pending_of self.new ≡ None }
+        ensures closed { kept.closed_of self.old ≡ false →
+            kept.closed_of self.new ≡ result.1 }
+        ensures stands { (bytes : List ℕ) (taken : ℕ) → kept.Stands key.now self.old bytes taken →
+            kept.Stands key.now self.new bytes taken }
+    {
+        let (reply, closes) = self.conn.give(key, slot, answer);
+        self.closed = self.closed || closes;
+        (reply, closes)
+    }
+}
