@@ -2,4 +2,3 @@ mod FieldFacts
 mod Spaces
 mod ReadBack
 mod SpelledSo
-pub mod Refusals

@@ -1,5 +1,8 @@
 -- What an edit makes of a policy: the new policy, or the first refusal.
-use Rattle.std.specs.Prelude.{◌≡◌, ℕ, ◌+◌, ◌-◌, nat_le, List, [], ◌∷◌, ◌++◌, length, Bool, not, ◌&&◌, is_some, Option, Some, None, Result, Ok, Err, ok_or, if◌then◌else◌}
+use Rattle.std.specs.Prelude.{◌≡◌, ℕ, ◌+◌, ◌-◌, nat_le, List, [], ◌∷◌, ◌++◌, length, Bool, true, false, not, ◌&&◌, is_some, Option, Some, None, Result, Ok, Err, ok_or, if◌then◌else◌}
+use Rattle.std.specs.Option.{option_map_or}
+use Rattle.std.specs.Result.{is_ok}
+use Rattle.basics.specs.Memory.{Except}
 use Rattle.pol_pattern.specs.Reading.{pattern_of}
 use Rattle.pol_pattern.specs.declared.fault.PatternFault.{PatternFault}
 use Rattle.pol_names.specs.Secret.{is_secret}
@@ -101,18 +104,27 @@ applied policy (MoveRule subject from to) = shifted_in policy subject from to
 
 -- ---- what a function returned, against what was wanted
 
--- the edit was made, or it was refused as wanted or for want of memory, and the policy is as before
-abbrev pub Applies : List Subject → List Subject → Result (Unit {0}) EditFault → Result (List Subject) EditFault → Type 0
-Applies old new (Ok _) wanted = wanted ≡ Ok new
-Applies old new (Err faults.Memory) wanted = new ≡ old
-Applies old new (Err faults.BadEdit) wanted = (wanted ≡ Err faults.BadEdit) × (new ≡ old)
-Applies old new (Err faults.NoSuch) wanted = (wanted ≡ Err faults.NoSuch) × (new ≡ old)
-Applies old new (Err faults.Exists) wanted = (wanted ≡ Err faults.Exists) × (new ≡ old)
-Applies old new (Err faults.InUse) wanted = (wanted ≡ Err faults.InUse) × (new ≡ old)
-Applies old new (Err faults.Cycle) wanted = (wanted ≡ Err faults.Cycle) × (new ≡ old)
-Applies old new (Err faults.TooDeep) wanted = (wanted ≡ Err faults.TooDeep) × (new ≡ old)
-Applies old new (Err faults.BadIndex) wanted = (wanted ≡ Err faults.BadIndex) × (new ≡ old)
-Applies old new (Err (faults.BadPattern fault)) wanted = (wanted ≡ Err (faults.BadPattern fault)) × (new ≡ old)
-Applies old new (Err faults.BadValue) wanted = (wanted ≡ Err faults.BadValue) × (new ≡ old)
-Applies old new (Err faults.Limit) wanted = (wanted ≡ Err faults.Limit) × (new ≡ old)
-Applies old new (Err (faults.TooManyStates subject)) wanted = (wanted ≡ Err (faults.TooManyStates subject)) × (new ≡ old)
+-- whether the fault is want of memory
+abbrev pub is_memory : EditFault → Bool
+is_memory faults.Memory = true
+is_memory fault = false
+
+-- whether a rule may get this number, from 1 to one behind the last
+abbrev pub has_place : List Subject → SubjectId → ℕ → Bool
+has_place policy id at = option_map_or (λ subject. is_number at (length subject.rules + 1)) (find_subject id policy) false
+
+-- whether the edit takes memory: a subject that is added and a secret that is set do, and a pattern that is read,
+-- which it is once its rule has a place. No other edit does, nor one that is refused before
+abbrev pub takes_memory : List Subject → Edit → Bool
+takes_memory policy (AddGroup name parent) = is_ok (applied policy (AddGroup name parent))
+takes_memory policy (AddUser name parent) = is_ok (applied policy (AddUser name parent))
+takes_memory policy (SetLogin user secret) = is_some secret && is_ok (applied policy (SetLogin user secret))
+takes_memory policy (SetEnable user secret) = is_some secret && is_ok (applied policy (SetEnable user secret))
+takes_memory policy (InsertRule subject at verdict pattern) = has_place policy subject at
+takes_memory policy edit = false
+
+-- the edit was made, or it was refused as wanted, and the policy is as before. Want of memory stands in place of what is
+-- wanted only where memory is taken
+abbrev pub Applies : Bool → List Subject → List Subject → Result (Unit {0}) EditFault → Result (List Subject) EditFault → Type 0
+Applies grows old new (Ok _) wanted = wanted ≡ Ok new
+Applies grows old new (Err fault) wanted = Except (is_memory fault && grows) (wanted ≡ Err fault) × (new ≡ old)

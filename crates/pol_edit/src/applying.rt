@@ -1,13 +1,16 @@
 //! Applying an edit to a policy: the refusals in their order, and then the one change.
 
-ghost use Rattle.std.specs.Prelude.{◌≡◌, ◌⊎◌, ℕ, Ok, Err, false, nat_le, is_some, IsTrue, IfOk, IfErr, OnErr};
+ghost use Rattle.std.specs.Prelude.{◌≡◌, ◌⊎◌, ◌&&◌, Ok, Err, false, nat_le, is_some, IsTrue, IfOk, IfErr, OnErr};
+ghost use Rattle.std.specs.Result.{is_ok};
+ghost use Rattle.basics.specs.Memory.{GivesUnlessMemory};
 ghost use Rattle.pol_pattern.specs.Reading.{pattern_of};
 ghost use Rattle.pol_names.specs.Secret.{is_secret};
 ghost use Rattle.pol_names.specs.SubjectId.{user_id};
 ghost use Rattle.pol_text.specs.Policy.{WellFormed, all_of};
 ghost use Rattle.pol_text.specs.Change.{has_room_below, with_login, with_enable, with_priv};
 ghost use Rattle.pol_edit.specs.declared.fault.EditFault.TheVariants.{BadValue, Memory};
-ghost use Rattle.pol_edit.specs.Applying.{Applies, has_group as group_test, added_to, removed_from, moved_in, set_in, pattern_read, is_number as number_test, inserted_in, dropped_in, shifted_in, applied};
+ghost use Rattle.pol_edit.specs.Applying as applying;
+ghost use Rattle.pol_edit.specs.Applying.{Applies};
 
 use crate::edit::Edit;
 use crate::fault::EditFault;
@@ -21,7 +24,7 @@ use std::alloc::Global;
 
 // Whether the group is there, if one is named.
 fn has_group(policy: &Policy, parent: &Option<Name>) -> bool
-    ensures { result ≡ group_test parent.now policy.now }
+    ensures { result ≡ applying.has_group parent.now policy.now }
 {
     match parent {
         Some(name) => policy.find(&SubjectId::group(*name)).is_some(),
@@ -41,14 +44,14 @@ fn has_room(policy: &Policy, parent: &Option<Name>) -> bool
 
 // Whether it is the number of one of so many rules.
 fn is_number(at: u16, count: usize) -> bool
-    ensures { result ≡ number_test at count }
+    ensures { result ≡ applying.is_number at count }
 {
     at >= 1 && usize::from(at) <= count
 }
 
 fn read_pattern(alloc: Global, text: &[u8]) -> Result<Pattern, EditFault>
-    ensures ok { IfOk result (λ pattern. pattern_read (pattern_of text.now) ≡ Ok pattern) }
-    ensures err { IfErr result (λ fault. (fault ≡ Memory) ⊎ (pattern_read (pattern_of text.now) ≡ Err fault)) }
+    ensures { GivesUnlessMemory applying.is_memory (λ pattern. pattern) result
+        (applying.pattern_read (pattern_of text.now)) }
 {
     match Pattern::read(alloc, text) {
         Ok(pattern) => Ok(pattern),
@@ -58,8 +61,11 @@ fn read_pattern(alloc: Global, text: &[u8]) -> Result<Pattern, EditFault>
 }
 
 fn read_secret(alloc: Global, text: &Option<Bytes>) -> Result<Option<Secret>, EditFault>
-    ensures ok { IfOk result (λ secret. (secret ≡ text.now) × IsTrue (all_of is_secret text.now)) }
-    ensures err { IfErr result (λ fault. (fault ≡ Memory) ⊎ ((fault ≡ BadValue) × (all_of is_secret text.now ≡ false))) }
+    ensures ok { IfOk result
+        (λ secret. (secret ≡ text.now) × IsTrue (all_of is_secret text.now)) }
+    ensures err { IfErr result (λ fault.
+        ((fault ≡ Memory) × IsTrue (is_some text.now) × IsTrue (all_of is_secret text.now))
+        ⊎ ((fault ≡ BadValue) × (all_of is_secret text.now ≡ false))) }
 {
     let Some(text) = text else {
         return Ok(None);
@@ -71,8 +77,10 @@ fn read_secret(alloc: Global, text: &Option<Bytes>) -> Result<Option<Secret>, Ed
 }
 
 fn small_level(level: Option<u16>) -> Result<Option<u8>, EditFault>
-    ensures ok { IfOk result (λ small. (small ≡ level) × IsTrue (all_of (λ n. nat_le n 15) level)) }
-    ensures err { IfErr result (λ fault. (fault ≡ BadValue) × (all_of (λ n. nat_le n 15) level ≡ false)) }
+    ensures ok { IfOk result
+        (λ small. (small ≡ level) × IsTrue (all_of (λ n. nat_le n 15) level)) }
+    ensures err { IfErr result
+        (λ fault. (fault ≡ BadValue) × (all_of (λ n. nat_le n 15) level ≡ false)) }
 {
     match level {
         None => Ok(None),
@@ -95,7 +103,8 @@ fn add(
     name: Name,
     parent: &Option<Name>,
 ) -> Result<(), EditFault>
-    ensures { Applies policy.old policy.new result (added_to policy.old kind name parent.now) }
+    ensures { let wanted = applying.added_to policy.old kind name parent.now in
+        Applies (is_ok wanted) policy.old policy.new result wanted }
 {
     if !has_group(policy, parent) {
         return Err(EditFault::NoSuch);
@@ -115,7 +124,7 @@ fn add(
 
 #[tactic(auto, unfolding(crate::specs::Applying::removed_from))]
 fn remove(policy: &mut Policy, id: &SubjectId) -> Result<(), EditFault>
-    ensures { Applies policy.old policy.new result (removed_from policy.old id.now) }
+    ensures { Applies false policy.old policy.new result (applying.removed_from policy.old id.now) }
 {
     if policy.find(id).is_none() {
         return Err(EditFault::NoSuch);
@@ -129,7 +138,8 @@ fn remove(policy: &mut Policy, id: &SubjectId) -> Result<(), EditFault>
 
 #[tactic(auto, unfolding(crate::specs::Applying::moved_in))]
 fn set_parent(policy: &mut Policy, id: &SubjectId, parent: &Option<Name>) -> Result<(), EditFault>
-    ensures { Applies policy.old policy.new result (moved_in policy.old id.now parent.now) }
+    ensures { Applies false policy.old policy.new result
+        (applying.moved_in policy.old id.now parent.now) }
 {
     if policy.find(id).is_none() || !has_group(policy, parent) {
         return Err(EditFault::NoSuch);
@@ -148,8 +158,9 @@ fn set_login(
     user: Name,
     secret: &Option<Bytes>,
 ) -> Result<(), EditFault>
-    ensures { Applies policy.old policy.new result
-        (set_in policy.old (user_id user) (all_of is_secret secret.now) (with_login secret.now)) }
+    ensures { let right = all_of is_secret secret.now in
+        let wanted = applying.set_in policy.old (user_id user) right (with_login secret.now) in
+        Applies (is_some secret.now && is_ok wanted) policy.old policy.new result wanted }
 {
     let id = SubjectId::user(user);
     if policy.find(&id).is_none() {
@@ -167,8 +178,9 @@ fn set_enable(
     user: Name,
     secret: &Option<Bytes>,
 ) -> Result<(), EditFault>
-    ensures { Applies policy.old policy.new result
-        (set_in policy.old (user_id user) (all_of is_secret secret.now) (with_enable secret.now)) }
+    ensures { let right = all_of is_secret secret.now in
+        let wanted = applying.set_in policy.old (user_id user) right (with_enable secret.now) in
+        Applies (is_some secret.now && is_ok wanted) policy.old policy.new result wanted }
 {
     let id = SubjectId::user(user);
     if policy.find(&id).is_none() {
@@ -181,8 +193,8 @@ fn set_enable(
 
 #[tactic(auto, unfolding(crate::specs::Applying::set_in))]
 fn set_priv(policy: &mut Policy, id: &SubjectId, level: Option<u16>) -> Result<(), EditFault>
-    ensures { Applies policy.old policy.new result
-        (set_in policy.old id.now (all_of (λ n. nat_le n 15) level) (with_priv level)) }
+    ensures { Applies false policy.old policy.new result
+        (applying.set_in policy.old id.now (all_of (λ n. nat_le n 15) level) (with_priv level)) }
 {
     if policy.find(id).is_none() {
         return Err(EditFault::NoSuch);
@@ -201,7 +213,8 @@ fn insert_rule(
     verdict: Verdict,
     text: &[u8],
 ) -> Result<(), EditFault>
-    ensures { Applies policy.old policy.new result (inserted_in policy.old id.now at verdict text.now) }
+    ensures { Applies (applying.has_place policy.old id.now at) policy.old policy.new result
+        (applying.inserted_in policy.old id.now at verdict text.now) }
 {
     let Some(subject) = policy.find(id) else {
         return Err(EditFault::NoSuch);
@@ -220,7 +233,8 @@ fn insert_rule(
 
 #[tactic(auto, unfolding(crate::specs::Applying::dropped_in))]
 fn remove_rule(policy: &mut Policy, id: &SubjectId, at: u16) -> Result<(), EditFault>
-    ensures { Applies policy.old policy.new result (dropped_in policy.old id.now at) }
+    ensures { Applies false policy.old policy.new result
+        (applying.dropped_in policy.old id.now at) }
 {
     let Some(subject) = policy.find(id) else {
         return Err(EditFault::NoSuch);
@@ -234,7 +248,8 @@ fn remove_rule(policy: &mut Policy, id: &SubjectId, at: u16) -> Result<(), EditF
 
 #[tactic(auto, unfolding(crate::specs::Applying::shifted_in))]
 fn move_rule(policy: &mut Policy, id: &SubjectId, from: u16, to: u16) -> Result<(), EditFault>
-    ensures { Applies policy.old policy.new result (shifted_in policy.old id.now from to) }
+    ensures { Applies false policy.old policy.new result
+        (applying.shifted_in policy.old id.now from to) }
 {
     let Some(subject) = policy.find(id) else {
         return Err(EditFault::NoSuch);
@@ -250,7 +265,8 @@ fn move_rule(policy: &mut Policy, id: &SubjectId, from: u16, to: u16) -> Result<
 // The edit of each kind.
 #[tactic(auto, unfolding(crate::specs::Applying::applied))]
 fn make(alloc: Global, policy: &mut Policy, edit: &Edit) -> Result<(), EditFault>
-    ensures { Applies policy.old policy.new result (applied policy.old edit.now) }
+    ensures { Applies (applying.takes_memory policy.old edit.now) policy.old policy.new result
+        (applying.applied policy.old edit.now) }
 {
     match edit {
         Edit::AddGroup { name, parent } => add(alloc, policy, Kind::Group, *name, parent),
@@ -271,11 +287,14 @@ fn make(alloc: Global, policy: &mut Policy, edit: &Edit) -> Result<(), EditFault
     }
 }
 
-/// Applies an edit. A refused edit leaves the policy as it was, also where memory ran out.
-#[tactic(auto, using(crate::proofs::Refusals::kept))]
+/// Applies an edit. A refused edit leaves the policy as it was, also where memory ran out. Only a
+/// subject that is added, a secret that is set and a rule that is inserted take memory.
 pub fn apply(alloc: Global, policy: &mut Policy, edit: &Edit) -> Result<(), EditFault>
-    // Which policy it becomes, or which refusal is the first.
-    ensures exact { Applies policy.old policy.new result (applied policy.old edit.now) }
+    // Which policy it becomes, or which refusal is the first; want of memory only where memory is
+    // taken.
+    ensures exact { let grows = applying.takes_memory policy.old edit.now in
+        GivesUnlessMemory (λ fault. applying.is_memory fault && grows) (λ _. policy.new) result
+        (applying.applied policy.old edit.now) }
 
     // A refusal changes nothing.
     ensures kept { OnErr result (policy.new ≡ policy.old) }

@@ -137,7 +137,8 @@ fn level(rest: &[u8]) -> Option<Edit>
 // The subject, the place, the verdict and the pattern of a rule that is to be inserted.
 #[tactic(auto, unfolding(crate::specs::EditText::insert_of))]
 fn placed_rule(rest: &[u8]) -> Option<(SubjectId, u16, Verdict, &[u8])>
-    ensures { option_map (λ rule. InsertRule rule.0 rule.1 rule.2 rule.3.now) result ≡ insert_of rest.now }
+    ensures { option_map (λ rule. InsertRule rule.0 rule.1 rule.2 rule.3.now) result
+        ≡ insert_of rest.now }
 {
     let Some((subject, rest)) = subject_before(rest) else {
         return None;
@@ -248,13 +249,15 @@ fn edit(alloc: Global, line: &[u8]) -> Result<Option<Edit>, AllocError>
 pub fn read_edit(alloc: Global, line: &[u8]) -> Result<Edit, EditFault>
     // Which lines are read, and as which edit.
     ensures ok { IfOk result (λ edit. edit_of line.now ≡ Some edit) }
-    ensures err { IfErr result (λ fault. (fault ≡ Memory) ⊎ ((fault ≡ BadEdit) × (edit_of line.now ≡ None))) }
+    ensures err { IfErr result
+        (λ fault. (fault ≡ Memory) ⊎ ((fault ≡ BadEdit) × (edit_of line.now ≡ None))) }
 
     // What is read is spelled so.
     ensures found { IfOk result (λ edit. Spells line.now edit) }
 
     // What is spelled so is read, unless memory runs out.
-    ensures only { (edit : EditValue) → Spells line.now edit → (result ≡ Ok edit) ⊎ (result ≡ Err Memory) }
+    ensures only { (edit : EditValue) → Spells line.now edit →
+        (result ≡ Ok edit) ⊎ (result ≡ Err Memory) }
 {
     match edit(alloc, line)? {
         Some(edit) => Ok(edit),
