@@ -1,17 +1,10 @@
 //! Policies: their text, chains and decisions.
 
-use pol_names::{By, Kind, Name, SubjectId};
+use pol_names::{By, Decision, Name, SubjectId};
 use pol_text::{Policy, PolicyFault};
 use std::fmt::Write;
 use std::process::Abort;
 use std::test::Fail;
-
-fn name(text: &[u8]) -> Result<Name, Fail> {
-    match Name::read(text) {
-        Some(name) => Ok(name),
-        None => Err(Fail::from("no name")),
-    }
-}
 
 // The text is refused so, as it is printed.
 fn refuses<R: Abort + AllocGlobal>(rt: &R, text: &str, expected: &str) -> Result<(), Fail> {
@@ -25,10 +18,10 @@ fn refuses<R: Abort + AllocGlobal>(rt: &R, text: &str, expected: &str) -> Result
     Ok(())
 }
 
-// The text is a policy, which is printed so.
+// The text is a policy, of which a copy is printed so.
 fn prints<R: Abort + AllocGlobal>(rt: &R, text: &str, expected: &str) -> Result<(), Fail> {
-    let policy = Policy::read(rt.alloc(), text.as_bytes())?;
-    let printed = policy.print(rt.alloc())?;
+    let copy = Policy::read(rt.alloc(), text.as_bytes())?.copy(rt.alloc())?;
+    let printed = copy.print(rt.alloc())?;
     assert!(rt; printed.as_slice() == expected.as_bytes(), "{text}");
     Ok(())
 }
@@ -81,17 +74,7 @@ fn printed_policies(rt: HostRuntime) -> Result<(), Fail> {
     Ok(())
 }
 
-#[test]
-fn copies_of_policies(rt: HostRuntime) -> Result<(), Fail> {
-    let policy = Policy::read(rt.alloc(), FULL.as_bytes())?;
-    let copy = policy.copy(rt.alloc())?;
-    let text = copy.print(rt.alloc())?;
-    assert!(rt; text.as_slice() == FULL.as_bytes());
-    assert!(rt; copy.find(&SubjectId::user(name(b"all")?)).is_some());
-    Ok(())
-}
-
-// The subject is followed by these in its chain, as they are printed.
+// The user's chain, as it is printed.
 fn follows<R: Abort + AllocGlobal>(
     rt: &R,
     text: &str,
@@ -100,7 +83,8 @@ fn follows<R: Abort + AllocGlobal>(
 ) -> Result<(), Fail> {
     let policy = Policy::read(rt.alloc(), text.as_bytes())?;
     let mut printed = String::new(rt.alloc());
-    let chain = policy.chain(rt.alloc(), &SubjectId::user(name(user)?))?;
+    let name = Name::read(user).ok_or("no name")?;
+    let chain = policy.chain(rt.alloc(), &SubjectId::user(name))?;
     for id in chain.as_slice() {
         write!(printed, "{id}, ")?;
     }
@@ -116,55 +100,55 @@ fn chains(rt: HostRuntime) -> Result<(), Fail> {
     follows(&rt, FULL, b"ops", "")
 }
 
-// What is decided of the user's line, in words.
+/// Rules along a chain of three.
+const RULES: &str = "group all\npermit ping\ngroup ops in all\ndeny show clock\npermit show .*\n\
+                     user bob in ops\ndeny reload\n";
+
+// A decision in words.
+fn worded<R: AllocGlobal>(rt: &R, decision: Decision) -> Result<String, Fail> {
+    let verdict = decision.verdict.keyword();
+    let words = match decision.by {
+        By::Rule(owner, number) => format!(in rt.alloc(); "{verdict}by {owner} rule {number}")?,
+        By::Default => format!(in rt.alloc(); "{verdict}by default")?,
+    };
+    Ok(words)
+}
+
+// What is decided of the user's line, in words; nothing for no user.
 fn decides<R: Abort + AllocGlobal>(
     rt: &R,
     user: &[u8],
     line: &[u8],
-    expected: &str,
+    expected: Option<&str>,
 ) -> Result<(), Fail> {
-    let policy = Policy::read(
-        rt.alloc(),
-        b"group all\npermit ping\ngroup ops in all\ndeny show clock\npermit show .*\nuser bob in ops\ndeny reload\n",
-    )?;
-    let mut words = String::new(rt.alloc());
-    if let Some(decision) = policy.plain_decide(&name(user)?, line) {
-        words.push_str(decision.verdict.keyword())?;
-        match decision.by {
-            By::Rule(owner, number) => write!(words, "by {owner} rule {number}")?,
-            By::Default => words.push_str("by default")?,
-        }
+    let policy = Policy::read(rt.alloc(), RULES.as_bytes())?;
+    let name = Name::read(user).ok_or("no name")?;
+    match (policy.plain_decide(&name, line), expected) {
+        (Some(decision), Some(words)) => assert!(rt; worded(rt, decision)?.as_str() == words),
+        (None, None) => {}
+        _ => assert!(rt; false, "a decision for no user, or none for a user"),
     }
-    assert!(rt; words.as_str() == expected, "{words} of {line:?}");
     Ok(())
 }
 
 #[test]
 fn decisions(rt: HostRuntime) -> Result<(), Fail> {
-    decides(&rt, b"bob", b"reload", "deny by user bob rule 1")?;
-    decides(&rt, b"bob", b"show clock", "deny by group ops rule 1")?;
-    decides(&rt, b"bob", b"show version", "permit by group ops rule 2")?;
-    decides(&rt, b"bob", b"ping", "permit by group all rule 1")?;
-    decides(&rt, b"bob", b"show\n", "deny by default")?;
-    decides(&rt, b"ops", b"ping", "")
+    decides(&rt, b"bob", b"reload", Some("deny by user bob rule 1"))?;
+    decides(&rt, b"bob", b"show clock", Some("deny by group ops rule 1"))?;
+    decides(&rt, b"bob", b"show it", Some("permit by group ops rule 2"))?;
+    decides(&rt, b"bob", b"ping", Some("permit by group all rule 1"))?;
+    decides(&rt, b"bob", b"show\n", Some("deny by default"))?;
+    decides(&rt, b"ops", b"ping", None)
 }
 
 #[test]
 fn names(rt: HostRuntime) -> Result<(), Fail> {
     for text in "a\nA-Z_0.9@x\n0123456789abcdef0123456789abcdef".lines() {
-        let printed = format!(in rt.alloc(); "{}", name(text.as_bytes())?)?;
-        assert!(rt; printed.as_str() == text);
+        let name = Name::read(text.as_bytes()).ok_or("no name")?;
+        assert!(rt; name.as_str() == text);
     }
     for text in "\na b\na/b\né\n0123456789abcdef0123456789abcdef0".lines() {
         assert!(rt; Name::read(text.as_bytes()).is_none());
     }
-    Ok(())
-}
-
-#[test]
-fn subjects_in_order(rt: HostRuntime) -> Result<(), Fail> {
-    let policy = Policy::read(rt.alloc(), FULL.as_bytes())?;
-    assert_eq!(rt; policy.len(), 4);
-    assert_eq!(rt; policy.subjects()[0].kind, Kind::Group);
     Ok(())
 }
