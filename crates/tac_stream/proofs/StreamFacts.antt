@@ -1,12 +1,12 @@
 -- The packets of a stream, one taken after another.
-use Rattle.std.proofs.Common.{◌≡◌, ℕ, zero, suc, ◌≤◌, ◌<◌, List, [], ◌∷◌, ◌++◌, length, take, drop, map, reverse, Ok, Err, IfOk, OnErr, Result, refl, sym, ap, ◌∙◌, length-append, ◌⊎◌, inl, inr, arith}
+use Rattle.std.proofs.Common.{◌≡◌, ℕ, zero, suc, ◌+◌, ◌≤◌, ◌<◌, List, [], ◌∷◌, ◌++◌, length, take, drop, map, reverse, Ok, Err, IfOk, OnErr, Result, refl, sym, ap, subst, ◌∙◌, length-append, ◌⊎◌, inl, inr, arith}
 use Rattle.std.proofs.lemmas.List.{map-append, reverse-append, take-append-le, drop-append-le}
 use Rattle.std.specs.declared.alloc.AllocError.{AllocError}
 use Rattle.tac_wire.specs.declared.frame.Frame.{Frame}
 use Rattle.tac_wire.specs.declared.frame.FrameFault.{FrameFault}
 use Rattle.tac_wire.specs.declared.framer.Next.{Next}
 use Rattle.tac_wire.specs.declared.framer.Next.TheVariants as nexts
-use Rattle.tac_wire.specs.Stream.{Parts, Tail, open_end, fault, Pending, unread, Item, whole, refused, unfinished, cut, cut_within, only, first_item, parts_by, told, next_of, left_of, left_by, fed, continued, IsPacket}
+use Rattle.tac_wire.specs.Stream.{Parts, Tail, open_end, fault, Pending, unread, ended, Item, whole, refused, unfinished, cut, cut_within, only, first_item, parts_by, told, next_of, left_of, left_by, fed, continued, IsPacket, WasInFront, frame_bytes}
 use Rattle.tac_conn.specs.declared.packet.Packet.{Packet}
 use Rattle.tac_conn.specs.declared.step.Step.{Step}
 use Rattle.tac_conn.specs.declared.step.Step.TheVariants as steps
@@ -17,7 +17,7 @@ use Rattle.tac_stream.specs.declared.stream.Stream.{Stream}
 use Rattle.tac_stream.specs.declared.turn.Turn.{Turn}
 use Rattle.tac_stream.specs.declared.turn.Turn.TheVariants.{Reply, Asks, Silent, Need, Close}
 use Rattle.tac_stream.specs.Turns.{packets_of, turn_of, next_turn}
-use Rattle.tac_stream.specs.Kept.{Stands, StandsAfter}
+use Rattle.tac_stream.specs.Kept.{Stands, StandsAfter, Shortens, unread_len}
 
 -- ---- lists
 
@@ -105,6 +105,26 @@ taken_after (steps.Reply reply ends) key new bytes taken s = s
 taken_after (steps.Asks ask slot) key new bytes taken s = s
 taken_after steps.Silent key new bytes taken s = s
 taken_after steps.Close key new bytes taken s = tt
+
+-- ---- what is held
+
+held_falls : (pending left : Pending) (frame : Frame) → nexts.Packet frame ≡ next_of pending → WasInFront (nexts.Packet frame) pending left → unread_len left < unread_len pending
+held_falls (unread bytes) (unread rest) frame e was =
+    let same : unread bytes ≡ unread (frame_bytes frame ++ rest) = was.0 in
+    let text : bytes ≡ frame_bytes frame ++ rest = cc in
+    let long : length bytes ≡ length (frame_bytes frame) + length rest = ap length text ∙ length-append (frame_bytes frame) rest in
+    omega (arith, long)
+held_falls (unread bytes) ended frame e was = let same : unread bytes ≡ ended = was.0 in cc
+held_falls ended left frame e was = cc
+
+packet_falls : (pending left : Pending) (frame : Frame) (next : Next) → next ≡ nexts.Packet frame → next ≡ next_of pending → WasInFront next pending left → unread_len left < unread_len pending
+packet_falls pending left frame next e f was = held_falls pending left frame (sym e ∙ f) (subst (λ (n : Next). WasInFront n pending left) e was)
+
+pub shortens : (step : Step) (old new : Stream) (frame : Frame) (next : Next) → next ≡ nexts.Packet frame → next ≡ next_of old.framer → WasInFront next old.framer new.framer → Shortens (turn_of step) old new
+shortens (steps.Reply reply ends) old new frame next e f was = packet_falls old.framer new.framer frame next e f was
+shortens (steps.Asks ask slot) old new frame next e f was = packet_falls old.framer new.framer frame next e f was
+shortens steps.Silent old new frame next e f was = packet_falls old.framer new.framer frame next e f was
+shortens steps.Close old new frame next e f was = tt
 
 -- what holds anyway holds at an error
 pub on_err : {T E : Type 0} (result : Result T E) (P : Type 0) → P → OnErr result P

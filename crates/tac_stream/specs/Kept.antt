@@ -1,7 +1,7 @@
 -- What is kept of a connection, and what it stands for.
-use Rattle.std.specs.Prelude.{◌≡◌, ◌≤◌, ℕ, suc, List, length, take, drop, Bool, true, false, Option, None, Result, Ok, Err}
+use Rattle.std.specs.Prelude.{◌≡◌, ◌≤◌, ◌<◌, ℕ, suc, List, length, take, drop, Bool, true, false, Option, None, Result, Ok, Err}
 use Rattle.std.specs.declared.alloc.AllocError.{AllocError}
-use Rattle.tac_wire.specs.Stream.{unread, cut}
+use Rattle.tac_wire.specs.Stream.{Pending, unread, ended, cut}
 use Rattle.tac_conn.specs.declared.ask.Slot.{Slot}
 use Rattle.tac_conn.specs.Standing as conns
 use Rattle.tac_stream.specs.Turns.{packets_of, turn_closes}
@@ -36,6 +36,22 @@ StandsAfter (Asks ask slot) key stream bytes taken = Stands key stream bytes (su
 StandsAfter Silent key stream bytes taken = Stands key stream bytes (suc taken)
 StandsAfter Need key stream bytes taken = Stands key stream bytes taken
 StandsAfter Close key stream bytes taken = Unit {0}
+
+-- how many bytes are held of which no packet was taken yet
+abbrev pub unread_len : Pending → ℕ
+unread_len (unread bytes) = length bytes
+unread_len ended = 0
+
+abbrev pub unread_of : Stream → ℕ
+unread_of stream = unread_len stream.framer
+
+-- a packet that is taken is no longer held
+abbrev pub Shortens : Turn → Stream → Stream → Type 0
+Shortens (Reply reply ends) old new = unread_of new < unread_of old
+Shortens (Asks ask slot) old new = unread_of new < unread_of old
+Shortens Silent old new = unread_of new < unread_of old
+Shortens Need old new = Unit {0}
+Shortens Close old new = Unit {0}
 
 -- whether it closes: where memory ran out, a packet is lost
 abbrev pub closes_by : Result Turn AllocError → Bool

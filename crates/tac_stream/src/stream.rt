@@ -77,6 +77,7 @@ impl Stream {
             IfOk result (λ turn. kept.StandsAfter turn key.now self.new bytes taken) }
         ensures pending { IfOk result (λ turn. kept.pending_of self.new ≡ turns.slot_in turn) }
         ensures kind { IfOk result turns.HasItsSlot }
+        ensures shorter { IfOk result (λ turn. kept.Shortens turn self.old self.new) }
         ensures memory { (bytes : List ℕ) (taken : ℕ) → kept.Stands key.now self.old bytes taken →
             OnErr result (taken < length (cut bytes).packets) }
     {
@@ -107,6 +108,7 @@ impl Stream {
         ensures pending { kept.IsReady self.old →
             IfOk result (λ turn. kept.pending_of self.new ≡ turns.slot_in turn) }
         ensures kind { IfOk result turns.HasItsSlot }
+        ensures shorter { IfOk result (λ turn. kept.Shortens turn self.old self.new) }
         ensures over { kept.closed_of self.old ≡ true →
             (result ≡ Ok told.Close) × (self.new ≡ self.old) }
 

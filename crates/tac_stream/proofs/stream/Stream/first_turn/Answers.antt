@@ -1,5 +1,5 @@
 use Rattle.std.proofs.Common.{refl, sym, ◌∙◌}
-use Rattle.tac_stream.proofs.StreamFacts.{on_err, packet_left, need_turn, close_turn, packet_turn, packet_stands, taken_after}
+use Rattle.tac_stream.proofs.StreamFacts.{on_err, packet_left, need_turn, close_turn, packet_turn, packet_stands, taken_after, shortens}
 use Rattle.tac_stream.proofs.stream.Stream.first_turn.Goals as goal
 
 pub returns-in_err-frame-clause-memory : goal.returns-in_err-frame-clause-memory
@@ -26,3 +26,7 @@ returns-in-Ok-clause-stands c = λ bytes taken s.
     (taken_after c.in-Ok.step c.args.key.now _ bytes taken
     (packet_stands c.in_ok-frame.ensures.items c.args.key.now c.args.self.now bytes taken s c.in-Packet.frame (sym c.in-Packet.is ∙ c.in_ok-frame.ensures.told)
     _ c.in_ok-frame.ensures.left (c.in-Ok.ensures.stands _ s.conn)))
+
+pub returns-in-Ok-clause-shorter : goal.returns-in-Ok-clause-shorter
+returns-in-Ok-clause-shorter c =
+    rw c.from.ensures (shortens c.in-Ok.step c.args.self.now _ c.in-Packet.frame c.in_ok-frame.field-0 c.in-Packet.is c.in_ok-frame.ensures.told c.in_ok-frame.ensures.found)
