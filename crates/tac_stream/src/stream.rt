@@ -59,13 +59,10 @@ impl Stream {
         // No bytes take no memory.
         ensures memory { OnErr result (0 < length piece.now) }
         // However bytes are cut into pieces, the same packets, fault and rest come out.
-        ensures pieces { kept.closed_of self.old ≡ false → (bytes more : List ℕ) →
-            cut (bytes ++ more) ≡ continued (cut bytes) more }
+        ensures pieces { (bytes more : List ℕ) → cut (bytes ++ more) ≡ continued (cut bytes) more }
     {
-        if self.closed {
-            return Ok(());
-        }
-        self.framer.feed(piece)
+        let kept = if self.closed { &[] } else { piece };
+        self.framer.feed(kept)
     }
 
     // The turn of what stands first.
@@ -140,6 +137,7 @@ impl Stream {
             kept.closed_of self.new ≡ result.1 }
         ensures stands { (bytes : List ℕ) (taken : ℕ) → kept.Stands key.now self.old bytes taken →
             kept.Stands key.now self.new bytes taken }
+        ensures unread { kept.unread_of self.new ≡ kept.unread_of self.old }
     {
         let (reply, closes) = self.conn.give(key, slot, answer);
         self.closed = self.closed || closes;
