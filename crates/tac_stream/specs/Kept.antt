@@ -1,5 +1,5 @@
 -- What is kept of a connection, and what it stands for.
-use Rattle.std.specs.Prelude.{◌≡◌, ◌≤◌, ◌<◌, ℕ, suc, List, length, take, drop, Bool, true, false, Option, None, Result, Ok, Err}
+use Rattle.std.specs.Prelude.{◌≡◌, ◌≤◌, ◌<◌, ℕ, suc, List, length, take, drop, Bool, true, false, Option, Some, None, Result, Ok, Err}
 use Rattle.std.specs.declared.alloc.AllocError.{AllocError}
 use Rattle.tac_wire.specs.Stream.{Pending, unread, ended, cut}
 use Rattle.tac_conn.specs.declared.ask.Slot.{Slot}
@@ -36,6 +36,14 @@ StandsAfter (Asks ask slot) key stream bytes taken = Stands key stream bytes (su
 StandsAfter Silent key stream bytes taken = Stands key stream bytes (suc taken)
 StandsAfter Need key stream bytes taken = Stands key stream bytes taken
 StandsAfter Close key stream bytes taken = Unit {0}
+
+-- an ask waits for its answer
+abbrev pub Waits : Turn → Stream → Type 0
+Waits (Reply reply ends) stream = Unit {0}
+Waits (Asks ask slot) stream = pending_of stream ≡ Some slot
+Waits Silent stream = Unit {0}
+Waits Need stream = Unit {0}
+Waits Close stream = Unit {0}
 
 -- how many bytes are held of which no packet was taken yet
 abbrev pub unread_len : Pending → ℕ

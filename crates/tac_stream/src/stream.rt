@@ -104,6 +104,7 @@ impl Stream {
         ensures closed { kept.closed_of self.new ≡ kept.closes_by result }
         ensures pending { kept.IsReady self.old →
             IfOk result (λ turn. kept.pending_of self.new ≡ turns.slot_in turn) }
+        ensures waits { IfOk result (λ turn. kept.Waits turn self.new) }
         ensures kind { IfOk result turns.HasItsSlot }
         ensures shorter { IfOk result (λ turn. kept.Shortens turn self.old self.new) }
         ensures over { kept.closed_of self.old ≡ true →
