@@ -14,7 +14,7 @@ with the policy, and prints what the server answers. It opens no socket.";
 
 const REPLAY_ABOUT: &str = "Reads a script on standard input and prints the server's replies";
 
-const REPLAY_LONG_ABOUT: &str =
+pub(crate) const REPLAY_LONG_ABOUT: &str =
     "Reads a script on standard input and prints the server's replies on standard output.
 
 The script gives the key that server and devices share, a policy, and what devices send over their
@@ -27,7 +27,7 @@ const REPLAY_AFTER_HELP: &str = "Example:
 
 'tacd replay --help' describes the lines of a script.";
 
-const REPLAY_AFTER_LONG_HELP: &str = "Lines of a script, in this order:
+pub(crate) const REPLAY_AFTER_LONG_HELP: &str = "Lines of a script, in this order:
   key TEXT             line 1: the key, 1 to 128 printable ASCII characters
   the policy, any number of these:
     group NAME           begins a group; with ' in GROUP', one that has that group's rules too
@@ -57,7 +57,7 @@ What is printed:
   reply N HEX          the server sends a packet on connection N, here with its body in the clear
   closed N             the server closes connection N; the number may be opened again
   fault line L FAULT   line L of the script is wrong, and nothing after it is played
-  fault Memory         memory ran out, and nothing more is played
+  fault Memory         memory ran out: this line stands in place of all that is printed
 
 Example, in which bob, of the group ops, asks for 'show version':
   key k
