@@ -1,14 +1,17 @@
 -- Chains, a step at a time.
 use Rattle.std.proofs.Common.{◌≡◌, ℕ, zero, suc, ◌+◌, ◌-◌, ◌<◌, ◌≤◌, map, Bool, true, false, cond, List, [], ◌∷◌, ◌++◌, Option, None, Some, refl, sym, ap, ◌∙◌, arith, append_assoc, append-nil, IsTrue, Contains}
 use Rattle.std.specs.List.{list_all}
-use Rattle.std.specs.Option.{option_map_or, unwrap_or}
+use Rattle.std.specs.Option.{option_map_or, option_and_then, unwrap_or}
 use Rattle.pol_pattern.specs.Matching.{matches}
 use Rattle.pol_names.specs.declared.subject_id.SubjectId.{SubjectId}
 use Rattle.pol_text.specs.declared.subject.Rule.{Rule}
 use Rattle.pol_text.specs.declared.subject.Subject.{Subject}
 use Rattle.pol_names.specs.declared.decision.Decision.{Decision}
 use Rattle.pol_names.specs.declared.decision.By.TheVariants as by
-use Rattle.pol_text.specs.Policy.{id_of, parent_of, ends_within, chain_within, FollowsParent, Entry, numbered, entries_along, first_entry, first_match}
+use Rattle.pol_text.specs.Policy.{id_of, parent_of, ends_within, chain_within, chain, find_subject, FollowsParent, InheritsEntries, Entry, numbered, own_entries, entries_along, entries, first_entry, first_match}
+use Rattle.pol_names.specs.SubjectId.{same_id, group_id}
+use Rattle.std.specs.Prelude.{IfSome, option_copied}
+use Rattle.std.specs.Borrow.{Bor}
 use Rattle.pol_text.proofs.SubjectFacts.{list_all_here}
 
 -- one subject fewer is left
@@ -98,3 +101,30 @@ pub first_end : (policy : List Subject) (subject : Subject) (line : List ℕ) (m
 first_end policy subject line most i past =
     let none_left : most - i ≡ 0 = omega arith in
     ap (λ (subjects : List Subject). first_entry (entries_along subjects) line) (ap (λ (n : ℕ). chain_within n policy subject) none_left ∙ chain_within_none policy subject)
+
+-- ---- the rules along a chain
+
+pub inherits_entries : (policy : List Subject) → IsTrue (list_all (ends_within 8 policy) policy) → (subject : Subject) → Contains policy subject → InheritsEntries policy subject
+inherits_entries policy short subject inside =
+    ap entries_along (follows_parent policy short subject inside) ∙ ap (λ (rest : List Entry). own_entries subject ++ rest) (by (parent_of policy subject))
+  where
+    by : (parent : Option Subject) → entries_along (option_map_or (chain policy) parent []) ≡ option_map_or (entries policy) parent []
+    by None = refl
+    by (Some group) = refl
+
+-- who is found is in the policy
+pub found_inside : (id : SubjectId) (policy : List Subject) (s : Subject) → find_subject id policy ≡ Some s → Contains policy s
+found_inside id [] s e = absurd cc
+found_inside id (x ∷ rest) s e = by (same_id id (id_of x)) e (found_inside id rest s)
+  where
+    by : (b : Bool) → cond b (Some x) (find_subject id rest) ≡ Some s → (find_subject id rest ≡ Some s → Contains rest s) → Contains (x ∷ rest) s
+    by true h later = (0, omega arith, let same : x ≡ s = cc in same)
+    by false h later = let (k, within, here) = later h in (suc k, omega arith, here)
+
+pub parent_inside : (policy : List Subject) (subject : Subject) (r : Option (Bor Subject)) → option_copied r ≡ parent_of policy subject → IfSome r (λ s. Contains policy s.now)
+parent_inside policy subject None e = tt
+parent_inside policy subject (Some s) e = by subject.parent (sym e)
+  where
+    by : (name : Option (List ℕ)) → option_and_then (λ n. find_subject (group_id n) policy) name ≡ Some s.now → Contains policy s.now
+    by None h = absurd cc
+    by (Some n) h = found_inside (group_id n) policy s.now h

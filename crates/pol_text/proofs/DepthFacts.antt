@@ -1,11 +1,12 @@
 -- A chain that ends has no more subjects than the policy.
-use Rattle.std.proofs.Common.{◌≡◌, ℕ, zero, suc, ◌+◌, ◌-◌, ◌≤◌, Bool, true, false, not, cond, ◌&&◌, ◌||◌, List, [], ◌∷◌, length, Option, None, Some, ◌⊎◌, inl, inr, refl, sym, arith}
+use Rattle.std.proofs.Common.{◌≡◌, ℕ, zero, suc, ◌+◌, ◌-◌, ◌<◌, ◌≤◌, get_or, Contains, ap, ◌∙◌, Bool, true, false, not, cond, ◌&&◌, ◌||◌, List, [], ◌∷◌, length, Option, None, Some, ◌⊎◌, inl, inr, refl, sym, arith}
 use Rattle.std.specs.List.{list_all, list_any}
 use Rattle.std.specs.Option.{option_map_or, option_and_then}
 use Rattle.pol_names.specs.declared.subject_id.SubjectId.{SubjectId}
 use Rattle.pol_text.specs.declared.subject.Subject.{Subject}
 use Rattle.pol_names.specs.SubjectId.{same_id, group_id}
-use Rattle.pol_text.specs.Policy.{id_of, find_subject, parent_of, ends_within}
+use Rattle.pol_text.specs.Policy.{id_of, find_subject, parent_of, ends_within, IsEndless, TellsEndless}
+use Rattle.pol_text.proofs.SubjectFacts.{list_all_here}
 use Rattle.pol_text.proofs.SettingFacts.{and_left, and_right, and_both}
 use Rattle.pol_text.proofs.RightFacts.{or_false}
 
@@ -146,3 +147,30 @@ module _ (policy : List Subject) where
       by : (length policy ≤ count (length policy) policy) ⊎ Settles (length policy) → list_all (ends_within (length policy) policy) policy ≡ true
       by (inl c) = count_all (length policy) policy c
       by (inr s) = settled (length policy) m s policy s.none h
+
+  any_at : (q : Subject → Bool) (xs : List Subject) (k : ℕ) (d : Subject) → k < length xs → list_any q xs ≡ false → q (get_or xs k d) ≡ false
+  any_at q [] k d lt none = absurd (omega arith)
+  any_at q (x ∷ xs) zero d lt none = (or_false _ _ none).0
+  any_at q (x ∷ xs) (suc k) d lt none = any_at q xs k d (omega arith) (or_false _ _ none).1
+
+  -- the same of one subject of the policy
+  one_ends : (m : ℕ) (subject : Subject) → Contains policy subject → ends_within m policy subject ≡ true → ends_within (length policy) policy subject ≡ true
+  one_ends m subject (k, within, here) h = by (steps (length policy))
+    where
+      by : (length policy ≤ count (length policy) policy) ⊎ Settles (length policy) → ends_within (length policy) policy subject ≡ true
+      by (inl c) =
+          sym (ap (ends_within (length policy) policy) here)
+          ∙ list_all_here (ends_within (length policy) policy) policy k subject within (count_all (length policy) policy c)
+      by (inr s) =
+          let low = s.low in
+          let old : new_at s.at subject ≡ false = sym (ap (new_at s.at) here) ∙ any_at (new_at s.at) policy k subject within s.none in
+          let up : length policy - s.at + s.at ≡ length policy = omega arith in
+          rw up at (more_by (length policy - s.at) s.at subject (stagnant s.at s.none m subject old h))
+
+  pub tells_endless : TellsEndless policy
+  tells_endless subject inside =
+      ((λ (long : ends_within (length policy) policy subject ≡ false). λ (m : ℕ). by m long (ends_within m policy subject) refl), (λ (endless : IsEndless policy subject). endless (length policy)))
+    where
+      by : (m : ℕ) → ends_within (length policy) policy subject ≡ false → (b : Bool) → ends_within m policy subject ≡ b → ends_within m policy subject ≡ false
+      by m long true h = let ends : ends_within (length policy) policy subject ≡ true = one_ends m subject inside h in absurd (cc)
+      by m long false h = h

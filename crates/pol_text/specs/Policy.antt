@@ -1,5 +1,5 @@
 -- The policy: groups and users in order, the chain of each, and the decision (docs/DEFINITIONS.md, "The policy").
-use Rattle.std.specs.Prelude.{◌≡◌, ◌≤◌, ℕ, zero, suc, nat_le, List, [], ◌∷◌, ◌++◌, length, map, Bool, true, false, not, ◌&&◌, ◌||◌, is_some, IsTrue, Option, Some, None, option_map, if◌then◌else◌}
+use Rattle.std.specs.Prelude.{◌≡◌, ◌↔◌, ◌≤◌, ℕ, zero, suc, nat_le, List, [], ◌∷◌, ◌++◌, length, map, Contains, Bool, true, false, not, ◌&&◌, ◌||◌, is_some, IsTrue, Option, Some, None, option_map, if◌then◌else◌}
 use Rattle.std.specs.Option.{option_and_then, option_map_or, option_or}
 use Rattle.std.specs.Result.{is_ok}
 use Rattle.std.specs.List.{list_any, list_all}
@@ -50,6 +50,15 @@ chain policy subject = chain_within 8 policy subject
 abbrev pub chain_ids : List Subject → SubjectId → List SubjectId
 chain_ids policy id = option_map_or (λ subject. map id_of (chain policy subject)) (find_subject id policy) []
 
+-- the chain of a subject doesn't end: it has more subjects than any number
+abbrev pub IsEndless : List Subject → Subject → Type 0
+IsEndless policy subject = (most : ℕ) → ends_within most policy subject ≡ false
+
+-- as many steps as there are subjects tell which chains don't end
+abbrev pub TellsEndless : List Subject → Type 0
+TellsEndless policy =
+    (subject : Subject) → Contains policy subject → (ends_within (length policy) policy subject ≡ false) ↔ IsEndless policy subject
+
 -- a chain is the subject, and then the chain of its parent
 abbrev pub FollowsParent : List Subject → Subject → Type 0
 FollowsParent policy subject = chain policy subject ≡ subject ∷ option_map_or (chain policy) (parent_of policy subject) []
@@ -76,6 +85,11 @@ entries_along (subject ∷ rest) = own_entries subject ++ entries_along rest
 -- the rules along the chain of a subject, the subject's own first
 abbrev pub entries : List Subject → Subject → List Entry
 entries policy subject = entries_along (chain policy subject)
+
+-- the entries of a subject are its own rules, and then the entries of its parent
+abbrev pub InheritsEntries : List Subject → Subject → Type 0
+InheritsEntries policy subject =
+    entries policy subject ≡ own_entries subject ++ option_map_or (entries policy) (parent_of policy subject) []
 
 -- the first entry whose pattern's set holds the whole line decides; where none does, the line is denied
 abbrev pub first_entry : List Entry → List ℕ → Decision

@@ -1,9 +1,11 @@
 //! Whether the chains of a draft are right, and the policy that it then is.
 
-ghost use Rattle.std.specs.Prelude.{◌≡◌, ◌<◌, ◌≤◌, ℕ, Ok, Err, length, map, slice_index, IfOk, IfSome, MatchResult};
+ghost use Rattle.std.specs.Prelude.{◌≡◌, ◌<◌, ◌≤◌, ℕ, List, Ok, Err, length, map, slice_index, IfOk, IfSome, MatchResult};
 ghost use Rattle.std.specs.Option.{option_map_or};
 ghost use Rattle.pol_text.specs.Draft.{RightDraft, first_failing};
-ghost use Rattle.pol_text.specs.Policy.{WellFormed, id_of, has_parent as parent_test, ends_within as chain_ends_within};
+ghost use Rattle.pol_text.specs.Policy.{WellFormed, TellsEndless, id_of};
+ghost use Rattle.pol_text.specs.Policy.{has_parent as parent_test, ends_within as chain_ends_within};
+ghost use Rattle.pol_text.specs.declared.subject.Subject.{Subject as SubjectValue};
 ghost use Rattle.pol_text.specs.Text.{Draft as DraftValue, IsUnlessMemory, subjects_of, with_right_chains, policy_of};
 ghost use Rattle.pol_text.specs.declared.fault.PolicyFault.TheVariants.{Refused};
 ghost use Rattle.pol_text.specs.declared.fault.PolicyRefusal.{PolicyRefusal as RefusalValue};
@@ -137,7 +139,11 @@ impl Policy {
         ensures well_formed { IfOk result WellFormed }
 
         // The line of a refusal is one of the text's.
-        ensures place { (line : ℕ) (refusal : RefusalValue) → result ≡ Err (Refused line refusal) → line ≤ length text.now }
+        ensures place { (line : ℕ) (refusal : RefusalValue) →
+            result ≡ Err (Refused line refusal) → line ≤ length text.now }
+
+        // What is refused as a cycle is exactly a chain that doesn't end.
+        ensures endless { (policy : List SubjectValue) → TellsEndless policy }
     {
         read_policy(alloc, text)
     }

@@ -2,7 +2,9 @@
 
 ghost use Rattle.std.specs.Prelude.{◌≡◌, ◌↔◌, [], length, Contains, IsTrue, IfSome, IfOk};
 ghost use Rattle.std.specs.Option.{option_copied};
-ghost use Rattle.pol_text.specs.Policy.{WellFormed, is_right_subject, find_subject, parent_of as parent_among, chain_ids, FollowsParent, decision as decision_of, decide};
+ghost use Rattle.pol_text.specs.Policy.{WellFormed, is_right_subject, find_subject, chain_ids, decide};
+ghost use Rattle.pol_text.specs.Policy.{FollowsParent, InheritsEntries};
+ghost use Rattle.pol_text.specs.Policy.{parent_of as parent_among, decision as decision_of};
 ghost use Rattle.pol_text.specs.declared.subject.Subject.{Subject as SubjectValue};
 
 use crate::chains;
@@ -88,9 +90,13 @@ impl Policy {
         chains::find_in(&self.subjects, &self.places, id)
     }
 
-    // The group that the subject belongs to.
-    pub(crate) fn parent_of(&self, subject: &Subject) -> Option<&Subject>
+    /// The group that the subject belongs to: the next of its chain. A hash look-up.
+    pub fn parent_of(&self, subject: &Subject) -> Option<&Subject>
         ensures found { option_copied result ≡ parent_among self.now subject.now }
+        ensures there { IfSome result (λ parent. Contains self.now parent.now) }
+
+        // The entries of a subject are its own rules, and then the entries of its parent.
+        ensures entries { Contains self.now subject.now → InheritsEntries self.now subject.now }
         ensures right { IfSome result (λ parent. IsTrue (is_right_subject parent.now)) }
     {
         chains::parent_in(&self.subjects, &self.places, subject)
@@ -101,7 +107,8 @@ impl Policy {
         ensures ids { IfOk result (λ ids. ids ≡ chain_ids self.now id.now) }
 
         // A chain is the subject, and then the chain of its parent.
-        ensures follows { (subject : SubjectValue) → Contains self.now subject → FollowsParent self.now subject }
+        ensures follows { (subject : SubjectValue) → Contains self.now subject →
+            FollowsParent self.now subject }
     {
         let (subjects, places) = (&self.subjects, &self.places);
         match chains::find_in(subjects, places, id) {
@@ -135,13 +142,14 @@ impl Policy {
     }
 
     /// What the policy says of a user's line, by a search along the user's chain that keeps
-    /// nothing for the next one. Nothing where there is no such user.
-    pub fn plain_decide(&self, user: &Name, line: &[u8]) -> Option<Decision>
-        ensures { result ≡ decide self.now user.now line.now }
+    /// nothing for the next one. Nothing where there is no such user. It takes no memory, so want
+    /// of it is never the answer.
+    pub fn plain_decide(&self, user: &Name, line: &[u8]) -> Result<Option<Decision>, AllocError>
+        ensures { result ≡ Ok (decide self.now user.now line.now) }
     {
         match chains::find_in(&self.subjects, &self.places, &SubjectId::user(*user)) {
-            Some(subject) => Some(self.decision(subject, line)),
-            None => None,
+            Some(subject) => Ok(Some(self.decision(subject, line))),
+            None => Ok(None),
         }
     }
 

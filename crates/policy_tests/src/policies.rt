@@ -123,7 +123,7 @@ fn decides<R: Abort + AllocGlobal>(
 ) -> Result<(), Fail> {
     let policy = Policy::read(rt.alloc(), RULES.as_bytes())?;
     let name = Name::read(user).ok_or("no name")?;
-    match (policy.plain_decide(&name, line), expected) {
+    match (policy.plain_decide(&name, line)?, expected) {
         (Some(decision), Some(words)) => assert!(rt; worded(rt, decision)?.as_str() == words),
         (None, None) => {}
         _ => assert!(rt; false, "a decision for no user, or none for a user"),

@@ -35,7 +35,7 @@ pub(crate) fn authorisation(policy: &Policy, name: &[u8], line: &[u8]) -> Answer
     let Some(user) = Name::read(name) else {
         return Answer::UnknownUser;
     };
-    let Some(decision) = policy.plain_decide(&user, line) else {
+    let Ok(Some(decision)) = policy.plain_decide(&user, line) else {
         return Answer::UnknownUser;
     };
     if !is_text(line) {
@@ -52,7 +52,7 @@ pub(crate) fn denies(policy: &Policy, name: &[u8], line: &[u8]) -> bool
         return true;
     };
     match policy.plain_decide(&user, line) {
-        Some(decision) => decision.verdict == Verdict::Deny,
-        None => true,
+        Ok(Some(decision)) => decision.verdict == Verdict::Deny,
+        _ => true,
     }
 }

@@ -89,7 +89,8 @@ impl PlainDesk {
             }
             Query::Tally(subject) => tally(self.alloc, &self.policy, &mut self.book, subject),
             Query::Why { user, line } => {
-                Ok(Report::Why(self.policy.plain_decide(user, line.as_slice())))
+                let decision = self.policy.plain_decide(user, line.as_slice())?;
+                Ok(Report::Why(decision))
             }
             Query::Records => {
                 let records = copy_records(self.alloc, self.book.records())?;

@@ -98,7 +98,7 @@ fn authorisation(policy: &Policy, name: &[u8], line: &[u8]) -> Answer
     let Some(user) = Name::read(name) else {
         return Answer::UnknownUser;
     };
-    let Some(decision) = policy.plain_decide(&user, line) else {
+    let Ok(Some(decision)) = policy.plain_decide(&user, line) else {
         return Answer::UnknownUser;
     };
     if !is_text(line) {
@@ -115,8 +115,8 @@ fn denies(policy: &Policy, name: &[u8], line: &[u8]) -> bool
         return true;
     };
     match policy.plain_decide(&user, line) {
-        Some(decision) => decision.verdict == Verdict::Deny,
-        None => true,
+        Ok(Some(decision)) => decision.verdict == Verdict::Deny,
+        _ => true,
     }
 }
 

@@ -29,8 +29,8 @@ fn denies(policy: &Policy, user: &[u8], line: &[u8]) -> bool
         return true;
     };
     match policy.plain_decide(&name, line) {
-        Some(decision) => is_denial(decision.verdict),
-        None => true,
+        Ok(Some(decision)) => is_denial(decision.verdict),
+        _ => true,
     }
 }
 
