@@ -5,189 +5,279 @@ use basics::{Bytes, Sequence};
 use pol_names::Name;
 use pol_text::Policy;
 use std::alloc::{AllocError, Global};
+use std::process::Abort;
 use std::test::Fail;
 use tac_tally::{AcctKind, Book, Record, StoreFault, Tally};
 
-const NONE: Tally = Tally {
-    starts: 0,
-    stops: 0,
-    watchdogs: 0,
-    updates: 0,
-    open_tasks: 0,
-    elapsed: 0,
-    drift: 0,
-};
+// The first word of a text, and what is behind the blank.
+fn word(text: &str) -> (&str, &str) {
+    text.split_once(' ').unwrap_or((text, ""))
+}
 
-// A record; the empty line stands for none.
-fn record(
-    alloc: Global,
-    user: &str,
-    kind: AcctKind,
-    task: &str,
-    elapsed: u32,
-    line: &str,
-) -> Result<Record, AllocError> {
-    let user = Bytes::from_slice(alloc, user.as_bytes())?;
-    let task = Bytes::from_slice(alloc, task.as_bytes())?;
+fn kind(word: &str) -> AcctKind {
+    match word {
+        "start" => AcctKind::Begin,
+        "stop" => AcctKind::Stop,
+        "watchdog" => AcctKind::Watch,
+        _ => AcctKind::Update,
+    }
+}
+
+// The bytes of a field; `_` is the empty text.
+fn field(alloc: Global, word: &str) -> Result<Bytes, AllocError> {
+    Bytes::from_slice(alloc, if word == "_" { b"" } else { word.as_bytes() })
+}
+
+// The record that `USER KIND TASK SECONDS` tells, and a line, where one is behind it.
+fn record(alloc: Global, words: &str) -> Result<Record, Fail> {
+    let (user, rest) = word(words);
+    let (verb, rest) = word(rest);
+    let (task, rest) = word(rest);
+    let (seconds, line) = word(rest);
     let text = Bytes::from_slice(alloc, line.as_bytes())?;
     Ok(Record {
-        user,
-        kind,
-        task,
-        elapsed,
+        user: field(alloc, user)?,
+        kind: kind(verb),
+        task: field(alloc, task)?,
+        elapsed: seconds.parse::<u32>()?,
         line: if text.is_empty() { None } else { Some(text) },
     })
 }
 
-#[test]
-fn a_full_book(rt: HostRuntime) -> Result<(), Fail> {
-    let alloc = rt.alloc();
-    let mut book = Book::new(alloc, 2);
-    assert!(rt; book.is_empty());
-    book.store(record(alloc, "bob", AcctKind::Begin, "1", 0, "")?, false)?;
-    book.store(record(alloc, "bob", AcctKind::Stop, "1", 9, "show")?, true)?;
-    assert!(rt; book.is_full());
-    let third = book.store(record(alloc, "eve", AcctKind::Begin, "1", 0, "")?, false);
-    assert_eq!(rt; third, Err(StoreFault::Full));
-    assert_eq!(rt; book.len(), book.limit());
-    let [first, second] = book.records() else {
-        return Err(Fail::from("not two records"));
-    };
-    assert_eq!(rt; first.kind, AcctKind::Begin);
-    assert_eq!(rt; second.elapsed, 9);
-    assert_eq!(rt; book.tally(alloc, b"eve")?, NONE);
-    Ok(())
-}
-
-#[test]
-fn a_repeat_is_another_record(rt: HostRuntime) -> Result<(), Fail> {
-    let alloc = rt.alloc();
-    let mut book = Book::new(alloc, 2);
-    book.store(record(alloc, "bob", AcctKind::Update, "7", 0, "")?, false)?;
-    book.store(record(alloc, "bob", AcctKind::Update, "7", 0, "")?, false)?;
-    let twice = Tally { updates: 2, ..NONE };
-    assert_eq!(rt; book.tally(alloc, b"bob")?, twice);
-    let third = book.store(record(alloc, "bob", AcctKind::Update, "7", 0, "")?, false);
-    assert_eq!(rt; third, Err(StoreFault::Full));
-    assert_eq!(rt; book.tally(alloc, b"bob")?, twice);
-    Ok(())
-}
-
-// What became of one user's tasks, with a repeat of each kind, and another user's record of the
-// same task.
-fn worked_book(alloc: Global) -> Result<Book, Fail> {
-    let entries = [
-        ("bob", AcctKind::Begin, "1", 0, "", false),
-        ("bob", AcctKind::Begin, "1", 0, "", false),
-        ("bob", AcctKind::Watch, "1", 50, "", false),
-        ("bob", AcctKind::Update, "1", 60, "reload", true),
-        ("bob", AcctKind::Update, "1", 60, "reload", true),
-        ("bob", AcctKind::Stop, "1", 7, "reload", true),
-        ("bob", AcctKind::Stop, "1", 7, "reload", true),
-        // A mark without a line, and one of a record that is no end.
-        ("bob", AcctKind::Stop, "2", u32::MAX, "", true),
-        ("bob", AcctKind::Begin, "1", 100, "reload", true),
-        ("eve", AcctKind::Stop, "1", 5, "reload", true),
-        ("bob", AcctKind::Begin, "3", 0, "", false),
-        ("bob", AcctKind::Stop, "3", 1, "show", false),
-        ("bob", AcctKind::Begin, "", 0, "", false),
-    ];
-    let mut book = Book::new(alloc, 100);
-    for (user, kind, task, elapsed, line, denied) in &entries {
-        book.store(record(alloc, user, *kind, task, *elapsed, line)?, *denied)?;
-    }
-    Ok(book)
-}
-
-#[test]
-fn tallies_of_users(rt: HostRuntime) -> Result<(), Fail> {
-    let book = worked_book(rt.alloc())?;
-    let bob = Tally {
-        starts: 5,
-        stops: 4,
-        watchdogs: 1,
-        updates: 2,
-        open_tasks: 2,
-        elapsed: 4_294_967_310,
-        drift: 2,
-    };
-    let eve = Tally {
-        stops: 1,
-        elapsed: 5,
-        drift: 1,
-        ..NONE
-    };
-    assert_eq!(rt; book.tally(rt.alloc(), b"bob")?, bob);
-    assert_eq!(rt; book.tally(rt.alloc(), b"eve")?, eve);
-    assert_eq!(rt; book.tally(rt.alloc(), b"\xff\x00")?, NONE);
-    assert_eq!(rt; book.tally(rt.alloc(), b"")?, NONE);
-    Ok(())
-}
-
-fn name(text: &[u8]) -> Result<Name, Fail> {
-    match Name::read(text) {
+fn name(text: &str) -> Result<Name, Fail> {
+    match Name::read(text.as_bytes()) {
         Some(name) => Ok(name),
         None => Err(Fail::from("no name")),
     }
 }
 
-#[test]
-fn tallies_of_groups(rt: HostRuntime) -> Result<(), Fail> {
-    let alloc = rt.alloc();
-    let policy = Policy::read(
-        alloc,
-        b"group all\ngroup ops in all\nuser bob in ops\nuser eve in all\nuser joe\nuser all\n",
-    )?;
-    let mut book = Book::new(alloc, 9);
-    for user in &["bob", "eve", "bob", "joe", "all", "ops", "zed"] {
-        book.store(record(alloc, user, AcctKind::Begin, "1", 0, "")?, false)?;
+/// A book, and the policy by which groups are tallied and marks worked out anew.
+#[derive(Drop)]
+struct Bench {
+    alloc: Global,
+    book: Book,
+    policy: Policy,
+}
+
+impl Bench {
+    fn new(alloc: Global, policy: &str, limit: usize) -> Result<Bench, Fail> {
+        Ok(Bench {
+            alloc,
+            book: Book::new(alloc, limit),
+            policy: Policy::read(alloc, policy.as_bytes())?,
+        })
     }
-    let ops = Tally {
-        starts: 2,
-        open_tasks: 1,
-        ..NONE
-    };
-    let all = Tally {
-        starts: 3,
-        open_tasks: 2,
-        ..NONE
-    };
-    assert_eq!(rt; book.group_tally(alloc, &policy, &name(b"ops")?)?, ops);
-    assert_eq!(rt; book.group_tally(alloc, &policy, &name(b"all")?)?, all);
-    assert_eq!(rt; book.group_tally(alloc, &policy, &name(b"bob")?)?, NONE);
+
+    fn text(&self, text: &str) -> Result<String, Fail> {
+        Ok(String::from_str(self.alloc, text)?)
+    }
+
+    fn store(&mut self, words: &str, denied: bool) -> Result<String, Fail> {
+        let record = record(self.alloc, words)?;
+        match self.book.store(record, denied) {
+            Ok(()) => self.text("stored"),
+            Err(StoreFault::Full) => self.text("full"),
+            Err(StoreFault::Memory) => Err(Fail::from("no memory")),
+        }
+    }
+
+    fn shown(&self, tally: Tally) -> Result<String, Fail> {
+        let Tally {
+            starts,
+            stops,
+            watchdogs,
+            updates,
+            open_tasks,
+            elapsed,
+            drift,
+        } = tally;
+        let counts = format!(in self.alloc; "{starts} {stops} {watchdogs} {updates}")?;
+        let text = format!(in self.alloc; "{counts} {open_tasks} {elapsed} {drift}")?;
+        Ok(text)
+    }
+
+    fn tally(&self, user: &str) -> Result<String, Fail> {
+        let user = field(self.alloc, user)?;
+        self.shown(self.book.tally(self.alloc, user.as_slice())?)
+    }
+
+    fn group(&self, group: &str) -> Result<String, Fail> {
+        let group = name(group)?;
+        self.shown(self.book.group_tally(self.alloc, &self.policy, &group)?)
+    }
+
+    fn recount(&mut self, names: &str) -> Result<String, Fail> {
+        let mut users = Sequence::new(self.alloc);
+        for name in names.split(' ') {
+            users.push(Bytes::from_slice(self.alloc, name.as_bytes())?)?;
+        }
+        let recount = recount_by(self.alloc, &self.book, users.as_slice(), &self.policy)?;
+        self.book.settle(recount);
+        self.text("settled")
+    }
+
+    // The kinds of the records in order, and what is true of their number.
+    fn records(&self) -> Result<String, Fail> {
+        let mut text = self.text(if self.book.is_full() { "full" } else { "room" })?;
+        for record in self.book.records() {
+            let kind = format!(in self.alloc; " {:?}", record.kind)?;
+            text.push_str(kind.as_str())?;
+        }
+        Ok(text)
+    }
+
+    fn answer(&mut self, line: &str) -> Result<String, Fail> {
+        let (verb, rest) = word(line);
+        match verb {
+            "store" => self.store(rest, false),
+            "mark" => self.store(rest, true),
+            "tally" => self.tally(rest),
+            "group" => self.group(rest),
+            "recount" => self.recount(rest),
+            "records" => self.records(),
+            _ => Err(Fail::from("nothing is asked")),
+        }
+    }
+}
+
+// Does with a book what each line says to the left of its `=`, and compares the answer. `store` puts
+// in a record, and `mark` one whose line is denied. A tally is starts, stops, watchdogs, updates,
+// open tasks, seconds and drift. Comments begin with `#`.
+fn works<R: Abort + AllocGlobal>(
+    rt: &R,
+    policy: &str,
+    limit: usize,
+    text: &str,
+) -> Result<(), Fail> {
+    let mut bench = Bench::new(rt.alloc(), policy, limit)?;
+    for line in text.lines() {
+        let line = line.trim_start();
+        if let Some((asked, wanted)) = line.split_once(" = ") {
+            let answer = bench.answer(asked)?;
+            assert_eq!(rt; answer.as_str(), wanted, "to {asked}");
+        } else if !line.is_empty() && !line.starts_with('#') {
+            return Err(Fail::from("no answer is wanted"));
+        }
+    }
     Ok(())
 }
 
 #[test]
-fn marks_anew(rt: HostRuntime) -> Result<(), Fail> {
-    let alloc = rt.alloc();
-    let mut book = Book::new(alloc, 9);
-    let entries = [
-        ("bob", "reload", true),
-        ("bob", "show", false),
-        ("eve", "show", false),
-        ("eve", "reload", true),
-        ("bob", "", true),
-        ("bob", "show", false),
-        // A user who isn't in the policy.
-        ("zed", "reload", false),
-    ];
-    for (user, line, denied) in &entries {
-        book.store(record(alloc, user, AcctKind::Stop, "1", 0, line)?, *denied)?;
-    }
-    let policy = Policy::read(
-        alloc,
-        b"group all\ndeny show\npermit .*\nuser bob in all\nuser eve in all\n",
+fn a_full_book(rt: HostRuntime) -> Result<(), Fail> {
+    works(
+        &rt,
+        "",
+        2,
+        "
+        records = room
+        store bob start 1 0 = stored
+        records = room Begin
+        mark bob stop 1 9 show = stored
+        records = full Begin Stop
+        store eve start 1 0 = full
+        records = full Begin Stop
+        tally eve = 0 0 0 0 0 0 0
+        tally bob = 1 1 0 0 0 9 1
+        ",
     )?;
-    let mut users = Sequence::new(alloc);
-    users.push(Bytes::from_slice(alloc, b"bob")?)?;
-    users.push(Bytes::from_slice(alloc, b"zed")?)?;
-    let recount = recount_by(alloc, &book, users.as_slice(), &policy)?;
-    assert_eq!(rt; book.tally(alloc, b"bob")?.drift, 1);
-    assert_eq!(rt; book.tally(alloc, b"zed")?.drift, 0);
-    book.settle(recount);
-    assert_eq!(rt; book.tally(alloc, b"bob")?.drift, 2);
-    assert_eq!(rt; book.tally(alloc, b"eve")?.drift, 1);
-    assert_eq!(rt; book.tally(alloc, b"zed")?.drift, 1);
+    works(&rt, "", 0, "store bob start 1 0 = full\nrecords = full")
+}
+
+#[test]
+fn tallies_of_users(rt: HostRuntime) -> Result<(), Fail> {
+    works(
+        &rt,
+        "",
+        100,
+        "
+        # A repeat is another record.
+        store zoe update 7 0 = stored
+        store zoe update 7 0 = stored
+        tally zoe = 0 0 0 2 0 0 0
+
+        # What became of one user's tasks, and another's record of the same task.
+        store bob start 1 0 = stored
+        store bob start 1 0 = stored
+        store bob watchdog 1 50 = stored
+        mark bob update 1 60 reload = stored
+        mark bob update 1 60 reload = stored
+        mark bob stop 1 7 reload = stored
+        mark bob stop 1 7 reload = stored
+        # A mark without a line, and one of a record that is no end.
+        mark bob stop 2 4294967295 = stored
+        mark bob start 1 100 reload = stored
+        mark eve stop 1 5 reload = stored
+        store bob start 3 0 = stored
+        store bob stop 3 1 show = stored
+        store bob start _ 0 = stored
+        tally bob = 5 4 1 2 2 4294967310 2
+        tally eve = 0 1 0 0 0 5 1
+        tally b\u{e9}b = 0 0 0 0 0 0 0
+        tally _ = 0 0 0 0 0 0 0
+        ",
+    )
+}
+
+#[test]
+fn tallies_of_groups(rt: HostRuntime) -> Result<(), Fail> {
+    works(
+        &rt,
+        "group all\ngroup ops in all\nuser bob in ops\nuser eve in all\nuser joe\nuser all\n",
+        9,
+        "
+        store bob start 1 0 = stored
+        store eve start 1 0 = stored
+        store bob start 1 0 = stored
+        store joe start 1 0 = stored
+        store all start 1 0 = stored
+        store ops start 1 0 = stored
+        store zed start 1 0 = stored
+        group ops = 2 0 0 0 1 0 0
+        group all = 3 0 0 0 2 0 0
+        group bob = 0 0 0 0 0 0 0
+        ",
+    )
+}
+
+#[test]
+fn marks_anew(rt: HostRuntime) -> Result<(), Fail> {
+    works(
+        &rt,
+        "group all\ndeny show\npermit .*\nuser bob in all\nuser eve in all\n",
+        9,
+        "
+        mark bob stop 1 0 reload = stored
+        store bob stop 1 0 show = stored
+        store eve stop 1 0 show = stored
+        mark eve stop 1 0 reload = stored
+        mark bob stop 1 0 = stored
+        store bob stop 1 0 show = stored
+        # A user who isn't in the policy.
+        store zed stop 1 0 reload = stored
+        tally bob = 0 4 0 0 0 0 1
+        tally zed = 0 1 0 0 0 0 0
+        recount bob zed = settled
+        tally bob = 0 4 0 0 0 0 2
+        tally eve = 0 2 0 0 0 0 1
+        tally zed = 0 1 0 0 0 0 1
+        ",
+    )
+}
+
+// Storing and counting succeed with ample memory, whatever the size.
+#[test]
+fn books_of_many_sizes(rt: HostRuntime) -> Result<(), Fail> {
+    let mut bench = Bench::new(rt.alloc(), "user bob\n", 300)?;
+    assert!(rt; bench.book.is_empty());
+    for size in 1..=300 {
+        let stored = bench.answer("mark bob start 1 0 ping")?;
+        assert_eq!(rt; stored.as_str(), "stored");
+        assert_eq!(rt; bench.book.len(), size);
+        let tally = format!(in rt.alloc(); "{size} 0 0 0 1 0 0")?;
+        assert!(rt; bench.tally("bob")? == tally);
+        assert!(rt; bench.group("bob")?.as_str() == "0 0 0 0 0 0 0");
+    }
+    assert_eq!(rt; bench.answer("store bob start 1 0")?.as_str(), "full");
+    assert_eq!(rt; bench.book.limit(), bench.book.len());
     Ok(())
 }
