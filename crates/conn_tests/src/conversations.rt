@@ -1,6 +1,7 @@
 //! What a connection says, packet by packet.
 
 use basics::Bytes;
+use std::alloc::{AllocError, Global};
 use std::fmt::Write;
 use std::process::Abort;
 use std::test::Fail;
@@ -15,9 +16,11 @@ fn key() -> Result<Key, Fail> {
     }
 }
 
-// The packet that hexadecimal digits spell, with the pad put on.
+// The packet that hexadecimal digits spell, with the pad put on. A blank may stand behind its header.
 fn frame<R: AllocGlobal>(rt: &R, text: &str) -> Result<Frame, Fail> {
-    let bytes = hex::decode(rt.alloc(), text.as_bytes())?;
+    let (header, body) = text.split_once(' ').unwrap_or((text, ""));
+    let digits = format!(in rt.alloc(); "{header}{body}")?;
+    let bytes = hex::decode(rt.alloc(), digits.as_bytes())?;
     let Some((header, body)) = bytes.split_first_chunk::<12>() else {
         return Err(Fail::from("no packet"));
     };
@@ -30,17 +33,18 @@ fn frame<R: AllocGlobal>(rt: &R, text: &str) -> Result<Frame, Fail> {
     })
 }
 
-// A packet that is sent, with the pad taken off, and whether the connection closes.
+// A packet that is sent, with the pad taken off and a blank behind the header, and whether the
+// connection closes.
 fn spelled<R: AllocGlobal>(rt: &R, sent: Sent, closes: bool) -> Result<String, Fail> {
     let mut bytes = Vec::from_slice(rt.alloc(), sent.as_slice())?;
     let Some((header, body)) = bytes.split_first_chunk_mut::<12>() else {
         return Err(Fail::from("no packet"));
     };
     pad_in_place(&Header::read(header), &key()?, body);
-    let mut text = hex::encode(rt.alloc(), bytes.as_slice())?;
-    if closes {
-        text.push_str(" closes")?;
-    }
+    let header = hex::encode(rt.alloc(), header.as_slice())?;
+    let body = hex::encode(rt.alloc(), body)?;
+    let end = if closes { " closes" } else { "" };
+    let text = format!(in rt.alloc(); "{header} {body}{end}")?;
     Ok(text)
 }
 
@@ -86,19 +90,18 @@ fn asked<R: AllocGlobal>(rt: &R, ask: &Ask) -> Result<String, Fail> {
     Ok(text)
 }
 
-// Hands a packet in, and answers what is asked. Spells what was asked and what is sent.
-fn says<R: Abort + AllocGlobal>(
+// What is said to a packet: what is asked, where the desk is, and what is sent, where it answers so.
+fn said<R: AllocGlobal>(
     rt: &R,
     conn: &mut Conn,
     packet: &str,
     answer: Answer,
-    expected: &str,
-) -> Result<(), Fail> {
+) -> Result<String, Fail> {
     let frame = frame(rt, packet)?;
     if conn.pending().is_some() {
         return Err(Fail::from("an answer is due"));
     }
-    let said = match conn.take(&key()?, frame)? {
+    let text = match conn.take(&key()?, frame)? {
         Step::Reply(sent, closes) => spelled(rt, sent, closes)?,
         Step::Asks(ask, slot) => {
             let mut text = asked(rt, &ask)?;
@@ -113,281 +116,238 @@ fn says<R: Abort + AllocGlobal>(
         Step::Silent => String::from_str(rt.alloc(), "silent")?,
         Step::Close => String::from_str(rt.alloc(), "close")?,
     };
-    assert!(rt;
-        said.as_str() == expected,
-        "expected\n{expected}\nsaid\n{said}"
-    );
+    Ok(text)
+}
+
+// The answer of a desk that a word names.
+fn answer(word: &str) -> Result<Answer, Fail> {
+    Ok(match word {
+        "pass" => Answer::Pass,
+        "fail" => Answer::Fail,
+        "permitted" => Answer::Permitted(None),
+        "level-15" => Answer::Permitted(Some(15)),
+        "ops-2" => {
+            let ops = Name::read(b"ops").ok_or("no name")?;
+            Answer::Denied(By::Rule(SubjectId::group(ops), 2))
+        }
+        "denied" => Answer::Denied(By::Default),
+        "stored" => Answer::Stored,
+        "full" => Answer::BookFull,
+        _ => return Err(Fail::from("no answer")),
+    })
+}
+
+// Holds conversations. A paragraph is a connection, to which a line `> ANSWER HEX` hands a packet,
+// ANSWER being what the desk would say to it. Behind each stands what is said: what is asked, before
+// a colon, and what is sent. A line that begins with `#` is a comment.
+fn converses<R: Abort + AllocGlobal>(rt: &R, text: &str) -> Result<(), Fail> {
+    let mut conn = Conn::new(rt.alloc());
+    let mut heard = String::new(rt.alloc());
+    for line in text.lines() {
+        let line = line.trim_start();
+        if line.is_empty() {
+            conn = Conn::new(rt.alloc());
+        } else if let Some(packet) = line.strip_prefix("> ") {
+            let (word, hex) = packet.split_once(' ').ok_or("no packet")?;
+            heard = said(rt, &mut conn, hex, answer(word)?)?;
+        } else if !line.starts_with('#') {
+            assert_eq!(rt; heard.as_str(), line);
+        }
+    }
     Ok(())
 }
 
-const ASK_PASSWORD: &str = "0501000a000050617373776f72643a20";
-
-const FAILED: &str = "02000015000041757468656e7469636174696f6e206661696c6564";
-
 #[test]
 fn a_login_by_questions(rt: HostRuntime) -> Result<(), Fail> {
-    let mut conn = Conn::new(rt.alloc());
-    says(
+    converses(
         &rt,
-        &mut conn,
-        "c0010100000000010000000c010101010004000074747930",
-        Answer::Pass,
-        "c001020000000001000000100400000a0000557365726e616d653a20",
-    )?;
-    let reply = format!(in rt.alloc(); "c00104000000000100000010{ASK_PASSWORD}")?;
-    says(
-        &rt,
-        &mut conn,
-        "c001030000000001000000080003000000626f62",
-        Answer::Pass,
-        reply.as_str(),
-    )?;
-    let reply = format!(in rt.alloc(); "bob 1 secret: c0010600000000010000001b{FAILED} closes")?;
-    says(
-        &rt,
-        &mut conn,
-        "c0010500000000010000000b0006000000736563726574",
-        Answer::Fail,
-        reply.as_str(),
-    )?;
-    // It takes nothing more.
-    says(
-        &rt,
-        &mut conn,
-        "c0010100000000010000000c010101010004000074747930",
-        Answer::Pass,
-        "close",
+        "
+        > pass c0010100000000010000000c 010101010004000074747930
+        c00102000000000100000010 0400000a0000557365726e616d653a20
+        > pass c00103000000000100000008 0003000000626f62
+        c00104000000000100000010 0501000a000050617373776f72643a20
+        > fail c0010500000000010000000b 0006000000736563726574
+        bob 1 secret: c0010600000000010000001b 02000015000041757468656e7469636174696f6e206661696c6564 closes
+        # It takes nothing more.
+        > pass c0010100000000010000000c 010101010004000074747930
+        close
+        ",
     )
 }
 
 #[test]
 fn logins_of_one_packet(rt: HostRuntime) -> Result<(), Fail> {
-    // CHAP, whose response is 16 bytes behind the id and the challenge.
-    let mut conn = Conn::new(rt.alloc());
-    says(
+    converses(
         &rt,
-        &mut conn,
-        "c1010100000000010000001d0101030303000012626f626163900150983cd24fb0d6963f7d28e17f72",
-        Answer::Pass,
-        "bob 3 (chap): c10102000000000100000006010000000000 closes",
-    )?;
-    // Sixteen bytes are no challenge.
-    let mut conn = Conn::new(rt.alloc());
-    let reply = format!(in rt.alloc(); "c1010200000000010000001b{FAILED} closes")?;
-    says(
-        &rt,
-        &mut conn,
-        "c1010100000000010000001b0101030303000010626f6200000000000000000000000000000000",
-        Answer::Pass,
-        reply.as_str(),
-    )?;
-    // PAP, with minor version 0 and then with 1.
-    let mut conn = Conn::new(rt.alloc());
-    says(
-        &rt,
-        &mut conn,
-        "c001010000000001000000110101020103000006626f62736563726574",
-        Answer::Pass,
-        "c001020000000001000000110700000b0000756e737570706f72746564 closes",
-    )?;
-    let mut conn = Conn::new(rt.alloc());
-    says(
-        &rt,
-        &mut conn,
-        "c101010000000001000000110101020103000006626f62736563726574",
-        Answer::Pass,
-        "bob 1 secret: c10102000000000100000006010000000000 closes",
+        "
+        # CHAP, whose response is 16 bytes behind the id and the challenge.
+        > pass c1010100000000010000001d 0101030303000012626f626163900150983cd24fb0d6963f7d28e17f72
+        bob 3 (chap): c10102000000000100000006 010000000000 closes
+
+        # Sixteen bytes are no challenge.
+        > pass c1010100000000010000001b 0101030303000010626f6200000000000000000000000000000000
+        c1010200000000010000001b 02000015000041757468656e7469636174696f6e206661696c6564 closes
+
+        # PAP, with minor version 0 and then with 1.
+        > pass c00101000000000100000011 0101020103000006626f62736563726574
+        c00102000000000100000011 0700000b0000756e737570706f72746564 closes
+
+        > pass c10101000000000100000011 0101020103000006626f62736563726574
+        bob 1 secret: c10102000000000100000006 010000000000 closes
+        ",
     )
 }
 
 #[test]
 fn sessions_side_by_side(rt: HostRuntime) -> Result<(), Fail> {
-    let mut conn = Conn::new(rt.alloc());
-    for session in ["00000001", "00000002"] {
-        let start = format!(in rt.alloc(); "c0010104{session}0000000b0101010103000000626f62")?;
-        let reply = format!(in rt.alloc(); "c0010204{session}00000010{ASK_PASSWORD}")?;
-        says(&rt, &mut conn, start.as_str(), Answer::Pass, reply.as_str())?;
-    }
-    for session in ["00000002", "00000001"] {
-        let password = format!(in rt.alloc(); "c0010304{session}0000000b0006000000736563726574")?;
-        let reply = format!(in rt.alloc(); "bob 1 secret: c0010404{session}00000006010000000000")?;
-        says(
-            &rt,
-            &mut conn,
-            password.as_str(),
-            Answer::Pass,
-            reply.as_str(),
+    converses(
+        &rt,
+        "
+        > pass c0010104000000010000000b 0101010103000000626f62
+        c00102040000000100000010 0501000a000050617373776f72643a20
+        > pass c0010104000000020000000b 0101010103000000626f62
+        c00102040000000200000010 0501000a000050617373776f72643a20
+        > pass c0010304000000020000000b 0006000000736563726574
+        bob 1 secret: c00104040000000200000006 010000000000
+        > pass c0010304000000010000000b 0006000000736563726574
+        bob 1 secret: c00104040000000100000006 010000000000
+
+        # Where the first packet asks for no single connection, a second session closes it.
+        > pass c0010100000000010000000b 0101010103000000626f62
+        c00102000000000100000010 0501000a000050617373776f72643a20
+        > pass c0010100000000020000000b 0101010103000000626f62
+        close
+        ",
+    )
+}
+
+// Sixteen logins, and what the rest of the conversation then finds.
+fn sixteen_logins(alloc: Global, rest: &str) -> Result<String, AllocError> {
+    let mut text = String::new(alloc);
+    for session in 1..=16 {
+        writeln!(
+            text,
+            "> pass c0010104{session:08x}0000000b 0101010103000000626f62"
+        )?;
+        writeln!(
+            text,
+            "c0010204{session:08x}00000010 0501000a000050617373776f72643a20"
         )?;
     }
-    // Where the first packet asks for no single connection, a second session closes it.
-    let mut conn = Conn::new(rt.alloc());
-    let reply = format!(in rt.alloc(); "c00102000000000100000010{ASK_PASSWORD}")?;
-    says(
-        &rt,
-        &mut conn,
-        "c0010100000000010000000b0101010103000000626f62",
-        Answer::Pass,
-        reply.as_str(),
-    )?;
-    says(
-        &rt,
-        &mut conn,
-        "c0010100000000020000000b0101010103000000626f62",
-        Answer::Pass,
-        "close",
-    )
+    text.push_str(rest)?;
+    Ok(text)
 }
 
 #[test]
 fn seventeen_sessions(rt: HostRuntime) -> Result<(), Fail> {
-    let mut conn = Conn::new(rt.alloc());
-    for session in 1..=16 {
-        let start = format!(in rt.alloc(); "c0010104{session:08x}0000000b0101010103000000626f62")?;
-        let reply = format!(in rt.alloc(); "c0010204{session:08x}00000010{ASK_PASSWORD}")?;
-        says(&rt, &mut conn, start.as_str(), Answer::Pass, reply.as_str())?;
-    }
-    says(
-        &rt,
-        &mut conn,
-        "c0010104000000110000000b0101010103000000626f62",
-        Answer::Pass,
-        "c00102040000001100000017070000110000746f6f206d616e792073657373696f6e73",
+    let text = sixteen_logins(
+        rt.alloc(),
+        "> pass c0010104000000110000000b 0101010103000000626f62
+        c00102040000001100000017 070000110000746f6f206d616e792073657373696f6e73
+        # A client that gives up gets no answer, and its session makes room.
+        > pass c00103040000000300000005 00000000ff
+        silent
+        > pass c0010104000000110000000b 0101010103000000626f62
+        c00102040000001100000010 0501000a000050617373776f72643a20
+        ",
     )?;
-    // A client that gives up gets no answer, and its session makes room.
-    says(
-        &rt,
-        &mut conn,
-        "c0010304000000030000000500000000ff",
-        Answer::Pass,
-        "silent",
-    )?;
-    let reply = format!(in rt.alloc(); "c00102040000001100000010{ASK_PASSWORD}")?;
-    says(
-        &rt,
-        &mut conn,
-        "c0010104000000110000000b0101010103000000626f62",
-        Answer::Pass,
-        reply.as_str(),
-    )
+    converses(&rt, text.as_str())
 }
 
 #[test]
 fn authorisation(rt: HostRuntime) -> Result<(), Fail> {
-    let request = "c00201000000000100000036\
-                   06010101030400030d080f626f6274747930\
-                   736572766963653d7368656c6c636d643d73686f77636d642d6172673d76657273696f6e";
-    let ops = SubjectId::group(Name::read(b"ops").ok_or("no name")?);
-    let cases = [
-        (
-            Answer::Permitted(None),
-            "c00202000000000100000006010000000000 closes",
-        ),
-        (
-            Answer::Permitted(Some(15)),
-            "c002020000000001000000120101000000000b707269762d6c766c3d3135 closes",
-        ),
-        (
-            Answer::Denied(By::Rule(ops, 2)),
-            "c002020000000001000000201000001a000064656e6965642062792067726f7570206f70732072756c652032 closes",
-        ),
-        (
-            Answer::Denied(By::Default),
-            "c0020200000000010000001710000011000064656e6965642062792064656661756c74 closes",
-        ),
-    ];
-    for (answer, reply) in &cases {
-        let mut conn = Conn::new(rt.alloc());
-        let expected = format!(in rt.alloc(); "bob: show version: {reply}")?;
-        says(&rt, &mut conn, request, *answer, expected.as_str())?;
-    }
-    Ok(())
+    converses(
+        &rt,
+        "
+        > permitted c00201000000000100000036 06010101030400030d080f626f6274747930736572766963653d7368656c6c636d643d73686f77636d642d6172673d76657273696f6e
+        bob: show version: c00202000000000100000006 010000000000 closes
+
+        > level-15 c00201000000000100000036 06010101030400030d080f626f6274747930736572766963653d7368656c6c636d643d73686f77636d642d6172673d76657273696f6e
+        bob: show version: c00202000000000100000012 0101000000000b707269762d6c766c3d3135 closes
+
+        > ops-2 c00201000000000100000036 06010101030400030d080f626f6274747930736572766963653d7368656c6c636d643d73686f77636d642d6172673d76657273696f6e
+        bob: show version: c00202000000000100000020 1000001a000064656e6965642062792067726f7570206f70732072756c652032 closes
+
+        > denied c00201000000000100000036 06010101030400030d080f626f6274747930736572766963653d7368656c6c636d643d73686f77636d642d6172673d76657273696f6e
+        bob: show version: c00202000000000100000017 10000011000064656e6965642062792064656661756c74 closes
+        ",
+    )
 }
 
 #[test]
 fn accounting(rt: HostRuntime) -> Result<(), Fail> {
-    // The line and the seconds, and then a record without them that finds no room.
-    let cases = [
-        (
-            "c00301000000000100000041\
-             040601010103040004090f0d08626f6274747930\
-             7461736b5f69643d37656c61707365645f74696d653d3630736572766963653d7368656c6c636d643d73686f77",
-            Answer::Stored,
-            "bob Stop 7 60 show: c003020000000001000000050000000001 closes",
-        ),
-        (
-            "c0030100000000010000001a0a060101010304000109626f62747479307461736b5f69643d37",
-            Answer::BookFull,
-            "bob Update 7 0 (no line): c00302000000000100000011000c0000027265636f7264732066756c6c closes",
-        ),
-    ];
-    for (packet, answer, said) in &cases {
-        let mut conn = Conn::new(rt.alloc());
-        says(&rt, &mut conn, packet, *answer, said)?;
-    }
-    // START and STOP together are no record's flags: a single connection stays open.
-    let mut conn = Conn::new(rt.alloc());
-    says(
+    converses(
         &rt,
-        &mut conn,
-        "c0030104000000010000001a06060101010304000109626f62747479307461736b5f69643d37",
-        Answer::Stored,
-        "c0030204000000010000000e000900000262616420666c616773",
-    )?;
-    says(
-        &rt,
-        &mut conn,
-        "c0030104000000010000001a0a060101010304000109626f62747479307461736b5f69643d37",
-        Answer::Stored,
-        "bob Update 7 0 (no line): c003020400000001000000050000000001",
+        "
+        # The line and the seconds, and then a record without them that finds no room.
+        > stored c00301000000000100000041 040601010103040004090f0d08626f62747479307461736b5f69643d37656c61707365645f74696d653d3630736572766963653d7368656c6c636d643d73686f77
+        bob Stop 7 60 show: c00302000000000100000005 0000000001 closes
+
+        > full c0030100000000010000001a 0a060101010304000109626f62747479307461736b5f69643d37
+        bob Update 7 0 (no line): c00302000000000100000011 000c0000027265636f7264732066756c6c closes
+
+        # START and STOP together are no record's flags: a single connection stays open.
+        > stored c0030104000000010000001a 06060101010304000109626f62747479307461736b5f69643d37
+        c0030204000000010000000e 000900000262616420666c616773
+        > stored c0030104000000010000001a 0a060101010304000109626f62747479307461736b5f69643d37
+        bob Update 7 0 (no line): c00302040000000100000005 0000000001
+        ",
     )
 }
 
 #[test]
 fn packets_that_close(rt: HostRuntime) -> Result<(), Fail> {
-    let cases = [
-        // A type that isn't served, with a seq_no above and with none.
-        (
-            "c00901040000000100000000",
-            "c00902040000000100000000 closes",
-        ),
-        ("c009ff040000000100000000", "close"),
-        // No session is open for a seq_no of 3.
-        ("c0010304000000010000000b0006000000736563726574", "close"),
-        // Bodies that are none, also on a single connection.
-        (
-            "c00101040000000100000003010101",
-            "c0010204000000010000000e07000008000062616420626f6479 closes",
-        ),
-        (
-            "c00201040000000100000003010101",
-            "c0020204000000010000000e11000008000062616420626f6479 closes",
-        ),
-        (
-            "c00301040000000100000003020101",
-            "c0030204000000010000000d000800000262616420626f6479 closes",
-        ),
-    ];
-    for (packet, said) in &cases {
-        let mut conn = Conn::new(rt.alloc());
-        says(&rt, &mut conn, packet, Answer::Pass, said)?;
-        says(&rt, &mut conn, packet, Answer::Pass, "close")?;
-    }
-    // An open session, by another seq_no and by other types.
-    for packet in [
-        "c0010504000000010000000b0006000000736563726574",
-        "c0020304000000010000000b0006000000736563726574",
-        "c0030304000000010000000b0006000000736563726574",
-    ] {
-        let mut conn = Conn::new(rt.alloc());
-        let reply = format!(in rt.alloc(); "c00102040000000100000010{ASK_PASSWORD}")?;
-        says(
-            &rt,
-            &mut conn,
-            "c0010104000000010000000b0101010103000000626f62",
-            Answer::Pass,
-            reply.as_str(),
-        )?;
-        says(&rt, &mut conn, packet, Answer::Pass, "close")?;
-    }
-    Ok(())
+    converses(
+        &rt,
+        "
+        # A type that isn't served, with a seq_no above and with none.
+        > pass c00901040000000100000000
+        c00902040000000100000000  closes
+        > pass c00901040000000100000000
+        close
+
+        > pass c009ff040000000100000000
+        close
+        > pass c009ff040000000100000000
+        close
+
+        # No session is open for a seq_no of 3.
+        > pass c0010304000000010000000b 0006000000736563726574
+        close
+        > pass c0010304000000010000000b 0006000000736563726574
+        close
+
+        # Bodies that are none, also on a single connection.
+        > pass c00101040000000100000003 010101
+        c0010204000000010000000e 07000008000062616420626f6479 closes
+        > pass c00101040000000100000003 010101
+        close
+
+        > pass c00201040000000100000003 010101
+        c0020204000000010000000e 11000008000062616420626f6479 closes
+        > pass c00201040000000100000003 010101
+        close
+
+        > pass c00301040000000100000003 020101
+        c0030204000000010000000d 000800000262616420626f6479 closes
+        > pass c00301040000000100000003 020101
+        close
+
+        # An open session, by another seq_no and by other types.
+        > pass c0010104000000010000000b 0101010103000000626f62
+        c00102040000000100000010 0501000a000050617373776f72643a20
+        > pass c0010504000000010000000b 0006000000736563726574
+        close
+
+        > pass c0010104000000010000000b 0101010103000000626f62
+        c00102040000000100000010 0501000a000050617373776f72643a20
+        > pass c0020304000000010000000b 0006000000736563726574
+        close
+
+        > pass c0010104000000010000000b 0101010103000000626f62
+        c00102040000000100000010 0501000a000050617373776f72643a20
+        > pass c0030304000000010000000b 0006000000736563726574
+        close
+        ",
+    )
 }
