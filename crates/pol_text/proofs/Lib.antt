@@ -17,3 +17,5 @@ pub mod PrintFacts
 pub mod RightFacts
 pub mod RoundFacts
 pub mod SettingFacts
+pub mod SpelledSo
+pub mod ReadBack

@@ -30,7 +30,7 @@ pub bind_ok : {A B E : Type 0} (r : Result A E) (f : A → Result B E) (y : B) �
 bind_ok (Ok x) f y h = (x, refl, h)
 bind_ok (Err e) f y h = absurd cc
 
-some_of : {A E : Type 0} (o : Option A) (e : E) (x : A) → ok_or o e ≡ Ok x → o ≡ Some x
+pub some_of : {A E : Type 0} (o : Option A) (e : E) (x : A) → ok_or o e ≡ Ok x → o ≡ Some x
 some_of None e x h = absurd cc
 some_of (Some y) e x h = cc
 
@@ -40,7 +40,7 @@ either_ok true x y v f g h = f h
 either_ok false x y v f g h = g h
 
 -- the first of two is a fault
-second_ok : {A E : Type 0} (b : Bool) (e : E) (y : Result A E) (v : A) → cond b (Err e) y ≡ Ok v → (b ≡ false) × (y ≡ Ok v)
+pub second_ok : {A E : Type 0} (b : Bool) (e : E) (y : Result A E) (v : A) → cond b (Err e) y ≡ Ok v → (b ≡ false) × (y ≡ Ok v)
 second_ok true e y v h = absurd cc
 second_ok false e y v h = (refl, h)
 
@@ -117,7 +117,7 @@ subject_right line kind name parent draft next named belongs r h =
     new_right User = right_whole (new_subject User name parent) (record { name = named; parent = belongs; login = refl; enable = refl; secrets = refl; level = refl; few = refl; rules = refl })
 
 -- a list with a last element
-split_back : {A : Type 0} (xs : List A) (parts : List A × A) → split_last xs ≡ Some parts → xs ≡ parts.0 ++ parts.1 ∷ []
+pub split_back : {A : Type 0} (xs : List A) (parts : List A × A) → split_last xs ≡ Some parts → xs ≡ parts.0 ++ parts.1 ∷ []
 split_back [] parts h = absurd cc
 split_back {A = A} (x ∷ xs) parts h = by (split_last xs) refl (λ p e. split_back xs p e) h
   where
@@ -184,7 +184,7 @@ parent_right name rest ids h =
     let is : ids ≡ (s.0, Some t.0) = cc in
     rw is (named_right name s.0 s.1, named_right p.0.1 t.0 t.1)
 
-heading_right : (rest : List ℕ) (parts : Option (List ℕ × List ℕ)) (ids : List ℕ × Option (List ℕ)) → heading rest parts ≡ Ok ids → (is_name ids.0 ≡ true) × (all_of is_name ids.1 ≡ true)
+pub heading_right : (rest : List ℕ) (parts : Option (List ℕ × List ℕ)) (ids : List ℕ × Option (List ℕ)) → heading rest parts ≡ Ok ids → (is_name ids.0 ≡ true) × (all_of is_name ids.1 ≡ true)
 unfolding heading
 heading_right rest None ids h =
     let p = bind_ok (named rest) _ ids h in
@@ -250,6 +250,20 @@ checked_ok test refusal draft next h = by (find (λ (entry : ℕ × Subject). no
         → option_map_or (λ entry. Err (Refused entry.0 refusal)) o (Ok draft) ≡ Ok next → (next ≡ draft) × (list_all test (subjects_of draft) ≡ true)
     by None e k = (cc, all_pass test draft e)
     by (Some entry) e k = absurd cc
+
+-- what passes is the draft's subjects
+pub chains_same : (draft : Draft) (policy : List Subject) → with_right_chains draft ≡ Ok policy → policy ≡ subjects_of draft
+unfolding with_right_chains
+chains_same draft policy h =
+    let p3 = bind_ok (checked (has_parent (subjects_of draft)) NoSuchParent draft >>= checked (ends_within (length draft) (subjects_of draft)) Cycle >>= checked (ends_within 8 (subjects_of draft)) TooDeep) _ policy h in
+    let p2 = bind_ok (checked (has_parent (subjects_of draft)) NoSuchParent draft >>= checked (ends_within (length draft) (subjects_of draft)) Cycle) _ p3.0 p3.1 in
+    let p1 = bind_ok (checked (has_parent (subjects_of draft)) NoSuchParent draft) _ p2.0 p2.1 in
+    let c1 = checked_ok (has_parent (subjects_of draft)) NoSuchParent draft p1.0 p1.1 in
+    let c2 = checked_ok (ends_within (length draft) (subjects_of draft)) Cycle p1.0 p2.0 p1.2 in
+    let c3 = checked_ok (ends_within 8 (subjects_of draft)) TooDeep p2.0 p3.0 p2.2 in
+    let given = p3.2 in
+    let last : subjects_of p3.0 ≡ policy = cc in
+    sym last ∙ ap subjects_of (c3.0 ∙ c2.0 ∙ c1.0)
 
 pub chains_right : (draft : Draft) (policy : List Subject) → RightDraft draft → with_right_chains draft ≡ Ok policy → WellFormed policy
 unfolding with_right_chains

@@ -48,7 +48,7 @@ lines_of-text (line ∷ lines) h =
     lines_of-line line (text_of_lines lines) (and_left (is_text line) _ h) ∙ ap (λ (rest : List (List ℕ)). line ∷ rest) (lines_of-text lines (and_right (is_text line) _ h))
 
 -- lines that are read are texts
-read_text : (number : ℕ) (lines : List (List ℕ)) (draft next : Draft) → with_lines number lines draft ≡ Ok next → list_all is_text lines ≡ true
+pub read_text : (number : ℕ) (lines : List (List ℕ)) (draft next : Draft) → with_lines number lines draft ≡ Ok next → list_all is_text lines ≡ true
 unfolding with_lines with_line
 read_text number [] draft next h = refl
 read_text number (line ∷ lines) draft next h =
@@ -113,10 +113,10 @@ user_line : (number : ℕ) (rest : List ℕ) (draft : Draft) → is_text rest �
 unfolding with_line with_trimmed with_words
 user_line number rest draft h = rw h refl
 
-abbrev behind_name : Option (List ℕ) → List ℕ
+abbrev pub behind_name : Option (List ℕ) → List ℕ
 behind_name parent = option_map_or (λ parent. codes " in " ++ parent) parent []
 
-heading_is : (name : List ℕ) (parent : Option (List ℕ)) → is_name name ≡ true → all_of is_name parent ≡ true
+pub heading_is : (name : List ℕ) (parent : Option (List ℕ)) → is_name name ≡ true → all_of is_name parent ≡ true
     → heading (name ++ behind_name parent) (split_at_first 32 (name ++ behind_name parent)) ≡ Ok (name, parent)
 unfolding heading with_parent
 heading_is name None h k = rw (append-nil name, name_field name (bytes_of name h), h) refl
@@ -128,7 +128,7 @@ heading_text name None h k = rw (append-nil name) (name_text name (bytes_of name
 heading_text name (Some parent) h k =
     rw (list_all-append is_symbol name (codes " in " ++ parent), name_text name (bytes_of name h), name_text parent (bytes_of parent k)) refl
 
-subject_new : (number : ℕ) (kind : Kind) (name : List ℕ) (parent : Option (List ℕ)) (draft : Draft) → is_some (find_subject (record { kind = kind; name = name }) (subjects_of draft)) ≡ false → length draft < 1024
+pub subject_new : (number : ℕ) (kind : Kind) (name : List ℕ) (parent : Option (List ℕ)) (draft : Draft) → is_some (find_subject (record { kind = kind; name = name }) (subjects_of draft)) ≡ false → length draft < 1024
     → with_subject number kind name parent draft ≡ Ok (draft ++ (number, new_subject kind name parent) ∷ [])
 unfolding with_subject
 subject_new number kind name parent draft none room =
@@ -314,12 +314,13 @@ passes : (test : Subject → Bool) (refusal : PolicyRefusal) (draft : Draft) →
 unfolding checked
 passes test refusal draft h = rw (none_fails test draft h) refl
 
-chains_read : (draft : Draft) (policy : List Subject) → subjects_of draft ≡ policy → WellFormed policy → with_right_chains draft ≡ Ok policy
+pub chains_read : (draft : Draft) (policy : List Subject) → subjects_of draft ≡ policy → list_all (has_parent policy) policy ≡ true → list_all (ends_within 8 policy) policy ≡ true
+    → with_right_chains draft ≡ Ok policy
 unfolding with_right_chains
-chains_read draft policy is well =
+chains_read draft policy is has within =
     let sizes : length draft ≡ length (subjects_of draft) = sym (length-map draft (λ (entry : ℕ × Subject). entry.1)) in
-    let parents : list_all (has_parent (subjects_of draft)) (subjects_of draft) ≡ true = ap (λ (s : List Subject). list_all (has_parent s) s) is ∙ well.parents in
-    let short : list_all (ends_within 8 (subjects_of draft)) (subjects_of draft) ≡ true = ap (λ (s : List Subject). list_all (ends_within 8 s) s) is ∙ well.short in
+    let parents : list_all (has_parent (subjects_of draft)) (subjects_of draft) ≡ true = ap (λ (s : List Subject). list_all (has_parent s) s) is ∙ has in
+    let short : list_all (ends_within 8 (subjects_of draft)) (subjects_of draft) ≡ true = ap (λ (s : List Subject). list_all (ends_within 8 s) s) is ∙ within in
     let ends : list_all (ends_within (length draft) (subjects_of draft)) (subjects_of draft) ≡ true =
     ap (λ n. list_all (ends_within n (subjects_of draft)) (subjects_of draft)) sizes ∙ all_end (subjects_of draft) 8 short in
     rw (
@@ -335,4 +336,4 @@ read_again policy well =
     let few = well.few in
     let read = policy_read 1 [] policy well.right well.distinct (omega arith) in
     let lines = lines_of-text (policy_lines policy) (read_text 1 (policy_lines policy) [] (numbered 1 policy) read) in
-    rw (lines, read) (chains_read (numbered 1 policy) policy (subjects-numbered 1 policy) well)
+    rw (lines, read) (chains_read (numbered 1 policy) policy (subjects-numbered 1 policy) well.parents well.short)

@@ -186,7 +186,7 @@ pub rule_read : (verdict : Verdict) (text pattern : List ℕ) (subject : Subject
 unfolding with_rule
 rule_read verdict text pattern subject e = rw e refl
 
-rule_refused : (verdict : Verdict) (text : List ℕ) (fault : PatternFault) (subject : Subject) → pattern_of text ≡ Err fault → with_rule verdict text subject ≡ Err (BadPattern fault)
+pub rule_refused : (verdict : Verdict) (text : List ℕ) (fault : PatternFault) (subject : Subject) → pattern_of text ≡ Err fault → with_rule verdict text subject ≡ Err (BadPattern fault)
 unfolding with_rule
 rule_refused verdict text fault subject e = rw e refl
 

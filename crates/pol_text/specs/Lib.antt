@@ -6,6 +6,7 @@ pub mod Policy
 pub mod Places
 pub mod Change
 pub mod Text
+pub mod Spelling
 pub mod FaultText
 pub mod Draft
 pub mod Setting

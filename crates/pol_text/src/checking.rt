@@ -6,6 +6,7 @@ ghost use Rattle.pol_text.specs.Draft.{RightDraft, first_failing};
 ghost use Rattle.pol_text.specs.Policy.{WellFormed, TellsEndless, id_of};
 ghost use Rattle.pol_text.specs.Policy.{has_parent as parent_test, ends_within as chain_ends_within};
 ghost use Rattle.pol_text.specs.declared.subject.Subject.{Subject as SubjectValue};
+ghost use Rattle.pol_text.specs.Spelling.{Spells};
 ghost use Rattle.pol_text.specs.Text.{Draft as DraftValue, IsUnlessMemory, subjects_of, with_right_chains, policy_of};
 ghost use Rattle.pol_text.specs.declared.fault.PolicyFault.TheVariants.{Refused};
 ghost use Rattle.pol_text.specs.declared.fault.PolicyRefusal.{PolicyRefusal as RefusalValue};
@@ -137,6 +138,13 @@ impl Policy {
     pub fn read(alloc: Global, text: &[u8]) -> Result<Policy, PolicyFault>
         ensures exact { IsUnlessMemory (λ policy. policy) result (policy_of text.now) }
         ensures well_formed { IfOk result WellFormed }
+
+        // What is read is spelled so.
+        ensures found { IfOk result (λ policy. Spells text.now policy) }
+
+        // What is spelled so is read, unless memory runs out.
+        ensures only { (policy : List SubjectValue) → Spells text.now policy →
+            IsUnlessMemory (λ policy. policy) result (Ok policy) }
 
         // The line of a refusal is one of the text's.
         ensures place { (line : ℕ) (refusal : RefusalValue) →
