@@ -1,0 +1,45 @@
+-- A Decider as contracts see it: an automaton whose states are the residuals of entries, with the first match of each.
+-- It doesn't hold its entries: a relation says of which it is the Decider.
+use Rattle.std.specs.Prelude.{◌≡◌, ◌↔◌, ◌<◌, ◌≤◌, ℕ, Bool, IsTrue, List, length, Option, None, slice_index_or}
+use Rattle.basics.specs.Symbol.{is_text}
+use Rattle.basics.specs.TextOrder.{IsLeast}
+use Rattle.pol_scan.specs.Alphabet.{Alphabet, word_of}
+use Rattle.pol_scan.specs.Words.{IsWord, IsWordThat}
+use Rattle.pol_scan.specs.Table.{Table, count, walk}
+use Rattle.pol_scan.specs.Table.{word_of as found_along}
+use Rattle.pol_automaton.specs.Residuals.{SameResiduals, IsResidualCount}
+use Rattle.pol_automaton.specs.Decision.{IsFirstMatch}
+
+-- how texts are read; the states; the first match of each state; how many entries there are
+pub record Automaton : Type 0 where
+  pub alphabet : Alphabet
+  pub table : Table
+  pub firsts : List (Option ℕ)
+  pub entries : ℕ
+
+-- the state to which a text leads, and the first match of a state
+abbrev pub state_of : Automaton → List ℕ → ℕ
+state_of automaton text = walk automaton.table (word_of automaton.alphabet text)
+
+abbrev pub first_of : Automaton → ℕ → Option ℕ
+first_of automaton state = slice_index_or automaton.firsts state None
+
+-- its parts fit each other
+pub record IsWhole (automaton : Automaton) : Type 0 where
+  pub columns : automaton.table.width ≡ automaton.alphabet.width
+  pub firsts : length automaton.firsts ≡ count automaton.table
+  pub within : (word : List ℕ) → IsWord automaton.table.width word → walk automaton.table word < count automaton.table
+
+-- the automaton is the Decider of these entries
+pub record IsDecider (automaton : Automaton) (entries : List (List ℕ)) : Type 0 where
+  pub many : automaton.entries ≡ length entries
+  -- its states are the residuals: each is reached, and two texts lead to one state exactly if they have the same
+  pub tells : (text other : List ℕ) → IsTrue (is_text text) → IsTrue (is_text other)
+      → (state_of automaton text ≡ state_of automaton other) ↔ SameResiduals entries text other
+  pub index : IsResidualCount entries (count automaton.table)
+  -- a state knows the first match of the texts that lead there
+  pub firsts : (text : List ℕ) → IsTrue (is_text text) → IsFirstMatch entries text (first_of automaton (state_of automaton text))
+  -- states are numbered in the order of the least words that lead there: so the first state that passes a test has the
+  -- least word of those that lead to such a state
+  pub leasts : (test : ℕ → Bool) (state : ℕ) → state < count automaton.table → IsTrue (test state) → ((k : ℕ) → k < state → ¬ (IsTrue (test k)))
+      → IsLeast (IsWordThat automaton.table.width (λ word. IsTrue (test (walk automaton.table word)))) (found_along automaton.table state)

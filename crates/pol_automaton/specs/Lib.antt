@@ -1,0 +1,6 @@
+pub mod Residuals
+pub mod Decision
+pub mod Faults
+pub mod Automaton
+pub mod After
+pub mod Scanning

@@ -1,0 +1,12 @@
+//! A term of an entry's residual.
+
+use pol_deriv::Number;
+
+/// A term of the residual of an entry. The residuals of all entries are a list of these, in order,
+/// each once.
+#[derive(Clone, Copy, Debug, PartialEq, Eq, PartialOrd, Ord, Hash)]
+pub(crate) struct EntryTerm {
+    /// Counted from 0.
+    pub(crate) entry: usize,
+    pub(crate) term: Number,
+}
