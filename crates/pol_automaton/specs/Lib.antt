@@ -4,3 +4,6 @@ pub mod Faults
 pub mod Automaton
 pub mod After
 pub mod Scanning
+pub mod Entries
+pub mod Stepping
+pub mod Matching

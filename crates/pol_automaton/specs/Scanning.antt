@@ -51,6 +51,7 @@ behind_longer alphabet table start u v column same entry term h =
     let other = derivatives_more (After set (text_of alphabet u)) (After set (text_of alphabet v)) (least_of alphabet column) (λ t. (same entry t).0) term stepped in
     subst at (sym (map-append (least_of alphabet) v (column ∷ []))) ((after_push set (text_of alphabet v) (least_of alphabet column) term).1 other)
 
+-- words are told apart by the residuals behind them
 abbrev pub residuals : Alphabet → List Term → List EntryTerm → Congruence
 residuals alphabet table start = record {
   width = alphabet.width;

@@ -1,9 +1,12 @@
 //! Automata that decide by the first match.
 #![tactic(auto)]
 
+mod arranging;
 mod entry_term;
 mod fault;
+mod meter;
 mod way;
 
 pub use fault::DeciderFault;
+pub use meter::Meter;
 pub use way::Way;

@@ -64,6 +64,9 @@ impl Terms {
         ensures grows { Grows self.old self.new }
         ensures residual { IfOk result (λ set. (parsed : flat.Terms) → Spells pattern.now parsed
             → IsSetOf self.new set (Residual parsed [])) }
+
+        // What is read is spelled so.
+        ensures spelled { (parsed : flat.Terms) × Spells pattern.now parsed }
         ensures law { FirstResidual }
         ensures numbers { IfOk result (λ set. AreNumbers self.new set) }
     {

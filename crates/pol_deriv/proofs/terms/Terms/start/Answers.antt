@@ -40,3 +40,9 @@ returns-clause-law c = first_residual
 
 pub returns-in_err-numbers-clause-law : goal.returns-in_err-numbers-clause-law
 returns-in_err-numbers-clause-law c = first_residual
+
+pub returns-clause-spelled : goal.returns-clause-spelled
+returns-clause-spelled c = (_, c.terms.ensures.spelled)
+
+pub returns-in_err-numbers-clause-spelled : goal.returns-in_err-numbers-clause-spelled
+returns-in_err-numbers-clause-spelled c = (_, c.terms.ensures.spelled)
