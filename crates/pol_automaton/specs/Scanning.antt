@@ -15,9 +15,12 @@ use Rattle.pol_scan.specs.Congruence.{Congruence}
 use Rattle.pol_automaton.specs.declared.entry_term.EntryTerm.{EntryTerm}
 use Rattle.pol_automaton.specs.After.{After, after_more, after_push, derivatives_more}
 
+abbrev pub item_of : ℕ → ℕ → EntryTerm
+item_of entry number = record { entry = entry; term = number }
+
 -- the residual of the entry has the term
 abbrev pub HasTerm : List Term → List EntryTerm → ℕ → Term → Type 0
-HasTerm table items entry term = (number : ℕ) × Contains items (record { entry = entry; term = number }) × Means table number term
+HasTerm table items entry term = (number : ℕ) × Contains items (item_of entry number) × Means table number term
 
 -- in the order of the entries, then of the numbers
 abbrev pub order : EntryTerm → EntryTerm → Ordering

@@ -5,6 +5,7 @@ mod arranging;
 mod entry_term;
 mod fault;
 mod meter;
+mod stepping;
 mod way;
 
 pub use fault::DeciderFault;
