@@ -7,3 +7,6 @@ pub mod Scanning
 pub mod Entries
 pub mod Stepping
 pub mod Matching
+pub mod Order
+pub mod Having
+pub mod Telling

@@ -5,8 +5,8 @@ use pol_deriv::Number;
 /// A term of the residual of an entry. The residuals of all entries are a list of these, in order,
 /// each once.
 #[derive(Clone, Copy, Debug, PartialEq, Eq, PartialOrd, Ord, Hash)]
-pub(crate) struct EntryTerm {
+pub struct EntryTerm {
     /// Counted from 0.
-    pub(crate) entry: usize,
-    pub(crate) term: Number,
+    pub entry: usize,
+    pub term: Number,
 }

@@ -53,6 +53,9 @@ impl Alphabet {
         ensures width { result.width ≡ SYMBOLS }
         ensures own { (symbol : ℕ) → IsTrue (is_symbol symbol)
             → column_at result symbol ≡ symbol - FIRST }
+        ensures least { (symbol : ℕ) → IsTrue (is_symbol symbol)
+            → least_at result (symbol - FIRST) ≡ symbol }
+        ensures alphabet { IsAlphabet result }
     {
         let mut columns = [0; SYMBOLS];
         let mut least = [0; SYMBOLS];

@@ -2,7 +2,7 @@ use Rattle.std.proofs.Common.{Contains}
 use Rattle.std.proofs.lemmas.List.Filters.{dedup_is}
 use Rattle.std.proofs.lemmas.List.Kept.{Contains-dedup, Contains-from_dedup, IsStrictlySortedBy-dedup}
 use Rattle.std.proofs.lemmas.List.Sorted.{Contains-permutation, IsPermutation-sym}
-use Rattle.pol_automaton.proofs.Order.{same_item, order_total, same_ties, same_equiv, same_is}
+use Rattle.pol_automaton.specs.Order.{same_item, order_total, same_ties, same_equiv, same_is}
 use Rattle.pol_automaton.proofs.arranging.arrange.Goals as goal
 
 pub returns-clause-sorted : goal.returns-clause-sorted

@@ -1,4 +1,4 @@
-use Rattle.pol_automaton.proofs.Having.{adds_derivatives}
+use Rattle.pol_automaton.specs.Having.{adds_derivatives}
 use Rattle.pol_automaton.proofs.stepping.push_derivatives.Goals as goal
 
 pub returns-clause-adds : goal.returns-clause-adds

@@ -74,40 +74,50 @@ mapped_from entry numbers other number c =
     sym (get_or-map (item_of entry) numbers c.0 number (item_of other number) lt) ∙ c.2 in
     (sym (ap (λ (x : EntryTerm). x.entry) same), (c.0, lt, ap (λ (x : EntryTerm). x.term) same))
 
-pub adds_derivatives : (old new : List Term) (symbol : ℕ) (item : EntryTerm) (before : List EntryTerm) (numbers : List ℕ) → Grows old new → item.term < length old → AreWithin old before
-    → ((own : Term) → Means old item.term own → IsSetOf new numbers (Derivative symbol own)) → AddsDerivatives old new symbol item before (before ++ map (item_of item.entry) numbers)
-adds_derivatives old new symbol item before numbers grows lt within sets = record {
-  within = All-append (λ (x : EntryTerm). x.term < length new) before (map (item_of item.entry) numbers) (within_kept old new before grows.kept within)
-      (All-map (λ (x : EntryTerm). x.term < length new) (item_of item.entry) numbers all_within);
-  members = λ own means entry term. (from own means entry term, to own means entry term);
-}
+-- the numbers of a set of terms, added under an entry
+pub adds_set : (old new : List Term) (own : ℕ) (before : List EntryTerm) (numbers : List ℕ) (set : Term → Type 0) → Grows old new → AreWithin old before → IsSetOf new numbers set
+    → (entry : ℕ) (term : Term) → HasTerm new (before ++ map (item_of own) numbers) entry term ↔ (HasTerm old before entry term ⊎ ((entry ≡ own) × set term))
+adds_set old new own before numbers set grows within is entry term = (from, to)
+  where
+    from : HasTerm new (before ++ map (item_of own) numbers) entry term → HasTerm old before entry term ⊎ ((entry ≡ own) × set term)
+    from h =
+        elim (Contains-append_cases before (map (item_of own) numbers) (item_of entry h.0) h.1) [
+          | inl c ↦ inl (has_back old new before grows.kept within entry term (h.0, c, h.2))
+          | inr c ↦
+              let p = mapped_from own numbers entry h.0 c in
+              let w = is.members.sound h.0 p.1 in
+              inr (p.0, subst set (means_one new h.0 w.0 term w.1 h.2) w.2)
+        ]
+    to : HasTerm old before entry term ⊎ ((entry ≡ own) × set term) → HasTerm new (before ++ map (item_of own) numbers) entry term
+    to (inl h) =
+        let k = has_kept old new before grows.kept entry term h in
+        (k.0, Contains-append_left before (map (item_of own) numbers) (item_of entry k.0) k.1, k.2)
+    to (inr h) =
+        let w = is.members.complete term h.1 in
+        let there : Contains (map (item_of own) numbers) (item_of entry w.0) =
+        subst (λ (e : ℕ). Contains (map (item_of own) numbers) (item_of e w.0)) (sym h.0) (mapped_has own numbers w.0 w.1) in
+        (w.0, Contains-append_right before (map (item_of own) numbers) (item_of entry w.0) there, w.2)
+
+pub added_within : (old new : List Term) (own : ℕ) (before : List EntryTerm) (numbers : List ℕ) (set : Term → Type 0) → Grows old new → AreWithin old before → IsSetOf new numbers set
+    → AreWithin new (before ++ map (item_of own) numbers)
+added_within old new own before numbers set grows within is =
+    All-append (λ (x : EntryTerm). x.term < length new) before (map (item_of own) numbers) (within_kept old new before grows.kept within)
+    (All-map (λ (x : EntryTerm). x.term < length new) (item_of own) numbers all_within)
   where
     all_within : (k d : ℕ) → k < length numbers → get_or numbers k d < length new
     all_within k d in_range =
-        let own = meant old item.term lt in
         let n = get_or numbers k d in
-        let w = (sets own.0 own.1).members.sound n (k, in_range, get_or_default numbers k n d in_range) in
+        let w = is.members.sound n (k, in_range, get_or_default numbers k n d in_range) in
         means_within new n w.0 w.1
-    from : (own : Term) → Means old item.term own → (entry : ℕ) (term : Term) → HasTerm new (before ++ map (item_of item.entry) numbers) entry term
-        → HasTerm old before entry term ⊎ ((entry ≡ item.entry) × Derivative symbol own term)
-    from own means entry term h =
-        elim (Contains-append_cases before (map (item_of item.entry) numbers) (item_of entry h.0) h.1) [
-          | inl c ↦ inl (has_back old new before grows.kept within entry term (h.0, c, h.2))
-          | inr c ↦
-              let p = mapped_from item.entry numbers entry h.0 c in
-              let w = (sets own means).members.sound h.0 p.1 in
-              inr (p.0, subst (Derivative symbol own) (means_one new h.0 w.0 term w.1 h.2) w.2)
-        ]
-    to : (own : Term) → Means old item.term own → (entry : ℕ) (term : Term) → HasTerm old before entry term ⊎ ((entry ≡ item.entry) × Derivative symbol own term)
-        → HasTerm new (before ++ map (item_of item.entry) numbers) entry term
-    to own means entry term (inl h) =
-        let k = has_kept old new before grows.kept entry term h in
-        (k.0, Contains-append_left before (map (item_of item.entry) numbers) (item_of entry k.0) k.1, k.2)
-    to own means entry term (inr h) =
-        let w = (sets own means).members.complete term h.1 in
-        let there : Contains (map (item_of item.entry) numbers) (item_of entry w.0) =
-        subst (λ (e : ℕ). Contains (map (item_of item.entry) numbers) (item_of e w.0)) (sym h.0) (mapped_has item.entry numbers w.0 w.1) in
-        (w.0, Contains-append_right before (map (item_of item.entry) numbers) (item_of entry w.0) there, w.2)
+
+pub adds_derivatives : (old new : List Term) (symbol : ℕ) (item : EntryTerm) (before : List EntryTerm) (numbers : List ℕ) → Grows old new → item.term < length old → AreWithin old before
+    → ((own : Term) → Means old item.term own → IsSetOf new numbers (Derivative symbol own)) → AddsDerivatives old new symbol item before (before ++ map (item_of item.entry) numbers)
+adds_derivatives old new symbol item before numbers grows lt within sets =
+    let own = meant old item.term lt in
+    record {
+      within = added_within old new item.entry before numbers (Derivative symbol own.0) grows within (sets own.0 own.1);
+      members = λ other means entry term. adds_set old new item.entry before numbers (Derivative symbol other) grows within (sets other means) entry term;
+    }
 
 -- ---- the derivatives of one item more
 

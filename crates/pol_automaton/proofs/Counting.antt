@@ -1,0 +1,59 @@
+-- How many residuals entries have: a count excludes more.
+use Rattle.std.proofs.Common.{◌≡◌, ◌⊎◌, ◌<◌, ◌≤◌, ℕ, IsTrue, List, [], length, refl, sym, ◌∙◌, subst, inl, inr, arith}
+use Rattle.std.specs.Prelude.{All}
+use Rattle.std.specs.List.{slice_index_or}
+use Rattle.std.proofs.lemmas.Bool.{cases_lt}
+use Rattle.std.proofs.lemmas.List.{get_or_past, get_or_default}
+use Rattle.indexmap.proofs.IndexTableLemmas.Probe.{pigeonhole}
+use Rattle.basics.specs.Symbol.{is_text}
+use Rattle.pol_automaton.specs.Residuals.{SameResiduals, IsResidualCount, HasMoreResiduals, ExcludesLaw}
+
+text_at : List (List ℕ) → ℕ → List ℕ
+text_at texts i = slice_index_or texts i []
+
+same_symmetric : (entries : List (List ℕ)) (t u : List ℕ) → SameResiduals entries t u → SameResiduals entries u t
+same_symmetric entries t u same = λ k d lt term. ((same k d lt term).1, (same k d lt term).0)
+
+same_transitive : (entries : List (List ℕ)) (t u v : List ℕ) → SameResiduals entries t u → SameResiduals entries u v → SameResiduals entries t v
+same_transitive entries t u v p q = λ k d lt term. (λ h. (q k d lt term).0 ((p k d lt term).0 h), λ h. (p k d lt term).1 ((q k d lt term).1 h))
+
+module _ (entries : List (List ℕ)) (count limit : ℕ) (has : IsResidualCount entries count) (above : HasMoreResiduals entries limit) where
+  is_text_at : (i : ℕ) → IsTrue (is_text (text_at above.texts i))
+  unfolding text_at
+  is_text_at i = by (cases_lt i (length above.texts))
+    where
+      by : (i < length above.texts) ⊎ (length above.texts ≤ i) → IsTrue (is_text (slice_index_or above.texts i []))
+      by (inl h) = above.different.all_texts i [] h
+      by (inr h) = subst (λ (t : List ℕ). IsTrue (is_text t)) (sym (get_or_past above.texts i [] h)) refl
+
+  number_at : ℕ → ℕ
+  number_at i = (has.complete (text_at above.texts i) (is_text_at i)).0
+
+  number_below : (i : ℕ) → number_at i < count
+  unfolding number_at
+  number_below i = subst (λ (n : ℕ). (has.complete (text_at above.texts i) (is_text_at i)).0 < n) has.many (has.complete (text_at above.texts i) (is_text_at i)).2
+
+  same_as_numbered : (i : ℕ) → SameResiduals entries (text_at above.texts i) (text_at has.texts (number_at i))
+  unfolding text_at number_at
+  same_as_numbered i =
+      let c = has.complete (text_at above.texts i) (is_text_at i) in
+      subst (SameResiduals entries (text_at above.texts i)) (sym c.3 ∙ get_or_default has.texts c.0 c.1 [] c.2) c.4
+
+  one_place : (i j : ℕ) → i < length above.texts → j < length above.texts → number_at i ≡ number_at j → i ≡ j
+  unfolding text_at
+  one_place i j p q e = by (cases_lt i j) (cases_lt j i)
+    where
+      same : (k l : ℕ) → number_at k ≡ number_at l → SameResiduals entries (text_at above.texts k) (text_at above.texts l)
+      same k l f =
+          same_transitive entries (text_at above.texts k) (text_at has.texts (number_at k)) (text_at above.texts l) (same_as_numbered k)
+          (same_symmetric entries (text_at above.texts l) (text_at has.texts (number_at k)) (subst (λ (n : ℕ). SameResiduals entries (text_at above.texts l) (text_at has.texts n)) (sym f) (same_as_numbered l)))
+      by : (i < j) ⊎ (j ≤ i) → (j < i) ⊎ (i ≤ j) → i ≡ j
+      by (inl k) r = absurd (above.different.different i j [] k q (same i j e))
+      by (inr k) (inl r) = absurd (above.different.different j i [] r p (same j i (sym e)))
+      by (inr k) (inr r) = omega arith
+
+  no_more : length above.texts ≤ count
+  no_more = pigeonhole (length above.texts) count number_at (λ i p. number_below i) one_place
+
+pub excludes : ExcludesLaw
+excludes entries count limit has few above = omega (arith, no_more entries count limit has above, above.many)

@@ -1,0 +1,123 @@
+//! Entries of which an automaton is to be made.
+
+ghost use Rattle.std.specs.Prelude.{◌≡◌, ◌++◌, ◌∷◌, [], ℕ, List, map, OnOk, OnErr};
+ghost use Rattle.pol_automaton.specs.Entries.{AreEntries};
+ghost use Rattle.pol_automaton.specs.Scanning.{item_of};
+
+use crate::entry_term::EntryTerm;
+use crate::stepping::{push_each, step};
+use pol_deriv::{Number, Terms};
+use pol_pattern::Pattern;
+use pol_scan::{Alphabet, Column, Machine};
+use std::alloc::{AllocError, Global};
+use std::marker::Model;
+
+/// Entries, each a pattern, of which a [`Decider`](crate::Decider) is to be made. Patterns are read
+/// where they lie: what is kept of one is the terms of its flat form.
+#[derive(Drop)]
+pub struct Entries {
+    alloc: Global,
+    alphabet: Alphabet,
+    terms: Terms,
+    // the residual of each entry by the empty text
+    start: Vec<EntryTerm>,
+    count: usize,
+}
+
+impl Model for Entries {
+    ghost use Rattle.pol_automaton.specs.Entries.{Entries as Collected, entries_code, AreWhole};
+
+    ghost Value = { Collected };
+
+    ghost coded = { entries_code };
+
+    ghost view = { λ e. record { alphabet = e.alphabet; terms = e.terms; start = e.start.items; count = e.count } };
+
+    ghost invariant = { λ e. AreWhole
+        (record { alphabet = e.alphabet; terms = e.terms; start = e.start.items; count = e.count }) };
+}
+
+// Adds the terms of an entry, or none of them.
+fn push_all(
+    alloc: Global,
+    items: &mut Vec<EntryTerm>,
+    entry: usize,
+    numbers: &[Number],
+) -> Result<(), AllocError>
+    ensures ok { OnOk result
+        (items.new.items ≡ items.old.items ++ map (item_of entry) numbers.now) }
+    ensures err { OnErr result (items.new.items ≡ items.old.items) }
+{
+    let mut added = Vec::new(alloc);
+    push_each(&mut added, entry, numbers)?;
+    items.append(&mut added)?;
+    Ok(())
+}
+
+impl Entries {
+    /// No entries. Takes no memory.
+    pub fn new(alloc: Global) -> Entries
+        ensures { AreEntries result [] }
+    {
+        Entries {
+            alloc,
+            alphabet: Alphabet::of_symbols(),
+            terms: Terms::new(alloc),
+            start: Vec::new(alloc),
+            count: 0,
+        }
+    }
+
+    /// Adds an entry, the last. Linear in the pattern's size.
+    pub fn add(&mut self, pattern: &Pattern) -> Result<(), AllocError>
+        ensures ok { OnOk result ((entries : List (List ℕ)) → AreEntries self.old entries
+            → AreEntries self.new (entries ++ pattern.now ∷ [])) }
+
+        // Where memory ran out they are the entries that they were.
+        ensures err { OnErr result ((entries : List (List ℕ)) → AreEntries self.old entries
+            → AreEntries self.new entries) }
+    {
+        if self.count == usize::MAX {
+            return Err(AllocError);
+        }
+        let set = self.terms.start(pattern)?;
+        push_all(self.alloc, &mut self.start, self.count, set.numbers())?;
+        self.count += 1;
+        Ok(())
+    }
+}
+
+impl Machine for Entries {
+    ghost use Rattle.pol_automaton.specs.Entries.{GrowsTo};
+    ghost use Rattle.pol_automaton.specs.Scanning.{residuals, LeadsTo};
+    ghost use Rattle.pol_automaton.specs.Telling.{told_apart, kept, grows_itself, grows_on};
+
+    type State = Vec<EntryTerm>;
+
+    ghost congruence = { λ e. residuals e.alphabet e.terms e.start };
+
+    ghost leads = { λ e word state. LeadsTo e.alphabet e.terms e.start word state.items };
+
+    ghost grows = { GrowsTo };
+
+    fn width(&self) -> Column {
+        self.alphabet.width()
+    }
+
+    fn start(&mut self) -> Result<Vec<EntryTerm>, AllocError> {
+        Vec::from_slice(self.alloc, &self.start)
+    }
+
+    fn step(&mut self, state: &Vec<EntryTerm>, column: Column) -> Result<Vec<EntryTerm>, AllocError> {
+        let symbol = self.alphabet.least_of(column);
+        step(self.alloc, &mut self.terms, state, symbol)
+    }
+
+    ghost tells = { λ e u v s t. told_apart e.alphabet e.terms e.start u v s.items t.items };
+
+    ghost keeps = { kept };
+
+    ghost reflexive = { grows_itself };
+
+    ghost transitive = { grows_on };
+}
