@@ -60,10 +60,7 @@ first_accepts table items i item right lt is none holds = (here, λ k below w. b
         none x there w.0 w.1.2 w.2
     before k below w (inr later) = at (cases_lt i w.1.1.0)
       where
-        x : EntryTerm
-        x = item_of k w.1.0
         at : (i < w.1.1.0) ⊎ (w.1.1.0 ≤ i) → ⊥
-        unfolding x
         at (inl more) =
             let less = Less-from_sorted order items i w.1.1.0 item right.sorted more w.1.1.1 in
             let read : get_or items w.1.1.0 item ≡ item_of k w.1.0 = get_or_default items w.1.1.0 item (item_of k w.1.0) w.1.1.1 ∙ w.1.1.2 in
