@@ -60,7 +60,7 @@ grown old new grows items right = (
   λ entry term. (has_kept old new items grows.kept entry term, has_back old new items grows.kept right.within entry term),
 )
 
-behind_grown : (a b : Entries) → GrowsTo a b → (word : List ℕ) (entry : ℕ) (term : Term) → Behind a.alphabet a.terms a.start word entry term ↔ Behind b.alphabet b.terms b.start word entry term
+pub behind_grown : (a b : Entries) → GrowsTo a b → (word : List ℕ) (entry : ℕ) (term : Term) → Behind a.alphabet a.terms a.start word entry term ↔ Behind b.alphabet b.terms b.start word entry term
 behind_grown a b g word entry term =
     let begun : (t : Term) → HasTerm a.terms a.start entry t ↔ HasTerm b.terms b.start entry t = λ t.
     subst (λ (s : List EntryTerm). HasTerm a.terms a.start entry t ↔ HasTerm b.terms s entry t) (sym g.start) (g.begins entry t) in

@@ -1,10 +1,13 @@
 //! Entries of which an automaton is to be made.
 
-ghost use Rattle.std.specs.Prelude.{◌≡◌, ◌++◌, ◌∷◌, [], ℕ, List, map, OnOk, OnErr};
-ghost use Rattle.pol_automaton.specs.Entries.{AreEntries};
-ghost use Rattle.pol_automaton.specs.Scanning.{item_of};
+ghost use Rattle.std.specs.Prelude.{◌≡◌, ◌++◌, ◌∷◌, [], ℕ, List, map, All, IfOk, OnOk, OnErr};
+ghost use Rattle.std.specs.List.{AllZip};
+ghost use Rattle.pol_automaton.specs.Entries.{AreEntries, AreWhole};
+ghost use Rattle.pol_automaton.specs.Scanning.{item_of, AreResiduals};
+ghost use Rattle.pol_automaton.specs.Matching.{IsFirstAccepted};
 
 use crate::entry_term::EntryTerm;
+use crate::matching::first_accepted;
 use crate::stepping::{push_each, step};
 use pol_deriv::{Number, Terms};
 use pol_pattern::Pattern;
@@ -84,6 +87,39 @@ impl Entries {
         push_all(self.alloc, &mut self.start, self.count, set.numbers())?;
         self.count += 1;
         Ok(())
+    }
+
+    /// Where the memory comes from.
+    pub(crate) fn alloc(&self) -> Global {
+        self.alloc
+    }
+
+    /// How texts are read.
+    pub(crate) fn alphabet(&self) -> Alphabet
+        ensures { result ≡ self.now.alphabet }
+    {
+        self.alphabet
+    }
+
+    /// How many entries there are.
+    pub(crate) fn count(&self) -> usize
+        ensures value { result ≡ self.now.count }
+        ensures whole { AreWhole self.now }
+    {
+        self.count
+    }
+
+    /// The first entry that each of the residuals accepts.
+    pub(crate) fn firsts(&self, states: &[Vec<EntryTerm>]) -> Result<Vec<Option<usize>>, AllocError>
+        requires { All (λ state. AreResiduals self.now.terms state.items) states.now }
+        ensures { IfOk result (λ firsts. AllZip
+            (λ state first. IsFirstAccepted self.now.terms state.items first) states.now firsts.items) }
+    {
+        let mut firsts = Vec::new(self.alloc);
+        for state in states {
+            firsts.push(first_accepted(&self.terms, state))?;
+        }
+        Ok(firsts)
     }
 }
 

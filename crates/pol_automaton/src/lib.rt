@@ -2,6 +2,7 @@
 #![tactic(auto)]
 
 mod arranging;
+mod decider;
 mod entries;
 mod entry_term;
 mod fault;
@@ -10,6 +11,7 @@ mod meter;
 mod stepping;
 mod way;
 
+pub use decider::Decider;
 pub use entries::Entries;
 pub use fault::DeciderFault;
 pub use meter::Meter;
