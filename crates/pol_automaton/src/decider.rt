@@ -65,6 +65,7 @@ impl Decider {
         ensures not_counted { OnErr result (meter.new ≡ meter.old) }
     {
         let mut entries = entries;
+        let count = entries.count();
         let Automaton { table, states } = scan(entries.alloc(), &mut entries, limit)?;
         let firsts = entries.firsts(states.as_slice())?;
         meter.raise(table.states());
@@ -72,7 +73,7 @@ impl Decider {
             alphabet: entries.alphabet(),
             table,
             firsts,
-            entries: entries.count(),
+            entries: count,
         })
     }
 
