@@ -5,7 +5,7 @@ use Rattle.std.specs.List.{AllZip, slice_index_or}
 use Rattle.std.specs.Global.{Vec}
 use Rattle.std.proofs.lemmas.Bool.{cases_lt}
 use Rattle.std.proofs.lemmas.List.{get_or_default, get_or-map, length-map}
-use Rattle.std.proofs.lemmas.List.Elements.{All-nil, All-cons, All-head, All-tail}
+use Rattle.std.proofs.lemmas.List.Elements.{All-nil}
 use Rattle.basics.specs.Symbol.{is_symbol, is_text}
 use Rattle.basics.specs.TextOrder.{IsLeast}
 use Rattle.pol_pattern.specs.Flat.{Term}
@@ -25,30 +25,9 @@ use Rattle.pol_automaton.specs.Scanning.{HasTerm, SameBehind, LeadsTo, residuals
 use Rattle.pol_automaton.specs.Entries.{Entries, AreWhole, AreEntries, GrowsTo}
 use Rattle.pol_automaton.specs.Matching.{Accepts, IsFirstAccepted}
 use Rattle.pol_automaton.specs.Telling.{behind_grown}
+use Rattle.pol_automaton.proofs.Words.{is_word, spells_text}
 use Rattle.pol_automaton.proofs.Zips.{zip_length, zip_through}
 use Rattle.pol_automaton.proofs.Behind.{SameAfter, same_after, holds_after, behind_none}
-
--- ---- texts and their words
-
-both : (a b : Bool) → IsTrue (a && b) → IsTrue a × IsTrue b
-both true b h = (refl, h)
-both false b h = absurd cc
-
-from_both : (a b : Bool) → IsTrue a → IsTrue b → IsTrue (a && b)
-from_both true b h k = k
-from_both false b h k = absurd cc
-
-pub is_word : (e : Entries) → AreWhole e → (text : List ℕ) → IsTrue (is_text text) → IsWord e.alphabet.width (word_of e.alphabet text)
-is_word e whole [] h = All-nil (λ c. c < e.alphabet.width)
-is_word e whole (symbol ∷ text) h =
-    let p = both (is_symbol symbol) (is_text text) h in
-    All-cons (λ c. c < e.alphabet.width) (column_of e.alphabet symbol) (word_of e.alphabet text) (whole.letters.within symbol p.0) (is_word e whole text p.1)
-
-pub spells_text : (e : Entries) → AreWhole e → (word : List ℕ) → IsWord e.alphabet.width word → IsTrue (is_text (text_of e.alphabet word))
-spells_text e whole [] w = refl
-spells_text e whole (column ∷ word) w =
-    from_both (is_symbol (least_of e.alphabet column)) (is_text (text_of e.alphabet word)) (whole.letters.symbols column (All-head (λ c. c < e.alphabet.width) column word w))
-    (spells_text e whole word (All-tail (λ c. c < e.alphabet.width) column word w))
 
 -- ---- what the scan finds
 
@@ -65,9 +44,11 @@ decider_of e table firsts = record { alphabet = e.alphabet; table = table; first
 
 pub whole_decider : (e now : Entries) (table : Table) (states : List (Vec EntryTerm)) (firsts : List (Option ℕ)) → IsScanned e now table states firsts → IsWhole (decider_of e table firsts)
 whole_decider e now table states firsts s = record {
+  letters = s.whole.letters;
   columns = s.automaton.columns;
   firsts = sym (zip_length _ table.words states s.led ∙ zip_length _ states firsts s.matched);
   within = λ word w. s.automaton.within word (subst (λ n. IsWord n word) s.automaton.columns w);
+  words = λ state lt. subst (λ n. IsWord n (word_at table.words state)) (sym s.automaton.columns) (s.automaton.least state lt).0.0;
 }
 
 module _ (e : Entries) (sources : List (List ℕ)) (whole : AreWhole e) (are : AreEntries e sources) where
@@ -93,7 +74,7 @@ module _ (e : Entries) (sources : List (List ℕ)) (whole : AreWhole e) (are : A
   different_texts words d = record {
     all_texts = λ k t lt.
         let in_range : k < length words = omega (arith, length-map words (text_of e.alphabet)) in
-        subst (λ (l : List ℕ). IsTrue (is_text l)) (sym (get_or-map (text_of e.alphabet) words k [] t in_range)) (spells_text e whole (word_at words k) (d.all_words k [] in_range));
+        subst (λ (l : List ℕ). IsTrue (is_text l)) (sym (get_or-map (text_of e.alphabet) words k [] t in_range)) (spells_text e.alphabet whole.letters (word_at words k) (d.all_words k [] in_range));
     different = λ i j t lt in_range same.
         let below : j < length words = omega (arith, length-map words (text_of e.alphabet)) in
         let at_i = get_or-map (text_of e.alphabet) words i [] t (omega arith) in
@@ -116,7 +97,7 @@ module _ (e : Entries) (sources : List (List ℕ)) (whole : AreWhole e) (are : A
     many = length-map has.words (text_of e.alphabet) ∙ has.many;
     different = different_texts has.words has.different;
     complete = λ text h.
-        let c = has.complete (word_of e.alphabet text) (is_word e whole text h) in (
+        let c = has.complete (word_of e.alphabet text) (is_word e.alphabet whole.letters text h) in (
           c.0,
           text_of e.alphabet c.1,
           omega (arith, c.2, length-map has.words (text_of e.alphabet)),
@@ -137,10 +118,10 @@ module _ (e : Entries) (sources : List (List ℕ)) (whole : AreWhole e) (are : A
       reached =
           let word = word_of e.alphabet text in
           let state = walk table word in
-          let lt = s.automaton.within word (is_word e whole text h) in
+          let lt = s.automaton.within word (is_word e.alphabet whole.letters text h) in
           let least = (s.automaton.least state lt).0 in
           let found = word_at table.words state in
-          let same = (s.automaton.tells word found (is_word e whole text h) least.0).0 (sym least.1) in
+          let same = (s.automaton.tells word found (is_word e.alphabet whole.letters text h) least.0).0 (sym least.1) in
           let after = subst (λ (l : List ℕ). SameAfter e l (text_of e.alphabet found)) (whole.exact text h) same in
           let there = zip_through _ _ table.words states firsts state [] None s.led s.matched lt in
           record {
@@ -184,7 +165,7 @@ module _ (e : Entries) (sources : List (List ℕ)) (whole : AreWhole e) (are : A
     is_decider = record {
       many = are.many;
       tells = λ text other h k.
-          let by_words = s.automaton.tells (word_of e.alphabet text) (word_of e.alphabet other) (is_word e whole text h) (is_word e whole other k) in
+          let by_words = s.automaton.tells (word_of e.alphabet text) (word_of e.alphabet other) (is_word e.alphabet whole.letters text h) (is_word e.alphabet whole.letters other k) in
           let by_texts = same_whole text other h k in
           (λ at. by_texts.0 (by_words.0 at), λ same. by_words.1 (by_texts.1 same));
       index = residual_count (count table) s.index;

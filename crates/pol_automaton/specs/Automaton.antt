@@ -3,7 +3,7 @@
 use Rattle.std.specs.Prelude.{◌≡◌, ◌↔◌, ◌<◌, ◌≤◌, ℕ, Bool, IsTrue, List, length, Option, None, slice_index_or}
 use Rattle.basics.specs.Symbol.{is_text}
 use Rattle.basics.specs.TextOrder.{IsLeast}
-use Rattle.pol_scan.specs.Alphabet.{Alphabet, word_of}
+use Rattle.pol_scan.specs.Alphabet.{Alphabet, IsAlphabet, word_of}
 use Rattle.pol_scan.specs.Words.{IsWord, IsWordThat}
 use Rattle.pol_scan.specs.Table.{Table, count, walk}
 use Rattle.pol_scan.specs.Table.{word_of as found_along}
@@ -26,9 +26,11 @@ first_of automaton state = slice_index_or automaton.firsts state None
 
 -- its parts fit each other
 pub record IsWhole (automaton : Automaton) : Type 0 where
+  pub letters : IsAlphabet automaton.alphabet
   pub columns : automaton.table.width ≡ automaton.alphabet.width
   pub firsts : length automaton.firsts ≡ count automaton.table
   pub within : (word : List ℕ) → IsWord automaton.table.width word → walk automaton.table word < count automaton.table
+  pub words : (state : ℕ) → state < count automaton.table → IsWord automaton.table.width (found_along automaton.table state)
 
 -- the automaton is the Decider of these entries
 pub record IsDecider (automaton : Automaton) (entries : List (List ℕ)) : Type 0 where

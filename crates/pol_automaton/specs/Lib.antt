@@ -2,6 +2,7 @@ pub mod Residuals
 pub mod Decision
 pub mod Faults
 pub mod Automaton
+pub mod Reaching
 pub mod After
 pub mod Scanning
 pub mod Entries

@@ -1,16 +1,17 @@
 //! Automata that decide by the first match.
 
-ghost use Rattle.std.specs.Prelude.{◌≡◌, ◌≤◌, ◌+◌, ℕ, List, length, min, IfOk, OnErr, IsErrOf};
+ghost use Rattle.std.specs.Prelude.{◌≡◌, ◌≤◌, ◌+◌, ℕ, List, min, IfOk, IfSome, IfNone, OnErr, IsErrOf};
 ghost use Rattle.pol_scan.specs.Table.{count};
 ghost use Rattle.pol_automaton.specs.Residuals.{HasMoreResiduals, ExcludesLaw, IsResidualCount};
 ghost use Rattle.pol_automaton.specs.Entries.{AreEntries};
+ghost use Rattle.pol_automaton.specs.Decision.{IsFirstMatch, Decides, IsReachText};
 
 use crate::entries::Entries;
 use crate::fault::DeciderFault;
 use crate::meter::Meter;
 use pol_pattern::Pattern;
 use pol_scan::{Alphabet, Automaton, StateNumber, Table, scan};
-use std::alloc::Global;
+use std::alloc::{AllocError, Global};
 use std::marker::Model;
 
 /// An automaton over the residuals of entries: it tells of each text which entry is the first whose
@@ -39,7 +40,8 @@ impl Model for Decider {
 }
 
 impl Decider {
-    ghost use Rattle.pol_automaton.specs.Automaton.{IsDecider};
+    ghost use Rattle.pol_automaton.specs.Automaton.{IsDecider, IsWhole};
+    ghost use Rattle.pol_automaton.specs.Reaching.{IsFirstState, NoState};
 
     /// The Decider of entries that were collected. It takes time by its states, its columns and the
     /// terms of a state.
@@ -98,5 +100,54 @@ impl Decider {
             entries.add(pattern)?;
         }
         Decider::of(entries, limit, meter)
+    }
+
+    /// The first entry whose pattern holds the text. Two look-ups for each symbol, and no memory.
+    pub fn decide(&self, text: &[u8]) -> Option<usize>
+        ensures { (entries : List (List ℕ)) → IsDecider self.now entries
+            → IsFirstMatch entries text.now result }
+    {
+        let Some(state) = self.table.run_text(&self.alphabet, text) else {
+            return None;
+        };
+        self.firsts[state as usize]
+    }
+
+    /// How many states there are: the number of residuals.
+    pub fn states(&self) -> StateNumber
+        ensures value { result ≡ count self.now.table }
+        ensures residuals { (entries : List (List ℕ)) → IsDecider self.now entries
+            → IsResidualCount entries result }
+    {
+        self.table.states()
+    }
+
+    // The first state of which the entry is the first match.
+    fn first_state(&self, entry: usize) -> Option<StateNumber>
+        ensures some { IfSome result (λ state. IsFirstState self.now entry state) }
+        ensures none { IfNone result (NoState self.now entry (count self.now.table)) }
+        ensures whole { IsWhole self.now }
+    {
+        for state in 0..self.table.states() {
+            if self.firsts[state as usize] == Some(entry) {
+                return Some(state);
+            }
+        }
+        None
+    }
+
+    /// The least text that an entry decides, counted from 0, or nothing if there is none. Linear in
+    /// the states, and in the text.
+    pub fn reach(&self, alloc: Global, entry: usize) -> Result<Option<Vec<u8>>, AllocError>
+        ensures reached { (entries : List (List ℕ)) → IsDecider self.now entries
+            → IfOk result (λ r. IfSome r (λ text. IsReachText entries entry text.items)) }
+        ensures never { (entries : List (List ℕ)) → IsDecider self.now entries
+            → IfOk result (λ r. IfNone r ((text : List ℕ) → ¬ (Decides entries entry text))) }
+    {
+        let Some(state) = self.first_state(entry) else {
+            return Ok(None);
+        };
+        let word = self.table.word_of(alloc, state)?;
+        Ok(Some(self.alphabet.text_of(word)))
     }
 }
