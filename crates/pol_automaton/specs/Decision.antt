@@ -48,6 +48,9 @@ pub record Ruling : Type 0 where
   pub entries : List (List ℕ)
   pub verdicts : List Verdict
 
+abbrev pub ruling : List (List ℕ) → List Verdict → Ruling
+ruling entries verdicts = record { entries = entries; verdicts = verdicts }
+
 -- the texts of which the decision changed this way, and the least of them
 abbrev pub IsChanged : Ruling → Ruling → Way → List ℕ → Type 0
 IsChanged old new way =

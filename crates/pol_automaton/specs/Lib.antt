@@ -11,3 +11,4 @@ pub mod Matching
 pub mod Order
 pub mod Having
 pub mod Telling
+pub mod Pairs

@@ -1,6 +1,7 @@
 //! Automata that decide by the first match.
 
-ghost use Rattle.std.specs.Prelude.{◌≡◌, ◌≤◌, ◌+◌, ℕ, List, min, IfOk, IfSome, IfNone, OnErr, IsErrOf};
+ghost use Rattle.std.specs.Prelude.{◌≡◌, ◌<◌, ◌≤◌, ◌+◌, ℕ, List, [], IsTrue, min, IfOk, IfSome, IfNone, OnErr, IsErrOf};
+ghost use Rattle.basics.specs.Symbol.{is_symbol};
 ghost use Rattle.pol_scan.specs.Table.{count};
 ghost use Rattle.pol_automaton.specs.Residuals.{HasMoreResiduals, ExcludesLaw, IsResidualCount};
 ghost use Rattle.pol_automaton.specs.Entries.{AreEntries};
@@ -40,7 +41,8 @@ impl Model for Decider {
 }
 
 impl Decider {
-    ghost use Rattle.pol_automaton.specs.Automaton.{IsDecider, IsWhole};
+    ghost use Rattle.pol_automaton.specs.Automaton.{IsDecider, IsWhole, state_of, first_of};
+    ghost use Rattle.pol_automaton.specs.Pairs.{behind};
     ghost use Rattle.pol_automaton.specs.Reaching.{IsFirstState, NoState};
 
     /// The Decider of entries that were collected. It takes time by its states, its columns and the
@@ -149,5 +151,40 @@ impl Decider {
         };
         let word = self.table.word_of(alloc, state)?;
         Ok(Some(self.alphabet.text_of(word)))
+    }
+
+    // The state of the empty text.
+    pub(crate) fn start(&self) -> StateNumber
+        ensures value { result ≡ state_of self.now [] }
+        ensures within { result < count self.now.table }
+    {
+        self.table.run(&[])
+    }
+
+    // The state behind a state and a symbol.
+    pub(crate) fn next(&self, state: StateNumber, symbol: u8) -> StateNumber
+        requires state { state < count self.now.table }
+        requires symbol { IsTrue (is_symbol symbol) }
+        ensures value { result ≡ behind self.now state symbol }
+        ensures within { result < count self.now.table }
+    {
+        self.table.next(state, self.alphabet.column_of(symbol))
+    }
+
+    // The first match of the texts that lead to a state.
+    pub(crate) fn first_match(&self, state: StateNumber) -> Option<usize>
+        requires { state < count self.now.table }
+        ensures { result ≡ first_of self.now state }
+    {
+        self.firsts[state as usize]
+    }
+
+    // How many states there are.
+    pub(crate) fn size(&self) -> usize
+        ensures value { result ≡ count self.now.table }
+        ensures few { result < 65536 }
+        ensures whole { IsWhole self.now }
+    {
+        self.table.states() as usize
     }
 }

@@ -3,12 +3,15 @@
 
 mod arranging;
 mod decider;
+mod differing;
 mod entries;
 mod entry_term;
 mod fault;
 mod matching;
 mod meter;
+mod pairs;
 mod stepping;
+mod verdicts;
 mod way;
 
 pub use decider::Decider;
