@@ -9,6 +9,10 @@ mod authorisation;
 #[cfg(test)]
 mod connections;
 #[cfg(test)]
+mod console;
+#[cfg(test)]
+mod edits;
+#[cfg(test)]
 mod logins;
 #[cfg(test)]
 mod pieces;

@@ -166,8 +166,8 @@ fn more_bad_commands(rt: HostRuntime) -> Result<(), Fail> {
         "lost 1 2",
         "Lost 1",
         "console",
-        "console ",
-        "console policy",
+        "Console policy",
+        " console policy",
     ];
     for line in &lines {
         stops(

@@ -96,9 +96,23 @@ fn push_line(text: &mut String, line: &str) -> Result<(), Fail> {
     Ok(())
 }
 
-// Whether the line of a conversation is one that is printed.
+// Whether the line of a conversation is one that is printed for packets, or a fault.
 fn is_printed(line: &str) -> bool {
     line.starts_with("reply ") || line.starts_with("closed ") || line.starts_with("fault ")
+}
+
+// Whether the line of a conversation is an event, other than a line of the console.
+fn is_event(line: &str) -> bool {
+    let word = line.split_once(' ').unwrap_or((line, "")).0;
+    matches!(word, "open" | "packet" | "bytes" | "pieces" | "lost")
+}
+
+// Adds a line as it stands, behind these words.
+fn push_as_is(text: &mut String, start: &str, line: &str) -> Result<(), Fail> {
+    text.push_str(start)?;
+    text.push_str(line)?;
+    text.push_str("\n")?;
+    Ok(())
 }
 
 // Plays what a conversation came to so far.
@@ -113,8 +127,9 @@ fn comes_to<R: Abort + AllocGlobal>(rt: &R, script: &str, output: &str) -> Resul
 /// Plays conversations under a policy, each on its own, with connection 1 open.
 ///
 /// A paragraph is a conversation: lines of a script, and behind each line what it prints. In these
-/// lines dots drop out, and text in single quotes stands for its bytes in hexadecimal digits. A line
-/// that begins with `#` is a comment.
+/// lines dots drop out, and text in single quotes stands for its bytes in hexadecimal digits. What
+/// stands behind `> ` is said at the console, and the lines behind it are the answer: all of these
+/// are taken as they stand. A line that begins with `#` is a comment.
 pub(crate) fn converses<R: Abort + AllocGlobal>(
     rt: &R,
     policy: &str,
@@ -123,6 +138,7 @@ pub(crate) fn converses<R: Abort + AllocGlobal>(
     let opened = ["key k\n", policy, "run\nopen 1\n"];
     let mut script = joined(rt, &opened)?;
     let mut output = String::new(rt.alloc());
+    let mut is_answer = false;
     for line in text.lines() {
         let line = line.trim_start();
         if line.starts_with('#') {
@@ -132,7 +148,17 @@ pub(crate) fn converses<R: Abort + AllocGlobal>(
             push_line(&mut output, line)?;
             continue;
         }
+        let said = line.strip_prefix("> ");
+        is_answer = said.is_some() || is_answer && !line.is_empty() && !is_event(line);
+        if said.is_none() && is_answer {
+            push_as_is(&mut output, "", line)?;
+            continue;
+        }
         comes_to(rt, script.as_str(), output.as_str())?;
+        if let Some(said) = said {
+            push_as_is(&mut script, "console ", said)?;
+            continue;
+        }
         if line.is_empty() {
             script = joined(rt, &opened)?;
             output.clear();

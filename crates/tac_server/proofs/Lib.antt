@@ -1,6 +1,7 @@
 pub mod ScriptFacts
 pub mod ServingFacts
-pub mod ConnectionFacts
+pub mod SentFacts
+pub mod TurningFacts
 pub mod ServerFacts
 pub mod RunFacts
 pub mod EventFacts

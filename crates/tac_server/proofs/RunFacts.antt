@@ -1,109 +1,248 @@
 -- Doing the events of a script one after another.
-use Rattle.std.proofs.Common.{◌≡◌, ℕ, ◌+◌, List, [], ◌∷◌, ◌++◌, Bool, Option, None, Some, Ok, Err, refl, sym, ap, ◌∙◌, append_assoc, append-nil}
+use Rattle.std.proofs.Common.{◌≡◌, ℕ, ◌+◌, List, [], ◌∷◌, ◌++◌, length, Bool, true, false, Option, None, Some, Ok, Err, refl, sym, ap, subst, ◌∙◌, append_assoc, append-nil}
 use Rattle.std.specs.Prelude.{is_some, IsTrue, if◌then◌else◌}
-use Rattle.tac_conn.specs.declared.step.Sent.{Sent}
+use Rattle.std.specs.List.{list_any}
+use Rattle.pol_text.specs.declared.subject.Subject.{Subject}
+use Rattle.pol_text.specs.Text.{policy_of, text_of_lines}
+use Rattle.tac_desk.specs.Meaning.{Meaning}
 use Rattle.tac_server.specs.declared.server.Server.{Server}
 use Rattle.tac_server.specs.declared.server.ServerFault.{ServerFault}
 use Rattle.tac_server.specs.declared.server.ServerFault.TheVariants as faults
 use Rattle.tac_server.specs.declared.event.Event.{Event}
-use Rattle.tac_server.specs.declared.event.Event.TheVariants.{Open, Hand}
-use Rattle.tac_server.specs.declared.script_fault.ScriptFault.TheVariants.{BadCommand, AlreadyOpen}
+use Rattle.tac_server.specs.declared.event.Event.TheVariants.{Open, Hand, Pieces, Lost, Console}
+use Rattle.tac_server.specs.declared.script_fault.ScriptFault.TheVariants.{BadKey, NoRun, BadPolicy, BadCommand, AlreadyOpen}
+use Rattle.tac_server.specs.declared.script_fault.Located.{Located}
 use Rattle.tac_server.specs.declared.script_fault.Stop.{Stop}
 use Rattle.tac_server.specs.declared.script_fault.Stop.TheVariants as stops
 use Rattle.tac_server.specs.Serving.{Said, said_on}
-use Rattle.tac_server.specs.Server.{State}
+use Rattle.tac_server.specs.Server.{State, opened, lost, heard, with_meaning}
 use Rattle.tac_server.specs.Command.{event_of}
-use Rattle.tac_server.specs.Events.{text_of, after, shown}
-use Rattle.tac_server.specs.Kept.{sent_under, HasState, IsHeard, IsOpened, IsDoneUnless, stop_of}
-use Rattle.tac_server.specs.Script.{Run, Prints, ended, stopped, behind_text, events_run}
+use Rattle.tac_server.specs.Events.{Hears, shown}
+use Rattle.tac_server.specs.Kept.{Sends, HasState, IsOpened, IsHeardUnlessMemory, IsAnswered, IsOnlyAnswer, IsDone, IsDoneUnless, stop_of}
+use Rattle.tac_server.specs.Script.{Run, Runs, RunsOn, BodyRuns, LinesRun, ReadsPolicy, Ends, Prints, ended, stopped, behind_text, is_run, before_run, key_line}
 
 -- ---- opening
 
-pub opened : (key : List ℕ) (line number : ℕ) (server : Server) (state : State) (text : List ℕ) → IsOpened server number state (Ok tt)
-    → IsDoneUnless line key state (Open number) text text server (Ok tt)
-opened key line number server state text h = (rw h.0 refl, sym (append-nil text), h.1)
+pub opens_line : {D : Type 0} (meaning : D → Meaning) (line number : ℕ) (server : Server D) (state : State) (text : List ℕ) → IsOpened meaning server number state (Ok tt)
+    → IsDoneUnless meaning line text text server state (Open number) (Ok tt)
+opens_line meaning line number server state text h = record {
+  text = [];
+  next = opened number state;
+  free = rw h.0 refl;
+  does = (refl, refl);
+  only = λ other later d. d;
+  added = sym (append-nil text);
+  has = h.1;
+}
 
 taken : (o : Option (List ℕ)) → IsTrue (is_some o) → (if is_some o then Some AlreadyOpen else None) ≡ Some AlreadyOpen
 taken (Some bytes) t = refl
 taken None t = cc
 
-pub not_opened : (key : List ℕ) (line number : ℕ) (server : Server) (state : State) (text : List ℕ) (fault : ServerFault) (stop : Stop) → stop ≡ stop_of line fault → IsOpened server number state (Err fault)
-    → IsDoneUnless line key state (Open number) text text server (Err stop)
-not_opened key line number server state text faults.NoConnection stop e h = absurd h
-not_opened key line number server state text faults.AlreadyOpen stop e h = rw e (refl, taken (state.connections number) h.0, refl)
-not_opened key line number server state text faults.Memory stop e h = rw e tt
+pub not_opened : {D : Type 0} (meaning : D → Meaning) (line number : ℕ) (server : Server D) (state : State) (text : List ℕ) (fault : ServerFault) (stop : Stop) → stop ≡ stop_of line fault
+    → IsOpened meaning server number state (Err fault) → IsDoneUnless meaning line text text server state (Open number) (Err stop)
+not_opened meaning line number server state text faults.NoConnection stop e h = absurd h
+not_opened meaning line number server state text faults.AlreadyOpen stop e h = rw e (refl, taken (state.connections number) h.0, refl)
+not_opened meaning line number server state text (faults.Memory accepted) stop e h = rw e tt
+
+-- ---- losing
+
+pub loses_line : {D : Type 0} (meaning : D → Meaning) (line number : ℕ) (server : Server D) (state : State) (text : List ℕ) → HasState meaning server (lost number state)
+    → IsDoneUnless meaning line text text server state (Lost number) (Ok tt)
+loses_line meaning line number server state text h = record {
+  text = [];
+  next = lost number state;
+  free = refl;
+  does = (refl, refl);
+  only = λ other later d. d;
+  added = sym (append-nil text);
+  has = h;
+}
+
+-- ---- the size of pieces
+
+pub keeps_line : {D : Type 0} (meaning : D → Meaning) (line size : ℕ) (server : Server D) (state : State) (text : List ℕ) → HasState meaning server state
+    → IsDoneUnless meaning line text text server state (Pieces size) (Ok tt)
+keeps_line meaning line size server state text h = record {
+  text = [];
+  next = state;
+  free = refl;
+  does = (refl, refl);
+  only = λ other later d. d;
+  added = sym (append-nil text);
+  has = h;
+}
 
 -- ---- handing bytes in
 
-pub handed : (key this : List ℕ) (line number : ℕ) (bytes : List ℕ) (server : Server) (state : State) (sent : List Sent) (closes : Bool) (old new : List ℕ) → this ≡ key
-    → IsHeard key [] sent server number bytes state (Ok closes)
-    → ((said : Said) → sent ≡ sent_under this said.sent → closes ≡ said.closes → new ≡ old ++ shown number said)
-    → IsDoneUnless line key state (Hand number bytes) old new server (Ok tt)
-handed key this line number bytes server state sent closes old new same (before, e, said) show =
-    let told : new ≡ old ++ shown number (said_on key state.desk before bytes) =
-    show (said_on key state.desk before bytes) (said.1 ∙ ap (λ (k : List ℕ). sent_under k (said_on key state.desk before bytes).sent) (sym same)) said.0 in
-    (rw e refl, rw e told, rw e said.2)
+only_hears : (state : State) (number : ℕ) (bytes before : List ℕ) → state.connections number ≡ Some before → (other : List ℕ) (later : State) → Hears state number bytes other later
+    → (other ≡ shown state.key number (said_on state.key state.meaning before bytes)) × (later ≡ heard number (before ++ bytes) (said_on state.key state.meaning before bytes) state)
+only_hears state number bytes before e other later d =
+    let same : d.before ≡ before = (let h : Some d.before ≡ Some before = sym d.is_open ∙ e in cc) in (
+      d.prints ∙ ap (λ (b : List ℕ). shown state.key number (said_on state.key state.meaning b bytes)) same,
+      d.leaves ∙ ap (λ (b : List ℕ). heard number (b ++ bytes) (said_on state.key state.meaning b bytes) state) same,
+    )
 
-pub not_handed : (key : List ℕ) (line number : ℕ) (bytes : List ℕ) (server : Server) (state : State) (sent : List Sent) (text : List ℕ) (fault : ServerFault) (stop : Stop) → stop ≡ stop_of line fault
-    → IsHeard key [] sent server number bytes state (Err fault) → IsDoneUnless line key state (Hand number bytes) text text server (Err stop)
-not_handed key line number bytes server state sent text faults.NoConnection stop e h = rw e (refl, rw h.0 refl, refl)
-not_handed key line number bytes server state sent text faults.AlreadyOpen stop e h = absurd h
-not_handed key line number bytes server state sent text faults.Memory stop e h = rw e tt
+pub hands_line : {D : Type 0} (meaning : D → Meaning) (key : List ℕ) (line number : ℕ) (bytes : List ℕ) (server : Server D) (state : State) (sent : List ℕ) (closes : Bool) (old new : List ℕ) → key ≡ server.key
+    → IsHeardUnlessMemory meaning [] sent server number bytes state (Ok closes)
+    → ((said : Said) → Sends key [] sent said.sent → closes ≡ said.closes → new ≡ old ++ shown key number said)
+    → IsDoneUnless meaning line old new server state (Hand number bytes) (Ok tt)
+hands_line meaning key line number bytes server state sent closes old new same (before, e, said) show =
+    let whole = said_on state.key state.meaning before bytes in
+    let keys : key ≡ state.key = same ∙ said.has.key in
+    record {
+      text = shown state.key number whole;
+      next = heard number (before ++ bytes) whole state;
+      free = rw e refl;
+      does = record { before = before; is_open = e; prints = refl; leaves = refl };
+      only = only_hears state number bytes before e;
+      added = show whole (subst (λ (k : List ℕ). Sends k [] sent whole.sent) (sym keys) said.sends) said.closing ∙ ap (λ (k : List ℕ). old ++ shown k number whole) keys;
+      has = said.has;
+    }
+
+pub not_handed : {D : Type 0} (meaning : D → Meaning) (line number : ℕ) (bytes : List ℕ) (server : Server D) (state : State) (sent : List ℕ) (text : List ℕ) (fault : ServerFault) (stop : Stop) → stop ≡ stop_of line fault
+    → IsHeardUnlessMemory meaning [] sent server number bytes state (Err fault) → IsDoneUnless meaning line text text server state (Hand number bytes) (Err stop)
+not_handed meaning line number bytes server state sent text faults.NoConnection stop e h = rw e (refl, rw h.0 refl, refl)
+not_handed meaning line number bytes server state sent text faults.AlreadyOpen stop e h = absurd h
+not_handed meaning line number bytes server state sent text (faults.Memory accepted) stop e h = rw e tt
+
+-- ---- the console
+
+pub tells_line : {D : Type 0} (meaning : D → Meaning) (number : ℕ) (line : List ℕ) (server : Server D) (state : State) (old new : List ℕ)
+    → IsAnswered meaning old new server line state (Ok tt) → IsOnlyAnswer meaning old new server line state
+    → IsDoneUnless meaning number old new server state (Console line) (Ok tt)
+tells_line meaning number line server state old new h only = record {
+  text = h.0;
+  next = with_meaning h.1 state;
+  free = refl;
+  does = record { meaning = h.1; answers = h.2; leaves = refl };
+  only = λ other later d. (
+      let same = only other d.meaning d.answers in
+      let texts : old ++ other ≡ old ++ h.0 = sym same.0 ∙ h.3 in
+      let meanings : d.meaning ≡ h.1 = sym same.1 ∙ h.4.desk in
+      (append-left_cancel old other h.0 texts, d.leaves ∙ ap (λ (m : Meaning). with_meaning m state) meanings));
+  added = h.3;
+  has = h.4;
+}
+  where
+    append-left_cancel : (front a b : List ℕ) → front ++ a ≡ front ++ b → a ≡ b
+    append-left_cancel [] a b e = e
+    append-left_cancel (x ∷ front) a b e = append-left_cancel front a b (let here : x ∷ (front ++ a) ≡ x ∷ (front ++ b) = e in cc)
 
 -- ---- one line after another
 
--- what was printed so far, and the server that the events so far leave; what is still to be run, behind what was printed, is the whole run
-pub record Progress (key : List ℕ) (old new : List ℕ) (server : Server) (number : ℕ) (lines : List (List ℕ)) (whole : Run) : Type 0 where
+-- what was printed so far, and the server that the events so far leave: the runs of what is still to be run, behind
+-- what was printed, are the runs of all
+pub record Progress {D : Type 0} (meaning : D → Meaning) (old new : List ℕ) (server : Server D) (number : ℕ) (lines : List (List ℕ)) (runs : Run → Type 0) : Type 0 where
   pub state : State
   pub text : List ℕ
-  pub has : HasState server state
+  pub has : HasState meaning server state
   pub printed : new ≡ old ++ text
-  pub goes_on : behind_text text (events_run key state number lines) ≡ whole
+  pub found : (rest : Run) → Runs state number lines rest → runs (behind_text text rest)
+  pub only : (run : Run) → runs run → (rest : Run) × Runs state number lines rest × (run ≡ behind_text text rest)
 
-module _ (key : List ℕ) (old new : List ℕ) (server : Server) (number : ℕ) (lines : List (List ℕ)) (whole : Run) (p : Progress key old new server number lines whole) where
-  -- a run that prints this and no more
-  ends_with : (end : Run) → behind_text p.text end ≡ whole → end.text ≡ [] → (new ≡ old ++ whole.text) × (end.fault ≡ whole.fault)
-  ends_with end e none =
-      (p.printed ∙ ap (λ (t : List ℕ). old ++ t) (sym (append-nil p.text) ∙ ap (λ (t : List ℕ). p.text ++ t) (sym none)) ∙ ap (λ (r : Run). old ++ r.text) e, ap (λ (r : Run). r.fault) e)
+pub run_begun : {D : Type 0} (meaning : D → Meaning) (old : List ℕ) (server : Server D) (number : ℕ) (lines : List (List ℕ)) (state : State) → HasState meaning server state
+    → Progress meaning old old server number lines (Runs state number lines)
+run_begun meaning old server number lines state has = record {
+  state = state;
+  text = [];
+  has = has;
+  printed = sym (append-nil old);
+  found = λ rest h. h;
+  only = λ run h. (run, h, refl);
+}
+
+module _ {D : Type 0} (meaning : D → Meaning) (old new : List ℕ) (server : Server D) (number : ℕ) (lines : List (List ℕ)) (runs : Run → Type 0) (p : Progress meaning old new server number lines runs) where
+  -- a run that prints no more
+  ends_with : (end : Run) (fault : Option Located) → Runs p.state number lines end → ((other : Run) → Runs p.state number lines other → other ≡ end) → end.text ≡ [] → end.fault ≡ fault
+      → Ends old new fault runs
+  ends_with end fault is only none same = record {
+    run = behind_text p.text end;
+    is = p.found end is;
+    only = λ other h. (let o = p.only other h in o.2 ∙ ap (behind_text p.text) (only o.0 o.1));
+    printed = p.printed ∙ ap (λ (t : List ℕ). old ++ t) (sym (append-nil p.text) ∙ ap (λ (t : List ℕ). p.text ++ t) (sym none));
+    fault_is = same;
+  }
 
   -- no line is left
-  pub run_ended : lines ≡ [] → (new ≡ old ++ whole.text) × (whole.fault ≡ None)
-  unfolding events_run
-  run_ended e =
-      let last = ends_with ended (ap (λ (ls : List (List ℕ)). behind_text p.text (events_run key p.state number ls)) (sym e) ∙ p.goes_on) refl in
-      (last.0, sym last.1)
+  pub run_ended : lines ≡ [] → Ends old new None runs
+  unfolding Runs
+  run_ended e = ends_with ended None (rw e refl) (λ other h. rw e at h) refl refl
 
   module _ (line : List ℕ) (rest : List (List ℕ)) (split : lines ≡ line ∷ rest) where
     -- the line is no command
-    pub run_refused : (at : ℕ) → at ≡ number → event_of key line ≡ None → (new ≡ old ++ whole.text) × (whole.fault ≡ Some (record { line = at; fault = BadCommand }))
-    unfolding events_run
+    pub run_refused : (at : ℕ) → at ≡ number → event_of p.state.key line ≡ None → Ends old new (Some (record { line = at; fault = BadCommand })) runs
+    unfolding Runs
     run_refused at same none =
-        let here : events_run key p.state number (line ∷ rest) ≡ stopped number BadCommand = rw none refl in
-        let last = ends_with (stopped number BadCommand) (ap (behind_text p.text) (sym here) ∙ ap (λ (ls : List (List ℕ)). behind_text p.text (events_run key p.state number ls)) (sym split) ∙ p.goes_on) refl in
-        (last.0, rw same (sym last.1))
+        ends_with (stopped number BadCommand) (Some (record { line = at; fault = BadCommand })) (rw (split, none) refl) (λ other h. rw (split, none) at h) refl (rw same refl)
 
     -- the event was not done
-    pub run_stopped : (event : Event) (at : ℕ) (now : List ℕ) (last : Server) (stop : Stop) → at ≡ number → event_of key line ≡ Some event → IsDoneUnless at key p.state event new now last (Err stop) → Prints old now (Err stop) whole
-    unfolding events_run
+    pub run_stopped : (event : Event) (at : ℕ) (now : List ℕ) (last : Server D) (stop : Stop) → at ≡ number → event_of p.state.key line ≡ Some event
+        → IsDoneUnless meaning at new now last p.state event (Err stop) → Prints old now (Err stop) runs
+    unfolding Runs
     run_stopped event at now last stops.Memory same found h = tt
     run_stopped event at now last (stops.Fault fault) same found h =
-        let here : events_run key p.state number (line ∷ rest) ≡ stopped number fault.fault = rw (found, h.1) refl in
-        let end = ends_with (stopped number fault.fault) (ap (behind_text p.text) (sym here) ∙ ap (λ (ls : List (List ℕ)). behind_text p.text (events_run key p.state number ls)) (sym split) ∙ p.goes_on) refl in
-        (h.2 ∙ end.0, sym end.1 ∙ ap (λ (n : ℕ). Some (record { line = n; fault = fault.fault })) (sym same ∙ sym h.0))
+        let end : Run = stopped number fault.fault in
+        let located : end.fault ≡ Some fault = ap (λ (n : ℕ). Some (record { line = n; fault = fault.fault })) (sym same ∙ sym h.0) in
+        rw h.2 (ends_with end (Some fault) (rw (split, found, h.1) refl) (λ other r. rw (split, found, h.1) at r) refl located)
 
     -- the event was done
-    pub run_goes_on : (event : Event) (next at : ℕ) (now : List ℕ) (last : Server) → next ≡ number + 1 → event_of key line ≡ Some event → IsDoneUnless at key p.state event new now last (Ok tt)
-        → Progress key old now last next rest whole
-    unfolding events_run
-    run_goes_on event next at now last more found h =
-        let text = text_of key p.state event in
-        let onward = events_run key (after key p.state event) (number + 1) rest in
-        let here : events_run key p.state number (line ∷ rest) ≡ behind_text text onward = rw (found, h.0) refl in
-        let joined : behind_text (p.text ++ text) onward ≡ behind_text p.text (behind_text text onward) = ap (λ (t : List ℕ). record onward { text = t }) (append_assoc p.text text onward.text) in
-        record {
-          state = after key p.state event;
-          text = p.text ++ text;
-          has = h.2;
-          printed = h.1 ∙ ap (λ (t : List ℕ). t ++ text) p.printed ∙ append_assoc old p.text text;
-          goes_on = rw more (joined ∙ ap (behind_text p.text) (sym here) ∙ ap (λ (ls : List (List ℕ)). behind_text p.text (events_run key p.state number ls)) (sym split) ∙ p.goes_on);
-        }
+    module _ (event : Event) (next : ℕ) (now : List ℕ) (last : Server D) (more : next ≡ number + 1) (found : event_of p.state.key line ≡ Some event) (d : IsDone meaning new now last p.state event) where
+      joined : (r : Run) → behind_text p.text (behind_text d.text r) ≡ behind_text (p.text ++ d.text) r
+      joined r = ap (λ (t : List ℕ). record r { text = t }) (sym (append_assoc p.text d.text r.text))
+
+      runs_line : (r : Run) → Runs d.next next rest r → Runs p.state number lines (behind_text d.text r)
+      unfolding Runs
+      runs_line r h = rw (split, found, d.free) (record { text = d.text; next = d.next; rest = r; does = d.does; onward = rw more at h; is = refl })
+
+      runs_back : (run : Run) → Runs p.state number lines run → (r : Run) × Runs d.next next rest r × (run ≡ behind_text d.text r)
+      unfolding Runs
+      runs_back run h =
+          let on : RunsOn p.state event (λ after r. Runs after (number + 1) rest r) run = rw (split, found, d.free) at h in
+          let same = d.only on.text on.next on.does in
+          let onward : Runs d.next next rest on.rest = rw (← same.1, more) on.onward in
+          (on.rest, onward, on.is ∙ ap (λ (t : List ℕ). behind_text t on.rest) same.0)
+
+      pub run_goes_on : Progress meaning old now last next rest runs
+      run_goes_on = record {
+        state = d.next;
+        text = p.text ++ d.text;
+        has = d.has;
+        printed = d.added ∙ ap (λ (t : List ℕ). t ++ d.text) p.printed ∙ append_assoc old p.text d.text;
+        found = λ r h. subst runs (joined r) (p.found (behind_text d.text r) (runs_line r h));
+        only = λ run h. (
+            let o = p.only run h in
+            let b = runs_back o.0 o.1 in
+            (b.0, b.1, o.2 ∙ ap (behind_text p.text) b.2 ∙ joined b.0));
+      }
+
+-- ---- what comes before the events
+
+-- nothing was printed, and this is the only run
+stops_at : (text : List ℕ) (at : Located) (runs : Run → Type 0) → runs (stopped at.line at.fault) → ((other : Run) → runs other → other ≡ stopped at.line at.fault) → Ends text text (Some at) runs
+stops_at text at runs is only = record { run = stopped at.line at.fault; is = is; only = only; printed = sym (append-nil text); fault_is = refl }
+
+-- there is no `run`
+pub body_none : (text : List ℕ) (key : List ℕ) (lines : List (List ℕ)) (at : ℕ) → list_any is_run lines ≡ false → at ≡ length lines + 2
+    → Ends text text (Some (record { line = at; fault = NoRun })) (BodyRuns key lines)
+unfolding BodyRuns
+body_none text key lines at none number =
+    stops_at text (record { line = at; fault = NoRun }) (BodyRuns key lines) (rw (none, number) refl) (λ other r. (let told : other ≡ stopped (length lines + 2) NoRun = rw none at r in rw number told))
+
+-- the policy is refused
+pub body_refused : (text : List ℕ) (key : List ℕ) (lines : List (List ℕ)) (stop : Stop) → list_any is_run lines ≡ true
+    → ReadsPolicy {T = List Subject} (Err stop) (policy_of (text_of_lines (before_run lines))) → Prints text text (Err stop) (BodyRuns key lines)
+unfolding BodyRuns
+body_refused text key lines stops.Memory there h = tt
+body_refused text key lines (stops.Fault at) there (line, refusal, e, f) =
+    stops_at text at (BodyRuns key lines) (rw (there, e, f) refl) (λ other r. (let told : other ≡ stopped (line + 1) (BadPolicy refusal) = rw (there, e) at r in rw f told))
+
+-- line 1 is none
+pub lines_none : (text : List ℕ) (lines : List (List ℕ)) → lines ≡ [] → Ends text text (Some (record { line = 1; fault = BadKey })) (LinesRun lines)
+unfolding LinesRun
+lines_none text lines e = stops_at text (record { line = 1; fault = BadKey }) (LinesRun lines) (rw e refl) (λ other r. rw e at r)
+
+-- it has no key
+pub lines_bad : (text : List ℕ) (lines rest : List (List ℕ)) (line : List ℕ) → lines ≡ line ∷ rest → key_line line ≡ None → Ends text text (Some (record { line = 1; fault = BadKey })) (LinesRun lines)
+unfolding LinesRun
+lines_bad text lines rest line e none = stops_at text (record { line = 1; fault = BadKey }) (LinesRun lines) (rw (e, none) refl) (λ other r. rw (e, none) at r)

@@ -10,7 +10,7 @@ use Rattle.tac_wire.specs.Header.{header_of}
 use Rattle.tac_wire.specs.Pad.{padded}
 use Rattle.tac_server.specs.Number.{connection_number_of}
 use Rattle.tac_server.specs.declared.event.Event.{Event}
-use Rattle.tac_server.specs.declared.event.Event.TheVariants.{Open, Hand, Pieces, Lost}
+use Rattle.tac_server.specs.declared.event.Event.TheVariants.{Open, Hand, Pieces, Lost, Console}
 
 -- the fields of a text, which single spaces separate
 abbrev pub fields_of : List ℕ → List (List ℕ)
@@ -56,6 +56,7 @@ event_by key word rest =
     else if bytes_eq word (codes "bytes") then hand_of bytes_of rest
     else if bytes_eq word (codes "pieces") then option_map (λ size. Pieces size) (piece_size_of rest)
     else if bytes_eq word (codes "lost") then option_map (λ number. Lost number) (connection_number_of rest)
+    else if bytes_eq word (codes "console") then Some (Console rest)
     else None
 
 -- what a line asks for; nothing where it is no command

@@ -1,104 +1,187 @@
 -- What the code keeps of a server, and what it stands for.
-use Rattle.std.specs.Prelude.{◌≡◌, ℕ, List, [], ◌++◌, map, Bool, true, false, IsTrue, is_some, Option, Some, None, Result, Ok, Err}
-use Rattle.std.specs.Option.{option_to_list}
+use Rattle.std.specs.Prelude.{◌≡◌, ℕ, ◌+◌, List, [], ◌∷◌, ◌++◌, length, take, Bool, true, false, IsTrue, is_some, Option, Some, None, Result, Ok, Err}
 use Rattle.std.specs.BTreeMap.{BTreeMap, get}
 use Rattle.std.specs.Ordering.{nat_cmp}
-use Rattle.tac_wire.specs.Stream.{open_end, unread, cut}
+use Rattle.tac_wire.specs.Header.{header_of}
+use Rattle.tac_wire.specs.Stream.{open_end, cut}
 use Rattle.tac_conn.specs.declared.packet.Packet.{Packet}
 use Rattle.tac_conn.specs.Packet.{sent}
-use Rattle.tac_conn.specs.Standing.{Stands, pending_of}
-use Rattle.tac_conn.specs.declared.step.Sent.{Sent}
-use Rattle.tac_server.specs.Serving.{Said, packets_of, said_on}
-use Rattle.tac_server.specs.Events.{fault_in, text_of, after}
+use Rattle.tac_stream.specs.declared.stream.Stream.{Stream}
+use Rattle.tac_stream.specs.Kept.{IsReady, Stands}
+use Rattle.pol_edit.specs.declared.edit.Edit.{Edit}
+use Rattle.pol_report.specs.declared.Changed.{Changed}
+use Rattle.tac_desk.specs.declared.query.Query.{Query}
+use Rattle.tac_desk.specs.Meaning.{Meaning}
+use Rattle.tac_desk.specs.Editing.{Edits}
+use Rattle.tac_server.specs.Serving.{Said, said_on, said_first, sent_bytes, whole_packets}
+use Rattle.tac_server.specs.Server.{Connections, State, opened, lost, heard, with_meaning}
+use Rattle.tac_server.specs.Console.{AnswersEdit, AnswersQuery, Answers, Accepts}
+use Rattle.tac_server.specs.Events.{fault_in, Does}
 use Rattle.tac_server.specs.declared.event.Event.{Event}
+use Rattle.tac_server.specs.declared.script_fault.ScriptFault.TheVariants.{NoConnection, AlreadyOpen}
 use Rattle.tac_server.specs.declared.script_fault.Stop.{Stop}
 use Rattle.tac_server.specs.declared.script_fault.Stop.TheVariants as stops
-use Rattle.tac_server.specs.declared.script_fault.ScriptFault.TheVariants.{NoConnection, AlreadyOpen}
-use Rattle.tac_server.specs.Server.{Connections, State, with_connection, heard}
-use Rattle.tac_conn.specs.declared.conn.Conn.{Conn}
-use Rattle.tac_server.specs.declared.desk.Desk.{Desk}
-use Rattle.tac_server.specs.declared.connection.Connection.{Connection}
 use Rattle.tac_server.specs.declared.server.Server.{Server}
 use Rattle.tac_server.specs.declared.server.ServerFault.{ServerFault}
 use Rattle.tac_server.specs.declared.server.ServerFault.TheVariants as faults
 
--- the packets as they are sent, under this key
-abbrev pub sent_under : List ℕ → List Packet → List Sent
-sent_under key packets = map (sent key) packets
+-- ---- what is sent
 
--- what is kept stands for an open connection on which these bytes came: the packets that they made whole, and the rest
-pub record Serves (key : List ℕ) (connection : Connection) (bytes : List ℕ) : Type 0 where
+-- a whole packet: its header says its length
+abbrev pub IsWhole : List ℕ → Type 0
+IsWhole bytes = 12 + (header_of (take 12 bytes)).length ≡ length bytes
+
+abbrev pub AreWhole : List ℕ → List Packet → Type 0
+AreWhole key [] = Unit {0}
+AreWhole key (packet ∷ packets) = IsWhole (sent key packet) × AreWhole key packets
+
+-- these packets were sent behind what was sent before
+abbrev pub Sends : List ℕ → List ℕ → List ℕ → List Packet → Type 0
+Sends key old new packets = (new ≡ old ++ sent_bytes key packets) × AreWhole key packets
+
+-- ---- connections
+
+-- what is kept stands for an open connection on which these bytes came: all their whole packets were taken
+pub record Serves (key : List ℕ) (stream : Stream) (bytes : List ℕ) : Type 0 where
   pub rest : List ℕ
   pub tail : (cut bytes).tail ≡ open_end rest
-  pub framer : connection.framer ≡ unread rest
-  pub stands : Stands connection.conn (packets_of key (cut bytes).packets)
-  pub free : pending_of connection.conn ≡ None
+  pub ready : IsReady stream
+  pub stands : Stands key stream bytes (whole_packets bytes)
 
-abbrev pub Ties : List ℕ → Option Connection → Option (List ℕ) → Type 0
+abbrev pub Ties : List ℕ → Option Stream → Option (List ℕ) → Type 0
 Ties key None None = Unit {0}
 Ties key None (Some bytes) = ⊥
-Ties key (Some connection) None = ⊥
-Ties key (Some connection) (Some bytes) = Serves key connection bytes
+Ties key (Some stream) None = ⊥
+Ties key (Some stream) (Some bytes) = Serves key stream bytes
 
 -- the map has what is known of each open connection
-abbrev pub Has : List ℕ → BTreeMap ℕ Connection → Connections → Type 0
+abbrev pub Has : List ℕ → BTreeMap ℕ Stream → Connections → Type 0
 Has key map connections = (number : ℕ) → Ties key (get nat_cmp map number) (connections number)
 
-abbrev pub HasState : Server → State → Type 0
-HasState server state = (server.desk ≡ state.desk) × Has server.key server.connections state.connections
+-- ---- a server
 
--- this is the reply to the last of these packets, if one is sent, and what is kept stands for them from then on
-abbrev pub IsReply : List ℕ → Desk → Conn → Option Sent × Bool → List Packet → Said → Type 0
-IsReply key desk conn reply packets said =
-    (option_to_list reply.0 ≡ sent_under key said.sent) × (reply.1 ≡ said.closes) × (desk ≡ said.desk)
-    × Stands conn packets × (pending_of conn ≡ None)
+-- what the server's desk stands for, by what desks stand for
+abbrev pub stands_for : {D : Type 0} → (D → Meaning) → Server D → Meaning
+stands_for meaning server = meaning server.desk
 
--- what is kept of a connection stands for these bytes, if it stays open
-abbrev pub ServesUnless : Bool → List ℕ → Connection → List ℕ → Type 0
-ServesUnless false key connection bytes = Serves key connection bytes
-ServesUnless true key connection bytes = Unit {0}
-
--- this was said on a connection: it was sent behind what was sent before
-abbrev pub IsSaidTo : List ℕ → List Sent → List Sent → Bool → Connection → Desk → List ℕ → Said → Type 0
-IsSaidTo key old new closes connection desk bytes said =
-    (closes ≡ said.closes) × (new ≡ old ++ sent_under key said.sent) × (desk ≡ said.desk) × ServesUnless closes key connection bytes
-
--- this was said to more bytes: it was sent behind what was sent before, and the server is the one after it
-abbrev pub IsSaid : List ℕ → List Sent → List Sent → Bool → Server → ℕ → List ℕ → State → Said → Type 0
-IsSaid key old new closes server number bytes state said =
-    (closes ≡ said.closes) × (new ≡ old ++ sent_under key said.sent) × HasState server (heard number bytes said state)
-
--- bytes were handed in at a number
-abbrev pub IsHeard : List ℕ → List Sent → List Sent → Server → ℕ → List ℕ → State → Result Bool ServerFault → Type 0
-IsHeard key old new server number more state (Ok closes) =
-    (before : List ℕ) × (state.connections number ≡ Some before)
-    × IsSaid key old new closes server number (before ++ more) state (said_on key state.desk before more)
-IsHeard key old new server number more state (Err faults.NoConnection) =
-    (state.connections number ≡ None) × (new ≡ old) × HasState server state
-IsHeard key old new server number more state (Err faults.AlreadyOpen) = ⊥
-IsHeard key old new server number more state (Err faults.Memory) = Unit {0}
+-- the server has this key, its desk stands for this, and these connections are open
+pub record HasState {D : Type 0} (meaning : D → Meaning) (server : Server D) (state : State) : Type 0 where
+  pub key : server.key ≡ state.key
+  pub desk : stands_for meaning server ≡ state.meaning
+  pub connections : Has server.key server.connections state.connections
 
 -- a connection was opened at a number
-abbrev pub IsOpened : Server → ℕ → State → Result (Unit {0}) ServerFault → Type 0
-IsOpened server number state (Ok _) =
-    (state.connections number ≡ None) × HasState server (record state { connections = with_connection number (Some []) state.connections })
-IsOpened server number state (Err faults.NoConnection) = ⊥
-IsOpened server number state (Err faults.AlreadyOpen) = IsTrue (is_some (state.connections number)) × HasState server state
-IsOpened server number state (Err faults.Memory) = HasState server state
+abbrev pub IsOpened : {D : Type 0} → (D → Meaning) → Server D → ℕ → State → Result (Unit {0}) ServerFault → Type 0
+IsOpened meaning server number state (Ok _) =
+    (state.connections number ≡ None) × HasState meaning server (opened number state)
+IsOpened meaning server number state (Err faults.NoConnection) = ⊥
+IsOpened meaning server number state (Err faults.AlreadyOpen) =
+    IsTrue (is_some (state.connections number)) × HasState meaning server state
+IsOpened meaning server number state (Err (faults.Memory accepted)) =
+    (accepted ≡ false) × (state.connections number ≡ None) × HasState meaning server state
 
--- ---- events
+-- this was said to more bytes, after which these bytes came: it was sent, and the server is the one after it
+pub record IsSaid {D : Type 0} (meaning : D → Meaning) (old new : List ℕ) (closes : Bool) (server : Server D) (number : ℕ) (bytes : List ℕ) (state : State) (said : Said) : Type 0 where
+  pub closing : closes ≡ said.closes
+  pub sends : Sends state.key old new said.sent
+  pub has : HasState meaning server (heard number bytes said state)
 
--- the event of a line was done: what it prints was added, and the server is the one after it; or the fault that
--- kept it from being done stopped the run
-abbrev pub IsDoneUnless : ℕ → List ℕ → State → Event → List ℕ → List ℕ → Server → Result (Unit {0}) Stop → Type 0
-IsDoneUnless line key state event old new server (Ok _) =
-    (fault_in state.connections event ≡ None) × (new ≡ old ++ text_of key state event) × HasState server (after key state event)
-IsDoneUnless line key state event old new server (Err stops.Memory) = Unit {0}
-IsDoneUnless line key state event old new server (Err (stops.Fault at)) =
+-- memory ran out while more bytes were heard: some of the packets that they complete, from the first on, were said
+-- what is said to them, and the connection is lost
+pub record IsCutShort {D : Type 0} (meaning : D → Meaning) (old new : List ℕ) (server : Server D) (number : ℕ) (before more : List ℕ) (state : State) : Type 0 where
+  pub count : ℕ
+  pub stays : (said_first state.key state.meaning before more count).closes ≡ false
+  pub sends : Sends state.key old new (said_first state.key state.meaning before more count).sent
+  pub has : HasState meaning server
+      (lost number (with_meaning (said_first state.key state.meaning before more count).meaning state))
+
+-- bytes were handed in at a number
+abbrev pub IsHeard : {D : Type 0} → (D → Meaning) → List ℕ → List ℕ → Server D → ℕ → List ℕ → State → Result Bool ServerFault → Type 0
+IsHeard meaning old new server number more state (Ok closes) =
+    (before : List ℕ) × (state.connections number ≡ Some before)
+    × IsSaid meaning old new closes server number (before ++ more) state (said_on state.key state.meaning before more)
+IsHeard meaning old new server number more state (Err faults.NoConnection) =
+    (state.connections number ≡ None) × (new ≡ old) × HasState meaning server state
+IsHeard meaning old new server number more state (Err faults.AlreadyOpen) = ⊥
+IsHeard meaning old new server number more state (Err (faults.Memory accepted)) =
+    (accepted ≡ false) × ((before : List ℕ) × (state.connections number ≡ Some before)
+    × IsCutShort meaning old new server number before more state)
+
+-- the same, but nothing is said of what stands after want of memory
+abbrev pub IsHeardUnlessMemory : {D : Type 0} → (D → Meaning) → List ℕ → List ℕ → Server D → ℕ → List ℕ → State → Result Bool ServerFault → Type 0
+IsHeardUnlessMemory meaning old new server number more state (Ok closes) =
+    IsHeard meaning old new server number more state (Ok closes)
+IsHeardUnlessMemory meaning old new server number more state (Err faults.NoConnection) =
+    IsHeard meaning old new server number more state (Err faults.NoConnection)
+IsHeardUnlessMemory meaning old new server number more state (Err faults.AlreadyOpen) = ⊥
+IsHeardUnlessMemory meaning old new server number more state (Err (faults.Memory accepted)) = Unit {0}
+
+-- memory ran out at a line of the console: nothing was printed; where the line's edit was accepted, it stands
+abbrev pub IsUnprinted : {D : Type 0} → (D → Meaning) → Server D → List ℕ → State → Bool → Type 0
+IsUnprinted meaning server line state true =
+    (after : Meaning) × Accepts state.meaning line after × HasState meaning server (with_meaning after state)
+IsUnprinted meaning server line state false = HasState meaning server state
+
+-- a line of the console was answered
+abbrev pub IsAnswered : {D : Type 0} → (D → Meaning) → List ℕ → List ℕ → Server D → List ℕ → State → Result (Unit {0}) ServerFault → Type 0
+IsAnswered meaning old new server line state (Ok _) =
+    (text : List ℕ) × (after : Meaning) × Answers state.meaning line text after
+    × (new ≡ old ++ text) × HasState meaning server (with_meaning after state)
+IsAnswered meaning old new server line state (Err faults.NoConnection) = ⊥
+IsAnswered meaning old new server line state (Err faults.AlreadyOpen) = ⊥
+IsAnswered meaning old new server line state (Err (faults.Memory accepted)) =
+    (new ≡ old) × IsUnprinted meaning server line state accepted
+
+-- no other answer is right, and it leaves nothing else
+abbrev pub IsOnlyAnswer : {D : Type 0} → (D → Meaning) → List ℕ → List ℕ → Server D → List ℕ → State → Type 0
+IsOnlyAnswer meaning old new server line state =
+    (other : List ℕ) (later : Meaning) → Answers state.meaning line other later
+    → (new ≡ old ++ other) × (stands_for meaning server ≡ later)
+
+-- ---- an edit or a question at the console
+
+-- this text was added, and no other is right
+pub record Adds (old new : List ℕ) (now : Meaning) (answers : List ℕ → Meaning → Type 0) : Type 0 where
+  pub text : List ℕ
+  pub is : answers text now
+  pub only : (other : List ℕ) (later : Meaning) → answers other later → (other ≡ text) × (later ≡ now)
+  pub added : new ≡ old ++ text
+
+abbrev pub EditAnswered : Meaning → Meaning → Edit → List ℕ → List ℕ → Result (Unit {0}) ServerFault → Type 0
+EditAnswered was now edit old new (Ok _) = Adds old new now (AnswersEdit was edit)
+EditAnswered was now edit old new (Err faults.NoConnection) = ⊥
+EditAnswered was now edit old new (Err faults.AlreadyOpen) = ⊥
+EditAnswered was now edit old new (Err (faults.Memory true)) =
+    (new ≡ old) × ((changes : List Changed) × Edits was edit (Ok changes) now)
+EditAnswered was now edit old new (Err (faults.Memory false)) = (new ≡ old) × (now ≡ was)
+
+abbrev pub QueryAnswered : Meaning → Meaning → Query → List ℕ → List ℕ → Result (Unit {0}) ServerFault → Type 0
+QueryAnswered was now query old new (Ok _) = Adds old new now (AnswersQuery was query)
+QueryAnswered was now query old new (Err faults.NoConnection) = ⊥
+QueryAnswered was now query old new (Err faults.AlreadyOpen) = ⊥
+QueryAnswered was now query old new (Err (faults.Memory accepted)) = (accepted ≡ false) × (new ≡ old) × (now ≡ was)
+
+-- ---- events of a script
+
+-- the event was done: what it prints was added, and the server is the one after it
+pub record IsDone {D : Type 0} (meaning : D → Meaning) (old new : List ℕ) (server : Server D) (state : State) (event : Event) : Type 0 where
+  pub text : List ℕ
+  pub next : State
+  pub free : fault_in state.connections event ≡ None
+  pub does : Does state event text next
+  pub only : (other : List ℕ) (later : State) → Does state event other later → (other ≡ text) × (later ≡ next)
+  pub added : new ≡ old ++ text
+  pub has : HasState meaning server next
+
+-- the event of a line was done, or the fault that kept it from being done stopped the run
+abbrev pub IsDoneUnless : {D : Type 0} → (D → Meaning) → ℕ → List ℕ → List ℕ → Server D → State → Event → Result (Unit {0}) Stop → Type 0
+IsDoneUnless meaning line old new server state event (Ok _) = IsDone meaning old new server state event
+IsDoneUnless meaning line old new server state event (Err stops.Memory) = Unit {0}
+IsDoneUnless meaning line old new server state event (Err (stops.Fault at)) =
     (at.line ≡ line) × (fault_in state.connections event ≡ Some at.fault) × (new ≡ old)
 
 -- what keeps the event of a line from being done
 abbrev pub stop_of : ℕ → ServerFault → Stop
 stop_of line faults.NoConnection = stops.Fault (record { line = line; fault = NoConnection })
 stop_of line faults.AlreadyOpen = stops.Fault (record { line = line; fault = AlreadyOpen })
-stop_of line faults.Memory = stops.Memory
+stop_of line (faults.Memory accepted) = stops.Memory

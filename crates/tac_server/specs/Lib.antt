@@ -1,9 +1,10 @@
 pub mod Number
-pub mod Desk
 pub mod Serving
 pub mod Server
+pub mod Console
+pub mod Kept
+pub mod Turning
 pub mod Command
 pub mod Events
-pub mod Kept
 pub mod FaultText
 pub mod Script

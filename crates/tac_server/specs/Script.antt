@@ -1,6 +1,6 @@
 -- What the replay of a script prints.
-use Rattle.std.specs.Prelude.{◌≡◌, ℕ, ◌+◌, List, [], ◌∷◌, ◌++◌, length, codes, Bool, Option, Some, None, Result, Ok, Err, if◌then◌else◌}
-use Rattle.std.specs.Option.{option_and_then, option_map_or}
+use Rattle.std.specs.Prelude.{◌≡◌, ℕ, ◌+◌, List, [], ◌∷◌, ◌++◌, length, codes, Bool, true, false, Option, Some, None, Result, Ok, Err, if◌then◌else◌}
+use Rattle.std.specs.Option.{option_and_then}
 use Rattle.std.specs.List.{list_any}
 use Rattle.std.specs.Str.{bytes_eq}
 use Rattle.tac_wire.specs.Key.{key_of}
@@ -8,8 +8,10 @@ use Rattle.basics.specs.Lines.{split_at_first, lines_of}
 use Rattle.pol_text.specs.Text.{policy_of, text_of_lines}
 use Rattle.tac_server.specs.FaultText.{located_text}
 use Rattle.tac_server.specs.Command.{event_of}
+use Rattle.tac_desk.specs.Meaning.{Meaning}
+use Rattle.tac_desk.specs.Meaning as desks
 use Rattle.tac_server.specs.Server.{State, opening}
-use Rattle.tac_server.specs.Events.{fault_in, text_of, after}
+use Rattle.tac_server.specs.Events.{fault_in, Does}
 use Rattle.tac_server.specs.declared.event.Event.{Event}
 use Rattle.pol_text.specs.declared.subject.Subject.{Subject}
 use Rattle.tac_server.specs.declared.script_fault.Located.{Located}
@@ -40,19 +42,28 @@ behind_text text run = record run { text = text ++ run.text }
 
 -- ---- events
 
--- an event at a line, and then what goes on with the server that it leaves
-abbrev pub unless_fault : Option ScriptFault → ℕ → List ℕ → Run → Run
-unless_fault None number text rest = behind_text text rest
-unless_fault (Some fault) number text rest = stopped number fault
+-- an event prints this, and then goes on
+pub record RunsOn (state : State) (event : Event) (goes_on : State → Run → Type 0) (run : Run) : Type 0 where
+  pub text : List ℕ
+  pub next : State
+  pub rest : Run
+  pub does : Does state event text next
+  pub onward : goes_on next rest
+  pub is : run ≡ behind_text text rest
 
-abbrev pub event_run : List ℕ → State → ℕ → Option Event → (State → Run) → Run
-event_run key state number None go_on = stopped number BadCommand
-event_run key state number (Some event) go_on = unless_fault (fault_in state.connections event) number (text_of key state event) (go_on (after key state event))
+-- an event at a line, and then what goes on with the server that it leaves
+abbrev pub RunsUnless : Option ScriptFault → State → ℕ → Event → (State → Run → Type 0) → Run → Type 0
+RunsUnless None state number event goes_on run = RunsOn state event goes_on run
+RunsUnless (Some fault) state number event goes_on run = run ≡ stopped number fault
+
+abbrev pub RunsLine : State → ℕ → Option Event → (State → Run → Type 0) → Run → Type 0
+RunsLine state number None goes_on run = run ≡ stopped number BadCommand
+RunsLine state number (Some event) goes_on run = RunsUnless (fault_in state.connections event) state number event goes_on run
 
 -- the run of these lines, of which the first has this number; nothing is printed after the first fault
-unfoldable pub events_run : List ℕ → State → ℕ → List (List ℕ) → Run
-events_run key state number [] = ended
-events_run key state number (line ∷ lines) = event_run key state number (event_of key line) (λ next. events_run key next (number + 1) lines)
+unfoldable pub Runs : State → ℕ → List (List ℕ) → Run → Type 0
+Runs state number [] run = run ≡ ended
+Runs state number (line ∷ lines) run = RunsLine state number (event_of state.key line) (λ next rest. Runs next (number + 1) lines rest) run
 
 -- ---- the whole script
 
@@ -68,43 +79,53 @@ abbrev pub after_run : List (List ℕ) → List (List ℕ)
 after_run [] = []
 after_run (line ∷ lines) = if is_run line then lines else after_run lines
 
+-- what the desk of a script stands for at first: this policy, and room for a million records
+abbrev pub desk_of : List Subject → Meaning
+desk_of policy = desks.opening policy 1000000
+
 -- `key TEXT`
 unfoldable pub key_line : List ℕ → Option (List ℕ)
 key_line line = option_and_then (λ parts. if bytes_eq parts.0 (codes "key") then key_of parts.1 else None) (split_at_first 32 line)
 
 -- the events with the policy, of which the first has this number; the policy's first line is the second of
 -- the script. No text is refused for want of memory
-abbrev pub policy_run : List ℕ → ℕ → List (List ℕ) → Result (List Subject) PolicyFault → Run
-policy_run key number events (Ok policy) = events_run key (opening policy) number events
-policy_run key number events (Err (policies.Refused line refusal)) = stopped (line + 1) (BadPolicy refusal)
-policy_run key number events (Err policies.Memory) = ended
+abbrev pub PolicyRuns : List ℕ → ℕ → List (List ℕ) → Result (List Subject) PolicyFault → Run → Type 0
+PolicyRuns key number events (Ok policy) run = Runs (opening key (desk_of policy)) number events run
+PolicyRuns key number events (Err (policies.Refused line refusal)) run = run ≡ stopped (line + 1) (BadPolicy refusal)
+PolicyRuns key number events (Err policies.Memory) run = ⊥
+
+abbrev pub BodyRunsBy : Bool → List ℕ → List (List ℕ) → Run → Type 0
+BodyRunsBy true key lines run =
+    PolicyRuns key (length (before_run lines) + 3) (after_run lines) (policy_of (text_of_lines (before_run lines))) run
+BodyRunsBy false key lines run = run ≡ stopped (length lines + 2) NoRun
 
 -- the lines behind the key; the policy's text is those before `run`
-unfoldable pub body_run : List ℕ → List (List ℕ) → Run
-body_run key lines =
-    if list_any is_run lines
-    then policy_run key (length (before_run lines) + 3) (after_run lines) (policy_of (text_of_lines (before_run lines)))
-    else stopped (length lines + 2) NoRun
+unfoldable pub BodyRuns : List ℕ → List (List ℕ) → Run → Type 0
+BodyRuns key lines run = BodyRunsBy (list_any is_run lines) key lines run
+
+abbrev pub KeyRuns : Option (List ℕ) → List (List ℕ) → Run → Type 0
+KeyRuns None lines run = run ≡ stopped 1 BadKey
+KeyRuns (Some key) lines run = BodyRuns key lines run
 
 -- the key is judged first, then that there is a `run`, then the policy, then the events
-unfoldable pub lines_run : List (List ℕ) → Run
-lines_run [] = stopped 1 BadKey
-lines_run (first ∷ lines) = option_map_or (λ key. body_run key lines) (key_line first) (stopped 1 BadKey)
+unfoldable pub LinesRun : List (List ℕ) → Run → Type 0
+LinesRun [] run = run ≡ stopped 1 BadKey
+LinesRun (first ∷ lines) run = KeyRuns (key_line first) lines run
 
 abbrev pub fault_line : Option Located → List ℕ
 fault_line None = []
 fault_line (Some at) = located_text at ++ 10 ∷ []
 
--- what the replay of a script prints, and how it ends
-abbrev pub output_of : List ℕ → List ℕ
-output_of script = (lines_run (lines_of script)).text ++ fault_line (lines_run (lines_of script)).fault
-
 abbrev pub end_by : Option Located → ReplayEnd
 end_by None = Done
 end_by (Some at) = Refused
 
-abbrev pub end_of : List ℕ → ReplayEnd
-end_of script = end_by (lines_run (lines_of script)).fault
+-- the replay of a script prints this, and ends so
+pub record IsReplay (script output : List ℕ) (end : ReplayEnd) : Type 0 where
+  pub run : Run
+  pub runs : LinesRun (lines_of script) run
+  pub prints : output ≡ run.text ++ fault_line run.fault
+  pub ends : end ≡ end_by run.fault
 
 -- ---- what a function returned, against what was wanted
 
@@ -114,8 +135,21 @@ ReadsPolicy (Ok policy) wanted = wanted ≡ Ok policy
 ReadsPolicy (Err stops.Memory) wanted = Unit {0}
 ReadsPolicy (Err (stops.Fault at)) wanted = (line : ℕ) × (refusal : PolicyRefusal) × (wanted ≡ Err (policies.Refused line refusal)) × (at ≡ record { line = line + 1; fault = BadPolicy refusal })
 
--- the text grew by what the run prints, up to the fault that ended it, unless memory ran out
-abbrev pub Prints : List ℕ → List ℕ → Result (Unit {0}) Stop → Run → Type 0
-Prints old new (Ok _) run = (new ≡ old ++ run.text) × (run.fault ≡ None)
-Prints old new (Err stops.Memory) run = Unit {0}
-Prints old new (Err (stops.Fault at)) run = (new ≡ old ++ run.text) × (run.fault ≡ Some at)
+-- the text grew by what a run of this kind prints, up to the fault that ended it; no other run is one of this kind
+pub record Ends (old new : List ℕ) (fault : Option Located) (runs : Run → Type 0) : Type 0 where
+  pub run : Run
+  pub is : runs run
+  pub only : (other : Run) → runs other → other ≡ run
+  pub printed : new ≡ old ++ run.text
+  pub fault_is : run.fault ≡ fault
+
+-- the same, unless memory ran out
+abbrev pub Prints : List ℕ → List ℕ → Result (Unit {0}) Stop → (Run → Type 0) → Type 0
+Prints old new (Ok _) runs = Ends old new None runs
+Prints old new (Err stops.Memory) runs = Unit {0}
+Prints old new (Err (stops.Fault at)) runs = Ends old new (Some at) runs
+
+-- a replay of the script was worked out, and no other is one of it
+pub record IsWorkedOut (script output : List ℕ) (end : ReplayEnd) : Type 0 where
+  pub replay : IsReplay script output end
+  pub only : (other : List ℕ) (last : ReplayEnd) → IsReplay script other last → (other ≡ output) × (last ≡ end)

@@ -1,8 +1,7 @@
--- A server: what answers, and the connections that are open.
+-- A server: its key, what its desk stands for, and the connections that are open.
 use Rattle.std.specs.Prelude.{ℕ, ◌==◌, List, [], Option, Some, None, if◌then◌else◌}
-use Rattle.pol_text.specs.declared.subject.Subject.{Subject}
+use Rattle.tac_desk.specs.Meaning.{Meaning}
 use Rattle.tac_server.specs.Serving.{Said}
-use Rattle.tac_server.specs.declared.desk.Desk.{Desk}
 
 -- the connections that are open: by number, all bytes that came on each
 abbrev pub Connections : Type 0
@@ -15,20 +14,29 @@ abbrev pub with_connection : ℕ → Option (List ℕ) → Connections → Conne
 with_connection number bytes connections = λ other. if other == number then bytes else connections other
 
 pub record State : Type 0 where
-  pub desk : Desk
+  pub key : List ℕ
+  pub meaning : Meaning
   pub connections : Connections
 
--- the server after this was said to more bytes on a connection: what is left of them is dropped where it closes
+-- a server of this desk, before anyone has connected
+abbrev pub opening : List ℕ → Meaning → State
+opening key meaning = record { key = key; meaning = meaning; connections = no_connections }
+
+-- a connection of this number is opened
+abbrev pub opened : ℕ → State → State
+opened number state = record state { connections = with_connection number (Some []) state.connections }
+
+-- the connection of this number is lost, if there is one
+abbrev pub lost : ℕ → State → State
+lost number state = record state { connections = with_connection number None state.connections }
+
+-- this was said on a connection, to all of these bytes: what is left of them is dropped where it closes
 abbrev pub heard : ℕ → List ℕ → Said → State → State
-heard number bytes said state = record {
-  desk = said.desk;
+heard number bytes said state = record state {
+  meaning = said.meaning;
   connections = with_connection number (if said.closes then None else Some bytes) state.connections;
 }
 
--- the most records that a server keeps
-abbrev pub max_records : ℕ
-max_records = 1000000
-
--- the server of a policy, before anyone has connected
-abbrev pub opening : List Subject → State
-opening policy = record { desk = record { policy = policy; book = record { entries = []; limit = max_records } }; connections = no_connections }
+-- the desk has done something at the console
+abbrev pub with_meaning : Meaning → State → State
+with_meaning meaning state = record state { meaning = meaning }

@@ -21,6 +21,8 @@ pub(crate) enum Event {
     Pieces(usize),
     /// The connection is lost.
     Lost(u16),
+    /// Says a line at the console.
+    Console(Bytes),
 }
 
 // The bytes that hexadecimal digits of either case spell, at least one.
@@ -152,6 +154,10 @@ fn worded(alloc: Global, key: &Key, word: &[u8], rest: &[u8]) -> Result<Option<E
     }
     if word == b"lost".as_slice() {
         return Ok(connection_number(rest).map(Event::Lost));
+    }
+    if word == b"console".as_slice() {
+        let line = Bytes::from_slice(alloc, rest)?;
+        return Ok(Some(Event::Console(line)));
     }
     Ok(None)
 }

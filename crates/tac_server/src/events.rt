@@ -1,31 +1,32 @@
-//! The run of the events: connections are opened and lost, and bytes handed in.
+//! The run of the events: connections are opened and lost, bytes are handed in, and lines are said
+//! at the console.
 
-ghost use Rattle.std.specs.Prelude.{◌≡◌, List, ℕ, string_bytes};
+ghost use Rattle.std.specs.Prelude.{◌≡◌, List, ℕ};
 ghost use Rattle.tac_server.specs.Server.{State};
-ghost use Rattle.tac_server.specs.Kept.{HasState, IsHeard, IsDoneUnless, stop_of};
-ghost use Rattle.tac_server.specs.Script.{Prints, events_run};
-ghost use Rattle.tac_server.specs.declared.event.Event.TheVariants.{Open, Hand};
+ghost use Rattle.tac_server.specs.Kept as kept;
+ghost use Rattle.tac_server.specs.Script.{Prints, Runs};
+ghost use Rattle.tac_server.specs.declared.event.Event.TheVariants.{Open, Hand, Console};
 
 use crate::event::{Event, read_event};
 use crate::script_fault::{Located, ScriptFault, Stop};
 use crate::server::{Server, ServerFault};
 use crate::shown::show;
-use basics::{Lines, Sequence};
+use basics::Lines;
 use std::alloc::Global;
 use std::num::NonZeroUsize;
-use tac_conn::Sent;
+use tac_desk::Desk;
 
 // A server as a script drives it.
 #[derive(Drop)]
-struct Driver {
-    server: Server,
+struct Driver<D> {
+    server: Server<D>,
     // bytes are handed in by pieces of this size; whole where there is none
     piece_size: Option<NonZeroUsize>,
 }
 
 // What keeps the event of a line from being done.
 fn stop_at(line: usize, fault: ServerFault) -> Stop
-    ensures { result ≡ stop_of line fault }
+    ensures { result ≡ kept.stop_of line fault }
 {
     match fault {
         ServerFault::NoConnection => Stop::Fault(Located {
@@ -36,26 +37,26 @@ fn stop_at(line: usize, fault: ServerFault) -> Stop
             line,
             fault: ScriptFault::AlreadyOpen,
         }),
-        ServerFault::Memory => Stop::Memory,
+        ServerFault::Memory { .. } => Stop::Memory,
     }
 }
 
 // Hands bytes in piece by piece, until the connection closes.
-fn hand_pieces(
-    server: &mut Server,
+fn hand_pieces<D: Desk>(
+    server: &mut Server<D>,
     size: NonZeroUsize,
-    number: u16,
+    conn: u32,
     bytes: &[u8],
-    sent: &mut Sequence<Sent>,
+    out: &mut Vec<u8>,
 ) -> Result<bool, ServerFault>
-    ensures heard { (state : State) → HasState server.old state →
-        IsHeard server.old.key sent.old sent.new server.new number bytes.now state result }
-    ensures key { server.new.key ≡ server.old.key }
+    ensures { (state : State) → kept.HasState D.meaning server.old state →
+        kept.IsHeardUnlessMemory D.meaning out.old.items out.new.items server.new conn bytes.now
+        state result }
 {
     let mut rest = bytes;
     'pieces: loop {
         let (piece, next) = rest.split_at(size.get().min(rest.len()));
-        let closes = server.feed(number, piece, sent)?;
+        let closes = server.feed(conn, piece, out)?;
         if closes {
             return Ok(true);
         }
@@ -66,21 +67,16 @@ fn hand_pieces(
     }
 }
 
-impl Driver {
+impl<D: Desk> Driver<D> {
     // Hands bytes in, in pieces or whole.
-    fn hand_in(
-        &mut self,
-        number: u16,
-        bytes: &[u8],
-        sent: &mut Sequence<Sent>,
-    ) -> Result<bool, ServerFault>
-        ensures heard { (state : State) → HasState self.old.server state →
-            IsHeard self.old.server.key sent.old sent.new self.new.server number bytes.now state result }
-        ensures key { self.new.server.key ≡ self.old.server.key }
+    fn hand_in(&mut self, conn: u32, bytes: &[u8], out: &mut Vec<u8>) -> Result<bool, ServerFault>
+        ensures { (state : State) → kept.HasState D.meaning self.old.server state →
+            kept.IsHeardUnlessMemory D.meaning out.old.items out.new.items self.new.server conn
+            bytes.now state result }
     {
         match self.piece_size {
-            Some(size) => hand_pieces(&mut self.server, size, number, bytes, sent),
-            None => self.server.feed(number, bytes, sent),
+            Some(size) => hand_pieces(&mut self.server, size, conn, bytes, out),
+            None => self.server.feed(conn, bytes, out),
         }
     }
 
@@ -91,23 +87,26 @@ impl Driver {
         line: usize,
         number: u16,
         bytes: &[u8],
-        out: &mut String,
+        out: &mut Vec<u8>,
     ) -> Result<(), Stop>
-        ensures done { (state : State) → HasState self.old.server state → IsDoneUnless line self.old.server.key state (Hand number bytes.now) (string_bytes out.old) (string_bytes out.new) self.new.server result }
-        ensures key { self.new.server.key ≡ self.old.server.key }
+        ensures { (state : State) → kept.HasState D.meaning self.old.server state →
+            kept.IsDoneUnless D.meaning line out.old.items out.new.items
+            self.new.server state (Hand number bytes.now) result }
     {
-        let mut sent = Sequence::new(alloc);
-        match self.hand_in(number, bytes, &mut sent) {
+        let mut sent = Vec::new(alloc);
+        match self.hand_in(u32::from(number), bytes, &mut sent) {
             Ok(closes) => {
-                show(
+                match show(
                     alloc,
                     self.server.key(),
                     number,
                     sent.as_slice(),
                     closes,
                     out,
-                )?;
-                Ok(())
+                ) {
+                    Ok(()) => Ok(()),
+                    Err(_) => Err(Stop::Memory),
+                }
             }
             Err(fault) => Err(stop_at(line, fault)),
         }
@@ -115,12 +114,25 @@ impl Driver {
 
     // Opens a connection at a line.
     fn open(&mut self, line: usize, number: u16) -> Result<(), Stop>
-        ensures done { (state : State) (text : List ℕ) → HasState self.old.server state → IsDoneUnless line self.old.server.key state (Open number) text text self.new.server result }
-        ensures key { self.new.server.key ≡ self.old.server.key }
+        ensures { (state : State) (text : List ℕ) →
+            kept.HasState D.meaning self.old.server state →
+            kept.IsDoneUnless D.meaning line text text self.new.server state (Open number) result }
     {
-        match self.server.open(number) {
+        match self.server.open(u32::from(number)) {
             Ok(()) => Ok(()),
             Err(fault) => Err(stop_at(line, fault)),
+        }
+    }
+
+    // Says a line at the console, and shows the answer.
+    fn tell(&mut self, line: &[u8], out: &mut Vec<u8>) -> Result<(), Stop>
+        ensures { (number : ℕ) (state : State) → kept.HasState D.meaning self.old.server state →
+            kept.IsDoneUnless D.meaning number out.old.items out.new.items self.new.server state
+            (Console line.now) result }
+    {
+        match self.server.console(line, out) {
+            Ok(()) => Ok(()),
+            Err(_) => Err(Stop::Memory),
         }
     }
 
@@ -130,10 +142,11 @@ impl Driver {
         alloc: Global,
         line: usize,
         event: Event,
-        out: &mut String,
+        out: &mut Vec<u8>,
     ) -> Result<(), Stop>
-        ensures done { (state : State) → HasState self.old.server state → IsDoneUnless line self.old.server.key state event (string_bytes out.old) (string_bytes out.new) self.new.server result }
-        ensures key { self.new.server.key ≡ self.old.server.key }
+        ensures { (state : State) → kept.HasState D.meaning self.old.server state →
+            kept.IsDoneUnless D.meaning line out.old.items out.new.items
+            self.new.server state event result }
     {
         match event {
             Event::Open(number) => self.open(line, number),
@@ -145,22 +158,24 @@ impl Driver {
                 Ok(())
             }
             Event::Lost(number) => {
-                self.server.lost(number);
+                self.server.lost(u32::from(number));
                 Ok(())
             }
+            Event::Console(text) => self.tell(text.as_slice(), out),
         }
     }
 }
 
 /// Runs the lines behind `run` on a server, and adds what that prints.
-pub(crate) fn run_events(
+pub(crate) fn run_events<D: Desk>(
     alloc: Global,
-    server: Server,
+    server: Server<D>,
     lines: &mut Lines<'_>,
-    out: &mut String,
+    out: &mut Vec<u8>,
 ) -> Result<(), Stop>
-    ensures { (state : State) → HasState server state → Prints (string_bytes out.old) (string_bytes out.new) result
-        (events_run server.key state lines.old.number lines.old.lines) }
+    ensures { (state : State) → kept.HasState D.meaning server state →
+        Prints out.old.items out.new.items result
+        (Runs state lines.old.number lines.old.lines) }
 {
     let mut driver = Driver {
         server,

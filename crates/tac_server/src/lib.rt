@@ -1,8 +1,6 @@
 //! The server, and the replay of a script.
 #![tactic(auto)]
 
-mod connection;
-mod desk;
 mod event;
 mod events;
 mod number;
@@ -11,5 +9,9 @@ mod script;
 mod script_fault;
 mod server;
 mod shown;
+mod turning;
 
 pub use replaying::{ReplayEnd, ReplayFault, replay};
+pub use server::{Server, ServerFault};
+pub use tac_desk::{Desk, PlainDesk};
+pub use tac_wire::Key;

@@ -1,15 +1,15 @@
 //! The replay of a script, from bytes to bytes.
 
-ghost use Rattle.std.specs.Prelude.{◌≡◌, ◌≢◌, [], ◌∷◌, ◌++◌, codes, ◌≤◌, ◌<◌, ℕ, length, take, IfOk, IfErr, OnOk, IfSome, IsErrOf, MatchOption, string_bytes, vec_len};
+ghost use Rattle.std.specs.Prelude.{◌≡◌, ◌≢◌, [], ◌∷◌, ◌++◌, codes, ◌≤◌, ◌<◌, ℕ, List, length, take, IfOk, IfErr, OnOk, IfSome, IsErrOf, MatchOption, vec_len};
 ghost use Rattle.std.specs.Io.KnownBytes.{Appends, Consumes, IsAtEnd, Keeps};
-ghost use Rattle.tac_server.specs.Script.{output_of, end_of};
+ghost use Rattle.tac_server.specs.Script.{IsWorkedOut};
+ghost use Rattle.tac_server.specs.declared.replaying.ReplayEnd.{ReplayEnd as ReplayEndValue};
 ghost use Rattle.tac_server.specs.declared.replaying.ReplayFault.TheVariants.{Memory};
 
 use crate::script::run_script;
 use crate::script_fault::Stop;
 use basics::send;
 use std::alloc::{AllocError, AllocFailed, Global};
-use std::fmt::Write as _;
 use std::io::{ErrorKind, Read, Write};
 use thiserror::Error;
 
@@ -102,25 +102,27 @@ fn read_script<R: Read>(alloc: Global, reader: &mut R) -> Result<Vec<u8>, Replay
 }
 
 // What a script prints, and how its replay ends.
-fn output(alloc: Global, script: &[u8]) -> Result<(String, ReplayEnd), AllocError>
-    ensures { IfOk result (λ output. (string_bytes output.0 ≡ output_of script.now) × (output.1 ≡ end_of script.now)) }
+fn output(alloc: Global, script: &[u8]) -> Result<(Vec<u8>, ReplayEnd), AllocError>
+    ensures { IfOk result (λ output. IsWorkedOut script.now output.0.items output.1) }
 {
-    let mut text = String::new(alloc);
+    let mut text = Vec::new(alloc);
     match run_script(alloc, script, &mut text) {
         Ok(()) => Ok((text, ReplayEnd::Done)),
         Err(Stop::Fault(at)) => {
-            writeln!(text, "{at}")?;
-            Ok((text, ReplayEnd::Refused))
+            match writeln!(text, "{at}") {
+                Ok(()) => Ok((text, ReplayEnd::Refused)),
+                Err(_) => Err(AllocError),
+            }
         }
         Err(Stop::Memory) => Err(AllocError),
     }
 }
 
 // Reads a script, and works out what it prints.
-fn answer<R: Read>(alloc: Global, reader: &mut R) -> Result<(String, ReplayEnd), ReplayFault>
+fn answer<R: Read>(alloc: Global, reader: &mut R) -> Result<(Vec<u8>, ReplayEnd), ReplayFault>
     ensures end { OnOk result (IsAtEnd (R.remaining reader.new)) }
     ensures output { IfOk result (λ output. IfSome (R.remaining reader.old) (λ script.
-        (length script ≤ 268435456) × (string_bytes output.0 ≡ output_of script) × (output.1 ≡ end_of script))) }
+        (length script ≤ 268435456) × IsWorkedOut script output.0.items output.1)) }
     ensures fault { IfErr result (λ fault. fault ≢ ReplayFault.WriteFault) }
 {
     let script = read_script(alloc, reader)?;
@@ -142,21 +144,25 @@ pub fn replay<R: Read, W: Write>(
     ensures read { OnOk result (IsAtEnd (R.remaining reader.new)) }
     ensures bound { OnOk result (IfSome (R.remaining reader.old) (λ script. length script ≤ 268435456)) }
 
-    // What was written is exactly the script's output, and the end is the script's.
-    ensures output { OnOk result (IfSome (R.remaining reader.old) (λ script.
-        Appends (W.contents writer.old) (W.contents writer.new) (output_of script))) }
-    ensures end { IfOk result (λ end. IfSome (R.remaining reader.old) (λ script. end ≡ end_of script)) }
+    // What was written is exactly the script's output, the end is the script's, and no others are.
+    ensures output { IfOk result (λ end. IfSome (R.remaining reader.old) (λ script.
+        (output : List ℕ) × IsWorkedOut script output end
+        × Appends (W.contents writer.old) (W.contents writer.new) output)) }
 
     // What a fault leaves: nothing, a beginning of the output, or of the line that says Memory.
-    ensures read_fault { IsErrOf result ReplayFault.ReadFault → Keeps (W.contents writer.old) (W.contents writer.new) }
-    ensures write_fault { IsErrOf result ReplayFault.WriteFault → IfSome (R.remaining reader.old) (λ script.
-        (length script ≤ 268435456) × (n : ℕ) × Appends (W.contents writer.old) (W.contents writer.new) (take n (output_of script))) }
-    ensures memory { IsErrOf result ReplayFault.Memory
-        → (n : ℕ) × Appends (W.contents writer.old) (W.contents writer.new) (take n (codes "fault Memory" ++ 10 ∷ [])) }
+    ensures read_fault { IsErrOf result ReplayFault.ReadFault →
+        Keeps (W.contents writer.old) (W.contents writer.new) }
+    ensures write_fault { IsErrOf result ReplayFault.WriteFault →
+        IfSome (R.remaining reader.old) (λ script. (length script ≤ 268435456)
+        × ((output : List ℕ) × (end : ReplayEndValue) × IsWorkedOut script output end
+        × ((n : ℕ) × Appends (W.contents writer.old) (W.contents writer.new) (take n output)))) }
+    ensures memory { IsErrOf result ReplayFault.Memory → (n : ℕ)
+        × Appends (W.contents writer.old) (W.contents writer.new)
+        (take n (codes "fault Memory" ++ 10 ∷ [])) }
 {
     match answer(alloc, reader) {
         Ok((text, end)) => {
-            let (_, sent) = send(writer, text.as_bytes());
+            let (_, sent) = send(writer, text.as_slice());
             match sent {
                 Ok(()) => Ok(end),
                 Err(_) => Err(ReplayFault::WriteFault),

@@ -1,10 +1,11 @@
 //! The run of a script: key, policy, and then the events.
 
-ghost use Rattle.std.specs.Prelude.{◌≡◌, ◌+◌, length, true, false, MatchOption, string_bytes};
+ghost use Rattle.std.specs.Prelude.{◌≡◌, ◌+◌, length, true, false, MatchOption};
 ghost use Rattle.std.specs.List.{list_any};
 ghost use Rattle.basics.specs.Lines.{lines_of};
 ghost use Rattle.pol_text.specs.Text.{policy_of, text_of_lines};
-ghost use Rattle.tac_server.specs.Script.{ReadsPolicy, Prints, body_run, lines_run, is_run as run_test, before_run, after_run, key_line as key_of_line};
+ghost use Rattle.tac_server.specs.Server.{opening};
+ghost use Rattle.tac_server.specs.Script.{ReadsPolicy, Prints, Runs, BodyRuns, LinesRun, desk_of, is_run as run_test, before_run, after_run, key_line as key_of_line};
 
 use crate::events::run_events;
 use crate::script_fault::{Located, ScriptFault, Stop};
@@ -12,7 +13,11 @@ use crate::server::Server;
 use basics::{Lines, split_once};
 use pol_text::{Policy, PolicyFault};
 use std::alloc::Global;
+use tac_desk::PlainDesk;
 use tac_wire::Key;
+
+/// The most records that are kept.
+const MAX_RECORDS: usize = 1_000_000;
 
 fn is_run(line: &[u8]) -> bool
     ensures { result ≡ run_test line.now }
@@ -66,11 +71,28 @@ fn read_key(line: &[u8]) -> Option<Key>
     Key::read(text)
 }
 
+// Runs the events with this policy.
+fn run_policy(
+    alloc: Global,
+    key: Key,
+    policy: Policy,
+    lines: &mut Lines<'_>,
+    out: &mut Vec<u8>,
+) -> Result<(), Stop>
+    ensures { Prints out.old.items out.new.items result
+        (Runs (opening key (desk_of policy)) lines.old.number lines.old.lines) }
+{
+    match PlainDesk::new(alloc, policy, MAX_RECORDS) {
+        Ok(desk) => run_events(alloc, Server::new(alloc, desk, key), lines, out),
+        Err(_) => Err(Stop::Memory),
+    }
+}
+
 // Runs what stands behind the key.
-#[tactic(auto, unfolding(crate::specs::Script::body_run))]
-fn run_body(alloc: Global, key: Key, lines: &mut Lines<'_>, out: &mut String) -> Result<(), Stop>
+#[tactic(auto, unfolding(crate::specs::Script::BodyRuns))]
+fn run_body(alloc: Global, key: Key, lines: &mut Lines<'_>, out: &mut Vec<u8>) -> Result<(), Stop>
     requires { lines.old.number ≡ 2 }
-    ensures { Prints (string_bytes out.old) (string_bytes out.new) result (body_run key lines.old.lines) }
+    ensures { Prints out.old.items out.new.items result (BodyRuns key lines.old.lines) }
 {
     let Some(text) = text_before_run(lines) else {
         return Err(Stop::Fault(Located {
@@ -79,7 +101,7 @@ fn run_body(alloc: Global, key: Key, lines: &mut Lines<'_>, out: &mut String) ->
         }));
     };
     let policy = read_policy(alloc, text)?;
-    run_events(alloc, Server::new(alloc, key, policy), lines, out)
+    run_policy(alloc, key, policy, lines, out)
 }
 
 // The key is judged before anything else.
@@ -93,9 +115,9 @@ fn bad_key() -> Stop
 }
 
 /// Runs a script, and adds what that prints; a fault is left for the caller to print.
-#[tactic(auto, unfolding(crate::specs::Script::lines_run))]
-pub(crate) fn run_script(alloc: Global, script: &[u8], out: &mut String) -> Result<(), Stop>
-    ensures { Prints (string_bytes out.old) (string_bytes out.new) result (lines_run (lines_of script.now)) }
+#[tactic(auto, unfolding(crate::specs::Script::LinesRun))]
+pub(crate) fn run_script(alloc: Global, script: &[u8], out: &mut Vec<u8>) -> Result<(), Stop>
+    ensures { Prints out.old.items out.new.items result (LinesRun (lines_of script.now)) }
 {
     let mut lines = Lines::new(script);
     let Some((_, line)) = lines.take_line() else {

@@ -1,67 +1,70 @@
 //! A server over a desk: its connections, by number.
 
-ghost use Rattle.std.specs.Prelude.{◌≡◌, ◌++◌, List, ℕ, None, OnOk};
+ghost use Rattle.std.specs.Prelude.{◌≡◌, ◌++◌, List, ℕ, false, IfOk, OnOk};
+ghost use Rattle.tac_desk.specs.Meaning.{Meaning as MeaningValue};
 ghost use Rattle.tac_server.specs.Serving.{said_on, unless_closed};
-ghost use Rattle.tac_server.specs.Server.{State, opening, with_connection};
-ghost use Rattle.tac_server.specs.Kept.{HasState, IsHeard, IsOpened};
-ghost use Rattle.tac_server.specs.declared.desk.Desk.{Desk as DeskValue};
+ghost use Rattle.tac_server.specs.Server as servers;
+ghost use Rattle.tac_server.specs.Console as consoles;
+ghost use Rattle.tac_server.specs.Kept as kept;
 ghost use Rattle.tac_server.specs.declared.server.ServerFault.TheVariants.{Memory};
 
-use crate::connection::Connection;
-use crate::desk::Desk;
-use basics::Sequence;
-use pol_text::Policy;
+use crate::turning::serve_piece;
+use pol_edit::{Edit, EditFault};
 use std::alloc::{AllocError, AllocFailed, Global};
 use std::collections::BTreeMap;
-use tac_conn::Sent;
+use tac_console::{Asked, read_console, write_edit_answer, write_query_answer};
+use tac_desk::{Desk, Query, QueryFault};
+use tac_stream::Stream;
 use tac_wire::Key;
 
 /// Why a server didn't do what was asked.
 #[derive(Clone, Copy, Debug, PartialEq, Eq)]
-pub(crate) enum ServerFault {
+pub enum ServerFault {
     /// No connection of this number is open.
     NoConnection,
     /// A connection of this number is open already.
     AlreadyOpen,
     /// Memory ran out.
-    Memory,
+    Memory {
+        /// Whether the edit of a line of the console was accepted all the same.
+        accepted: bool,
+    },
 }
 
 impl From<AllocError> for ServerFault {
-    ghost from_gives = { λ _ fault. fault ≡ Memory };
+    ghost from_gives = { λ _ fault. fault ≡ Memory false };
 
     fn from(_error: AllocError) -> ServerFault {
-        ServerFault::Memory
+        ServerFault::Memory { accepted: false }
     }
 }
 
 impl<T: Drop> From<AllocFailed<T>> for ServerFault {
-    ghost from_gives = { λ _ fault. fault ≡ Memory };
+    ghost from_gives = { λ _ fault. fault ≡ Memory false };
 
     fn from(_error: AllocFailed<T>) -> ServerFault {
-        ServerFault::Memory
+        ServerFault::Memory { accepted: false }
     }
 }
 
 /// A server of connections, which share its key and its desk.
 #[derive(Drop)]
-pub(crate) struct Server {
+pub struct Server<D> {
     alloc: Global,
     key: Key,
-    desk: Desk,
-    connections: BTreeMap<u16, Connection>,
+    desk: D,
+    connections: BTreeMap<u32, Stream>,
 }
 
-impl Server {
-    /// A server of this policy, before anyone has connected. Takes no memory.
-    pub(crate) fn new(alloc: Global, key: Key, policy: Policy) -> Server
-        ensures state { HasState result (opening policy) }
-        ensures key { result.key ≡ key }
+impl<D: Desk> Server<D> {
+    /// A server over this desk, before anyone has connected. Takes no memory.
+    pub fn new(alloc: Global, desk: D, key: Key) -> Server<D>
+        ensures { kept.HasState D.meaning result (servers.opening key (D.meaning desk)) }
     {
         Server {
             alloc,
             key,
-            desk: Desk::new(alloc, policy),
+            desk,
             connections: BTreeMap::new(alloc),
         }
     }
@@ -72,50 +75,120 @@ impl Server {
         &self.key
     }
 
-    /// Opens a connection of this number.
-    pub(crate) fn open(&mut self, number: u16) -> Result<(), ServerFault>
-        ensures state { (state : State) → HasState self.old state → IsOpened self.new number state result }
-        ensures key { self.new.key ≡ self.old.key }
+    /// Opens a connection of this number. After want of memory nothing has changed.
+    pub fn open(&mut self, conn: u32) -> Result<(), ServerFault>
+        ensures { (state : servers.State) → kept.HasState D.meaning self.old state →
+            kept.IsOpened D.meaning self.new conn state result }
     {
-        if self.connections.contains_key(&number) {
+        if self.connections.contains_key(&conn) {
             return Err(ServerFault::AlreadyOpen);
         }
-        let connection = Connection::new(self.alloc);
-        self.connections.insert(number, connection)?;
+        let stream = Stream::new(self.alloc);
+        self.connections.insert(conn, stream)?;
         Ok(())
     }
 
-    /// Takes the next piece of what comes on a connection, adds what is sent for the packets that it
-    /// completes, and answers whether the connection was closed.
-    pub(crate) fn feed(
-        &mut self,
-        number: u16,
-        piece: &[u8],
-        sent: &mut Sequence<Sent>,
-    ) -> Result<bool, ServerFault>
-        ensures state { (state : State) → HasState self.old state →
-            IsHeard self.old.key sent.old sent.new self.new number piece.now state result }
-        ensures key { self.new.key ≡ self.old.key }
+    /// Takes the next piece of what comes on a connection, adds what is sent for the packets that
+    /// it completes, and answers whether the connection was closed. Linear in the piece, but for
+    /// what the desk takes.
+    ///
+    /// After want of memory some of these packets were served, from the first on, and their replies
+    /// are added; the others had no effect, and the connection is lost.
+    pub fn feed(&mut self, conn: u32, piece: &[u8], out: &mut Vec<u8>) -> Result<bool, ServerFault>
+        ensures heard { (state : servers.State) → kept.HasState D.meaning self.old state →
+            kept.IsHeard D.meaning out.old.items out.new.items self.new conn piece.now state result }
+
         // However bytes are cut into pieces, the same is said.
-        ensures pieces { OnOk result ((desk : DeskValue) (before first second : List ℕ) → said_on self.old.key desk before (first ++ second)
-            ≡ unless_closed (said_on self.old.key desk before first) (λ next. said_on self.old.key next (before ++ first) second)) }
+        ensures pieces { OnOk result ((meaning : MeaningValue) (before first second : List ℕ) →
+            said_on self.old.key meaning before (first ++ second)
+            ≡ unless_closed (said_on self.old.key meaning before first)
+            (λ next. said_on self.old.key next (before ++ first) second)) }
     {
-        let Some(connection) = self.connections.get_mut(&number) else {
+        let Some(stream) = self.connections.get_mut(&conn) else {
             return Err(ServerFault::NoConnection);
         };
-        let closes = connection.take_piece(&self.key, &mut self.desk, piece, sent)?;
-        if closes {
-            self.connections.remove(&number);
+        match serve_piece(&self.key, &mut self.desk, stream, piece, out) {
+            Ok(false) => Ok(false),
+            Ok(true) => {
+                self.connections.remove(&conn);
+                Ok(true)
+            }
+            Err(_) => {
+                self.connections.remove(&conn);
+                Err(ServerFault::Memory { accepted: false })
+            }
         }
-        Ok(closes)
     }
 
-    /// The connection of this number is lost, if there is one.
-    pub(crate) fn lost(&mut self, number: u16)
-        ensures state { (state : State) → HasState self.old state →
-            HasState self.new (record state { connections = with_connection number None state.connections }) }
-        ensures key { self.new.key ≡ self.old.key }
+    /// The connection of this number is lost, if there is one. Takes no memory.
+    pub fn lost(&mut self, conn: u32)
+        ensures { (state : servers.State) → kept.HasState D.meaning self.old state →
+            kept.HasState D.meaning self.new (servers.lost conn state) }
     {
-        self.connections.remove(&number);
+        let _ = self.connections.remove(&conn);
+    }
+
+    // Answers an edit at the console.
+    fn answer_edit(&mut self, edit: &Edit, out: &mut Vec<u8>) -> Result<(), ServerFault>
+        ensures answered { kept.EditAnswered (D.meaning self.old.desk) (D.meaning self.new.desk)
+            edit.now out.old.items out.new.items result }
+        ensures key { self.new.key ≡ self.old.key }
+        ensures connections { self.new.connections ≡ self.old.connections }
+    {
+        match self.desk.edit(edit) {
+            Ok(changes) => match write_edit_answer(self.alloc, out, &Ok(&changes.first)) {
+                Ok(()) => Ok(()),
+                Err(_) => Err(ServerFault::Memory { accepted: true }),
+            },
+            Err(EditFault::Memory) => Err(ServerFault::Memory { accepted: false }),
+            Err(fault) => {
+                write_edit_answer(self.alloc, out, &Err(fault))?;
+                Ok(())
+            }
+        }
+    }
+
+    // Answers a question at the console.
+    fn answer_query(&mut self, query: &Query, out: &mut Vec<u8>) -> Result<(), ServerFault>
+        ensures answered { kept.QueryAnswered (D.meaning self.old.desk) (D.meaning self.new.desk)
+            query.now out.old.items out.new.items result }
+        ensures key { self.new.key ≡ self.old.key }
+        ensures connections { self.new.connections ≡ self.old.connections }
+    {
+        match self.desk.query(query) {
+            Ok(report) => {
+                write_query_answer(self.alloc, out, query, &Ok(&report.first))?;
+                Ok(())
+            }
+            Err(QueryFault::Memory) => Err(ServerFault::Memory { accepted: false }),
+            Err(fault) => {
+                write_query_answer(self.alloc, out, query, &Err(fault))?;
+                Ok(())
+            }
+        }
+    }
+
+    /// Adds the console's answer to a line, without its LF. Any bytes have one. Linear in the line
+    /// and in what is added, but for what the desk takes.
+    ///
+    /// After want of memory nothing was added, and the fault says whether the line's edit was
+    /// accepted; if it wasn't, nothing has changed.
+    pub fn console(&mut self, line: &[u8], out: &mut Vec<u8>) -> Result<(), ServerFault>
+        ensures answered { (state : servers.State) → kept.HasState D.meaning self.old state →
+            kept.IsAnswered D.meaning out.old.items out.new.items self.new line.now state result }
+
+        // No other answer is right.
+        ensures only { (state : servers.State) → kept.HasState D.meaning self.old state →
+            OnOk result (kept.IsOnlyAnswer D.meaning out.old.items out.new.items self.new
+            line.now state) }
+    {
+        match read_console(self.alloc, line)? {
+            Asked::Edit(edit) => self.answer_edit(&edit, out),
+            Asked::Query(query) => self.answer_query(&query, out),
+            Asked::Neither => {
+                write_edit_answer(self.alloc, out, &Err(EditFault::BadEdit))?;
+                Ok(())
+            }
+        }
     }
 }

@@ -1,31 +1,40 @@
 //! How what is sent is shown: packets with the pad taken off, in hexadecimal digits.
 
-ghost use Rattle.std.specs.Prelude.{◌≡◌, ◌++◌, List, OnOk, string_bytes};
-ghost use Rattle.std.specs.List.{flat_map};
-ghost use Rattle.tac_wire.specs.Header.{header_bytes};
+ghost use Rattle.std.specs.Prelude.{◌≡◌, ◌<◌, ◌++◌, ℕ, List, [], length, MatchOption, IfOk, IfSome, OnOk};
 ghost use Rattle.tac_conn.specs.declared.packet.Packet.{Packet};
-ghost use Rattle.tac_conn.specs.Packet.{sent as sent_value};
 ghost use Rattle.tac_server.specs.Serving.{Said};
-ghost use Rattle.tac_server.specs.Kept.{sent_under};
-ghost use Rattle.tac_server.specs.Events.{reply_line, shown};
+ghost use Rattle.tac_server.specs.Kept.{IsWhole, Sends};
+ghost use Rattle.tac_server.specs.Events as events;
 
-use arrayvec::ArrayVec;
 use std::alloc::{AllocError, Global};
-use std::fmt::Write;
-use tac_conn::Sent;
+use std::io;
+use std::io::Write;
 use tac_wire::{Header, Key, pad_in_place};
 
-// The bytes of a sent packet, with the pad taken off.
-fn clear_bytes(key: &Key, sent: &Sent) -> ArrayVec<u8, 96>
-    ensures { (packet : Packet) → sent.now ≡ sent_value key.now packet → result.items ≡ header_bytes packet.header ++ packet.body }
+// The first packet of what was sent, and what is behind it; nothing where no packet is whole.
+fn split_packet(bytes: &[u8]) -> Option<(&[u8], &[u8])>
+    ensures parts { (packet rest : List ℕ) → IsWhole packet → bytes.now ≡ packet ++ rest →
+        MatchOption result ⊥ (λ parts. (parts.0.now ≡ packet) × (parts.1.now ≡ rest)) }
+    ensures shorter { IfSome result (λ parts. length parts.1.now < length bytes.now) }
 {
-    let mut bytes = ArrayVec::new();
-    let Some((head, _)) = sent.as_slice().split_first_chunk::<12>() else {
-        return bytes;
+    let (head, body) = bytes.split_first_chunk::<12>()?;
+    let len = Header::read(head).length as usize;
+    if body.len() < len {
+        return None;
+    }
+    Some(bytes.split_at(12 + len))
+}
+
+// A packet as it was sent, with the pad taken off.
+fn unpadded(alloc: Global, key: &Key, sent: &[u8]) -> Result<Vec<u8>, AllocError>
+    ensures { IfOk result (λ bytes. bytes.items ≡ events.unpadded key.now sent.now) }
+{
+    let mut bytes = Vec::from_slice(alloc, sent)?;
+    let Some((head, _)) = sent.split_first_chunk::<12>() else {
+        return Ok(bytes);
     };
-    bytes.try_extend_from_slice(sent.as_slice()).unwrap();
     pad_in_place(&Header::read(head), key, &mut bytes.as_mut_slice()[12..]);
-    bytes
+    Ok(bytes)
 }
 
 // `reply N HEX`.
@@ -33,16 +42,15 @@ fn show_reply(
     alloc: Global,
     key: &Key,
     number: u16,
-    sent: &Sent,
-    out: &mut String,
-) -> Result<(), AllocError>
-    ensures { (packet : Packet) → sent.now ≡ sent_value key.now packet
-        → OnOk result (string_bytes out.new ≡ string_bytes out.old ++ reply_line number packet) }
+    sent: &[u8],
+    out: &mut Vec<u8>,
+) -> io::Result<()>
+    ensures { OnOk result
+        (out.new.items ≡ out.old.items ++ events.reply_line key.now number sent.now) }
 {
-    let bytes = clear_bytes(key, sent);
+    let bytes = unpadded(alloc, key, sent)?;
     let text = hex::encode(alloc, bytes.as_slice())?;
-    writeln!(out, "reply {number} {text}")?;
-    Ok(())
+    writeln!(out, "reply {number} {text}")
 }
 
 // A line for each packet.
@@ -50,29 +58,31 @@ fn show_replies(
     alloc: Global,
     key: &Key,
     number: u16,
-    sent: &[Sent],
-    out: &mut String,
-) -> Result<(), AllocError>
-    ensures { (packets : List Packet) → sent.now ≡ sent_under key.now packets
-        → OnOk result (string_bytes out.new ≡ string_bytes out.old ++ flat_map (reply_line number) packets) }
+    sent: &[u8],
+    out: &mut Vec<u8>,
+) -> io::Result<()>
+    ensures { (packets : List Packet) → Sends key.now [] sent.now packets → OnOk result
+        (out.new.items ≡ out.old.items ++ events.reply_lines key.now number packets) }
 {
-    'replies: for reply in sent {
-        show_reply(alloc, key, number, reply, out)?;
+    let mut rest = sent;
+    'replies: while let Some((packet, next)) = split_packet(rest) {
+        show_reply(alloc, key, number, packet, out)?;
+        rest = next;
     }
     Ok(())
 }
 
-/// A line for each packet, and one where the connection was closed.
+/// A line for each packet, and one where the connection was closed. The error is want of memory.
 pub(crate) fn show(
     alloc: Global,
     key: &Key,
     number: u16,
-    sent: &[Sent],
+    sent: &[u8],
     closes: bool,
-    out: &mut String,
-) -> Result<(), AllocError>
-    ensures { (said : Said) → sent.now ≡ sent_under key.now said.sent → closes ≡ said.closes
-        → OnOk result (string_bytes out.new ≡ string_bytes out.old ++ shown number said) }
+    out: &mut Vec<u8>,
+) -> io::Result<()>
+    ensures { (said : Said) → Sends key.now [] sent.now said.sent → closes ≡ said.closes →
+        OnOk result (out.new.items ≡ out.old.items ++ events.shown key.now number said) }
 {
     show_replies(alloc, key, number, sent, out)?;
     if closes {

@@ -1,17 +1,20 @@
-use Rattle.std.proofs.Common.{Ok, Err, subst, List, ◌∙◌, string_bytes}
-use Rattle.tac_conn.specs.declared.step.Sent.{Sent}
-use Rattle.tac_server.specs.Kept.{IsHeard}
-use Rattle.tac_server.proofs.RunFacts.{handed, not_handed}
+use Rattle.std.proofs.Common.{ℕ, List, [], Ok, Err, sym, subst}
+use Rattle.tac_server.specs.Kept.{Sends, IsHeardUnlessMemory}
+use Rattle.tac_server.proofs.RunFacts.{hands_line, not_handed}
 use Rattle.tac_server.proofs.events.Driver.hand_and_show.Goals as goal
 
-pub returns-in-Ok-clause-done : goal.returns-in-Ok-clause-done
-returns-in-Ok-clause-done c = λ state has.
-    handed c.args.self.now.server.key c.key.result.now c.args.line c.args.number c.args.bytes.now c.hand_in.new.self.server state c.hand_in.new.sent c.in-Ok.closes (string_bytes c.args.out.now) (string_bytes c.show.new.out)
-    (c.key.ensures ∙ c.in-Ok.ensures.key)
-    (subst (λ (old : List Sent). IsHeard c.args.self.now.server.key old c.hand_in.new.sent c.hand_in.new.self.server c.args.number c.args.bytes.now state (Ok c.in-Ok.closes)) c.new-sent.ensures (c.in-Ok.ensures.heard state has))
-    (λ said e f. c.in_ok-show-in-Ok.ensures said (c.as_slice.ensures ∙ e) f)
+pub returns-in-Ok-show : goal.returns-in-Ok-show
+returns-in-Ok-show g c = λ state has.
+    hands_line g.D.Desk.meaning c.key.result.now c.args.line c.args.number c.args.bytes.now c.hand_in.new.self.server state c.hand_in.new.out.items c.in-Ok.closes c.args.out.now.items c.show.new.out.items
+    c.key.ensures
+    (subst (λ (n : ℕ). IsHeardUnlessMemory g.D.Desk.meaning [] c.hand_in.new.out.items c.hand_in.new.self.server n c.args.bytes.now state (Ok c.in-Ok.closes)) c.from.ensures
+    (subst (λ (l : List ℕ). IsHeardUnlessMemory g.D.Desk.meaning l c.hand_in.new.out.items c.hand_in.new.self.server c.from.result c.args.bytes.now state (Ok c.in-Ok.closes)) c.new-sent.ensures.items
+    (c.in-Ok.ensures state has)))
+    (λ said s e. c.in-Ok-show.ensures said (subst (λ (l : List ℕ). Sends c.key.result.now [] l said.sent) (sym c.as_slice.ensures.value) s) e)
 
-pub returns-clause-done : goal.returns-clause-done
-returns-clause-done c = λ state has.
-    not_handed c.args.self.now.server.key c.args.line c.args.number c.args.bytes.now c.hand_in.new.self.server state c.hand_in.new.sent (string_bytes c.args.out.now) c.in-Err.fault c.stop_at.result c.stop_at.ensures
-    (subst (λ (old : List Sent). IsHeard c.args.self.now.server.key old c.hand_in.new.sent c.hand_in.new.self.server c.args.number c.args.bytes.now state (Err c.in-Err.fault)) c.new-sent.ensures (c.in-Err.ensures.heard state has))
+pub returns : goal.returns
+returns g c = λ state has.
+    not_handed g.D.Desk.meaning c.args.line c.args.number c.args.bytes.now c.hand_in.new.self.server state c.hand_in.new.out.items c.args.out.now.items c.in-Err.fault c.stop_at.result c.stop_at.ensures
+    (subst (λ (n : ℕ). IsHeardUnlessMemory g.D.Desk.meaning [] c.hand_in.new.out.items c.hand_in.new.self.server n c.args.bytes.now state (Err c.in-Err.fault)) c.from.ensures
+    (subst (λ (l : List ℕ). IsHeardUnlessMemory g.D.Desk.meaning l c.hand_in.new.out.items c.hand_in.new.self.server c.from.result c.args.bytes.now state (Err c.in-Err.fault)) c.new-sent.ensures.items
+    (c.in-Err.ensures state has)))

@@ -1,8 +1,18 @@
-use Rattle.std.proofs.Common.{sym}
-use Rattle.tac_server.proofs.ServerFacts.{fed_open, some_found}
+use Rattle.std.proofs.Common.{Some, refl, sym}
+use Rattle.tac_server.proofs.ServerFacts.{heard_open, heard_closing, removed, some_found}
 use Rattle.tac_server.proofs.server.Server.feed.Goals as goal
 
-pub returns-else-closes-clause-state : goal.returns-else-closes-clause-state
-returns-else-closes-clause-state c = λ state has.
-    fed_open c.args.self.now.key c.args.self.now.connections (c.get_mut.follows.lender c.take_piece.new.self) c.args.number c.in-Some.connection.now c.take_piece.new.self c.args.self.now.desk c.take_piece.new.desk c.args.sent.now c.take_piece.new.sent c.args.piece.now c.in_ok-closes.closes
-    (sym c.in-Some.ensures.value) c.in_ok-closes.ensures.said c.if-closes.false ((c.get_mut.follows.holds c.take_piece.new.self).3 (some_found _ c.in-Some.connection.now c.in-Some.ensures.value)).0 state has.0 has.1
+pub returns-in-Ok-false-clause-heard : goal.returns-in-Ok-false-clause-heard
+returns-in-Ok-false-clause-heard g c = λ state has.
+    heard_open g.D.Desk.meaning c.args.self.now _ c.args.conn c.in-Some.stream.now c.serve_piece.new.stream c.args.out.now.items c.serve_piece.new.out.items c.args.piece.now
+    (sym c.in-Some.ensures.value) refl state has
+    (λ before serves. rw c.in-Ok-false.field-0-test at (c.in-Ok-false.ensures.said before serves))
+    ((c.get_mut.follows.holds c.serve_piece.new.stream).3 (some_found _ c.in-Some.stream.now c.in-Some.ensures.value)).0
+
+pub returns-in-Ok-true-clause-heard : goal.returns-in-Ok-true-clause-heard
+returns-in-Ok-true-clause-heard g c = λ state has.
+    heard_closing g.D.Desk.meaning c.args.self.now _ c.args.conn c.in-Some.stream.now c.serve_piece.new.stream c.args.out.now.items c.serve_piece.new.out.items c.args.piece.now
+    (sym c.in-Some.ensures.value) refl state has
+    (λ before serves. rw c.in-Ok-true.field-0-test at (c.in-Ok-true.ensures.said before serves))
+    (removed c.args.self.now.connections (c.get_mut.follows.lender c.serve_piece.new.stream) c.remove.new.self c.args.conn (Some c.serve_piece.new.stream)
+    ((c.get_mut.follows.holds c.serve_piece.new.stream).3 (some_found _ c.in-Some.stream.now c.in-Some.ensures.value)).0 c.remove.ensures.updates.0)
