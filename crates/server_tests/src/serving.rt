@@ -78,13 +78,24 @@ fn another_desk_through_the_same_server(rt: HostRuntime) -> Result<(), Fail> {
     )?;
     let mut out = Vec::new(alloc);
     assert_eq!(rt; server.open(4_294_967_295), Ok(()));
-    assert_eq!(rt; server.feed(4_294_967_295, request.as_slice(), &mut out), Ok(false));
+    assert_eq!(rt;
+        server.feed(4_294_967_295, request.as_slice(), &mut out),
+        Ok(false)
+    );
     assert_eq!(rt; out.as_slice(), permitted.as_slice());
     tells(&rt, &mut server, "insert group ops 1 deny show .*", "ok\n")?;
     out.clear();
-    assert_eq!(rt; server.feed(4_294_967_295, request.as_slice(), &mut out), Ok(false));
+    assert_eq!(rt;
+        server.feed(4_294_967_295, request.as_slice(), &mut out),
+        Ok(false)
+    );
     assert_eq!(rt; out.as_slice(), denied.as_slice());
-    tells(&rt, &mut server, "why bob show version", "denied by group ops rule 1\n")?;
+    tells(
+        &rt,
+        &mut server,
+        "why bob show version",
+        "denied by group ops rule 1\n",
+    )?;
     tells(&rt, &mut server, "shadow", "refused 1 BadEdit\n")
 }
 
@@ -123,7 +134,10 @@ fn connections_by_number(rt: HostRuntime) -> Result<(), Fail> {
     let alloc = rt.alloc();
     let mut server = serving(alloc, plain(alloc, "", 9)?)?;
     let mut out = Vec::new(alloc);
-    assert_eq!(rt; server.feed(3, b"", &mut out), Err(ServerFault::NoConnection));
+    assert_eq!(rt;
+        server.feed(3, b"", &mut out),
+        Err(ServerFault::NoConnection)
+    );
     server.lost(3);
     assert_eq!(rt; server.open(3), Ok(()));
     assert_eq!(rt; server.open(3), Err(ServerFault::AlreadyOpen));
@@ -131,10 +145,16 @@ fn connections_by_number(rt: HostRuntime) -> Result<(), Fail> {
     assert_eq!(rt; server.open(4), Ok(()));
     let refused = [0xd0, 1, 1, 0, 0, 0, 0, 1, 0, 0, 0, 0];
     assert_eq!(rt; server.feed(3, &refused, &mut out), Ok(true));
-    assert_eq!(rt; server.feed(3, &refused, &mut out), Err(ServerFault::NoConnection));
+    assert_eq!(rt;
+        server.feed(3, &refused, &mut out),
+        Err(ServerFault::NoConnection)
+    );
     assert_eq!(rt; server.feed(4, b"", &mut out), Ok(false));
     server.lost(4);
-    assert_eq!(rt; server.feed(4, b"", &mut out), Err(ServerFault::NoConnection));
+    assert_eq!(rt;
+        server.feed(4, b"", &mut out),
+        Err(ServerFault::NoConnection)
+    );
     assert_eq!(rt; out.is_empty(), true);
     Ok(())
 }
@@ -157,6 +177,9 @@ fn many_connections(rt: HostRuntime) -> Result<(), Fail> {
         out.clear();
         server.lost(conn);
     }
-    assert_eq!(rt; server.feed(0, back, &mut out), Err(ServerFault::NoConnection));
+    assert_eq!(rt;
+        server.feed(0, back, &mut out),
+        Err(ServerFault::NoConnection)
+    );
     Ok(())
 }
