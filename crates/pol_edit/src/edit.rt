@@ -1,11 +1,11 @@
 //! What an edit asks for.
 
-use basics::Bytes;
+use basics::{Bytes, StructuralEq};
 use pol_names::{Name, SubjectId, Verdict};
 
 /// An edit. Secrets and patterns are kept as they were written, and judged when the edit is applied;
 /// rules are counted from 1.
-#[derive(Debug, Drop)]
+#[derive(Debug, Drop, PartialEq, Eq)]
 pub enum Edit {
     /// A new group, last, without rules.
     AddGroup {
@@ -59,4 +59,10 @@ pub enum Edit {
         from: u16,
         to: u16,
     },
+}
+
+impl StructuralEq for Edit {
+    ghost use Rattle.std.proofs.Common.{rules};
+
+    ghost identical = { Prim.search rules };
 }

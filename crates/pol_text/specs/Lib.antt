@@ -3,6 +3,7 @@ pub use Rattle.pol_names.specs.Secret
 pub use Rattle.pol_names.specs.SubjectId
 pub use Rattle.pol_names.specs.Decision
 pub mod Policy
+pub mod Same
 pub mod Places
 pub mod Change
 pub mod Text

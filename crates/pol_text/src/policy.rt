@@ -9,7 +9,7 @@ ghost use Rattle.pol_text.specs.declared.subject.Subject.{Subject as SubjectValu
 
 use crate::chains;
 use crate::subject::Subject;
-use basics::Sequence;
+use basics::{Sequence, StructuralEq};
 use indexmap::IndexSet;
 use pol_names::{By, Decision, Name, SubjectId, Verdict};
 use std::alloc::{AllocError, Global};
@@ -33,6 +33,32 @@ impl Model for Policy {
     ghost view = { λ policy. policy.subjects };
 
     ghost invariant = { λ policy. WellFormed policy.subjects × (policy.places.keys ≡ map id_of policy.subjects) };
+}
+
+impl PartialEq for Policy {
+    ghost use Rattle.std.specs.Cmp.{decided, partial_equiv_from_equiv};
+    ghost use Rattle.pol_text.specs.Same.{same_policy, same_policy-Decides};
+
+    ghost eq = { same_policy };
+
+    ghost laws = { partial_equiv_from_equiv (decided same_policy same_policy-Decides) };
+
+    fn eq(&self, other: &Policy) -> bool {
+        self.subjects == other.subjects
+    }
+}
+
+impl Eq for Policy {
+    ghost use Rattle.std.specs.Cmp.{decided};
+    ghost use Rattle.pol_text.specs.Same.{same_policy, same_policy-Decides};
+
+    ghost laws = { decided same_policy same_policy-Decides };
+}
+
+impl StructuralEq for Policy {
+    ghost use Rattle.pol_text.specs.Same.{same_policy-identical};
+
+    ghost identical = { same_policy-identical };
 }
 
 impl Policy {

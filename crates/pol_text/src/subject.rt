@@ -5,7 +5,7 @@ ghost use Rattle.pol_names.specs.SubjectId.{kind_word};
 ghost use Rattle.pol_names.specs.SubjectId.{group_id, user_id};
 ghost use Rattle.pol_text.specs.Policy.{id_of, first_match as first_of};
 
-use basics::Sequence;
+use basics::{Sequence, StructuralEq};
 use pol_names::{By, Decision, Kind, Name, Secret, SubjectId, Verdict};
 use pol_pattern::Pattern;
 use std::alloc::{AllocError, Global};
@@ -15,6 +15,32 @@ use std::alloc::{AllocError, Global};
 pub struct Rule {
     pub verdict: Verdict,
     pub pattern: Pattern,
+}
+
+impl PartialEq for Rule {
+    ghost use Rattle.std.specs.Cmp.{decided, partial_equiv_from_equiv};
+    ghost use Rattle.pol_text.specs.Same.{same_rule, same_rule-Decides};
+
+    ghost eq = { same_rule };
+
+    ghost laws = { partial_equiv_from_equiv (decided same_rule same_rule-Decides) };
+
+    fn eq(&self, other: &Rule) -> bool {
+        self.verdict == other.verdict && self.pattern == other.pattern
+    }
+}
+
+impl Eq for Rule {
+    ghost use Rattle.std.specs.Cmp.{decided};
+    ghost use Rattle.pol_text.specs.Same.{same_rule, same_rule-Decides};
+
+    ghost laws = { decided same_rule same_rule-Decides };
+}
+
+impl StructuralEq for Rule {
+    ghost use Rattle.pol_text.specs.Same.{same_rule-identical};
+
+    ghost identical = { same_rule-identical };
 }
 
 impl Rule {
@@ -44,6 +70,38 @@ pub struct Subject {
     pub priv_lvl: Option<u8>,
     /// At most 256.
     pub rules: Sequence<Rule>,
+}
+
+impl PartialEq for Subject {
+    ghost use Rattle.std.specs.Cmp.{decided, partial_equiv_from_equiv};
+    ghost use Rattle.pol_text.specs.Same.{same_subject, same_subject-Decides};
+
+    ghost eq = { same_subject };
+
+    ghost laws = { partial_equiv_from_equiv (decided same_subject same_subject-Decides) };
+
+    fn eq(&self, other: &Subject) -> bool {
+        self.kind == other.kind
+            && self.name == other.name
+            && self.parent == other.parent
+            && self.login == other.login
+            && self.enable == other.enable
+            && self.priv_lvl == other.priv_lvl
+            && self.rules == other.rules
+    }
+}
+
+impl Eq for Subject {
+    ghost use Rattle.std.specs.Cmp.{decided};
+    ghost use Rattle.pol_text.specs.Same.{same_subject, same_subject-Decides};
+
+    ghost laws = { decided same_subject same_subject-Decides };
+}
+
+impl StructuralEq for Subject {
+    ghost use Rattle.pol_text.specs.Same.{same_subject-identical};
+
+    ghost identical = { same_subject-identical };
 }
 
 impl Subject {
