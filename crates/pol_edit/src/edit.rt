@@ -1,7 +1,10 @@
 //! What an edit asks for.
 
+ghost use Rattle.std.specs.Prelude.{◌≡◌, IfOk};
+
 use basics::{Bytes, StructuralEq};
 use pol_names::{Name, SubjectId, Verdict};
+use std::alloc::{AllocError, Global};
 
 /// An edit. Secrets and patterns are kept as they were written, and judged when the edit is applied;
 /// rules are counted from 1.
@@ -65,4 +68,71 @@ impl StructuralEq for Edit {
     ghost use Rattle.std.proofs.Common.{rules};
 
     ghost identical = { Prim.search rules };
+}
+
+fn copy_secret(alloc: Global, secret: &Option<Bytes>) -> Result<Option<Bytes>, AllocError>
+    ensures { IfOk result (λ copy. copy ≡ secret.now) }
+{
+    match secret {
+        Some(secret) => {
+            let copy = secret.copy(alloc)?;
+            Ok(Some(copy))
+        }
+        None => Ok(None),
+    }
+}
+
+impl Edit {
+    /// A copy of the edit.
+    pub fn copy(&self, alloc: Global) -> Result<Edit, AllocError>
+        ensures { IfOk result (λ copy. copy ≡ self.now) }
+    {
+        Ok(match self {
+            Edit::AddGroup { name, parent } => Edit::AddGroup {
+                name: *name,
+                parent: *parent,
+            },
+            Edit::AddUser { name, parent } => Edit::AddUser {
+                name: *name,
+                parent: *parent,
+            },
+            Edit::Remove { subject } => Edit::Remove { subject: *subject },
+            Edit::SetParent { subject, parent } => Edit::SetParent {
+                subject: *subject,
+                parent: *parent,
+            },
+            Edit::SetLogin { user, secret } => Edit::SetLogin {
+                user: *user,
+                secret: copy_secret(alloc, secret)?,
+            },
+            Edit::SetEnable { user, secret } => Edit::SetEnable {
+                user: *user,
+                secret: copy_secret(alloc, secret)?,
+            },
+            Edit::SetPriv { subject, level } => Edit::SetPriv {
+                subject: *subject,
+                level: *level,
+            },
+            Edit::InsertRule {
+                subject,
+                at,
+                verdict,
+                pattern,
+            } => Edit::InsertRule {
+                subject: *subject,
+                at: *at,
+                verdict: *verdict,
+                pattern: pattern.copy(alloc)?,
+            },
+            Edit::RemoveRule { subject, at } => Edit::RemoveRule {
+                subject: *subject,
+                at: *at,
+            },
+            Edit::MoveRule { subject, from, to } => Edit::MoveRule {
+                subject: *subject,
+                from: *from,
+                to: *to,
+            },
+        })
+    }
 }

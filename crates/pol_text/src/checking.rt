@@ -1,21 +1,17 @@
 //! Whether the chains of a draft are right, and the policy that it then is.
 
-ghost use Rattle.std.specs.Prelude.{◌≡◌, ◌<◌, ◌≤◌, ℕ, List, Ok, Err, length, map, slice_index, IfOk, IfSome, MatchResult};
+ghost use Rattle.std.specs.Prelude.{◌≡◌, ◌<◌, Ok, Err, length, map, slice_index, IfSome, MatchResult};
 ghost use Rattle.std.specs.Option.{option_map_or};
 ghost use Rattle.pol_text.specs.Draft.{RightDraft, first_failing};
-ghost use Rattle.pol_text.specs.Policy.{WellFormed, TellsEndless, id_of};
+ghost use Rattle.pol_text.specs.Policy.{id_of};
 ghost use Rattle.pol_text.specs.Policy.{has_parent as parent_test, ends_within as chain_ends_within};
-ghost use Rattle.pol_text.specs.declared.subject.Subject.{Subject as SubjectValue};
-ghost use Rattle.pol_text.specs.Spelling.{Spells};
-ghost use Rattle.pol_text.specs.Text.{Draft as DraftValue, IsUnlessMemory, subjects_of, with_right_chains, policy_of};
+ghost use Rattle.pol_text.specs.Text.{Draft as DraftValue, IsUnlessMemory, subjects_of, with_right_chains};
 ghost use Rattle.pol_text.specs.declared.fault.PolicyFault.TheVariants.{Refused};
-ghost use Rattle.pol_text.specs.declared.fault.PolicyRefusal.{PolicyRefusal as RefusalValue};
 
 use crate::chains::{ends_within, find_in};
 use crate::draft::{Draft, Parts};
 use crate::fault::{PolicyFault, PolicyRefusal};
 use crate::policy::Policy;
-use crate::reading::read_lines;
 use crate::subject::Subject;
 use basics::Sequence;
 use indexmap::IndexSet;
@@ -102,8 +98,8 @@ fn check_chains(parts: &Parts) -> Result<(), PolicyFault>
     Ok(())
 }
 
-// The policy that the draft is.
-fn finish(alloc: Global, draft: Draft) -> Result<Policy, PolicyFault>
+/// The policy that the draft is.
+pub(crate) fn finish(alloc: Global, draft: Draft) -> Result<Policy, PolicyFault>
     requires { RightDraft draft }
     ensures { IsUnlessMemory (λ policy. policy) result (with_right_chains draft) }
 {
@@ -115,44 +111,4 @@ fn finish(alloc: Global, draft: Draft) -> Result<Policy, PolicyFault>
         ..
     } = parts;
     Ok(Policy { subjects, places })
-}
-
-// The policy that a text says.
-#[tactic(auto, unfolding(crate::specs::Text::policy_of))]
-fn read_policy(alloc: Global, text: &[u8]) -> Result<Policy, PolicyFault>
-    ensures exact { IsUnlessMemory (λ policy. policy) result (policy_of text.now) }
-    ensures well_formed { IfOk result WellFormed }
-{
-    let draft = read_lines(alloc, text)?;
-    finish(alloc, draft)
-}
-
-impl Policy {
-    /// Reads a policy's text (docs/POLICY.md): the policy that it says, or the first fault with its
-    /// line.
-    ///
-    /// A line of a subject takes no look-up, a line that begins one takes one hash look-up, and the
-    /// chains of what is accepted have at most 8 subjects. So an accepted text takes expected time
-    /// linear in its length, up to a logarithm. A refused one takes at most 1,024 look-ups more for
-    /// each of its subjects.
-    pub fn read(alloc: Global, text: &[u8]) -> Result<Policy, PolicyFault>
-        ensures exact { IsUnlessMemory (λ policy. policy) result (policy_of text.now) }
-        ensures well_formed { IfOk result WellFormed }
-
-        // What is read is spelled so.
-        ensures found { IfOk result (λ policy. Spells text.now policy) }
-
-        // What is spelled so is read, unless memory runs out.
-        ensures only { (policy : List SubjectValue) → Spells text.now policy →
-            IsUnlessMemory (λ policy. policy) result (Ok policy) }
-
-        // The line of a refusal is one of the text's.
-        ensures place { (line : ℕ) (refusal : RefusalValue) →
-            result ≡ Err (Refused line refusal) → line ≤ length text.now }
-
-        // What is refused as a cycle is exactly a chain that doesn't end.
-        ensures endless { (policy : List SubjectValue) → TellsEndless policy }
-    {
-        read_policy(alloc, text)
-    }
 }

@@ -1,12 +1,21 @@
-//! Reading a policy's text, line by line.
+//! Reading a policy's text: its lines, and then whether its chains are right.
 
-ghost use Rattle.std.specs.Prelude.{◌≡◌, [], Ok, Err};
+ghost use Rattle.std.specs.Prelude.{◌≡◌, ◌≤◌, ℕ, List, [], length, Ok, Err, IfOk};
 ghost use Rattle.basics.specs.Lines.{split_at_first, lines_of};
 ghost use Rattle.pol_text.specs.Draft.{LineGives, at_place};
-ghost use Rattle.pol_text.specs.Text.{IsUnlessMemory, named as name_wanted, is_field as field_test, with_parent, heading as heading_wanted, with_words, with_trimmed, with_line, with_lines};
+ghost use Rattle.pol_text.specs.Policy.{WellFormed, TellsEndless};
+ghost use Rattle.pol_text.specs.Spelling.{Spells};
+ghost use Rattle.pol_text.specs.Text.{IsUnlessMemory, named as name_wanted, is_field as field_test};
+ghost use Rattle.pol_text.specs.Text.{with_parent, heading as heading_wanted};
+ghost use Rattle.pol_text.specs.Text.{with_words, with_trimmed, with_line, with_lines, policy_of};
+ghost use Rattle.pol_text.specs.declared.fault.PolicyFault.TheVariants.{Refused};
+ghost use Rattle.pol_text.specs.declared.fault.PolicyRefusal.{PolicyRefusal as RefusalValue};
+ghost use Rattle.pol_text.specs.declared.subject.Subject.{Subject as SubjectValue};
 
+use crate::checking::finish;
 use crate::draft::Draft;
 use crate::fault::{LineFault, PolicyFault, PolicyRefusal};
+use crate::policy::Policy;
 use crate::setting::Setting;
 use basics::{Lines, is_text, split_once, without_leading_spaces};
 use pol_names::{Kind, Name, Verdict};
@@ -130,8 +139,8 @@ fn at_line(line: usize, fault: LineFault) -> PolicyFault
     }
 }
 
-/// The subjects of all lines. Expected time linear in the text.
-pub(crate) fn read_lines(alloc: Global, text: &[u8]) -> Result<Draft, PolicyFault>
+// The subjects of all lines. Expected time linear in the text.
+fn read_lines(alloc: Global, text: &[u8]) -> Result<Draft, PolicyFault>
     ensures { IsUnlessMemory (λ draft. draft) result (with_lines 1 (lines_of text.now) []) }
 {
     let mut lines = Lines::new(text);
@@ -143,4 +152,44 @@ pub(crate) fn read_lines(alloc: Global, text: &[u8]) -> Result<Draft, PolicyFaul
         }
     }
     Ok(draft)
+}
+
+// The policy that a text says.
+#[tactic(auto, unfolding(crate::specs::Text::policy_of))]
+fn read_policy(alloc: Global, text: &[u8]) -> Result<Policy, PolicyFault>
+    ensures exact { IsUnlessMemory (λ policy. policy) result (policy_of text.now) }
+    ensures well_formed { IfOk result WellFormed }
+{
+    let draft = read_lines(alloc, text)?;
+    finish(alloc, draft)
+}
+
+impl Policy {
+    /// Reads a policy's text (docs/POLICY.md): the policy that it says, or the first fault with its
+    /// line.
+    ///
+    /// A line of a subject takes no look-up, a line that begins one takes one hash look-up, and the
+    /// chains of what is accepted have at most 8 subjects. So an accepted text takes expected time
+    /// linear in its length, up to a logarithm. A refused one takes at most 1,024 look-ups more for
+    /// each of its subjects.
+    pub fn read(alloc: Global, text: &[u8]) -> Result<Policy, PolicyFault>
+        ensures exact { IsUnlessMemory (λ policy. policy) result (policy_of text.now) }
+        ensures well_formed { IfOk result WellFormed }
+
+        // What is read is spelled so.
+        ensures found { IfOk result (λ policy. Spells text.now policy) }
+
+        // What is spelled so is read, unless memory runs out.
+        ensures only { (policy : List SubjectValue) → Spells text.now policy →
+            IsUnlessMemory (λ policy. policy) result (Ok policy) }
+
+        // The line of a refusal is one of the text's.
+        ensures place { (line : ℕ) (refusal : RefusalValue) →
+            result ≡ Err (Refused line refusal) → line ≤ length text.now }
+
+        // What is refused as a cycle is exactly a chain that doesn't end.
+        ensures endless { (policy : List SubjectValue) → TellsEndless policy }
+    {
+        read_policy(alloc, text)
+    }
 }
