@@ -1,69 +1,99 @@
 //! Bodies of authentication packets, worked out by hand from RFC 8907, section 5.
 
-use std::process::Abort;
+use crate::cases::{answers, bytes, shown, told};
+use std::alloc::Global;
 use std::test::Fail;
-use tac_authen::{
-    Action, AuthenReply, AuthenStatus, AuthenType, Service, read_continue, read_reply, read_start,
-    write_reply,
-};
-use tac_wire::BodyFault;
+use tac_authen::{read_continue, read_reply, read_start, write_reply};
 
-#[test]
-fn an_ascii_start(rt: HostRuntime) -> Result<(), Fail> {
-    let start = read_start(
-        rt.alloc(),
-        b"\x01\x0f\x01\x02\x03\x04\x08\x02bobtty010.0.0.7hi",
-    )?;
-    assert_eq!(rt; start.action, Action::LOGIN);
-    assert_eq!(rt; start.priv_lvl, 15);
-    assert_eq!(rt; start.authen_type, AuthenType::ASCII);
-    assert_eq!(rt; start.service, Service::ENABLE);
-    assert!(rt; start.user.as_slice() == b"bob".as_slice());
-    assert!(rt; start.port.as_slice() == b"tty0".as_slice());
-    assert!(rt; start.rem_addr.as_slice() == b"10.0.0.7".as_slice());
-    assert!(rt; start.extra.as_slice() == b"hi".as_slice());
-    Ok(())
-}
-
-#[test]
-fn starts_that_are_none(rt: HostRuntime) -> Result<(), Fail> {
-    let cases: [(&[u8], BodyFault); 4] = [
-        (b"", BodyFault::Short),
-        (b"\x01\x0f\x01\x02\xff\x04\x00", BodyFault::Short),
-        (b"\x01\x0f\x01\x02\x03\x00\x00\x00bo", BodyFault::LengthSum),
-        (
-            b"\x01\x0f\x01\x02\x03\x00\x00\x00bobs",
-            BodyFault::LengthSum,
+// Action, level, authen_type, service, and the four fields.
+pub(crate) fn start(alloc: Global, body: &str) -> Result<String, Fail> {
+    let body = bytes(alloc, body)?;
+    match read_start(alloc, body.as_slice()) {
+        Ok(start) => shown(
+            alloc,
+            &[
+                u32::from(start.action.0),
+                u32::from(start.priv_lvl),
+                u32::from(start.authen_type.0),
+                u32::from(start.service.0),
+            ],
+            &[
+                start.user.as_slice(),
+                start.port.as_slice(),
+                start.rem_addr.as_slice(),
+                start.extra.as_slice(),
+            ],
+            &[],
         ),
-    ];
-    for (body, fault) in &cases {
-        assert_eq!(rt; read_start(rt.alloc(), body).err(), Some(*fault));
+        Err(fault) => told(alloc, fault),
     }
-    Ok(())
+}
+
+// Whether the client gives up, and both fields.
+pub(crate) fn continuation(alloc: Global, body: &str) -> Result<String, Fail> {
+    let body = bytes(alloc, body)?;
+    match read_continue(alloc, body.as_slice()) {
+        Ok(answer) => shown(
+            alloc,
+            &[u32::from(answer.is_abort())],
+            &[answer.user_msg.as_slice(), answer.extra.as_slice()],
+            &[],
+        ),
+        Err(fault) => told(alloc, fault),
+    }
+}
+
+// Status, whether what is typed isn't shown, whether the body is written again, and the text.
+pub(crate) fn authentication_reply(alloc: Global, body: &str) -> Result<String, Fail> {
+    let body = bytes(alloc, body)?;
+    match read_reply(body.as_slice()) {
+        Ok(reply) => {
+            let is_again = write_reply(&reply).as_slice() == body.as_slice();
+            let numbers = [
+                u32::from(reply.status.0),
+                u32::from(reply.noecho),
+                u32::from(is_again),
+            ];
+            shown(alloc, &numbers, &[reply.msg.as_slice()], &[])
+        }
+        Err(fault) => told(alloc, fault),
+    }
 }
 
 #[test]
-fn answers_of_a_client(rt: HostRuntime) -> Result<(), Fail> {
-    let cases: [(&[u8], bool); 4] = [
-        (b"\x00\x03\x00\x02\x00bobhi", false),
-        (b"\x00\x03\x00\x02\x01bobhi", true),
-        (b"\x00\x03\x00\x02\xfebobhi", false),
-        (b"\x00\x03\x00\x02\xffbobhi", true),
-    ];
-    for (body, is_abort) in &cases {
-        let answer = read_continue(rt.alloc(), body)?;
-        assert!(rt; answer.user_msg.as_slice() == b"bob".as_slice());
-        assert!(rt; answer.extra.as_slice() == b"hi".as_slice());
-        assert_eq!(rt; answer.is_abort(), *is_abort);
-    }
-    assert_eq!(rt;
-        read_continue(rt.alloc(), b"\x00\x09\x00\x09").err(),
-        Some(BodyFault::Short)
-    );
-    assert_eq!(rt;
-        read_continue(rt.alloc(), b"\x00\x01\x00\x00\x00").err(),
-        Some(BodyFault::LengthSum)
-    );
+fn authentication(rt: HostRuntime) -> Result<(), Fail> {
+    answers(
+        &rt,
+        "
+        start 010f010203040802'bobtty010.0.0.7hi' = 1 15 1 2 'bob' 'tty0' '10.0.0.7' 'hi'
+        start = Short
+        start 010f0102ff0400 = Short
+        start 010f010203000000'bo' = LengthSum
+        start 010f010203000000'bobs' = LengthSum
+
+        # ABORT is a bit.
+        continue 0003000200'bobhi' = 0 'bob' 'hi'
+        continue 0003000201'bobhi' = 1 'bob' 'hi'
+        continue 00030002fe'bobhi' = 0 'bob' 'hi'
+        continue 00030002ff'bobhi' = 1 'bob' 'hi'
+        continue 00090009 = Short
+        continue 0001000000 = LengthSum
+
+        authentication-reply 010000000000 = 1 0 1 ''
+        authentication-reply 020000000000 = 2 0 1 ''
+        authentication-reply 0400000a0000'Username: ' = 4 0 1 'Username: '
+        authentication-reply 0501000a0000'Password: ' = 5 1 1 'Password: '
+        authentication-reply 070000080000'bad body' = 7 0 1 'bad body'
+        authentication-reply 0100004100 = Short
+        authentication-reply 010000410001 = LengthSum
+        authentication-reply 010000020001'okx' = TooLong
+        authentication-reply 010000410000'00000000000000000000000000000000000000000000000000000000000000000' = TooLong
+        # Of the flags only NOECHO is written again.
+        authentication-reply 050300000000 = 5 1 0 ''
+        ",
+    )?;
+    let odd = read_reply(b"\x05\x03\x00\x00\x00\x00")?;
+    assert!(rt; write_reply(&odd).as_slice() == b"\x05\x01\x00\x00\x00\x00".as_slice());
     Ok(())
 }
 
@@ -78,59 +108,5 @@ fn the_longest_answer(rt: HostRuntime) -> Result<(), Fail> {
     assert_eq!(rt; answer.extra.len(), 65_535);
     assert!(rt; answer.user_msg.as_slice().iter().all(|byte| *byte == b'a'));
     assert!(rt; answer.extra.as_slice().iter().all(|byte| *byte == b'b'));
-    Ok(())
-}
-
-#[test]
-fn authentication_replies(rt: HostRuntime) -> Result<(), Fail> {
-    let cases: [(&[u8], AuthenStatus, bool, &[u8]); 5] = [
-        (b"\x01\x00\x00\x00\x00\x00", AuthenStatus::PASS, false, b""),
-        (b"\x02\x00\x00\x00\x00\x00", AuthenStatus::FAIL, false, b""),
-        (
-            b"\x04\x00\x00\x0a\x00\x00Username: ",
-            AuthenStatus::GETUSER,
-            false,
-            b"Username: ",
-        ),
-        (
-            b"\x05\x01\x00\x0a\x00\x00Password: ",
-            AuthenStatus::GETPASS,
-            true,
-            b"Password: ",
-        ),
-        (
-            b"\x07\x00\x00\x08\x00\x00bad body",
-            AuthenStatus::ERROR,
-            false,
-            b"bad body",
-        ),
-    ];
-    for (body, status, noecho, msg) in &cases {
-        let reply = read_reply(body)?;
-        assert_eq!(rt; reply.status, *status);
-        assert_eq!(rt; reply.noecho, *noecho);
-        assert!(rt; reply.msg.as_slice() == *msg);
-        assert!(rt; write_reply(&reply).as_slice() == *body);
-    }
-    Ok(())
-}
-
-#[test]
-fn replies_of_other_servers(rt: HostRuntime) -> Result<(), Fail> {
-    let cases: [(&[u8], BodyFault); 4] = [
-        (b"\x01\x00\x00\x41\x00", BodyFault::Short),
-        (b"\x01\x00\x00\x41\x00\x01", BodyFault::LengthSum),
-        (b"\x01\x00\x00\x02\x00\x01okx", BodyFault::TooLong),
-        (
-            b"\x01\x00\x00\x41\x00\x0000000000000000000000000000000000000000000000000000000000000000000",
-            BodyFault::TooLong,
-        ),
-    ];
-    for (body, fault) in &cases {
-        assert_eq!(rt; read_reply(body).err(), Some(*fault));
-    }
-    let odd: AuthenReply = read_reply(b"\x05\x03\x00\x00\x00\x00")?;
-    assert!(rt; odd.noecho);
-    assert!(rt; write_reply(&odd).as_slice() == b"\x05\x01\x00\x00\x00\x00".as_slice());
     Ok(())
 }

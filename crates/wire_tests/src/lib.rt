@@ -7,6 +7,10 @@ mod accounting;
 #[cfg(test)]
 mod authentication;
 #[cfg(test)]
+mod cases;
+#[cfg(test)]
 mod frames;
 #[cfg(test)]
-mod parts;
+mod requests;
+#[cfg(test)]
+mod wire;
