@@ -142,19 +142,28 @@ fn answer(word: &str) -> Result<Answer, Fail> {
 // a colon, and what is sent. A line that begins with `#` is a comment.
 fn converses<R: Abort + AllocGlobal>(rt: &R, text: &str) -> Result<(), Fail> {
     let mut conn = Conn::new(rt.alloc());
-    let mut heard = String::new(rt.alloc());
+    let mut heard = None;
     for line in text.lines() {
         let line = line.trim_start();
-        if line.is_empty() {
-            conn = Conn::new(rt.alloc());
+        if line.starts_with('#') {
+            continue;
+        }
+        if let Some(said) = heard.take() {
+            let said: String = said;
+            assert_eq!(rt; said.as_str(), line);
         } else if let Some(packet) = line.strip_prefix("> ") {
             let (word, hex) = packet.split_once(' ').ok_or("no packet")?;
-            heard = said(rt, &mut conn, hex, answer(word)?)?;
-        } else if !line.starts_with('#') {
-            assert_eq!(rt; heard.as_str(), line);
+            heard = Some(said(rt, &mut conn, hex, answer(word)?)?);
+        } else if line.is_empty() {
+            conn = Conn::new(rt.alloc());
+        } else {
+            return Err(Fail::from("nothing was said"));
         }
     }
-    Ok(())
+    match heard {
+        Some(_) => Err(Fail::from("no answer is wanted")),
+        None => Ok(()),
+    }
 }
 
 #[test]
