@@ -30,7 +30,7 @@ after_residual flat done (symbol ∷ text) term h =
     let more = after_more (Derivatives symbol (Residual flat done)) (Residual flat (done ++ symbol ∷ [])) text (λ t w. by_more w.1 w.2) term h in
     subst (λ (l : List ℕ). Residual flat l term) (append_assoc done (symbol ∷ []) text) (after_residual flat (done ++ symbol ∷ []) text term more)
 
-after_some : (set : Term → Type 0) (text : List ℕ) (term : Term) → After set text term → (first : Term) × set first
+pub after_some : (set : Term → Type 0) (text : List ℕ) (term : Term) → After set text term → (first : Term) × set first
 after_some set [] term h = (term, h)
 after_some set (symbol ∷ text) term h = let w = after_some (Derivatives symbol set) text term h in (w.1.0, w.1.1)
 

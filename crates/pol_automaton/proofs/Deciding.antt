@@ -5,7 +5,7 @@ use Rattle.std.specs.List.{AllZip, slice_index_or}
 use Rattle.std.specs.Global.{Vec}
 use Rattle.std.proofs.lemmas.Bool.{cases_lt}
 use Rattle.std.proofs.lemmas.List.{get_or_default, get_or-map, length-map}
-use Rattle.std.proofs.lemmas.List.Elements.{All-nil}
+use Rattle.std.proofs.lemmas.List.Elements.{All-contains}
 use Rattle.basics.specs.Symbol.{is_symbol, is_text}
 use Rattle.basics.specs.TextOrder.{IsLeast}
 use Rattle.pol_pattern.specs.Flat.{Term}
@@ -21,13 +21,13 @@ use Rattle.pol_automaton.specs.Residuals.{SameResiduals, IsResidualCount, HasMor
 use Rattle.pol_automaton.specs.Residuals.{AreDifferent as AreDifferentTexts}
 use Rattle.pol_automaton.specs.Decision.{entry_at, IsFirstMatch}
 use Rattle.pol_automaton.specs.Automaton.{Automaton, state_of, first_of, IsWhole, IsDecider}
-use Rattle.pol_automaton.specs.Scanning.{HasTerm, SameBehind, LeadsTo, residuals}
+use Rattle.pol_automaton.specs.Scanning.{item_of, HasTerm, SameBehind, LeadsTo, residuals}
 use Rattle.pol_automaton.specs.Entries.{Entries, AreWhole, AreEntries, GrowsTo}
 use Rattle.pol_automaton.specs.Matching.{Accepts, IsFirstAccepted}
 use Rattle.pol_automaton.specs.Telling.{behind_grown}
 use Rattle.pol_automaton.proofs.Words.{is_word, spells_text}
 use Rattle.pol_automaton.proofs.Zips.{zip_length, zip_through}
-use Rattle.pol_automaton.proofs.Behind.{SameAfter, same_after, holds_after, behind_none}
+use Rattle.pol_automaton.proofs.Behind.{SameAfter, same_after, holds_after, behind_none, after_some}
 
 -- ---- what the scan finds
 
@@ -49,6 +49,12 @@ whole_decider e now table states firsts s = record {
   firsts = sym (zip_length _ table.words states s.led ∙ zip_length _ states firsts s.matched);
   within = λ word w. s.automaton.within word (subst (λ n. IsWord n word) s.automaton.columns w);
   words = λ state lt. subst (λ n. IsWord n (word_at table.words state)) (sym s.automaton.columns) (s.automaton.least state lt).0.0;
+  below = λ state i lt is.
+      let there = zip_through _ _ table.words states firsts state [] None s.led s.matched lt in
+      let accepts : Accepts now.terms there.0.items i = (subst (IsFirstAccepted now.terms there.0.items) is there.2).0 in
+      let behind = (behind_grown e now s.grows (word_at table.words state) i accepts.0).1 ((there.1.members i accepts.0).0 accepts.1) in
+      let first = after_some (HasTerm e.terms e.start i) (text_of e.alphabet (word_at table.words state)) accepts.0 behind in
+      All-contains (λ (x : EntryTerm). x.entry < e.count) e.start (item_of i first.1.0) s.whole.below first.1.1;
 }
 
 module _ (e : Entries) (sources : List (List ℕ)) (whole : AreWhole e) (are : AreEntries e sources) where

@@ -1,6 +1,6 @@
 -- A Decider as contracts see it: an automaton whose states are the residuals of entries, with the first match of each.
 -- It doesn't hold its entries: a relation says of which it is the Decider.
-use Rattle.std.specs.Prelude.{◌≡◌, ◌↔◌, ◌<◌, ◌≤◌, ℕ, Bool, IsTrue, List, length, Option, None, slice_index_or}
+use Rattle.std.specs.Prelude.{◌≡◌, ◌↔◌, ◌<◌, ◌≤◌, ℕ, Bool, IsTrue, List, length, Option, None, Some, slice_index_or}
 use Rattle.basics.specs.Symbol.{is_text}
 use Rattle.basics.specs.TextOrder.{IsLeast}
 use Rattle.pol_scan.specs.Alphabet.{Alphabet, IsAlphabet, word_of}
@@ -31,6 +31,7 @@ pub record IsWhole (automaton : Automaton) : Type 0 where
   pub firsts : length automaton.firsts ≡ count automaton.table
   pub within : (word : List ℕ) → IsWord automaton.table.width word → walk automaton.table word < count automaton.table
   pub words : (state : ℕ) → state < count automaton.table → IsWord automaton.table.width (found_along automaton.table state)
+  pub below : (state i : ℕ) → state < count automaton.table → first_of automaton state ≡ Some i → i < automaton.entries
 
 -- the automaton is the Decider of these entries
 pub record IsDecider (automaton : Automaton) (entries : List (List ℕ)) : Type 0 where

@@ -174,9 +174,17 @@ impl Decider {
     // The first match of the texts that lead to a state.
     pub(crate) fn first_match(&self, state: StateNumber) -> Option<usize>
         requires { state < count self.now.table }
-        ensures { result ≡ first_of self.now state }
+        ensures value { result ≡ first_of self.now state }
+        ensures below { IfSome result (λ i. i < self.now.entries) }
     {
         self.firsts[state as usize]
+    }
+
+    // How many entries there are.
+    pub(crate) fn entries(&self) -> usize
+        ensures { result ≡ self.now.entries }
+    {
+        self.entries
     }
 
     // How many states there are.

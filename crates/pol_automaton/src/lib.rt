@@ -7,6 +7,7 @@ mod differing;
 mod entries;
 mod entry_term;
 mod fault;
+mod joining;
 mod matching;
 mod meter;
 mod pairs;

@@ -108,3 +108,48 @@ impl<'a> Acceptor for Comparing<'a> {
         (comparison_of a.old.now a.old_verdicts.now a.new.now a.new_verdicts.now a.way)
         (comparison_of b.old.now b.old_verdicts.now b.new.now b.new_verdicts.now b.way) g.0 g.1 word };
 }
+
+/// Two automata whose entries are joined.
+#[derive(Drop)]
+pub(crate) struct Joining<'a> {
+    pub(crate) alphabet: Alphabet,
+    pub(crate) first: &'a Decider,
+    pub(crate) rest: &'a Decider,
+}
+
+impl<'a> Machine for Joining<'a> {
+    ghost use Rattle.pol_automaton.specs.Pairs.{pairs, told_pairs, pairs_kept};
+    ghost use Rattle.std.specs.Prelude.{refl};
+    ghost use Rattle.std.proofs.Common.{◌∙◌};
+
+    type State = Pair;
+
+    ghost congruence = { λ m. pairs m.alphabet m.first.now m.rest.now };
+
+    ghost leads = { λ m word state. ArePair m.alphabet m.first.now m.rest.now word state.0 state.1 };
+
+    ghost grows = { λ a b. (a.alphabet ≡ b.alphabet) × (a.first.now ≡ b.first.now)
+        × (a.rest.now ≡ b.rest.now) };
+
+    fn width(&self) -> Column {
+        self.alphabet.width()
+    }
+
+    fn start(&mut self) -> Result<Pair, AllocError> {
+        Ok(start(self.first, self.rest))
+    }
+
+    fn step(&mut self, state: &Pair, column: Column) -> Result<Pair, AllocError> {
+        let symbol = self.alphabet.least_of(column);
+        Ok(step(self.first, self.rest, state, symbol))
+    }
+
+    ghost tells = { λ m u v s t. told_pairs m.alphabet m.first.now m.rest.now u v s t };
+
+    ghost keeps = { λ a b g. pairs_kept a.alphabet b.alphabet a.first.now a.rest.now b.first.now b.rest.now
+        g.0 g.1 g.2 };
+
+    ghost reflexive = { λ m. (refl, refl, refl) };
+
+    ghost transitive = { λ a b c p q. (p.0 ∙ q.0, p.1 ∙ q.1, p.2 ∙ q.2) };
+}

@@ -1,0 +1,70 @@
+use Rattle.std.proofs.Common.{◌≡◌, ◌<◌, ◌+◌, Err, ap, List, ℕ, Option, arith}
+use Rattle.std.proofs.lemmas.Result.{err_from_is_err_and}
+use Rattle.pol_scan.specs.Table.{count}
+use Rattle.pol_scan.specs.declared.fault.ScanFault.{ScanFault}
+use Rattle.pol_scan.specs.declared.fault.ScanFault.TheVariants as scan
+use Rattle.pol_automaton.specs.declared.fault.DeciderFault.TheVariants.{TooManyStates}
+use Rattle.pol_automaton.specs.Faults.{fault_of, too_many_from}
+use Rattle.pol_automaton.specs.Entries.{IsExact}
+use Rattle.pol_automaton.specs.Pairs.{ArePair, led_back}
+use Rattle.pol_automaton.proofs.Collecting.{exact_alphabet}
+use Rattle.pol_automaton.proofs.Counting.{excludes}
+use Rattle.pol_automaton.proofs.Zips.{zip_all}
+use Rattle.pol_automaton.proofs.Joined.{IsJoined, whole_joined, more_joined, is_joined}
+use Rattle.pol_automaton.proofs.decider.Decider.join.Goals as goal
+use Rattle.pol_automaton.proofs.decider.Decider.join.Goals.{After-raise}
+
+pub returns-in_default-clause-excludes : goal.returns-in_default-clause-excludes
+returns-in_default-clause-excludes c = excludes
+
+pub returns-in_err-table-clause-excludes : goal.returns-in_err-table-clause-excludes
+returns-in_err-table-clause-excludes c = excludes
+
+pub returns-in_err-firsts-clause-excludes : goal.returns-in_err-firsts-clause-excludes
+returns-in_err-firsts-clause-excludes c = excludes
+
+pub returns-clause-excludes : goal.returns-clause-excludes
+returns-clause-excludes c = excludes
+
+pub returns-in_err-table-clause-too_many : goal.returns-in_err-table-clause-too_many
+returns-in_err-table-clause-too_many c =
+    let p = err_from_is_err_and c.from_residual.result c.from_residual.ensures.1 in
+    let letters = c.of_symbols-alphabet in
+    let exact : IsExact letters.result = exact_alphabet letters.result letters.ensures.own letters.ensures.least in
+    rw (p.1, p.2) (λ own others d e h.
+    let same : fault_of c.in_err-table.field-0.0 ≡ TooManyStates = cc in
+    let is : c.in_err-table.field-0.0 ≡ scan.TooMany = too_many_from c.in_err-table.field-0.0 same in
+    more_joined letters.result letters.ensures.alphabet exact c.args.first.now c.args.rest.now own others d e c.args.limit (c.in_err-table.ensures.too_many (ap Err is)))
+
+pub firsts_of_pairs-requires-clause-within : goal.firsts_of_pairs-requires-clause-within
+firsts_of_pairs-requires-clause-within c =
+    rw c.as_slice.ensures.keys
+    (zip_all (λ (word : List ℕ) (s : ℕ × ℕ). ArePair c.of_symbols-alphabet.result c.args.first.now c.args.rest.now word s.0 s.1) (λ (s : ℕ × ℕ). (s.0 < count c.args.first.now.table) × (s.1 < count c.args.rest.now.table)) (λ word s led. (led.first_within, led.second_within))
+    c.in_ok-table.field-0.table.words c.in_ok-table.field-0.states.keys
+    (led_back _ _ _ _ _ _ c.in_ok-table.ensures.grows.0 c.in_ok-table.ensures.grows.1 c.in_ok-table.ensures.grows.2 c.in_ok-table.field-0.table.words c.in_ok-table.field-0.states.keys c.in_ok-table.ensures.states))
+
+joined : (c : After-raise) → IsJoined c.of_symbols-alphabet.result c.args.first.now c.args.rest.now c.in_ok-table.field-0.table c.in_ok-table.field-0.states.keys c.in_ok-firsts.firsts.items
+joined c = record {
+  letters = c.of_symbols-alphabet.ensures.alphabet;
+  exact = exact_alphabet c.of_symbols-alphabet.result c.of_symbols-alphabet.ensures.own c.of_symbols-alphabet.ensures.least;
+  automaton = c.in_ok-table.ensures.automaton;
+  index = c.in_ok-table.ensures.index;
+  led = led_back _ _ _ _ _ _ c.in_ok-table.ensures.grows.0 c.in_ok-table.ensures.grows.1 c.in_ok-table.ensures.grows.2 c.in_ok-table.field-0.table.words c.in_ok-table.field-0.states.keys c.in_ok-table.ensures.states;
+  matched = rw c.as_slice.ensures.keys at c.in_ok-firsts.ensures;
+}
+
+pub invariant_of-result : goal.invariant_of-result
+invariant_of-result c =
+    let sum : c.in-Some.entries ≡ c.args.first.now.entries + c.args.rest.now.entries = omega arith in
+    rw sum
+    (whole_joined c.of_symbols-alphabet.result c.args.first.now c.args.rest.now c.in_ok-table.field-0.table c.in_ok-table.field-0.states.keys c.in_ok-firsts.firsts.items c.size.ensures.whole c.size-2.ensures.whole
+    (joined (goal.at.invariant_of-result c).After-raise))
+
+pub returns-clause-decider : goal.returns-clause-decider
+returns-clause-decider c = λ own others d e.
+    let sum : c.in-Some.entries ≡ c.args.first.now.entries + c.args.rest.now.entries = omega arith in
+    let letters = c.of_symbols-alphabet in
+    let exact : IsExact letters.result = exact_alphabet letters.result letters.ensures.own letters.ensures.least in
+    rw sum
+    (is_joined letters.result letters.ensures.alphabet exact c.args.first.now c.args.rest.now own others d e c.in_ok-table.field-0.table c.in_ok-table.field-0.states.keys c.in_ok-firsts.firsts.items
+    (joined (goal.at.returns-clause-decider c).After-raise))

@@ -1,0 +1,96 @@
+//! The automaton of entries and others behind them.
+
+ghost use Rattle.std.specs.Prelude.{◌≡◌, ◌<◌, ◌≤◌, ◌+◌, ◌++◌, ℕ, List, All, min, IfOk, OnErr, IsErrOf};
+ghost use Rattle.std.specs.List.{AllZip};
+ghost use Rattle.pol_scan.specs.Table.{count};
+ghost use Rattle.pol_automaton.specs.Residuals.{HasMoreResiduals, ExcludesLaw};
+ghost use Rattle.pol_automaton.specs.Pairs.{joined_first};
+
+use crate::decider::Decider;
+use crate::fault::DeciderFault;
+use crate::meter::Meter;
+use crate::pairs::{Joining, Pair};
+use pol_scan::{Alphabet, Automaton, StateNumber, scan};
+use std::alloc::{AllocError, Global};
+
+// The first match of a pair of states.
+fn first_of_pair(first: &Decider, rest: &Decider, pair: &Pair) -> Option<usize>
+    requires first { pair.now.0 < count first.now.table }
+    requires rest { pair.now.1 < count rest.now.table }
+    requires few { first.now.entries + rest.now.entries ≤ usize.MAX }
+    ensures { result ≡ joined_first first.now rest.now pair.now.0 pair.now.1 }
+{
+    if let Some(entry) = first.first_match(pair.0) {
+        return Some(entry);
+    }
+    let Some(entry) = rest.first_match(pair.1) else {
+        return None;
+    };
+    Some(first.entries() + entry)
+}
+
+// The first match of each pair.
+fn firsts_of_pairs(
+    alloc: Global,
+    first: &Decider,
+    rest: &Decider,
+    pairs: &[Pair],
+) -> Result<Vec<Option<usize>>, AllocError>
+    requires few { first.now.entries + rest.now.entries ≤ usize.MAX }
+    requires within { All (λ pair. (pair.0 < count first.now.table)
+        × (pair.1 < count rest.now.table)) pairs.now }
+    ensures { IfOk result (λ firsts. AllZip (λ pair found.
+        found ≡ joined_first first.now rest.now pair.0 pair.1) pairs.now firsts.items) }
+{
+    let mut firsts = Vec::new(alloc);
+    for pair in pairs {
+        firsts.push(first_of_pair(first, rest, pair))?;
+    }
+    Ok(firsts)
+}
+
+impl Decider {
+    ghost use Rattle.pol_automaton.specs.Automaton.{IsDecider};
+
+    /// The Decider of the entries of one, and those of another behind them. It takes time by its
+    /// states and its columns.
+    pub fn join(
+        alloc: Global,
+        first: &Decider,
+        rest: &Decider,
+        limit: StateNumber,
+        meter: &mut Meter,
+    ) -> Result<Decider, DeciderFault>
+        ensures decider { (own others : List (List ℕ)) → IsDecider first.now own
+            → IsDecider rest.now others → IfOk result (λ d. IsDecider d (own ++ others)) }
+        ensures few { IfOk result (λ d. count d.table ≤ limit) }
+        ensures too_many { (own others : List (List ℕ)) → IsDecider first.now own
+            → IsDecider rest.now others → IsErrOf result DeciderFault.TooManyStates
+            → HasMoreResiduals (own ++ others) limit }
+        ensures excludes { ExcludesLaw }
+        ensures counted { IfOk result
+            (λ d. meter.new ≡ min (meter.old + count d.table) u128.MAX) }
+        ensures not_counted { OnErr result (meter.new ≡ meter.old) }
+    {
+        // More entries than memory has places.
+        let Some(entries) = first.entries().checked_add(rest.entries()) else {
+            return Err(DeciderFault::Memory);
+        };
+        let sizes = (first.size(), rest.size());
+        let alphabet = Alphabet::of_symbols();
+        let mut joining = Joining {
+            alphabet,
+            first,
+            rest,
+        };
+        let Automaton { table, states } = scan(alloc, &mut joining, limit)?;
+        let firsts = firsts_of_pairs(alloc, first, rest, states.as_slice())?;
+        meter.raise(table.states());
+        Ok(Decider {
+            alphabet,
+            table,
+            firsts,
+            entries,
+        })
+    }
+}
