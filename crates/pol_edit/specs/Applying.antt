@@ -9,7 +9,8 @@ use Rattle.pol_names.specs.Secret.{is_secret}
 use Rattle.pol_names.specs.SubjectId.{same_kind, group_id, user_id}
 use Rattle.pol_text.specs.Policy.{find_subject, all_of}
 use Rattle.pol_text.specs.Text.{new_subject}
-use Rattle.pol_text.specs.Change.{with_changed, without, is_parent, has_room_below, chain_fault, with_parent, with_login, with_enable, with_priv, with_rule_at, without_rule_at, with_rule_moved}
+use Rattle.pol_text.specs.Change.{with_changed, without, is_parent, has_room_below, chain_fault, with_parent, with_secret, with_priv, with_rule_at, without_rule_at, with_rule_moved}
+use Rattle.pol_names.specs.declared.secret.Credential.TheVariants.{Login, Enable}
 use Rattle.pol_names.specs.declared.subject_id.Kind.{Kind}
 use Rattle.pol_names.specs.declared.subject_id.Kind.TheVariants.{Group, User}
 use Rattle.pol_names.specs.declared.decision.Verdict.{Verdict}
@@ -95,8 +96,8 @@ applied policy (AddGroup name parent) = added_to policy Group name parent
 applied policy (AddUser name parent) = added_to policy User name parent
 applied policy (Remove subject) = removed_from policy subject
 applied policy (SetParent subject parent) = moved_in policy subject parent
-applied policy (SetLogin user secret) = set_in policy (user_id user) (all_of is_secret secret) (with_login secret)
-applied policy (SetEnable user secret) = set_in policy (user_id user) (all_of is_secret secret) (with_enable secret)
+applied policy (SetLogin user secret) = set_in policy (user_id user) (all_of is_secret secret) (with_secret Login secret)
+applied policy (SetEnable user secret) = set_in policy (user_id user) (all_of is_secret secret) (with_secret Enable secret)
 applied policy (SetPriv subject level) = set_in policy subject (all_of (λ n. nat_le n 15) level) (with_priv level)
 applied policy (InsertRule subject at verdict pattern) = inserted_in policy subject at verdict pattern
 applied policy (RemoveRule subject at) = dropped_in policy subject at

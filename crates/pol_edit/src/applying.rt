@@ -7,7 +7,7 @@ ghost use Rattle.pol_pattern.specs.Reading.{pattern_of};
 ghost use Rattle.pol_names.specs.Secret.{is_secret};
 ghost use Rattle.pol_names.specs.SubjectId.{user_id};
 ghost use Rattle.pol_text.specs.Policy.{WellFormed, all_of};
-ghost use Rattle.pol_text.specs.Change.{has_room_below, with_login, with_enable, with_priv};
+ghost use Rattle.pol_text.specs.Change.{has_room_below, with_secret, with_priv};
 ghost use Rattle.pol_edit.specs.declared.fault.EditFault.TheVariants.{BadValue, Memory};
 ghost use Rattle.pol_edit.specs.Applying as applying;
 ghost use Rattle.pol_edit.specs.Applying.{Applies};
@@ -15,7 +15,7 @@ ghost use Rattle.pol_edit.specs.Applying.{Applies};
 use crate::edit::Edit;
 use crate::fault::EditFault;
 use basics::Bytes;
-use pol_names::{Kind, Name, Secret, SubjectId, Verdict};
+use pol_names::{Credential, Kind, Name, Secret, SubjectId, Verdict};
 use pol_pattern::{Pattern, PatternFault};
 use pol_text::{ChainFault, Policy, Rule};
 use std::alloc::Global;
@@ -152,14 +152,16 @@ fn set_parent(policy: &mut Policy, id: &SubjectId, parent: &Option<Name>) -> Res
 }
 
 #[tactic(auto, unfolding(crate::specs::Applying::set_in))]
-fn set_login(
+fn set_secret(
     alloc: Global,
     policy: &mut Policy,
     user: Name,
+    credential: Credential,
     secret: &Option<Bytes>,
 ) -> Result<(), EditFault>
     ensures { let right = all_of is_secret secret.now in
-        let wanted = applying.set_in policy.old (user_id user) right (with_login secret.now) in
+        let change = with_secret credential secret.now in
+        let wanted = applying.set_in policy.old (user_id user) right change in
         Applies (is_some secret.now && is_ok wanted) policy.old policy.new result wanted }
 {
     let id = SubjectId::user(user);
@@ -167,27 +169,7 @@ fn set_login(
         return Err(EditFault::NoSuch);
     }
     let secret = read_secret(alloc, secret)?;
-    policy.set_login(&id, secret);
-    Ok(())
-}
-
-#[tactic(auto, unfolding(crate::specs::Applying::set_in))]
-fn set_enable(
-    alloc: Global,
-    policy: &mut Policy,
-    user: Name,
-    secret: &Option<Bytes>,
-) -> Result<(), EditFault>
-    ensures { let right = all_of is_secret secret.now in
-        let wanted = applying.set_in policy.old (user_id user) right (with_enable secret.now) in
-        Applies (is_some secret.now && is_ok wanted) policy.old policy.new result wanted }
-{
-    let id = SubjectId::user(user);
-    if policy.find(&id).is_none() {
-        return Err(EditFault::NoSuch);
-    }
-    let secret = read_secret(alloc, secret)?;
-    policy.set_enable(&id, secret);
+    policy.set_secret(&id, credential, secret);
     Ok(())
 }
 
@@ -273,8 +255,20 @@ fn make(alloc: Global, policy: &mut Policy, edit: &Edit) -> Result<(), EditFault
         Edit::AddUser { name, parent } => add(alloc, policy, Kind::User, *name, parent),
         Edit::Remove { subject } => remove(policy, subject),
         Edit::SetParent { subject, parent } => set_parent(policy, subject, parent),
-        Edit::SetLogin { user, secret } => set_login(alloc, policy, *user, secret),
-        Edit::SetEnable { user, secret } => set_enable(alloc, policy, *user, secret),
+        Edit::SetLogin { user, secret } => set_secret(
+            alloc,
+            policy,
+            *user,
+            Credential::Login,
+            secret,
+        ),
+        Edit::SetEnable { user, secret } => set_secret(
+            alloc,
+            policy,
+            *user,
+            Credential::Enable,
+            secret,
+        ),
         Edit::SetPriv { subject, level } => set_priv(policy, subject, *level),
         Edit::InsertRule {
             subject,

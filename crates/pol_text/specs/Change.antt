@@ -5,6 +5,8 @@ use Rattle.std.specs.List.{list_any, list_all}
 use Rattle.std.specs.Str.{bytes_eq}
 use Rattle.pol_names.specs.SubjectId.{same_id, group_id}
 use Rattle.pol_text.specs.Policy.{id_of, find_subject, ends_within}
+use Rattle.pol_names.specs.declared.secret.Credential.{Credential}
+use Rattle.pol_names.specs.declared.secret.Credential.TheVariants.{Login, Enable}
 use Rattle.pol_names.specs.declared.subject_id.SubjectId.{SubjectId}
 use Rattle.pol_text.specs.declared.subject.Rule.{Rule}
 use Rattle.pol_text.specs.declared.subject.Subject.{Subject}
@@ -38,11 +40,9 @@ chain_fault policy =
 abbrev pub with_parent : Option (List ℕ) → Subject → Subject
 with_parent parent subject = record subject { parent = parent }
 
-abbrev pub with_login : Option (List ℕ) → Subject → Subject
-with_login secret subject = record subject { login = secret }
-
-abbrev pub with_enable : Option (List ℕ) → Subject → Subject
-with_enable secret subject = record subject { enable = secret }
+abbrev pub with_secret : Credential → Option (List ℕ) → Subject → Subject
+with_secret Login secret subject = record subject { login = secret }
+with_secret Enable secret subject = record subject { enable = secret }
 
 abbrev pub with_priv : Option ℕ → Subject → Subject
 with_priv level subject = record subject { priv_lvl = level }

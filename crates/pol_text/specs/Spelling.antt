@@ -13,20 +13,21 @@ use Rattle.basics.specs.Symbol.{is_text}
 use Rattle.basics.specs.Lines.{without_leading_spaces, lines_of}
 use Rattle.pol_names.specs.Name.{is_name}
 use Rattle.pol_names.specs.Secret.{is_secret}
+use Rattle.pol_names.specs.declared.secret.Credential.TheVariants.{Login, Enable}
 use Rattle.pol_names.specs.declared.subject_id.Kind.{Kind}
 use Rattle.pol_names.specs.declared.subject_id.Kind.TheVariants.{User}
 use Rattle.pol_text.specs.declared.subject.Rule.{Rule}
 use Rattle.pol_text.specs.declared.subject.Subject.{Subject}
 use Rattle.pol_text.specs.Policy.{find_subject, has_parent, ends_within, all_of, is_right_rule}
-use Rattle.pol_text.specs.Change.{with_login, with_enable, with_priv}
+use Rattle.pol_text.specs.Change.{with_secret, with_priv}
 use Rattle.pol_text.specs.Text.{new_subject, heading_line, rule_line, level_of, is_blank}
 
 -- the line makes of the last subject this one: each setting once, and at most 256 rules
 pub data Sets (old : Subject) (line : List ℕ) (new : Subject) : Type 0 where
   login : (text : List ℕ) → IsTrue (is_secret text) → line ≡ codes "login " ++ text
-      → old.kind ≡ User → old.login ≡ None → new ≡ with_login (Some text) old → Sets old line new
+      → old.kind ≡ User → old.login ≡ None → new ≡ with_secret Login (Some text) old → Sets old line new
   enable : (text : List ℕ) → IsTrue (is_secret text) → line ≡ codes "enable " ++ text
-      → old.kind ≡ User → old.enable ≡ None → new ≡ with_enable (Some text) old → Sets old line new
+      → old.kind ≡ User → old.enable ≡ None → new ≡ with_secret Enable (Some text) old → Sets old line new
   level : (digits : List ℕ) (n : ℕ) → level_of digits ≡ Some n → line ≡ codes "priv " ++ digits
       → old.priv_lvl ≡ None → new ≡ with_priv (Some n) old → Sets old line new
   rule : (next : Rule) → IsTrue (is_right_rule next) → line ≡ rule_line next

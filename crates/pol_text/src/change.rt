@@ -8,7 +8,7 @@ ghost use Rattle.pol_names.specs.Name.{is_name};
 ghost use Rattle.pol_names.specs.Secret.{is_secret};
 ghost use Rattle.pol_names.specs.SubjectId.{same_id, group_id};
 ghost use Rattle.pol_text.specs.Policy.{id_of, find_subject, ends_within as ends_test, all_of, is_right_rule};
-ghost use Rattle.pol_text.specs.Change.{with_changed, without, is_parent, has_room_below, chain_fault, with_parent, with_login, with_enable, with_priv, with_rule_at, without_rule_at, with_rule_moved};
+ghost use Rattle.pol_text.specs.Change.{with_changed, without, is_parent, has_room_below, chain_fault, with_parent, with_secret, with_priv, with_rule_at, without_rule_at, with_rule_moved};
 ghost use Rattle.pol_text.specs.Places.{changed_at};
 ghost use Rattle.pol_text.specs.Text.{new_subject};
 ghost use Rattle.pol_names.specs.declared.subject_id.Kind.TheVariants.{Group, User};
@@ -19,7 +19,7 @@ use crate::policy::Policy;
 use crate::subject::{Rule, Subject};
 use basics::Sequence;
 use indexmap::IndexSet;
-use pol_names::{Kind, Name, Secret, SubjectId};
+use pol_names::{Credential, Kind, Name, Secret, SubjectId};
 use std::alloc::{AllocError, Global};
 
 // Where the subject stands among all subjects, counted from 0.
@@ -41,6 +41,16 @@ fn see_secret(secret: &Option<Secret>)
 {
     if let Some(secret) = secret {
         let _ = secret.as_slice();
+    }
+}
+
+// Puts the secret in place of the one that the subject has.
+fn put_secret(subject: &mut Subject, credential: Credential, secret: Option<Secret>)
+    ensures { subject.new ≡ with_secret credential secret subject.old }
+{
+    match credential {
+        Credential::Login => subject.login = secret,
+        Credential::Enable => subject.enable = secret,
     }
 }
 
@@ -153,11 +163,11 @@ impl Policy {
         Ok(())
     }
 
-    /// Gives a user another secret to log in with, or none.
-    pub fn set_login(&mut self, id: &SubjectId, secret: Option<Secret>)
+    /// Gives a user another secret, or none.
+    pub fn set_secret(&mut self, id: &SubjectId, credential: Credential, secret: Option<Secret>)
         requires there { IsTrue (is_some (find_subject id.now self.old)) }
         requires user { id.now.kind ≡ User }
-        ensures { self.new ≡ with_changed id.now (with_login secret) self.old }
+        ensures { self.new ≡ with_changed id.now (with_secret credential secret) self.old }
     {
         see_secret(&secret);
         let Some(place) = place_of(&self.places, id) else {
@@ -166,23 +176,7 @@ impl Policy {
         let Some(subject) = self.subjects.get_mut(place) else {
             return;
         };
-        subject.login = secret;
-    }
-
-    /// Gives a user another secret to enable with, or none.
-    pub fn set_enable(&mut self, id: &SubjectId, secret: Option<Secret>)
-        requires there { IsTrue (is_some (find_subject id.now self.old)) }
-        requires user { id.now.kind ≡ User }
-        ensures { self.new ≡ with_changed id.now (with_enable secret) self.old }
-    {
-        see_secret(&secret);
-        let Some(place) = place_of(&self.places, id) else {
-            return;
-        };
-        let Some(subject) = self.subjects.get_mut(place) else {
-            return;
-        };
-        subject.enable = secret;
+        put_secret(subject, credential, secret);
     }
 
     /// Gives a subject another privilege level, or none.
