@@ -5,6 +5,7 @@ use basics::Bytes;
 use pol_edit::EditFault;
 use pol_names::{Name, SubjectId};
 use pol_report::{Changed, Changes};
+use std::alloc::Global;
 use std::test::Fail;
 use tac_console::write_edit_answer;
 
@@ -152,11 +153,8 @@ fn name(text: &[u8]) -> Result<Name, Fail> {
     }
 }
 
-// What no edit is answered yet: which decisions it changes, and the last refusals.
-#[test]
-fn other_answers(rt: HostRuntime) -> Result<(), Fail> {
-    let alloc = rt.alloc();
-    let mut out = Vec::new(alloc);
+// Changes of decisions of bob and of eve.
+fn changes(alloc: Global) -> Result<Changes, Fail> {
     let mut changes = Changes::new(alloc);
     changes.push(Changed {
         user: name(b"bob")?,
@@ -168,7 +166,15 @@ fn other_answers(rt: HostRuntime) -> Result<(), Fail> {
         permits: None,
         denies: Some(Bytes::new(alloc)),
     })?;
-    write_edit_answer(alloc, &mut out, &Ok(&changes))?;
+    Ok(changes)
+}
+
+// What no edit is answered yet: which decisions it changes, and the last refusals.
+#[test]
+fn other_answers(rt: HostRuntime) -> Result<(), Fail> {
+    let alloc = rt.alloc();
+    let mut out = Vec::new(alloc);
+    write_edit_answer(alloc, &mut out, &Ok(&changes(alloc)?))?;
     let subject = SubjectId::group(name(b"g")?);
     write_edit_answer(alloc, &mut out, &Err(EditFault::TooManyStates(subject)))?;
     write_edit_answer(alloc, &mut out, &Err(EditFault::Limit))?;

@@ -191,12 +191,16 @@ impl Conversation {
         Ok(())
     }
 
+    fn print(&mut self, line: &str) -> Result<(), Fail> {
+        self.printed.extend_from_slice(line.as_bytes())?;
+        self.printed.push(b'\n')?;
+        Ok(())
+    }
+
     fn ask(&mut self, words: &str) -> Result<(), Fail> {
         let ask = ask(self.alloc, words)?;
         let answer = asked(&mut self.desk, &ask)?;
-        self.printed.extend_from_slice(answer.as_bytes())?;
-        self.printed.push(b'\n')?;
-        Ok(())
+        self.print(answer)
     }
 
     fn want(&mut self, line: &str) -> Result<(), Fail> {
@@ -221,6 +225,23 @@ impl Conversation {
     }
 }
 
+// One conversation, and what it ends with.
+fn holds<R: Abort + AllocGlobal>(
+    rt: &R,
+    policy: &str,
+    limit: usize,
+    paragraph: &str,
+) -> Result<(), Fail> {
+    let mut conversation = Conversation::new(rt.alloc(), policy, limit)?;
+    for line in paragraph.lines() {
+        let line = line.trim_start();
+        if !line.is_empty() {
+            conversation.go_on(rt, line)?;
+        }
+    }
+    conversation.compare(rt)
+}
+
 /// Holds conversations with desks of a policy, which keep at most so many records.
 ///
 /// A paragraph is a conversation: behind `> ` a line of the console, behind `? ` what a connection
@@ -231,15 +252,8 @@ pub(crate) fn converses<R: Abort + AllocGlobal>(
     limit: usize,
     text: &str,
 ) -> Result<(), Fail> {
-    let mut conversation = Conversation::new(rt.alloc(), policy, limit)?;
-    for line in text.lines() {
-        let line = line.trim_start();
-        if line.is_empty() {
-            conversation.compare(rt)?;
-            conversation = Conversation::new(rt.alloc(), policy, limit)?;
-        } else {
-            conversation.go_on(rt, line)?;
-        }
+    for paragraph in text.split("\n\n") {
+        holds(rt, policy, limit, paragraph)?;
     }
-    conversation.compare(rt)
+    Ok(())
 }
