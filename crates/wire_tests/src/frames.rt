@@ -1,5 +1,7 @@
 //! Packets out of a stream that comes in pieces, and the digest of CHAP.
 
+ghost use Rattle.std.specs.Prelude.{◌<◌};
+
 use basics::Bytes;
 use std::process::Abort;
 use std::test::Fail;
@@ -27,22 +29,34 @@ fn told<R: Abort + AllocGlobal>(
     Ok(())
 }
 
+// Adds the sessions of the packets that are whole, of at most three.
+fn push_sessions(framer: &mut Framer, sessions: &mut Vec<u32>) -> Result<(), Fail> {
+    for _ in 0..3 {
+        match framer.next()? {
+            Next::Packet(frame) => sessions.push(frame.header.session)?,
+            _ => return Ok(()),
+        }
+    }
+    Ok(())
+}
+
+fn comes_in_pieces<R: Abort + AllocGlobal>(rt: &R, size: usize) -> Result<(), Fail>
+    requires { 0 < size }
+{
+    let mut framer = Framer::new(rt.alloc());
+    let mut sessions = Vec::new(rt.alloc());
+    for piece in STREAM.chunks(size) {
+        framer.feed(piece)?;
+        push_sessions(&mut framer, &mut sessions)?;
+    }
+    assert!(rt; sessions.as_slice() == [1, 2].as_slice());
+    told(rt, &mut framer, 0, b"(need)")
+}
+
 #[test]
 fn pieces_of_any_size(rt: HostRuntime) -> Result<(), Fail> {
     for size in 1..=STREAM.len() {
-        let mut framer = Framer::new(rt.alloc());
-        let mut sessions = Vec::new(rt.alloc());
-        for piece in STREAM.chunks(size) {
-            framer.feed(piece)?;
-            'packets: for _ in 0..3 {
-                match framer.next()? {
-                    Next::Packet(frame) => sessions.push(frame.header.session)?,
-                    _ => break 'packets,
-                }
-            }
-        }
-        assert!(rt; sessions.as_slice() == [1, 2].as_slice());
-        told(&rt, &mut framer, 0, b"(need)")?;
+        comes_in_pieces(&rt, size)?;
     }
     Ok(())
 }
