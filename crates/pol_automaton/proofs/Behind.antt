@@ -66,6 +66,7 @@ same_after e entries whole are text other = (to, from)
         let then = behind_is e entries are entry lt other term in
         subst (λ (s : List ℕ). InResidual s text term ↔ InResidual s other term) at
         (λ h. then.0 ((same entry term).0 (now.1 h)), λ h. now.0 ((same entry term).1 (then.1 h)))
+
     from : SameResiduals entries text other → SameAfter e text other
     from same entry term = by (cases_lt entry (length entries))
       where

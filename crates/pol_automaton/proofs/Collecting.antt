@@ -137,17 +137,22 @@ entries_more e terms source numbers whole grows new entries are = record {
   where
     place : (entry : ℕ) → entry < length (entries ++ source ∷ []) → (entry < length entries) ⊎ (entry ≡ length entries)
     place entry lt = elim (cases_lt entry (length entries)) [ inl p ↦ inl p | inr p ↦ inr (omega (arith, p, lt, length-append entries (source ∷ []))) ]
+
     old_at : (entry : ℕ) → entry < length entries → entry_at (entries ++ source ∷ []) entry ≡ entry_at entries entry
     old_at entry lt = get_or_append_left entries (source ∷ []) [] entry lt
+
     new_at : (entry : ℕ) → entry ≡ length entries → entry_at (entries ++ source ∷ []) entry ≡ source
     new_at entry e = let at : entry ≡ length entries + 0 = omega arith in rw at (get_or-append-add entries (source ∷ []) 0 [])
+
     spelled_at : (entry : ℕ) → (entry < length entries) ⊎ (entry ≡ length entries) → (flat : Terms) × Spells (entry_at (entries ++ source ∷ []) entry) flat
     spelled_at entry (inl lt) = subst (λ (s : List ℕ). (flat : Terms) × Spells s flat) (sym (old_at entry lt)) (are.spelled entry lt)
     spelled_at entry (inr e) = subst (λ (s : List ℕ). (flat : Terms) × Spells s flat) (sym (new_at entry e)) new.spelled
+
     not_before : (entry : ℕ) (term : Term) → e.count ≤ entry → ¬ (HasTerm e.terms e.start entry term)
     not_before entry term le h =
         let lt : entry < e.count = All-contains (λ (x : EntryTerm). x.entry < e.count) e.start (item_of entry h.0) whole.below h.1 in
         absurd (omega arith)
+
     first_at : (entry : ℕ) (flat : Terms) (term : Term) → (entry < length entries) ⊎ (entry ≡ length entries) → Spells (entry_at (entries ++ source ∷ []) entry) flat
         → HasTerm terms (e.start ++ map (item_of e.count) numbers) entry term ↔ Residual flat [] term
     first_at entry flat term (inl lt) spells =
@@ -158,8 +163,7 @@ entries_more e terms source numbers whole grows new entries are = record {
           λ r. has.1 (inl (was.1 r)),
         )
     first_at entry flat term (inr at) spells =
-        let has = adds_set e.terms terms e.count e.start numbers (Residual flat []) grows whole.right.within (new.sets flat (subst (λ (s : List ℕ). Spells s flat) (new_at entry at) spells)) entry term in
-        (
+        let has = adds_set e.terms terms e.count e.start numbers (Residual flat []) grows whole.right.within (new.sets flat (subst (λ (s : List ℕ). Spells s flat) (new_at entry at) spells)) entry term in (
           λ h. elim (has.0 h) [ inl k ↦ absurd (not_before entry term (omega (arith, at, are.many)) k) | inr k ↦ k.1 ],
           λ r. has.1 (inr (omega (arith, at, are.many), r)),
         )

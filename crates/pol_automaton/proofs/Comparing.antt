@@ -74,9 +74,11 @@ module _ (old : Automaton) (old_verdicts : List Verdict) (new : Automaton) (new_
         (p.0, ((first_of old (state_of old text), d.firsts text p.0, w.0), (first_of new (state_of new text), e.firsts text p.0, w.1))),
     λ p.
         let was = decided_is old before old_verdicts (verdict_before way) text d p.0 p.1.0 in
-        let is = decided_is new after new_verdicts (verdict_after way) text e p.0 p.1.1 in
-        (p.0, subst (λ v. IsTrue (is_change way v (verdict_by new_verdicts (first_of new (state_of new text))))) (sym was)
-            (subst (λ v. IsTrue (is_change way (verdict_before way) v)) (sym is) (is_so way))),
+        let is = decided_is new after new_verdicts (verdict_after way) text e p.0 p.1.1 in (
+          p.0,
+          subst (λ v. IsTrue (is_change way v (verdict_by new_verdicts (first_of new (state_of new text))))) (sym was)
+              (subst (λ v. IsTrue (is_change way (verdict_before way) v)) (sym is) (is_so way)),
+        ),
   )
 
   pub least_change : (alphabet : Alphabet) → IsExact alphabet → (text : List ℕ)

@@ -47,6 +47,7 @@ module _ (entries : List (List ℕ)) (count limit : ℕ) (has : IsResidualCount 
       same k l f =
           same_transitive entries (text_at above.texts k) (text_at has.texts (number_at k)) (text_at above.texts l) (same_as_numbered k)
           (same_symmetric entries (text_at above.texts l) (text_at has.texts (number_at k)) (subst (λ (n : ℕ). SameResiduals entries (text_at above.texts l) (text_at has.texts n)) (sym f) (same_as_numbered l)))
+
       by : (i < j) ⊎ (j ≤ i) → (j < i) ⊎ (i ≤ j) → i ≡ j
       by (inl k) r = absurd (above.different.different i j [] k q (same i j e))
       by (inr k) (inl r) = absurd (above.different.different j i [] r p (same j i (sym e)))

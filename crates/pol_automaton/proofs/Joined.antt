@@ -168,8 +168,7 @@ module _ (alphabet : Alphabet) (letters : IsAlphabet alphabet) (exact : IsExact 
       many = omega (arith, length-append e f, d.many, g.many);
       tells = λ text other h k.
           let by_words = s.automaton.tells (word_of alphabet text) (word_of alphabet other) (is_word alphabet letters text h) (is_word alphabet letters other k) in
-          let by_texts = same_half text (word_of alphabet other) h (is_word alphabet letters other k) in
-          (
+          let by_texts = same_half text (word_of alphabet other) h (is_word alphabet letters other k) in (
             λ at. subst (SameResiduals (e ++ f) text) (exact other k) (by_texts.0 (by_words.0 at)),
             λ same. by_words.1 (by_texts.1 (subst (SameResiduals (e ++ f) text) (sym (exact other k)) same)),
           );

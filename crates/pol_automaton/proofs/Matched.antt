@@ -53,6 +53,7 @@ first_accepts table items i item right lt is none holds = (here, λ k below w. b
     here =
         let own = meant table item.term (subst (λ (x : EntryTerm). x.term < length table) (sym is) (right.within i item lt)) in
         (own.0, (item.term, (i, lt, sym is), own.1), holds own.0 own.1)
+
     before : (k : ℕ) → k < item.entry → (w : Accepts table items k) → (w.1.1.0 < i) ⊎ (i ≤ w.1.1.0) → ⊥
     before k below w (inl earlier) =
         let x = item_of k w.1.0 in

@@ -88,6 +88,7 @@ adds_set old new own before numbers set grows within is entry term = (from, to)
               let w = is.members.sound h.0 p.1 in
               inr (p.0, subst set (means_one new h.0 w.0 term w.1 h.2) w.2)
         ]
+
     to : HasTerm old before entry term ⊎ ((entry ≡ own) × set term) → HasTerm new (before ++ map (item_of own) numbers) entry term
     to (inl h) =
         let k = has_kept old new before grows.kept entry term h in
@@ -127,6 +128,7 @@ has_more table items i item lt is own means entry term = (from, to)
   where
     whole : take (i + 1) items ≡ take i items ++ item ∷ []
     whole = take_more items i item lt ∙ ap (λ (x : EntryTerm). take i items ++ x ∷ []) (sym is)
+
     from : HasTerm table (take (i + 1) items) entry term → HasTerm table (take i items) entry term ⊎ ((entry ≡ item.entry) × (term ≡ own))
     from h =
         elim (Contains-push_cases (take i items) item (item_of entry h.0) (subst (λ (l : List EntryTerm). Contains l (item_of entry h.0)) whole h.1)) [
@@ -135,6 +137,7 @@ has_more table items i item lt is own means entry term = (from, to)
               let number : item.term ≡ h.0 = ap (λ (x : EntryTerm). x.term) e in
               inr (sym (ap (λ (x : EntryTerm). x.entry) e), means_one table h.0 term own h.2 (subst (λ (n : ℕ). Means table n own) number means))
         ]
+
     to : HasTerm table (take i items) entry term ⊎ ((entry ≡ item.entry) × (term ≡ own)) → HasTerm table (take (i + 1) items) entry term
     to (inl h) =
         (h.0, subst (λ (l : List EntryTerm). Contains l (item_of entry h.0)) (sym whole) (Contains-append_left (take i items) (item ∷ []) (item_of entry h.0) h.1), h.2)
@@ -158,9 +161,11 @@ derive_more old now after symbol items i item next more grows within lt is so_fa
   where
     own : (term : Term) × Means old item.term term
     own = meant old item.term (subst (λ (x : EntryTerm). x.term < length old) (sym is) (within i item lt))
+
     from : (entry : ℕ) (term : Term) → HasTerm now next entry term ⊎ ((entry ≡ item.entry) × Derivative symbol own.0 term) → Derivatives symbol (HasTerm old (take (i + 1) items) entry) term
     from entry term (inl h) = let w = (so_far.members entry term).0 h in (w.0, (has_more old items i item lt is own.0 own.1 entry w.0).1 (inl w.1), w.2)
     from entry term (inr h) = (own.0, (has_more old items i item lt is own.0 own.1 entry own.0).1 (inr (h.0, refl)), h.1)
+
     to : (entry : ℕ) (term : Term) → Derivatives symbol (HasTerm old (take (i + 1) items) entry) term → HasTerm now next entry term ⊎ ((entry ≡ item.entry) × Derivative symbol own.0 term)
     to entry term w =
         elim ((has_more old items i item lt is own.0 own.1 entry w.0).0 w.1) [
@@ -182,8 +187,7 @@ derived_in_order old new symbol items part next ordered all same derived = recor
   members = λ entry term.
       let moved = has_members new next ordered same entry term in
       let of_part = derived.members entry term in
-      let by_all : (Derivatives symbol (HasTerm old part entry) term → Derivatives symbol (HasTerm old items entry) term) × (Derivatives symbol (HasTerm old items entry) term → Derivatives symbol (HasTerm old part entry) term) =
-      (
+      let by_all : (Derivatives symbol (HasTerm old part entry) term → Derivatives symbol (HasTerm old items entry) term) × (Derivatives symbol (HasTerm old items entry) term → Derivatives symbol (HasTerm old part entry) term) = (
         λ w. (w.0, subst (λ (l : List EntryTerm). HasTerm old l entry w.0) all w.1, w.2),
         λ w. (w.0, subst (λ (l : List EntryTerm). HasTerm old l entry w.0) (sym all) w.1, w.2),
       ) in

@@ -128,14 +128,17 @@ stepped alphabet old new start column items next grows begun right exact word le
   where
     spelled : text_of alphabet (longer word column) ≡ text_of alphabet word ++ least_of alphabet column ∷ []
     spelled = map-append (least_of alphabet) word (column ∷ [])
+
     same : (entry : ℕ) (text : List ℕ) (term : Term) → After (HasTerm old start entry) text term ↔ After (HasTerm new start entry) text term
     same entry text term = after_same (HasTerm old start entry) (HasTerm new start entry) text ((grown old new grows start begun).1 entry) term
+
     from : (entry : ℕ) (term : Term) → HasTerm new next entry term → Behind alphabet new start (longer word column) entry term
     from entry term h =
         let d = derivatives_more (HasTerm old items entry) (After (HasTerm old start entry) (text_of alphabet word)) (least_of alphabet column) (λ t. (led.members entry t).0) term
         ((exact.members entry term).0 h) in
         let after = (same entry (text_of alphabet word ++ least_of alphabet column ∷ []) term).0 ((after_push (HasTerm old start entry) (text_of alphabet word) (least_of alphabet column) term).1 d) in
         subst (λ (text : List ℕ). After (HasTerm new start entry) text term) (sym spelled) after
+
     to : (entry : ℕ) (term : Term) → Behind alphabet new start (longer word column) entry term → HasTerm new next entry term
     to entry term b =
         let after = (same entry (text_of alphabet word ++ least_of alphabet column ∷ []) term).1 (subst (λ (text : List ℕ). After (HasTerm new start entry) text term) spelled b) in

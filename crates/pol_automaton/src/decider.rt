@@ -182,7 +182,8 @@ impl Decider {
 
     // How many entries there are.
     pub(crate) fn entries(&self) -> usize
-        ensures { result ≡ self.now.entries }
+        ensures value { result ≡ self.now.entries }
+        ensures whole { IsWhole self.now }
     {
         self.entries
     }

@@ -144,7 +144,11 @@ impl Machine for Entries {
         Vec::from_slice(self.alloc, &self.start)
     }
 
-    fn step(&mut self, state: &Vec<EntryTerm>, column: Column) -> Result<Vec<EntryTerm>, AllocError> {
+    fn step(
+        &mut self,
+        state: &Vec<EntryTerm>,
+        column: Column,
+    ) -> Result<Vec<EntryTerm>, AllocError> {
         let symbol = self.alphabet.least_of(column);
         step(self.alloc, &mut self.terms, state, symbol)
     }

@@ -76,7 +76,6 @@ impl Decider {
         let Some(entries) = first.entries().checked_add(rest.entries()) else {
             return Err(DeciderFault::Memory);
         };
-        let sizes = (first.size(), rest.size());
         let alphabet = Alphabet::of_symbols();
         let mut joining = Joining {
             alphabet,

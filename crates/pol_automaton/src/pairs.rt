@@ -60,7 +60,7 @@ impl<'a> Machine for Comparing<'a> {
 
     ghost grows = { λ a b. (a.alphabet ≡ b.alphabet)
         × (comparison_of a.old.now a.old_verdicts.now a.new.now a.new_verdicts.now a.way
-            ≡ comparison_of b.old.now b.old_verdicts.now b.new.now b.new_verdicts.now b.way) };
+        ≡ comparison_of b.old.now b.old_verdicts.now b.new.now b.new_verdicts.now b.way) };
 
     fn width(&self) -> Column {
         self.alphabet.width()

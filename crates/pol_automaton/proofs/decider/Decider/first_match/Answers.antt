@@ -1,8 +1,8 @@
-use Rattle.std.proofs.Common.{◌≡◌, ◌<◌, ℕ, Option, None, Some, length, sym, ◌∙◌, subst}
+use Rattle.std.proofs.Common.{◌<◌, ℕ, None, length, sym, ◌∙◌, subst}
 use Rattle.std.specs.Prelude.{IfSome}
 use Rattle.std.proofs.lemmas.List.{get_or_default}
 use Rattle.pol_scan.specs.Table.{count}
-use Rattle.pol_automaton.specs.Automaton.{Automaton, first_of}
+use Rattle.pol_automaton.specs.Automaton.{Automaton}
 use Rattle.pol_automaton.proofs.Joined.{if_some_from}
 use Rattle.pol_automaton.proofs.decider.Decider.first_match.Goals as goal
 

@@ -55,14 +55,14 @@ joined c = record {
 
 pub invariant_of-result : goal.invariant_of-result
 invariant_of-result c =
-    let sum : c.in-Some.entries ≡ c.args.first.now.entries + c.args.rest.now.entries = omega arith in
+    let sum : c.in-Some.entries ≡ c.args.first.now.entries + c.args.rest.now.entries = omega (arith, c.in-Some.ensures.1, c.entries.ensures.value, c.entries-2.ensures.value) in
     rw sum
-    (whole_joined c.of_symbols-alphabet.result c.args.first.now c.args.rest.now c.in_ok-table.field-0.table c.in_ok-table.field-0.states.keys c.in_ok-firsts.firsts.items c.size.ensures.whole c.size-2.ensures.whole
+    (whole_joined c.of_symbols-alphabet.result c.args.first.now c.args.rest.now c.in_ok-table.field-0.table c.in_ok-table.field-0.states.keys c.in_ok-firsts.firsts.items c.entries.ensures.whole c.entries-2.ensures.whole
     (joined (goal.at.invariant_of-result c).After-raise))
 
 pub returns-clause-decider : goal.returns-clause-decider
 returns-clause-decider c = λ own others d e.
-    let sum : c.in-Some.entries ≡ c.args.first.now.entries + c.args.rest.now.entries = omega arith in
+    let sum : c.in-Some.entries ≡ c.args.first.now.entries + c.args.rest.now.entries = omega (arith, c.in-Some.ensures.1, c.entries.ensures.value, c.entries-2.ensures.value) in
     let letters = c.of_symbols-alphabet in
     let exact : IsExact letters.result = exact_alphabet letters.result letters.ensures.own letters.ensures.least in
     rw sum

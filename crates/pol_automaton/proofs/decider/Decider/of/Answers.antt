@@ -1,7 +1,6 @@
-use Rattle.std.proofs.Common.{◌≡◌, Err, ap, List, ℕ, Option}
+use Rattle.std.proofs.Common.{◌≡◌, Err, ap}
 use Rattle.std.specs.Global.{Vec}
 use Rattle.std.proofs.lemmas.Result.{err_from_is_err_and}
-use Rattle.pol_scan.specs.declared.fault.ScanFault.{ScanFault}
 use Rattle.pol_scan.specs.declared.fault.ScanFault.TheVariants as scan
 use Rattle.pol_automaton.specs.declared.entry_term.EntryTerm.{EntryTerm}
 use Rattle.pol_automaton.specs.declared.fault.DeciderFault.TheVariants.{TooManyStates}

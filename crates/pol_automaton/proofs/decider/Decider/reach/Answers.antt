@@ -1,4 +1,4 @@
-use Rattle.std.proofs.Common.{ℕ, IsTrue, subst, ◌<◌}
+use Rattle.std.proofs.Common.{ℕ, IsTrue, subst}
 use Rattle.basics.specs.TextOrder.{IsLeast}
 use Rattle.pol_scan.specs.Words.{IsWord, IsWordThat}
 use Rattle.pol_scan.specs.Table.{walk, word_of}
