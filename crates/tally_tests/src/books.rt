@@ -140,9 +140,16 @@ impl Bench {
     }
 }
 
-// Does with a book what each line says to the left of its `=`, and compares the answer. `store` puts
-// in a record, and `mark` one whose line is denied. A tally is starts, stops, watchdogs, updates,
-// open tasks, seconds and drift. Comments begin with `#`.
+// Does with a book what a line says to the left of its `=`, and compares the answer.
+fn is_answered<R: Abort>(rt: &R, bench: &mut Bench, line: &str) -> Result<(), Fail> {
+    let (asked, wanted) = line.split_once(" = ").ok_or("no answer is wanted")?;
+    let answer = bench.answer(asked)?;
+    assert_eq!(rt; answer.as_str(), wanted, "to {asked}");
+    Ok(())
+}
+
+// Works with a book line by line. `store` puts in a record, and `mark` one whose line is denied. A
+// tally is starts, stops, watchdogs, updates, open tasks, seconds and drift. Comments begin with `#`.
 fn works<R: Abort + AllocGlobal>(
     rt: &R,
     policy: &str,
@@ -152,11 +159,8 @@ fn works<R: Abort + AllocGlobal>(
     let mut bench = Bench::new(rt.alloc(), policy, limit)?;
     for line in text.lines() {
         let line = line.trim_start();
-        if let Some((asked, wanted)) = line.split_once(" = ") {
-            let answer = bench.answer(asked)?;
-            assert_eq!(rt; answer.as_str(), wanted, "to {asked}");
-        } else if !line.is_empty() && !line.starts_with('#') {
-            return Err(Fail::from("no answer is wanted"));
+        if !line.is_empty() && !line.starts_with('#') {
+            is_answered(rt, &mut bench, line)?;
         }
     }
     Ok(())
@@ -264,20 +268,23 @@ fn marks_anew(rt: HostRuntime) -> Result<(), Fail> {
     )
 }
 
+// Stores one more record, and counts them.
+fn has_room<R: Abort + AllocGlobal>(rt: &R, bench: &mut Bench, size: usize) -> Result<(), Fail> {
+    is_answered(rt, bench, "mark bob start 1 0 ping = stored")?;
+    assert_eq!(rt; bench.book.len(), size);
+    let tally = format!(in rt.alloc(); "tally bob = {size} 0 0 0 1 0 0")?;
+    is_answered(rt, bench, tally.as_str())?;
+    is_answered(rt, bench, "group bob = 0 0 0 0 0 0 0")
+}
+
 // Storing and counting succeed with ample memory, whatever the size.
 #[test]
 fn books_of_many_sizes(rt: HostRuntime) -> Result<(), Fail> {
     let mut bench = Bench::new(rt.alloc(), "user bob\n", 300)?;
     assert!(rt; bench.book.is_empty());
     for size in 1..=300 {
-        let stored = bench.answer("mark bob start 1 0 ping")?;
-        assert_eq!(rt; stored.as_str(), "stored");
-        assert_eq!(rt; bench.book.len(), size);
-        let tally = format!(in rt.alloc(); "{size} 0 0 0 1 0 0")?;
-        assert!(rt; bench.tally("bob")? == tally);
-        assert!(rt; bench.group("bob")?.as_str() == "0 0 0 0 0 0 0");
+        has_room(&rt, &mut bench, size)?;
     }
-    assert_eq!(rt; bench.answer("store bob start 1 0")?.as_str(), "full");
-    assert_eq!(rt; bench.book.limit(), bench.book.len());
-    Ok(())
+    assert_eq!(rt; bench.book.limit(), 300);
+    is_answered(&rt, &mut bench, "store bob start 1 0 = full")
 }
