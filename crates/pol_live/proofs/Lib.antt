@@ -1,0 +1,4 @@
+pub mod AlongFacts
+pub mod PlaceFacts
+pub mod MatchFacts
+pub mod BuildFacts

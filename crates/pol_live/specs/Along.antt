@@ -1,0 +1,33 @@
+-- The rules along the chain of a subject, as a decider sees them.
+use Rattle.std.specs.Prelude.{◌↔◌, ℕ, List, map, IsTrue}
+use Rattle.pol_pattern.specs.Matching.{matches}
+use Rattle.pol_pattern.specs.Spelling.{Holds}
+use Rattle.pol_names.specs.declared.decision.Decision.{Decision}
+use Rattle.pol_names.specs.declared.decision.By.TheVariants as by
+use Rattle.pol_names.specs.declared.decision.Verdict.TheVariants.{Deny}
+use Rattle.pol_text.specs.declared.subject.Subject.{Subject}
+use Rattle.pol_text.specs.Policy.{Entry, entries}
+use Rattle.pol_live.specs.declared.along.ChainRule.{ChainRule}
+
+-- the patterns of the rules along the chain of a subject, the subject's own first
+abbrev pub patterns_of : List Entry → List (List ℕ)
+patterns_of along = map (λ entry. entry.rule.pattern) along
+
+abbrev pub patterns_along : List Subject → Subject → List (List ℕ)
+patterns_along policy subject = patterns_of (entries policy subject)
+
+-- whose a rule along the chain is, its number there, and what it says
+abbrev pub chain_rule : Entry → ChainRule
+chain_rule entry = record { owner = entry.owner; number = entry.number; verdict = entry.rule.verdict }
+
+-- what such a rule decides
+abbrev pub decision_by : ChainRule → Decision
+decision_by rule = record { verdict = rule.verdict; by = by.Rule rule.owner rule.number }
+
+-- where no rule matches, the line is denied
+abbrev pub unmatched : Decision
+unmatched = record { verdict = Deny; by = by.Default }
+
+-- whether a pattern matches a line is whether its set holds it
+pub record MatchLaw : Type 0 where
+  pub same : (source line : List ℕ) → IsTrue (matches source line) ↔ Holds source line

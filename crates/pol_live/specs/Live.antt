@@ -1,0 +1,51 @@
+-- What is kept of a policy that decides, and of a change of it that is ready to be made.
+use Rattle.std.specs.Prelude.{◌≡◌, ℕ, List, Result, Ok, Err, Bool, true, false, Option, Some, None}
+use Rattle.basics.specs.Memory.{Except}
+use Rattle.std.specs.List.{AllZip}
+use Rattle.pol_automaton.specs.Automaton.{Automaton, IsDecider}
+use Rattle.pol_text.specs.declared.subject.Subject.{Subject}
+use Rattle.pol_edit.specs.Applying.{applied}
+use Rattle.pol_edit.specs.declared.edit.Edit.{Edit}
+use Rattle.pol_edit.specs.declared.fault.EditFault.{EditFault}
+use Rattle.pol_edit.specs.declared.fault.EditFault.TheVariants.{Memory}
+use Rattle.pol_live.specs.Along.{patterns_along}
+use Rattle.pol_live.specs.Sizes.{IsSmall, IsRefusedFor}
+
+-- the policy is taken as it is, if it may stand
+abbrev pub Builds : List Subject → Result (List Subject) EditFault → Type 0
+Builds policy (Ok built) = (built ≡ policy) × IsSmall policy
+Builds policy (Err fault) = IsRefusedFor policy fault
+
+-- a change of a policy: which it was, and which it is then
+pub record Step : Type 0 where
+  pub before : List Subject
+  pub after : List Subject
+
+-- an edit that the policy takes is prepared if the new policy may stand
+abbrev pub PreparesTo : List Subject → Result (List Subject) EditFault → Result Step EditFault → Type 0
+PreparesTo before (Ok after) (Ok step) = (step ≡ record { before = before; after = after }) × IsSmall after
+PreparesTo before (Ok after) (Err fault) = IsRefusedFor after fault
+PreparesTo before (Err refusal) answer = answer ≡ Err refusal
+
+abbrev pub Prepares : List Subject → Edit → Result Step EditFault → Type 0
+Prepares before edit answer = PreparesTo before (applied before edit) answer
+
+-- each subject has the decider of the rules along its chain
+abbrev pub AreDeciders : List Subject → List Subject → List Automaton → Type 0
+AreDeciders policy subjects deciders = AllZip (λ subject decider. IsDecider decider (patterns_along policy subject)) subjects deciders
+
+-- the decider of the rules along a subject's chain, or nothing where there is no subject
+abbrev pub IsDeciderFor : List Subject → Option Subject → Option Automaton → Type 0
+IsDeciderFor policy (Some subject) (Some decider) = IsDecider decider (patterns_along policy subject)
+IsDeciderFor policy None None = Unit {0}
+IsDeciderFor policy _ _ = ⊥
+
+-- the fact holds, unless memory ran out
+abbrev pub UnlessMemory : {X E : Type 0} → (E → Bool) → Result X E → Type 0 → Type 0
+UnlessMemory is_memory (Ok value) fact = fact
+UnlessMemory is_memory (Err fault) fact = Except (is_memory fault) fact
+
+-- whether the fault is want of memory
+abbrev pub is_memory : EditFault → Bool
+is_memory Memory = true
+is_memory _ = false

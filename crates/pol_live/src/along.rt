@@ -1,0 +1,102 @@
+//! The rules along the chain of a subject.
+
+ghost use Rattle.std.specs.Prelude.{◌≡◌, ◌≤◌, ◌++◌, length, map, slice_get, IfOk, IfSome, OnOk};
+ghost use Rattle.std.specs.Option.{option_map, option_copied};
+ghost use Rattle.pol_text.specs.Policy.{parent_of, entries};
+ghost use Rattle.pol_live.specs.Along.{patterns_along as patterns, chain_rule as rule_of, decision_by};
+
+use pol_names::{By, Decision, SubjectId, Verdict};
+use pol_pattern::Pattern;
+use pol_text::{Policy, Subject};
+use std::alloc::{AllocError, Global};
+
+/// A rule along the chain of a subject.
+#[derive(Clone, Copy, Debug, PartialEq, Eq)]
+pub struct ChainRule {
+    pub owner: SubjectId,
+    /// The rule's number in its owner, from 1.
+    pub number: u16,
+    pub verdict: Verdict,
+}
+
+impl ChainRule {
+    /// What the rule decides.
+    pub fn decision(self) -> Decision
+        ensures { result ≡ decision_by self }
+    {
+        Decision {
+            verdict: self.verdict,
+            by: By::Rule(self.owner, self.number),
+        }
+    }
+}
+
+// The group that the subject belongs to.
+fn parent<'a>(policy: &'a Policy, subject: &Subject) -> Option<&'a Subject>
+    ensures found { option_copied result ≡ parent_of policy.now subject.now }
+    ensures few { IfSome result (λ group. length group.now.rules ≤ 256) }
+{
+    // every policy is well formed: the call is for its clause
+    let _ = policy.subjects();
+    match &subject.parent {
+        Some(name) => policy.find(&SubjectId::group(*name)),
+        None => None,
+    }
+}
+
+// Adds the subject's own patterns.
+fn add_patterns<'a>(patterns: &mut Vec<&'a Pattern>, subject: &'a Subject) -> Result<(), AllocError>
+    ensures { OnOk result (map (λ p. p.now) patterns.new.items
+        ≡ map (λ p. p.now) patterns.old.items ++ map (λ rule. rule.pattern) subject.now.rules) }
+{
+    for rule in subject.rules.as_slice() {
+        patterns.push(&rule.pattern)?;
+    }
+    Ok(())
+}
+
+/// The patterns of the rules along the chain of a subject, the subject's own first, as they lie in
+/// the policy.
+pub(crate) fn patterns_along<'a>(
+    alloc: Global,
+    policy: &'a Policy,
+    subject: &'a Subject,
+) -> Result<Vec<&'a Pattern>, AllocError>
+    ensures { IfOk result (λ found. map (λ p. p.now) found.items ≡ patterns policy.now subject.now) }
+{
+    let mut patterns = Vec::new(alloc);
+    let mut present = subject;
+    'chain: for _ in 0..Policy::MAX_CHAIN {
+        add_patterns(&mut patterns, present)?;
+        match parent(policy, present) {
+            Some(group) => present = group,
+            None => return Ok(patterns),
+        }
+    }
+    Ok(patterns)
+}
+
+/// The rule at this place of those along the chain of a subject, counted from 0. Takes no memory,
+/// and a look-up for each subject of the chain up to the rule.
+pub fn chain_rule(policy: &Policy, subject: &Subject, place: usize) -> Option<ChainRule>
+    requires { length subject.now.rules ≤ 256 }
+    ensures { result ≡ option_map rule_of (slice_get (entries policy.now subject.now) place) }
+{
+    let mut present = subject;
+    let mut left = place;
+    'chain: for _ in 0..Policy::MAX_CHAIN {
+        if let Some(rule) = present.rules.as_slice().get(left) {
+            return Some(ChainRule {
+                owner: present.id(),
+                number: left as u16 + 1,
+                verdict: rule.verdict,
+            });
+        }
+        left -= present.rules.len();
+        match parent(policy, present) {
+            Some(group) => present = group,
+            None => return None,
+        }
+    }
+    None
+}

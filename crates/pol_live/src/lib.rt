@@ -1,0 +1,13 @@
+//! A policy that decides at once: for each subject an automaton of the rules along its chain.
+#![tactic(auto)]
+
+mod along;
+mod building;
+mod comparing;
+mod deciding;
+mod live;
+mod prepared;
+
+pub use along::{ChainRule, chain_rule};
+pub use live::Live;
+pub use prepared::Prepared;

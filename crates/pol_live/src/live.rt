@@ -1,0 +1,106 @@
+//! A policy with its automata.
+
+ghost use Rattle.std.specs.Prelude.{◌≡◌, ◌≤◌, length, IfOk, IfNone, IfSome, None, Some};
+ghost use Rattle.std.specs.Option.{option_copied};
+ghost use Rattle.pol_automaton.specs.Automaton.{IsDecider};
+ghost use Rattle.pol_text.specs.Policy.{WellFormed, find_subject, decide};
+ghost use Rattle.pol_live.specs.Along.{patterns_along as patterns, MatchLaw};
+ghost use Rattle.pol_live.specs.Sizes.{IsSmall};
+ghost use Rattle.pol_live.specs.Live.{Builds, IsDeciderFor, UnlessMemory, is_memory};
+
+use crate::building::build_deciders;
+use crate::deciding::decided;
+use basics::Sequence;
+use pol_automaton::{Decider, Meter};
+use pol_edit::EditFault;
+use pol_names::{Decision, Name, SubjectId};
+use pol_text::{Policy, Subject};
+use std::alloc::Global;
+use std::marker::Model;
+
+/// A policy that decides at once: each subject has the automaton of all rules along its chain. A
+/// contract sees the policy.
+#[derive(Drop)]
+pub struct Live {
+    policy: Policy,
+    // one for each subject, in the policy's order
+    deciders: Sequence<Decider>,
+}
+
+impl Model for Live {
+    ghost use Rattle.std.specs.Prelude.{List};
+    ghost use Rattle.pol_text.specs.declared.subject.Subject.{Subject as SubjectValue};
+    ghost use Rattle.pol_live.specs.Live.{AreDeciders};
+    ghost use Rattle.pol_live.specs.Sizes.{IsSmall};
+
+    ghost Value = { List SubjectValue };
+
+    ghost view = { λ live. live.policy };
+
+    ghost invariant = { λ live. AreDeciders live.policy live.policy live.deciders × IsSmall live.policy };
+}
+
+impl Live {
+    /// The policy with its automata, all built anew. Refused where a subject has too many
+    /// residuals, with the first such subject in the policy's order.
+    pub fn build(alloc: Global, policy: Policy, meter: &mut Meter) -> Result<Live, EditFault>
+        ensures { UnlessMemory is_memory result (Builds policy result) }
+    {
+        let deciders = build_deciders(alloc, &policy, meter)?;
+        Ok(Live { policy, deciders })
+    }
+
+    /// The present policy.
+    pub fn policy(&self) -> &Policy
+        ensures policy { result.now ≡ self.now }
+        ensures small { IsSmall self.now }
+    {
+        &self.policy
+    }
+
+    // The subject of this kind and name, and its decider.
+    fn part(&self, id: &SubjectId) -> Option<(&Subject, &Decider)>
+        ensures none { IfNone result (find_subject id.now self.now ≡ None) }
+        ensures found { IfSome result (λ part. find_subject id.now self.now ≡ Some part.0.now) }
+        ensures right { IfSome result (λ part.
+            IsDecider part.1.now (patterns self.now part.0.now)) }
+        ensures few { IfSome result (λ part. length part.0.now.rules ≤ 256) }
+    {
+        let Some(index) = self.policy.index_of(id) else {
+            return None;
+        };
+        let Some(subject) = self.policy.subjects().get(index) else {
+            return None;
+        };
+        let Some(decider) = self.deciders.as_slice().get(index) else {
+            return None;
+        };
+        Some((subject, decider))
+    }
+
+    /// What the policy says of a user's line, as a search along the user's chain would. Nothing
+    /// where there is no such user. A walk along the line; no memory.
+    pub fn decide(&self, user: &Name, line: &[u8]) -> Option<Decision>
+        ensures { result ≡ decide self.now user.now line.now }
+    {
+        let Some((subject, decider)) = self.part(&SubjectId::user(*user)) else {
+            return None;
+        };
+        Some(decided(&self.policy, subject, decider, line))
+    }
+
+    /// The decider of the rules along the chain of a subject, the subject's own first. Nothing
+    /// where there is no such subject.
+    pub fn decider(&self, subject: &SubjectId) -> Option<&Decider>
+        ensures decider { IsDeciderFor self.now (find_subject subject.now self.now)
+            (option_copied result) }
+
+        // What an automaton holds a text to be is what the policy does.
+        ensures law { MatchLaw }
+    {
+        let Some((_, decider)) = self.part(subject) else {
+            return None;
+        };
+        Some(decider)
+    }
+}

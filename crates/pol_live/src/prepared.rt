@@ -1,0 +1,102 @@
+//! Changes of a policy that are ready to be made.
+
+ghost use Rattle.std.specs.Prelude.{◌≡◌, ◌↔◌, IsTrue};
+ghost use Rattle.std.specs.Option.{option_copied};
+ghost use Rattle.pol_text.specs.Policy.{find_subject, decide};
+ghost use Rattle.pol_live.specs.Along.{MatchLaw};
+ghost use Rattle.pol_live.specs.Sizes.{IsSmall};
+ghost use Rattle.pol_live.specs.Live.{Prepares, IsDeciderFor, UnlessMemory, is_memory};
+
+use crate::comparing::same_policy;
+use crate::live::Live;
+use pol_automaton::{Decider, Meter};
+use pol_edit::{Edit, EditFault, apply};
+use pol_names::{Decision, Name, SubjectId};
+use pol_text::Policy;
+use std::alloc::Global;
+use std::marker::Model;
+
+/// An edit that was judged, with all that making it takes. A contract sees the policy that it was
+/// prepared on, and the one that it makes.
+#[derive(Drop)]
+pub struct Prepared {
+    before: Policy,
+    after: Live,
+}
+
+impl Model for Prepared {
+    ghost use Rattle.pol_live.specs.Live.{Step};
+
+    ghost Value = { Step };
+
+    ghost view = { λ prepared. record { before = prepared.before; after = prepared.after } };
+}
+
+impl Live {
+    /// Makes an edit ready, and changes nothing. Refused as the edit is, and where a subject of the
+    /// new policy has too many residuals, with the first such subject in its order.
+    pub fn prepare(
+        &self,
+        alloc: Global,
+        edit: &Edit,
+        meter: &mut Meter,
+    ) -> Result<Prepared, EditFault>
+        ensures { UnlessMemory is_memory result (Prepares self.now edit.now result) }
+    {
+        let before = self.policy().copy(alloc)?;
+        let mut policy = self.policy().copy(alloc)?;
+        apply(alloc, &mut policy, edit)?;
+        let after = Live::build(alloc, policy, meter)?;
+        Ok(Prepared { before, after })
+    }
+
+    /// Makes a prepared edit, of a policy that is the present one. Takes no memory.
+    pub fn commit(&mut self, prepared: Prepared)
+        requires { prepared.before ≡ self.old }
+        ensures { self.new ≡ prepared.after }
+    {
+        *self = prepared.after;
+    }
+}
+
+impl Prepared {
+    /// Whether the edit was prepared on the present policy. Compares the policies, and takes no
+    /// memory.
+    pub fn fits(&self, live: &Live) -> bool
+        ensures { IsTrue result ↔ (self.now.before ≡ live.now) }
+    {
+        same_policy(&self.before, live.policy())
+    }
+
+    /// The new policy.
+    pub fn policy(&self) -> &Policy
+        ensures policy { result.now ≡ self.now.after }
+        ensures small { IsSmall self.now.after }
+    {
+        self.after.policy()
+    }
+
+    /// What the new policy says of a user's line. Nothing where it has no such user. Takes no
+    /// memory.
+    pub fn decide(&self, live: &Live, user: &Name, line: &[u8]) -> Option<Decision>
+        requires { self.now.before ≡ live.now }
+        ensures { result ≡ decide self.now.after user.now line.now }
+    {
+        let _ = live;
+        self.after.decide(user, line)
+    }
+
+    /// The decider of the rules along the chain of a subject of the new policy. Nothing where it
+    /// has no such subject.
+    pub fn decider<'a>(&'a self, live: &'a Live, subject: &SubjectId) -> Option<&'a Decider>
+        requires { self.now.before ≡ live.now }
+        ensures decider { IsDeciderFor self.now.after (find_subject subject.now self.now.after)
+            (option_copied result) }
+
+        // What an automaton holds a text to be is what the policy does.
+        ensures law { MatchLaw }
+    {
+        let _ = live;
+        self.after.decider(subject)
+    }
+}
