@@ -2,3 +2,4 @@ pub mod AlongFacts
 pub mod PlaceFacts
 pub mod MatchFacts
 pub mod BuildFacts
+pub mod TextFacts

@@ -8,10 +8,11 @@ use Rattle.pol_pattern.proofs.Marks.{matches_holds}
 use Rattle.pol_names.specs.declared.decision.Decision.{Decision}
 use Rattle.pol_text.specs.Policy.{Entry, first_entry}
 use Rattle.pol_automaton.specs.Decision.{IsFirstMatch}
+use Rattle.pol_live.proofs.TextFacts.{holds_text}
 use Rattle.pol_live.specs.Along.{patterns_of, chain_rule, decision_by, unmatched, MatchLaw}
 
 pub match_law : MatchLaw
-match_law = record { same = test_is_set matches_holds }
+match_law = record { same = test_is_set matches_holds; texts = holds_text }
 
 not_matched : (source line : List ℕ) → ¬ (Holds source line) → matches source line ≡ false
 not_matched source line not = by (matches source line) (λ e. not ((match_law.same source line).0 e))

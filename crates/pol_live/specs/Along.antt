@@ -1,13 +1,20 @@
 -- The rules along the chain of a subject, as a decider sees them.
-use Rattle.std.specs.Prelude.{◌↔◌, ℕ, List, map, IsTrue}
+use Rattle.std.specs.Prelude.{◌↔◌, ℕ, List, [], map, IsTrue}
+use Rattle.std.specs.Option.{option_map_or}
+use Rattle.basics.specs.Symbol.{is_text}
 use Rattle.pol_pattern.specs.Matching.{matches}
 use Rattle.pol_pattern.specs.Spelling.{Holds}
 use Rattle.pol_names.specs.declared.decision.Decision.{Decision}
 use Rattle.pol_names.specs.declared.decision.By.TheVariants as by
 use Rattle.pol_names.specs.declared.decision.Verdict.TheVariants.{Deny}
 use Rattle.pol_text.specs.declared.subject.Subject.{Subject}
-use Rattle.pol_text.specs.Policy.{Entry, entries}
+use Rattle.pol_names.specs.declared.subject_id.SubjectId.{SubjectId}
+use Rattle.pol_text.specs.Policy.{find_subject, Entry, entries}
 use Rattle.pol_live.specs.declared.along.ChainRule.{ChainRule}
+
+-- the rules along the chain of the subject of this kind and name, none where there is no such subject
+abbrev pub entries_of : List Subject → SubjectId → List Entry
+entries_of policy id = option_map_or (entries policy) (find_subject id policy) []
 
 -- the patterns of the rules along the chain of a subject, the subject's own first
 abbrev pub patterns_of : List Entry → List (List ℕ)
@@ -28,6 +35,7 @@ decision_by rule = record { verdict = rule.verdict; by = by.Rule rule.owner rule
 abbrev pub unmatched : Decision
 unmatched = record { verdict = Deny; by = by.Default }
 
--- whether a pattern matches a line is whether its set holds it
+-- whether a pattern matches a line is whether its set holds it, and that holds texts alone
 pub record MatchLaw : Type 0 where
   pub same : (source line : List ℕ) → IsTrue (matches source line) ↔ Holds source line
+  pub texts : (source line : List ℕ) → Holds source line → IsTrue (is_text line)

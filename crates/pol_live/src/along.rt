@@ -2,8 +2,8 @@
 
 ghost use Rattle.std.specs.Prelude.{◌≡◌, ◌≤◌, ◌++◌, length, map, slice_get, IfOk, IfSome, OnOk};
 ghost use Rattle.std.specs.Option.{option_map, option_copied};
-ghost use Rattle.pol_text.specs.Policy.{parent_of, entries};
-ghost use Rattle.pol_live.specs.Along.{patterns_along as patterns, chain_rule as rule_of, decision_by};
+ghost use Rattle.pol_text.specs.Policy.{parent_of, own_entries, entries};
+ghost use Rattle.pol_live.specs.Along.{patterns_along as patterns, chain_rule as rule_of, entries_of, decision_by};
 
 use pol_names::{By, Decision, SubjectId, Verdict};
 use pol_pattern::Pattern;
@@ -76,9 +76,63 @@ pub(crate) fn patterns_along<'a>(
     Ok(patterns)
 }
 
+// Adds the subject's own rules.
+fn add_rules(rules: &mut Vec<ChainRule>, subject: &Subject) -> Result<(), AllocError>
+    requires { length subject.now.rules ≤ 256 }
+    ensures { OnOk result (rules.new.items
+        ≡ rules.old.items ++ map rule_of (own_entries subject.now)) }
+{
+    for (i, rule) in subject.rules.as_slice().iter().enumerate() {
+        rules.push(ChainRule {
+            owner: subject.id(),
+            number: i as u16 + 1,
+            verdict: rule.verdict,
+        })?;
+    }
+    Ok(())
+}
+
+// The rules along the chain of a subject that is there.
+fn rules_from(
+    alloc: Global,
+    policy: &Policy,
+    subject: &Subject,
+) -> Result<Vec<ChainRule>, AllocError>
+    requires { length subject.now.rules ≤ 256 }
+    ensures { IfOk result (λ rules. rules.items ≡ map rule_of (entries policy.now subject.now)) }
+{
+    let mut rules = Vec::new(alloc);
+    let mut present = subject;
+    'chain: for _ in 0..Policy::MAX_CHAIN {
+        add_rules(&mut rules, present)?;
+        match parent(policy, present) {
+            Some(group) => present = group,
+            None => return Ok(rules),
+        }
+    }
+    Ok(rules)
+}
+
+/// The rules along the chain of the subject of this kind and name, the subject's own first; none
+/// where there is no such subject.
+pub fn rules_along(
+    alloc: Global,
+    policy: &Policy,
+    id: &SubjectId,
+) -> Result<Vec<ChainRule>, AllocError>
+    ensures { IfOk result (λ rules. rules.items ≡ map rule_of (entries_of policy.now id.now)) }
+{
+    // every policy is well formed: the call is for its clause
+    let _ = policy.subjects();
+    match policy.find(id) {
+        Some(subject) => rules_from(alloc, policy, subject),
+        None => Ok(Vec::new(alloc)),
+    }
+}
+
 /// The rule at this place of those along the chain of a subject, counted from 0. Takes no memory,
 /// and a look-up for each subject of the chain up to the rule.
-pub fn chain_rule(policy: &Policy, subject: &Subject, place: usize) -> Option<ChainRule>
+pub(crate) fn chain_rule(policy: &Policy, subject: &Subject, place: usize) -> Option<ChainRule>
     requires { length subject.now.rules ≤ 256 }
     ensures { result ≡ option_map rule_of (slice_get (entries policy.now subject.now) place) }
 {

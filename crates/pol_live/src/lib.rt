@@ -8,6 +8,6 @@ mod deciding;
 mod live;
 mod prepared;
 
-pub use along::{ChainRule, chain_rule};
+pub use along::{ChainRule, rules_along};
 pub use live::Live;
 pub use prepared::Prepared;

@@ -2,8 +2,13 @@
 //! what a change lets users do, or no longer do.
 #![tactic(auto)]
 
+mod changing;
+mod reaching;
+
 use basics::{Bytes, Sequence};
+pub use changing::changes;
 use pol_names::{Name, SubjectId};
+pub use reaching::{reach, shadows};
 
 /// A user for whom a change of the policy changes a decision.
 #[derive(Debug, Drop)]

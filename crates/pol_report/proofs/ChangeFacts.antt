@@ -1,0 +1,199 @@
+-- What changes for a user, by automata with verdicts and by the policies.
+use Rattle.std.proofs.Common.{◌≡◌, ◌<◌, ℕ, zero, suc, Bool, true, false, cond, IsTrue, List, [], ◌∷◌, length, map, Option, Some, None, refl, sym, ap, subst, ◌∙◌, arith, slice_get, slice_index_or, unwrap_or}
+use Rattle.std.specs.Option.{option_map, option_map_or}
+use Rattle.basics.specs.Symbol.{is_text}
+use Rattle.pol_pattern.specs.Matching.{matches}
+use Rattle.pol_pattern.specs.Spelling.{Holds}
+use Rattle.pol_names.specs.SubjectId.{user_id}
+use Rattle.pol_names.specs.declared.subject_id.SubjectId.{SubjectId}
+use Rattle.pol_names.specs.declared.decision.Verdict.{Verdict}
+use Rattle.pol_names.specs.declared.decision.Verdict.TheVariants.{Permit, Deny}
+use Rattle.pol_names.specs.declared.decision.By.TheVariants as by
+use Rattle.pol_names.specs.declared.decision.Decision.{Decision}
+use Rattle.pol_text.specs.declared.subject.Subject.{Subject}
+use Rattle.pol_text.specs.Policy.{find_subject, Entry, entries, first_entry, decision}
+use Rattle.pol_automaton.specs.Automaton.{Automaton, IsDecider}
+use Rattle.pol_automaton.specs.Decision.{IsFirstMatch, verdict_by, IsDecided, Ruling, IsChanged}
+use Rattle.pol_automaton.specs.declared.way.Way.TheVariants.{NowPermitted, NowDenied}
+use Rattle.pol_live.specs.declared.along.ChainRule.{ChainRule}
+use Rattle.pol_live.specs.Along.{MatchLaw, patterns_of, chain_rule, entries_of}
+use Rattle.pol_live.specs.Live.{IsDeciderFor}
+use Rattle.pol_report.specs.Reach.{IsLeastIfAny}
+use Rattle.pol_report.specs.Changes.{is_permit, permits, IsGained, IsChangeOf}
+use Rattle.pol_report.specs.declared.Changed.{Changed}
+use Rattle.pol_report.proofs.Leasts.{if_any_same}
+use Rattle.pol_report.proofs.ReachFacts.{not_matched, not_held}
+
+abbrev says : List Entry → List ℕ → Verdict
+says along line = (first_entry along line).verdict
+
+-- what a rule that matches, or doesn't, makes of what the later ones say
+abbrev says_first : Entry → List Entry → List ℕ → Bool → Verdict
+says_first e along line b = (let d : Decision = cond b (record { verdict = e.rule.verdict; by = by.Rule e.owner e.number }) (first_entry along line) in d).verdict
+
+abbrev pub own_verdicts : List Entry → List Verdict
+own_verdicts along = map (λ rule. rule.verdict) (map chain_rule along)
+
+abbrev pub denials : List Entry → List Verdict
+denials along = map (λ rule. Deny) (map chain_rule along)
+
+-- entries with verdicts say this of each line
+pub record Says (entries : List (List ℕ)) (verdicts : List Verdict) (verdict : List ℕ → Verdict) : Type 0 where
+  pub sees : (line : List ℕ) → IsDecided entries verdicts line (verdict line)
+  pub only : (line : List ℕ) (other : Verdict) → IsDecided entries verdicts line other → verdict line ≡ other
+  pub texts : (line : List ℕ) → verdict line ≡ Permit → IsTrue (is_text line)
+
+module _ (law : MatchLaw) where
+  -- each line has a first match, or none
+  some_first : (along : List Entry) (line : List ℕ) → (first : Option ℕ) × IsFirstMatch (patterns_of along) line first
+  some_first [] line = (None, λ k d lt. absurd (omega arith))
+  some_first (e ∷ along) line = by (matches e.rule.pattern line) refl (some_first along line)
+    where
+      Later : Type 0
+      Later = (first : Option ℕ) × IsFirstMatch (patterns_of along) line first
+
+      none_more : ¬ (Holds e.rule.pattern line) → IsFirstMatch (patterns_of along) line None → IsFirstMatch (patterns_of (e ∷ along)) line None
+      none_more not h zero d lt = not
+      none_more not h (suc k) d lt = h k d (omega arith)
+
+      some_more : ¬ (Holds e.rule.pattern line) → (i : ℕ) → IsFirstMatch (patterns_of along) line (Some i) → IsFirstMatch (patterns_of (e ∷ along)) line (Some (suc i))
+      some_more not i h = let lt = h.0 in (omega arith, h.1, λ k less. earlier not i h k less)
+        where
+          earlier : ¬ (Holds e.rule.pattern line) → (i : ℕ) (h : IsFirstMatch (patterns_of along) line (Some i)) (k : ℕ) → k < suc i
+              → ¬ (Holds (slice_index_or (patterns_of (e ∷ along)) k []) line)
+          earlier not i h zero less = not
+          earlier not i h (suc k) less = h.2 k (omega arith)
+
+      behind : ¬ (Holds e.rule.pattern line) → (first : Option ℕ) → IsFirstMatch (patterns_of along) line first → (first : Option ℕ) × IsFirstMatch (patterns_of (e ∷ along)) line first
+      behind not None h = (None, none_more not h)
+      behind not (Some i) h = (Some (suc i), some_more not i h)
+
+      by : (b : Bool) → matches e.rule.pattern line ≡ b → (first : Option ℕ) × IsFirstMatch (patterns_of along) line first → (first : Option ℕ) × IsFirstMatch (patterns_of (e ∷ along)) line first
+      by true is later = (Some 0, (omega arith, (law.same e.rule.pattern line).0 is, λ k less. absurd (omega arith)))
+      by false is later = behind (not_held law e.rule.pattern line is) later.0 later.1
+
+  -- the first match's verdict is the policy's
+  verdict_is : (along : List Entry) (line : List ℕ) (first : Option ℕ) → IsFirstMatch (patterns_of along) line first → verdict_by (own_verdicts along) first ≡ says along line
+  verdict_is [] line None h = refl
+  verdict_is [] line (Some i) h = let lt = h.0 in absurd (omega arith)
+  verdict_is (e ∷ along) line None h =
+      let here : matches e.rule.pattern line ≡ false = not_matched law e.rule.pattern line (h 0 [] (omega arith)) in
+      verdict_is along line None (λ k d lt. h (suc k) d (omega arith)) ∙ ap (says_first e along line) (sym here)
+  verdict_is (e ∷ along) line (Some zero) h =
+      let here : matches e.rule.pattern line ≡ true = (law.same e.rule.pattern line).1 h.1 in
+      ap (says_first e along line) (sym here)
+  verdict_is (e ∷ along) line (Some (suc i)) h =
+      let lt = h.0 in
+      let here : matches e.rule.pattern line ≡ false = not_matched law e.rule.pattern line (h.2 0 (omega arith)) in
+      let later : i < length (patterns_of along) = omega arith in
+      verdict_is along line (Some i) (later, h.1, λ k less. h.2 (suc k) (omega arith)) ∙ ap (says_first e along line) (sym here)
+
+  -- what is permitted is a text
+  permitted_text : (along : List Entry) (line : List ℕ) → says along line ≡ Permit → IsTrue (is_text line)
+  permitted_text [] line e = absurd cc
+  permitted_text (x ∷ along) line e = by (matches x.rule.pattern line) refl e
+    where
+      by : (b : Bool) → matches x.rule.pattern line ≡ b → says_first x along line b ≡ Permit → IsTrue (is_text line)
+      by true is h = law.texts x.rule.pattern line ((law.same x.rule.pattern line).0 is)
+      by false is h = permitted_text along line h
+
+  denied : (along : List Entry) (first : Option ℕ) → verdict_by (denials along) first ≡ Deny
+  denied along None = refl
+  denied [] (Some i) = refl
+  denied (e ∷ along) (Some zero) = refl
+  denied (e ∷ along) (Some (suc i)) = denied along (Some i)
+
+  own_says : (along : List Entry) → Says (patterns_of along) (own_verdicts along) (says along)
+  own_says along = record {
+    sees = λ line. let first = some_first along line in (first.0, first.1, verdict_is along line first.0 first.1);
+    only = λ line other h. sym (verdict_is along line h.0 h.1) ∙ h.2;
+    texts = permitted_text along;
+  }
+
+  denials_say : (along : List Entry) → Says (patterns_of along) (denials along) (λ line. Deny)
+  denials_say along = record {
+    sees = λ line. let first = some_first along line in (first.0, first.1, denied along first.0);
+    only = λ line other h. sym (denied along h.0) ∙ h.2;
+    texts = λ line e. absurd cc;
+  }
+
+  -- ---- a policy's side of a change
+
+  -- the entries with their verdicts say what the policy permits the user
+  pub record Side (policy : List Subject) (user : List ℕ) (entries : List (List ℕ)) (verdicts : List Verdict) : Type 0 where
+    pub verdict : List ℕ → Verdict
+    pub says_so : Says entries verdicts verdict
+    pub policy_so : (line : List ℕ) → permits policy user line ≡ is_permit (verdict line)
+
+  pub present_side : (policy : List Subject) (user : List ℕ)
+      → Side policy user (patterns_of (entries_of policy (user_id user))) (own_verdicts (entries_of policy (user_id user)))
+  present_side policy user = record { verdict = says along; says_so = own_says along; policy_so = λ line. by line (find_subject (user_id user) policy) }
+    where
+      along : List Entry
+      along = entries_of policy (user_id user)
+
+      by : (line : List ℕ) (found : Option Subject) → option_map_or (λ d. is_permit d.verdict) (option_map (λ s. decision policy s line) found) false ≡ is_permit (says (option_map_or (entries policy) found []) line)
+      by line None = refl
+      by line (Some s) = refl
+
+  pub absent_side : (policy : List Subject) (user : List ℕ) (along : List Entry) → find_subject (user_id user) policy ≡ None → Side policy user (patterns_of along) (denials along)
+  absent_side policy user along none = record {
+    verdict = λ line. Deny;
+    says_so = denials_say along;
+    policy_so = λ line. ap (λ (found : Option Subject). option_map_or (λ d. is_permit d.verdict) (option_map (λ s. decision policy s line) found) false) none;
+  }
+
+denies_is : (v : Verdict) → is_permit v ≡ false → v ≡ Deny
+denies_is Permit e = absurd cc
+denies_is Deny e = refl
+
+permits_is : (v : Verdict) → is_permit v ≡ true → v ≡ Permit
+permits_is Permit e = refl
+permits_is Deny e = absurd cc
+
+module _ (law : MatchLaw) (before after : List Subject) (user : List ℕ) (e f : List (List ℕ)) (v w : List Verdict) (old : Side law before user e v) (new : Side law after user f w) where
+  gains : (line : List ℕ) → IsChanged (record { entries = e; verdicts = v }) (record { entries = f; verdicts = w }) NowPermitted line → IsGained before after user line
+  gains line h =
+      (old.policy_so line ∙ ap is_permit (old.says_so.only line Deny h.1.0), new.policy_so line ∙ ap is_permit (new.says_so.only line Permit h.1.1))
+
+  gained : (line : List ℕ) → IsGained before after user line → IsChanged (record { entries = e; verdicts = v }) (record { entries = f; verdicts = w }) NowPermitted line
+  gained line h =
+      let deny = denies_is (old.verdict line) (sym (old.policy_so line) ∙ h.0) in
+      let permit = permits_is (new.verdict line) (sym (new.policy_so line) ∙ h.1) in
+      (new.says_so.texts line permit, subst (λ (d : Verdict). IsDecided e v line d) deny (old.says_so.sees line), subst (λ (d : Verdict). IsDecided f w line d) permit (new.says_so.sees line))
+
+  loses : (line : List ℕ) → IsChanged (record { entries = e; verdicts = v }) (record { entries = f; verdicts = w }) NowDenied line → IsGained after before user line
+  loses line h =
+      (new.policy_so line ∙ ap is_permit (new.says_so.only line Deny h.1.1), old.policy_so line ∙ ap is_permit (old.says_so.only line Permit h.1.0))
+
+  lost : (line : List ℕ) → IsGained after before user line → IsChanged (record { entries = e; verdicts = v }) (record { entries = f; verdicts = w }) NowDenied line
+  lost line h =
+      let deny = denies_is (new.verdict line) (sym (new.policy_so line) ∙ h.0) in
+      let permit = permits_is (old.verdict line) (sym (old.policy_so line) ∙ h.1) in
+      (old.says_so.texts line permit, subst (λ (d : Verdict). IsDecided e v line d) permit (old.says_so.sees line), subst (λ (d : Verdict). IsDecided f w line d) deny (new.says_so.sees line))
+
+  -- what the automata find is what the policies change
+  pub found_change : (changed : Changed) → changed.user ≡ user
+      → IsLeastIfAny (IsChanged (record { entries = e; verdicts = v }) (record { entries = f; verdicts = w }) NowPermitted) changed.permits
+      → IsLeastIfAny (IsChanged (record { entries = e; verdicts = v }) (record { entries = f; verdicts = w }) NowDenied) changed.denies
+      → IsChangeOf before after user changed
+  found_change changed is permits denies = record {
+    user_is = is;
+    permits_is = if_any_same _ (IsGained before after user) gains gained changed.permits permits;
+    denies_is = if_any_same _ (IsGained after before user) loses lost changed.denies denies;
+  }
+
+-- the decider of a subject's rules, or none of a subject that isn't there
+pub its_decider : (policy : List Subject) (id : SubjectId) (decider : Automaton) → IsDeciderFor policy (find_subject id policy) (Some decider) → IsDecider decider (patterns_of (entries_of policy id))
+its_decider policy id decider h = by (find_subject id policy) h
+  where
+    by : (found : Option Subject) → IsDeciderFor policy found (Some decider) → IsDecider decider (patterns_of (option_map_or (entries policy) found []))
+    by None k = absurd k
+    by (Some s) k = k
+
+pub nobody : (policy : List Subject) (id : SubjectId) → IsDeciderFor policy (find_subject id policy) None → find_subject id policy ≡ None
+nobody policy id h = by (find_subject id policy) h
+  where
+    by : (found : Option Subject) → IsDeciderFor policy found None → found ≡ None
+    by None k = refl
+    by (Some s) k = absurd k

@@ -1,0 +1,5 @@
+pub mod Leasts
+pub mod ReachFacts
+pub mod ShadowFacts
+pub mod ChangeFacts
+pub mod ListFacts

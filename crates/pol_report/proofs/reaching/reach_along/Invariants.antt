@@ -1,0 +1,7 @@
+use Rattle.std.proofs.Common.{◌≡◌, map}
+use Rattle.pol_live.specs.Along.{chain_rule, entries_of}
+use Rattle.pol_report.proofs.ReachFacts.{AreReachedTo}
+use Rattle.pol_report.proofs.reaching.reach_along.Given as goal
+
+abbrev pub invariant-loop-place : goal.invariant-loop-place
+invariant-loop-place l = AreReachedTo (entries_of l.policy l.id) l.place l.rows

@@ -1,0 +1,25 @@
+use Rattle.std.proofs.Common.{◌≡◌, ◌<◌, ◌≤◌, ◌+◌, suc, List, length, take, get_or, sym, ap, ◌∙◌, arith, add-one}
+use Rattle.pol_text.specs.Policy.{id_of}
+use Rattle.pol_report.proofs.Leasts.{take_all}
+use Rattle.pol_report.proofs.ShadowFacts.{more_shadows, only_shadows}
+use Rattle.pol_report.proofs.reaching.shadows.Goals as goal
+
+pub loop-subject-preserved : goal.loop-subject-preserved
+loop-subject-preserved c =
+    let live = c.args.live.now in
+    let i = c.loop-subject.subject-index in
+    let subject = c.subject-item.result in
+    let at : get_or live i subject ≡ subject = rw (← c.loop-subject.invariant.same) (sym c.subject-item.is) in
+    let lt : i < length live = rw (← c.loop-subject.invariant.same) c.loop-subject-test.true in
+    let reached = rw c.id-id.ensures at c.in_ok-rows.ensures.found in
+    record {
+      so_far = rw (add-one, c.in_ok-add_unreached.ensures, c.id-id.ensures) (more_shadows live live i subject c.loop-subject.shadows c.in_ok-rows.rows lt at c.loop-subject.invariant.so_far reached);
+      same = c.loop-subject.invariant.same;
+    }
+
+pub returns-clause-only : goal.returns-clause-only
+returns-clause-only c other k =
+    let live = c.args.live.now in
+    let past : length live ≤ c.loop-subject.subject-index = rw (← c.loop-subject.invariant.same) c.loop-subject-test.false in
+    let all = rw (take_all live c.loop-subject.subject-index past) at c.loop-subject.invariant.so_far in
+    only_shadows live live c.loop-subject.shadows other all k
