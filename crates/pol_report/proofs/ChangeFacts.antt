@@ -91,11 +91,11 @@ module _ (law : MatchLaw) where
   -- what is permitted is a text
   permitted_text : (along : List Entry) (line : List ℕ) → says along line ≡ Permit → IsTrue (is_text line)
   permitted_text [] line e = absurd cc
-  permitted_text (x ∷ along) line e = by (matches x.rule.pattern line) refl e
+  permitted_text (x ∷ along) line e = by (λ h. permitted_text along line h) (matches x.rule.pattern line) refl e
     where
-      by : (b : Bool) → matches x.rule.pattern line ≡ b → says_first x along line b ≡ Permit → IsTrue (is_text line)
-      by true is h = law.texts x.rule.pattern line ((law.same x.rule.pattern line).0 is)
-      by false is h = permitted_text along line h
+      by : (says along line ≡ Permit → IsTrue (is_text line)) → (b : Bool) → matches x.rule.pattern line ≡ b → says_first x along line b ≡ Permit → IsTrue (is_text line)
+      by later true is h = law.texts x.rule.pattern line ((law.same x.rule.pattern line).0 is)
+      by later false is h = later h
 
   denied : (along : List Entry) (first : Option ℕ) → verdict_by (denials along) first ≡ Deny
   denied along None = refl
@@ -160,7 +160,7 @@ module _ (law : MatchLaw) (before after : List Subject) (user : List ℕ) (e f :
   gained line h =
       let deny = denies_is (old.verdict line) (sym (old.policy_so line) ∙ h.0) in
       let permit = permits_is (new.verdict line) (sym (new.policy_so line) ∙ h.1) in
-      (new.says_so.texts line permit, subst (λ (d : Verdict). IsDecided e v line d) deny (old.says_so.sees line), subst (λ (d : Verdict). IsDecided f w line d) permit (new.says_so.sees line))
+      (new.says_so.texts line permit, (subst (λ (d : Verdict). IsDecided e v line d) deny (old.says_so.sees line), subst (λ (d : Verdict). IsDecided f w line d) permit (new.says_so.sees line)))
 
   loses : (line : List ℕ) → IsChanged (record { entries = e; verdicts = v }) (record { entries = f; verdicts = w }) NowDenied line → IsGained after before user line
   loses line h =
@@ -170,7 +170,7 @@ module _ (law : MatchLaw) (before after : List Subject) (user : List ℕ) (e f :
   lost line h =
       let deny = denies_is (new.verdict line) (sym (new.policy_so line) ∙ h.0) in
       let permit = permits_is (old.verdict line) (sym (old.policy_so line) ∙ h.1) in
-      (old.says_so.texts line permit, subst (λ (d : Verdict). IsDecided e v line d) permit (old.says_so.sees line), subst (λ (d : Verdict). IsDecided f w line d) deny (new.says_so.sees line))
+      (old.says_so.texts line permit, (subst (λ (d : Verdict). IsDecided e v line d) permit (old.says_so.sees line), subst (λ (d : Verdict). IsDecided f w line d) deny (new.says_so.sees line)))
 
   -- what the automata find is what the policies change
   pub found_change : (changed : Changed) → changed.user ≡ user

@@ -1,5 +1,6 @@
 -- Least lines, and lists by their places.
 use Rattle.std.proofs.Common.{◌≡◌, ◌⊎◌, ◌<◌, ◌≤◌, ◌+◌, ℕ, zero, suc, Bool, true, false, cond, map, filter, take, get_or, List, [], ◌∷◌, ◌++◌, length, Option, Some, None, refl, sym, ap, subst, ◌∙◌, inl, inr, arith, slice_get}
+use Rattle.std.specs.Prelude.{IfSome, IfNone}
 use Rattle.basics.specs.TextOrder.{IsBefore, IsLeast}
 use Rattle.basics.proofs.OrderFacts.{before_total}
 use Rattle.pol_report.specs.Reach.{IsLeastIfAny}
@@ -80,3 +81,7 @@ filter_more {X} {Y} test f (z ∷ xs) (suc i) x lt at = by (test z) (filter_more
 pub if_any_same : (P Q : List ℕ → Type 0) → ((line : List ℕ) → P line → Q line) → ((line : List ℕ) → Q line → P line) → (text : Option (List ℕ)) → IsLeastIfAny P text → IsLeastIfAny Q text
 if_any_same P Q there back None h = λ line q. h line (back line q)
 if_any_same P Q there back (Some text) h = least_same P Q there back text h
+
+pub if_any : (P : List ℕ → Type 0) (text : Option (List ℕ)) → IfSome text (λ t. IsLeast P t) → IfNone text ((t : List ℕ) → ¬ (P t)) → IsLeastIfAny P text
+if_any P None some none = none
+if_any P (Some text) some none = some

@@ -1,10 +1,10 @@
 -- Lists of changes, one user after another.
-use Rattle.std.proofs.Common.{◌≡◌, ℕ, List, [], ◌∷◌, ◌++◌, filter, Bool, true, false, cond, Option, refl, sym, ap, ◌∙◌, append_assoc, append-nil}
+use Rattle.std.proofs.Common.{◌≡◌, ◌<◌, ◌+◌, ℕ, suc, length, map, take, get_or, subst, arith, List, [], ◌∷◌, ◌++◌, filter, Bool, true, false, cond, Option, refl, sym, ap, ◌∙◌, append_assoc, append-nil}
 use Rattle.std.specs.List.{AllZip}
 use Rattle.pol_text.specs.declared.subject.Subject.{Subject}
 use Rattle.pol_report.specs.Changes.{IsGained, IsChangeOf, ChangesOf, is_change}
 use Rattle.pol_report.specs.declared.Changed.{Changed}
-use Rattle.pol_report.proofs.Leasts.{if_any_unique}
+use Rattle.pol_report.proofs.Leasts.{if_any_unique, filter_more}
 
 filter_append : (xs ys : List Changed) → filter is_change (xs ++ ys) ≡ filter is_change xs ++ filter is_change ys
 filter_append [] ys = refl
@@ -52,3 +52,32 @@ module _ (before after : List Subject) where
   -- there is one list
   pub only_changes : (users : List (List ℕ)) (a b : List Changed) → ChangesOf before after users a → ChangesOf before after users b → a ≡ b
   only_changes users a b h k = h.listed ∙ ap (filter is_change) (only_all users h.all k.all h.each k.each) ∙ sym k.listed
+
+  -- one more subject: a user that is looked for, or another
+  pub step_listed : (test : Subject → Bool) (subjects : List Subject) (i : ℕ) (subject : Subject) (users : List (List ℕ)) (changes next : List Changed) (changed : Changed)
+      → i < length subjects → get_or subjects i subject ≡ subject → test subject ≡ true → IsChangeOf before after subject.name changed
+      → next ≡ changes ++ filter is_change (changed ∷ []) → ChangesOf before after (users ++ map (λ subject. subject.name) (filter test (take i subjects))) changes
+      → ChangesOf before after (users ++ map (λ subject. subject.name) (filter test (take (i + 1) subjects))) next
+  step_listed test subjects i subject users changes next changed lt at passes change is so_far =
+      let longer : i + 1 ≡ suc i = omega arith in
+      let names = filter_more test (λ (s : Subject). s.name) subjects i subject lt at in
+      let listed : List (List ℕ) = map (λ (s : Subject). s.name) (filter test (take i subjects)) in
+      let all : users ++ map (λ (s : Subject). s.name) (filter test (take (i + 1) subjects)) ≡ (users ++ listed) ++ subject.name ∷ [] =
+      ap (λ (n : ℕ). users ++ map (λ (s : Subject). s.name) (filter test (take n subjects))) longer
+      ∙ ap (λ (more : List (List ℕ)). users ++ more) (names ∙ ap (λ (b : Bool). listed ++ cond b (subject.name ∷ []) []) passes)
+      ∙ sym (append_assoc users listed (subject.name ∷ [])) in
+      subst (λ (us : List (List ℕ)). ChangesOf before after us next) (sym all)
+      (subst (λ (cs : List Changed). ChangesOf before after ((users ++ listed) ++ subject.name ∷ []) cs) (sym is) (more_changes (users ++ listed) changes subject.name changed so_far change))
+
+  pub step_passed : (test : Subject → Bool) (subjects : List Subject) (i : ℕ) (subject : Subject) (users : List (List ℕ)) (changes next : List Changed)
+      → i < length subjects → get_or subjects i subject ≡ subject → test subject ≡ false
+      → next ≡ changes → ChangesOf before after (users ++ map (λ subject. subject.name) (filter test (take i subjects))) changes
+      → ChangesOf before after (users ++ map (λ subject. subject.name) (filter test (take (i + 1) subjects))) next
+  step_passed test subjects i subject users changes next lt at fails is so_far =
+      let longer : i + 1 ≡ suc i = omega arith in
+      let names = filter_more test (λ (s : Subject). s.name) subjects i subject lt at in
+      let listed : List (List ℕ) = map (λ (s : Subject). s.name) (filter test (take i subjects)) in
+      let all : users ++ map (λ (s : Subject). s.name) (filter test (take (i + 1) subjects)) ≡ users ++ listed =
+      ap (λ (n : ℕ). users ++ map (λ (s : Subject). s.name) (filter test (take n subjects))) longer
+      ∙ ap (λ (more : List (List ℕ)). users ++ more) (names ∙ ap (λ (b : Bool). listed ++ cond b (subject.name ∷ []) []) fails ∙ append-nil listed) in
+      subst (λ (us : List (List ℕ)). ChangesOf before after us next) (sym all) (subst (λ (cs : List Changed). ChangesOf before after (users ++ listed) cs) (sym is) so_far)

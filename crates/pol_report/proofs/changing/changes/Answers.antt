@@ -1,0 +1,17 @@
+use Rattle.std.proofs.Common.{◌≡◌, ◌++◌, [], List, sym}
+use Rattle.pol_report.specs.Changes.{ChangesOf, AreChanges, users_of, users_alone}
+use Rattle.pol_report.proofs.ListFacts.{no_changes, only_changes}
+use Rattle.pol_report.proofs.changing.changes.Goals as goal
+
+pub returns-clause-found : goal.returns-clause-found
+returns-clause-found c =
+    let live = c.args.live.now in
+    let after = c.args.prepared.now.after in
+    let none : ChangesOf live after [] c.new-changes.result = rw c.new-changes.ensures (no_changes live after) in
+    c.in_ok-list_gone.ensures (users_of after) (c.in_ok-list_present.ensures [] none)
+
+pub returns-clause-only : goal.returns-clause-only
+returns-clause-only c other h =
+    let live = c.args.live.now in
+    let after = c.args.prepared.now.after in
+    only_changes live after (users_of after ++ users_alone after live) c.list_gone.new.changes other (returns-clause-found c) h

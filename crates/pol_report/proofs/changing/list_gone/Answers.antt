@@ -1,0 +1,25 @@
+use Rattle.std.proofs.Common.{◌≡◌, ◌<◌, length, get_or, sym, ◌∙◌}
+use Rattle.pol_names.specs.SubjectId.{same_kind}
+use Rattle.pol_names.specs.declared.subject_id.Kind.TheVariants.{User}
+use Rattle.pol_report.specs.Changes.{is_alone}
+use Rattle.pol_report.proofs.ListFacts.{step_listed, step_passed}
+use Rattle.pol_report.proofs.changing.list_gone.Goals as goal
+use Rattle.pol_report.proofs.changing.list_gone.Goals.{then-is_alone+in_ok-changed+in_ok-list_change, else-is_alone}
+
+pub loop-subject-preserved : goal.loop-subject-preserved
+loop-subject-preserved c =
+    let subjects = c.args.live.now in
+    let i = c.loop-subject.subject-index in
+    let subject = c.subject-item.result in
+    let at : get_or subjects i subject ≡ subject = rw (← c.loop-subject.invariant.same) (sym c.subject-item.is) in
+    let lt : i < length subjects = rw (← c.loop-subject.invariant.same) c.loop-subject-test.true in
+    let alone : c.is_alone.result ≡ is_alone c.args.prepared.now.after c.subject-item.result = rw (← c.policy-in-loop-subject.ensures.policy) c.is_alone.ensures in
+    record {
+      so_far = λ users h. elim c.if-is_alone.branch [
+        | then-is_alone+in_ok-changed+in_ok-list_change w ↦ step_listed c.args.live.now c.args.prepared.now.after (is_alone c.args.prepared.now.after) subjects i subject users c.loop-subject.changes c.if-is_alone.changes w.in_ok-changed.changed lt at
+            (sym alone ∙ w.if-is_alone.true) w.in_ok-changed.ensures (w.changes-is ∙ w.in_ok-list_change.ensures) (c.loop-subject.invariant.so_far users h)
+        | else-is_alone w ↦ step_passed c.args.live.now c.args.prepared.now.after (is_alone c.args.prepared.now.after) subjects i subject users c.loop-subject.changes c.if-is_alone.changes lt at
+            (sym alone ∙ w.if-is_alone.false) w.changes-is (c.loop-subject.invariant.so_far users h)
+      ];
+      same = c.loop-subject.invariant.same;
+    }

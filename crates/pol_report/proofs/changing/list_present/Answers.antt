@@ -1,0 +1,24 @@
+use Rattle.std.proofs.Common.{◌≡◌, ◌<◌, length, get_or, sym, ◌∙◌}
+use Rattle.pol_names.specs.SubjectId.{same_kind}
+use Rattle.pol_names.specs.declared.subject_id.Kind.TheVariants.{User}
+use Rattle.pol_report.specs.Changes.{is_alone}
+use Rattle.pol_report.proofs.ListFacts.{step_listed, step_passed}
+use Rattle.pol_report.proofs.changing.list_present.Goals as goal
+use Rattle.pol_report.proofs.changing.list_present.Goals.{then-is_user+in_ok-changed+in_ok-list_change, else-is_user}
+
+pub loop-subject-preserved : goal.loop-subject-preserved
+loop-subject-preserved c =
+    let subjects = c.args.prepared.now.after in
+    let i = c.loop-subject.subject-index in
+    let subject = c.subject-item.result in
+    let at : get_or subjects i subject ≡ subject = rw (← c.loop-subject.invariant.same) (sym c.subject-item.is) in
+    let lt : i < length subjects = rw (← c.loop-subject.invariant.same) c.loop-subject-test.true in
+    record {
+      so_far = λ users h. elim c.if-is_user.branch [
+        | then-is_user+in_ok-changed+in_ok-list_change w ↦ step_listed c.args.live.now c.args.prepared.now.after (λ subject. same_kind subject.kind User) subjects i subject users c.loop-subject.changes c.if-is_user.changes w.in_ok-changed.changed lt at
+            (sym c.is_user.ensures ∙ w.if-is_user.true) w.in_ok-changed.ensures (w.changes-is ∙ w.in_ok-list_change.ensures) (c.loop-subject.invariant.so_far users h)
+        | else-is_user w ↦ step_passed c.args.live.now c.args.prepared.now.after (λ subject. same_kind subject.kind User) subjects i subject users c.loop-subject.changes c.if-is_user.changes lt at
+            (sym c.is_user.ensures ∙ w.if-is_user.false) w.changes-is (c.loop-subject.invariant.so_far users h)
+      ];
+      same = c.loop-subject.invariant.same;
+    }
