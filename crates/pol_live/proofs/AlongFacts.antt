@@ -41,13 +41,12 @@ own_patterns owner n [] = refl
 own_patterns owner n (rule ∷ rules) = ap (λ (rest : List (List ℕ)). rule.pattern ∷ rest) (own_patterns owner (suc n) rules)
 
 -- the patterns found so far, and those of a subject
-pub patterns_step : (policy : List Subject) (subject : Subject) (i : ℕ) (parent : Option Subject) (found next all : List (List ℕ)) → i < 8 → parent_of policy subject ≡ parent
-    → found ++ patterns_of (entries_along (chain_within (8 - i) policy subject)) ≡ all → next ≡ found ++ map (λ rule. rule.pattern) subject.rules
-    → next ++ patterns_of (entries_along (option_map_or (chain_within (8 - (i + 1)) policy) parent [])) ≡ all
-patterns_step policy subject i parent found next all lt e so_far added =
+pub patterns_step : (policy : List Subject) (subject : Subject) (i : ℕ) (parent : Option Subject) (found all : List (List ℕ)) → i < 8 → parent_of policy subject ≡ parent
+    → found ++ patterns_of (entries_along (chain_within (8 - i) policy subject)) ≡ all
+    → (found ++ map (λ rule. rule.pattern) subject.rules) ++ patterns_of (entries_along (option_map_or (chain_within (8 - (i + 1)) policy) parent [])) ≡ all
+patterns_step policy subject i parent found all lt e so_far =
     let later = entries_along (option_map_or (chain_within (8 - (i + 1)) policy) parent []) in
-    ap (λ (front : List (List ℕ)). front ++ patterns_of later) added
-    ∙ append_assoc found (map (λ rule. rule.pattern) subject.rules) (patterns_of later)
+    append_assoc found (map (λ rule. rule.pattern) subject.rules) (patterns_of later)
     ∙ ap (λ (back : List (List ℕ)). found ++ (back ++ patterns_of later)) (sym (own_patterns (id_of subject) 1 subject.rules))
     ∙ ap (λ (back : List (List ℕ)). found ++ back) (sym (patterns_append (own_entries subject) later) ∙ ap patterns_of (sym (entries_step policy subject i parent lt e)))
     ∙ so_far
@@ -56,6 +55,21 @@ pub patterns_end : (policy : List Subject) (subject : Subject) (i : ℕ) (found 
     → found ++ patterns_of (entries_along (chain_within (8 - i) policy subject)) ≡ all → found ≡ all
 patterns_end policy subject i found all past so_far =
     sym (append-nil found) ∙ ap (λ (back : List Entry). found ++ patterns_of back) (sym (entries_none policy subject i past)) ∙ so_far
+
+-- one more of a subject's own patterns
+pub more_patterns : (known : List (List ℕ)) (rules : List Rule) (i : ℕ) (rule : Rule) → i < length rules → get_or rules i rule ≡ rule
+    → known ++ map (λ rule. rule.pattern) (take (i + 1) rules) ≡ (known ++ map (λ rule. rule.pattern) (take i rules)) ++ rule.pattern ∷ []
+more_patterns known rules i rule lt at =
+    let longer : i + 1 ≡ suc i = omega arith in
+    ap (λ (n : ℕ). known ++ map (λ rule. rule.pattern) (take n rules)) longer
+    ∙ ap (λ (more : List (List ℕ)). known ++ more) (one_more rules i rule lt at)
+    ∙ sym (append_assoc known (map (λ rule. rule.pattern) (take i rules)) (rule.pattern ∷ []))
+  where
+    one_more : (rules : List Rule) (i : ℕ) (rule : Rule) → i < length rules → get_or rules i rule ≡ rule
+        → map (λ rule. rule.pattern) (take (suc i) rules) ≡ map (λ rule. rule.pattern) (take i rules) ++ rule.pattern ∷ []
+    one_more [] i rule lt at = absurd (omega arith)
+    one_more (r ∷ rules) zero rule lt at = ap (λ (x : Rule). x.pattern ∷ []) at
+    one_more (r ∷ rules) (suc i) rule lt at = ap (λ (rest : List (List ℕ)). r.pattern ∷ rest) (one_more rules i rule (omega arith) at)
 
 -- ---- rules
 

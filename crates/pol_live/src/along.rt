@@ -1,12 +1,13 @@
 //! The rules along the chain of a subject.
 
-ghost use Rattle.std.specs.Prelude.{◌≡◌, ◌≤◌, ◌++◌, length, map, slice_get, IfOk, IfSome, OnOk};
+ghost use Rattle.std.specs.Prelude.{◌≡◌, ◌≤◌, ◌++◌, ℕ, List, length, map, slice_get, IfOk, IfSome, OnOk};
 ghost use Rattle.std.specs.Option.{option_map, option_copied};
+ghost use Rattle.pol_automaton.specs.Entries.{AreEntries};
 ghost use Rattle.pol_text.specs.Policy.{parent_of, own_entries, entries};
 ghost use Rattle.pol_live.specs.Along.{patterns_along as patterns, chain_rule as rule_of, entries_of, decision_by};
 
+use pol_automaton::Entries;
 use pol_names::{By, Decision, SubjectId, Verdict};
-use pol_pattern::Pattern;
 use pol_text::{Policy, Subject};
 use std::alloc::{AllocError, Global};
 
@@ -45,35 +46,35 @@ fn parent<'a>(policy: &'a Policy, subject: &Subject) -> Option<&'a Subject>
 }
 
 // Adds the subject's own patterns.
-fn add_patterns<'a>(patterns: &mut Vec<&'a Pattern>, subject: &'a Subject) -> Result<(), AllocError>
-    ensures { OnOk result (map (λ p. p.now) patterns.new.items
-        ≡ map (λ p. p.now) patterns.old.items ++ map (λ rule. rule.pattern) subject.now.rules) }
+fn add_patterns(entries: &mut Entries, subject: &Subject) -> Result<(), AllocError>
+    ensures { OnOk result ((known : List (List ℕ)) → AreEntries entries.old known
+        → AreEntries entries.new (known ++ map (λ rule. rule.pattern) subject.now.rules)) }
 {
     for rule in subject.rules.as_slice() {
-        patterns.push(&rule.pattern)?;
+        entries.add(&rule.pattern)?;
     }
     Ok(())
 }
 
-/// The patterns of the rules along the chain of a subject, the subject's own first, as they lie in
-/// the policy.
-pub(crate) fn patterns_along<'a>(
+/// The patterns of the rules along the chain of a subject, the subject's own first, read where they
+/// lie in the policy.
+pub(crate) fn patterns_along(
     alloc: Global,
-    policy: &'a Policy,
-    subject: &'a Subject,
-) -> Result<Vec<&'a Pattern>, AllocError>
-    ensures { IfOk result (λ found. map (λ p. p.now) found.items ≡ patterns policy.now subject.now) }
+    policy: &Policy,
+    subject: &Subject,
+) -> Result<Entries, AllocError>
+    ensures { IfOk result (λ found. AreEntries found (patterns policy.now subject.now)) }
 {
-    let mut patterns = Vec::new(alloc);
+    let mut found = Entries::new(alloc);
     let mut present = subject;
     'chain: for _ in 0..Policy::MAX_CHAIN {
-        add_patterns(&mut patterns, present)?;
+        add_patterns(&mut found, present)?;
         match parent(policy, present) {
             Some(group) => present = group,
-            None => return Ok(patterns),
+            None => return Ok(found),
         }
     }
-    Ok(patterns)
+    Ok(found)
 }
 
 // Adds the subject's own rules.

@@ -32,7 +32,7 @@ fn build_decider(
         ((fault ≡ TooManyStates (id_of subject.now)) × IsLarge policy.now subject.now)) }
 {
     let patterns = patterns_along(alloc, policy, subject)?;
-    match Decider::of(alloc, &patterns, MOST_STATES, meter) {
+    match Decider::of(patterns, MOST_STATES, meter) {
         Ok(decider) => Ok(decider),
         Err(DeciderFault::TooManyStates) => Err(EditFault::TooManyStates(subject.id())),
         Err(DeciderFault::Memory) => Err(EditFault::Memory),
