@@ -1,6 +1,7 @@
 -- Least lines, and lists by their places.
 use Rattle.std.proofs.Common.{◌≡◌, ◌⊎◌, ◌<◌, ◌≤◌, ◌+◌, ℕ, zero, suc, Bool, true, false, cond, map, filter, take, get_or, List, [], ◌∷◌, ◌++◌, length, Option, Some, None, refl, sym, ap, subst, ◌∙◌, inl, inr, arith, slice_get}
 use Rattle.std.specs.Prelude.{IfSome, IfNone}
+use Rattle.std.specs.Option.{option_map}
 use Rattle.basics.specs.TextOrder.{IsBefore, IsLeast}
 use Rattle.basics.proofs.OrderFacts.{before_total}
 use Rattle.pol_report.specs.Reach.{IsLeastIfAny}
@@ -82,6 +83,7 @@ pub if_any_same : (P Q : List ℕ → Type 0) → ((line : List ℕ) → P line 
 if_any_same P Q there back None h = λ line q. h line (back line q)
 if_any_same P Q there back (Some text) h = least_same P Q there back text h
 
-pub if_any : (P : List ℕ → Type 0) (text : Option (List ℕ)) → IfSome text (λ t. IsLeast P t) → IfNone text ((t : List ℕ) → ¬ (P t)) → IsLeastIfAny P text
-if_any P None some none = none
-if_any P (Some text) some none = some
+-- what was found, in another form
+pub if_any : {V : Type 0} (P : List ℕ → Type 0) (f : V → List ℕ) (found : Option V) → IfSome found (λ v. IsLeast P (f v)) → IfNone found ((t : List ℕ) → ¬ (P t)) → IsLeastIfAny P (option_map f found)
+if_any P f None some none = none
+if_any P f (Some text) some none = some

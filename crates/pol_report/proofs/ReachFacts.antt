@@ -1,6 +1,7 @@
 -- Which line reaches which rule, by the automaton and by the policy.
 use Rattle.std.proofs.Common.{Result, Ok, Err, IfOk, ◌≡◌, ◌⊎◌, ◌<◌, ◌+◌, ℕ, zero, suc, Bool, true, false, IsTrue, List, [], ◌∷◌, ◌++◌, length, map, Option, Some, None, IfSome, refl, sym, ap, subst, ◌∙◌, inl, inr, arith, slice_get, get_or, length-append}
 use Rattle.std.specs.Prelude.{IfNone}
+use Rattle.std.specs.Option.{option_map}
 use Rattle.basics.specs.TextOrder.{IsLeast}
 use Rattle.pol_pattern.specs.Matching.{matches}
 use Rattle.pol_pattern.specs.Spelling.{Holds}
@@ -51,10 +52,10 @@ module _ (law : MatchLaw) where
   decided_decides along i line h = let first = decided_first along line i h in (law.texts _ line first.1, first)
 
   -- what the automaton finds is the least line, or that there is none
-  pub reached_text : (along : List Entry) (i : ℕ) (text : Option (List ℕ)) → IfSome text (λ t. IsReachText (patterns_of along) i t)
-      → IfNone text ((t : List ℕ) → ¬ (Decides (patterns_of along) i t)) → IsLeastIfAny (IsDecidedAt along i) text
-  reached_text along i None some none = λ line h. none line (decided_decides along i line h)
-  reached_text along i (Some text) some none = least_same (Decides (patterns_of along) i) (IsDecidedAt along i) (decides_decided along i) (decided_decides along i) text some
+  pub reached_text : {V : Type 0} (f : V → List ℕ) (along : List Entry) (i : ℕ) (found : Option V) → IfSome found (λ v. IsReachText (patterns_of along) i (f v))
+      → IfNone found ((t : List ℕ) → ¬ (Decides (patterns_of along) i t)) → IsLeastIfAny (IsDecidedAt along i) (option_map f found)
+  reached_text f along i None some none = λ line h. none line (decided_decides along i line h)
+  reached_text f along i (Some text) some none = least_same (Decides (patterns_of along) i) (IsDecidedAt along i) (decides_decided along i) (decided_decides along i) (f text) some
 
 -- ---- rows, one after another
 

@@ -12,6 +12,7 @@ ghost use Rattle.pol_report.specs.Reach.{IsLeastIfAny};
 ghost use Rattle.pol_report.specs.Changes.{IsChangeOf, ChangesOf, AreChanges, is_change as change_test, is_alone as alone_test, users_of, users_alone};
 ghost use Rattle.pol_report.specs.declared.Changed.{Changed as ChangedValue};
 
+use crate::line::line_of;
 use crate::{Changed, Changes};
 use basics::Sequence;
 use pol_automaton::{Decider, Way};
@@ -46,12 +47,12 @@ fn changed(
     ensures user { IfOk result (λ changed. changed.user ≡ user) }
     ensures permits { (before after : Ruling) → IsDecider old.now before.entries
         → IsDecider new.now after.entries → before.verdicts ≡ old_verdicts.now
-        → after.verdicts ≡ new_verdicts.now
-        → IfOk result (λ changed. IsLeastIfAny (IsChanged before after NowPermitted) changed.permits) }
+        → after.verdicts ≡ new_verdicts.now → IfOk result
+        (λ changed. IsLeastIfAny (IsChanged before after NowPermitted) changed.permits) }
     ensures denies { (before after : Ruling) → IsDecider old.now before.entries
         → IsDecider new.now after.entries → before.verdicts ≡ old_verdicts.now
-        → after.verdicts ≡ new_verdicts.now
-        → IfOk result (λ changed. IsLeastIfAny (IsChanged before after NowDenied) changed.denies) }
+        → after.verdicts ≡ new_verdicts.now → IfOk result
+        (λ changed. IsLeastIfAny (IsChanged before after NowDenied) changed.denies) }
 {
     let permits = Decider::differ(
         alloc,
@@ -64,8 +65,8 @@ fn changed(
     let denies = Decider::differ(alloc, old, old_verdicts, new, new_verdicts, Way::NowDenied)?;
     Ok(Changed {
         user,
-        permits,
-        denies,
+        permits: line_of(permits),
+        denies: line_of(denies),
     })
 }
 

@@ -3,6 +3,7 @@
 #![tactic(auto)]
 
 mod changing;
+mod line;
 mod reaching;
 
 use basics::{Bytes, Sequence};

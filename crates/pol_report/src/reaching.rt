@@ -8,6 +8,7 @@ ghost use Rattle.pol_report.specs.Reach.{AreReached, Shadows, shadowed_row, unre
 ghost use Rattle.pol_report.specs.declared.Reached.{Reached as ReachedValue};
 ghost use Rattle.pol_report.specs.declared.Shadowed.{Shadowed as ShadowedValue};
 
+use crate::line::line_of;
 use crate::{Reached, Shadowed};
 use basics::Sequence;
 use pol_automaton::Decider;
@@ -34,7 +35,7 @@ fn reach_along(
         rows.push(Reached {
             owner: rule.owner,
             number: rule.number,
-            text,
+            text: line_of(text),
         })?;
     }
     Ok(rows)

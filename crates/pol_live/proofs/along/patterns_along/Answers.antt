@@ -16,8 +16,7 @@ returns-in-None c =
 pub chain-preserved : goal.chain-preserved
 chain-preserved c =
     let left : c.chain.counter < 8 = omega arith in
-    let so_far = c.chain.invariant in
-    (
+    let so_far = c.chain.invariant in (
       so_far.0 ++ map (λ rule. rule.pattern) c.chain.present.now.rules,
       c.in_ok-add_patterns.ensures so_far.0 so_far.1,
       patterns_step c.args.policy.now c.chain.present.now c.chain.counter (Some c.in-Some.group.now) so_far.0 _ left (sym c.in-Some.ensures.found) so_far.2,

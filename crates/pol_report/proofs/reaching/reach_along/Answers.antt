@@ -1,5 +1,4 @@
 use Rattle.std.proofs.Common.{◌≡◌, ◌<◌, length, map, get_or, sym, ap, ◌∙◌, arith}
-use Rattle.std.proofs.lemmas.List.{length-map}
 use Rattle.pol_live.specs.Along.{chain_rule, entries_of, patterns_of}
 use Rattle.pol_report.proofs.ReachFacts.{more_rows, reached_text}
 use Rattle.pol_report.proofs.reaching.reach_along.Goals as goal
@@ -9,7 +8,5 @@ loop-place-preserved c =
     let along = entries_of c.args.policy.now c.args.id.now in
     let items = c.deref-rule-items.ensures.value ∙ c.in_ok-rules.ensures in
     let at : get_or (map chain_rule along) c.loop-place.place c.rule-item.result ≡ c.rule-item.result = rw (← items) (sym c.rule-item.is) in
-    let lt : c.loop-place.place < length (map chain_rule along) = rw (← items) c.loop-place-test.true in
-    let within : c.loop-place.place < length (patterns_of along) = omega (arith, lt, length-map along chain_rule, length-map along (λ entry. entry.rule.pattern)) in
-    rw c.in_ok-push.ensures.ok (more_rows along c.loop-place.place c.loop-place.rows c.rule-item.result c.in_ok-text.text at c.loop-place.invariant
-    (reached_text c.requires.law along c.loop-place.place c.in_ok-text.text (c.in_ok-text.ensures.some _ c.requires.right within) (c.in_ok-text.ensures.none _ c.requires.right within)))
+    rw (c.in_ok-push.ensures.ok, c.line_of.ensures) (more_rows along c.loop-place.place c.loop-place.rows c.rule-item.result _ at c.loop-place.invariant
+    (reached_text c.requires.law (λ line. line.items) along c.loop-place.place c.in_ok-text.text (c.in_ok-text.ensures.reached _ c.requires.right) (c.in_ok-text.ensures.never _ c.requires.right)))
