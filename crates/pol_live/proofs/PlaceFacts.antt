@@ -29,10 +29,9 @@ found_few id (x ∷ rest) s right e = by (same_id id (id_of x)) e (found_few id 
     by true h later = let same : x ≡ s = cc in few_right s (ap is_right_subject (sym same) ∙ (and_parts (is_right_subject x) (list_all is_right_subject rest) right).0)
     by false h later = later h
 
-pub looked_up_few : (id : SubjectId) (policy : List Subject) (r : Option (Bor Subject)) → IsTrue (list_all is_right_subject policy) → option_copied r ≡ find_subject id policy
-    → IfSome r (λ s. length s.now.rules ≤ 256)
-looked_up_few id policy None right e = tt
-looked_up_few id policy (Some s) right e = found_few id policy s.now right (sym e)
+pub right_few : (r : Option (Bor Subject)) → IfSome r (λ s. IsTrue (is_right_subject s.now)) → IfSome r (λ s. length s.now.rules ≤ 256)
+right_few None right = tt
+right_few (Some s) right = few_right s.now right
 
 -- ---- what a slice's `get` says
 

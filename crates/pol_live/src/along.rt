@@ -37,12 +37,7 @@ fn parent<'a>(policy: &'a Policy, subject: &Subject) -> Option<&'a Subject>
     ensures found { option_copied result ≡ parent_of policy.now subject.now }
     ensures few { IfSome result (λ group. length group.now.rules ≤ 256) }
 {
-    // every policy is well formed: the call is for its clause
-    let _ = policy.subjects();
-    match &subject.parent {
-        Some(name) => policy.find(&SubjectId::group(*name)),
-        None => None,
-    }
+    policy.parent_of(subject)
 }
 
 // Adds the subject's own patterns.

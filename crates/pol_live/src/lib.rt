@@ -3,7 +3,6 @@
 
 mod along;
 mod building;
-mod comparing;
 mod deciding;
 mod live;
 mod prepared;

@@ -7,8 +7,8 @@ ghost use Rattle.pol_live.specs.Along.{MatchLaw};
 ghost use Rattle.pol_live.specs.Sizes.{IsSmall};
 ghost use Rattle.pol_live.specs.Live.{Prepares, IsDeciderFor, UnlessMemory, is_memory};
 
-use crate::comparing::same_policy;
 use crate::live::Live;
+use basics::StructuralEq;
 use pol_automaton::{Decider, Meter};
 use pol_edit::{Edit, EditFault, apply};
 use pol_names::{Decision, Name, SubjectId};
@@ -65,7 +65,7 @@ impl Prepared {
     pub fn fits(&self, live: &Live) -> bool
         ensures { IsTrue result ↔ (self.now.before ≡ live.now) }
     {
-        same_policy(&self.before, live.policy())
+        self.before.same(live.policy())
     }
 
     /// The new policy.

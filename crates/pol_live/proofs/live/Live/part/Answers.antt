@@ -10,13 +10,13 @@ returns-in_default-get-2-clause-none c =
     let policy = c.self.inside.policy in
     let at : slice_get c.self.inside.deciders c.in-Some.index ≡ None =
     rw (← c.as_slice.ensures) (sym (got c.get-2.result c.as_slice.result.now c.in-Some.index c.get-2.ensures.lookup.0 c.get-2.ensures.lookup.1) ∙ ap option_copied c.in_default-get-2.is) in
-    rw (← c.self.view_is) (c.in-Some.ensures ∙ no_decider_at policy policy c.self.inside.deciders c.in-Some.index c.self.invariant.0 at)
+    rw (← c.self.view_is) (c.in-Some.ensures.found ∙ no_decider_at policy policy c.self.inside.deciders c.in-Some.index c.self.invariant.0 at)
 
 pub returns-clause-found : goal.returns-clause-found
 returns-clause-found c =
     let here : slice_get c.self.inside.policy c.in-Some.index ≡ Some c.in-Some-get.subject.now =
     rw (← c.subjects.ensures.subjects) (sym (got c.get.result c.subjects.result.now c.in-Some.index c.get.ensures.lookup.0 c.get.ensures.lookup.1) ∙ ap option_copied c.in-Some-get.is) in
-    rw (← c.self.view_is) (c.in-Some.ensures ∙ here)
+    rw (← c.self.view_is) (c.in-Some.ensures.found ∙ here)
 
 pub returns-clause-right : goal.returns-clause-right
 returns-clause-right c =
