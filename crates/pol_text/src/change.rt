@@ -44,6 +44,12 @@ fn see_secret(secret: &Option<Secret>)
     }
 }
 
+fn see_rule(rule: &Rule)
+    ensures { IsTrue (is_right_rule rule.now) }
+{
+    let _ = rule.pattern.source();
+}
+
 // Puts the secret in place of the one that the subject has.
 fn put_secret(subject: &mut Subject, credential: Credential, secret: Option<Secret>)
     ensures { subject.new ≡ with_secret credential secret subject.old }
@@ -54,17 +60,12 @@ fn put_secret(subject: &mut Subject, credential: Credential, secret: Option<Secr
     }
 }
 
-fn see_rule(rule: &Rule)
-    ensures { IsTrue (is_right_rule rule.now) }
-{
-    let _ = rule.pattern.source();
-}
-
 // Puts the subject at the place below another group, and returns the one that it was below.
 fn put_parent(subjects: &mut Sequence<Subject>, place: usize, parent: Option<Name>) -> Option<Name>
     requires { place < length subjects.old }
     ensures changed { subjects.new ≡ changed_at place (with_parent parent) subjects.old }
-    ensures former { result ≡ option_map_or (λ subject. subject.parent) (slice_get subjects.old place) None }
+    ensures former { result
+        ≡ option_map_or (λ subject. subject.parent) (slice_get subjects.old place) None }
 {
     let subject = subjects.get_mut(place)?;
     let former = subject.parent;
@@ -147,8 +148,10 @@ impl Policy {
     /// more than 8 subjects, nothing changes.
     pub fn set_parent(&mut self, id: &SubjectId, parent: Option<Name>) -> Result<(), ChainFault>
         requires there { IsTrue (is_some (find_subject id.now self.old)) }
-        requires group { IsTrue (all_of (λ name. is_some (find_subject (group_id name) self.old)) parent) }
-        ensures fault { result_err result ≡ chain_fault (with_changed id.now (with_parent parent) self.old) }
+        requires group { IsTrue
+            (all_of (λ name. is_some (find_subject (group_id name) self.old)) parent) }
+        ensures fault { result_err result
+            ≡ chain_fault (with_changed id.now (with_parent parent) self.old) }
         ensures ok { OnOk result (self.new ≡ with_changed id.now (with_parent parent) self.old) }
         ensures err { OnErr result (self.new ≡ self.old) }
     {
@@ -196,8 +199,11 @@ impl Policy {
 
     /// Puts a rule at a place among a subject's rules, counted from 0; those from there on move up.
     pub fn insert_rule(&mut self, id: &SubjectId, at: usize, rule: Rule) -> Result<(), AllocError>
-        requires { IsTrue (option_map_or (λ subject. nat_le at (length subject.rules) && nat_lt (length subject.rules) 256) (find_subject id.now self.old) false) }
-        ensures ok { OnOk result (self.new ≡ with_changed id.now (with_rule_at at rule) self.old) }
+        requires { IsTrue (option_map_or
+            (λ subject. nat_le at (length subject.rules) && nat_lt (length subject.rules) 256)
+            (find_subject id.now self.old) false) }
+        ensures ok { OnOk result
+            (self.new ≡ with_changed id.now (with_rule_at at rule) self.old) }
         ensures err { OnErr result (self.new ≡ self.old) }
     {
         see_rule(&rule);
@@ -213,7 +219,8 @@ impl Policy {
 
     /// Takes the rule at a place, counted from 0, out of a subject's rules.
     pub fn remove_rule(&mut self, id: &SubjectId, at: usize)
-        requires { IsTrue (option_map_or (λ subject. nat_lt at (length subject.rules)) (find_subject id.now self.old) false) }
+        requires { IsTrue (option_map_or (λ subject. nat_lt at (length subject.rules))
+            (find_subject id.now self.old) false) }
         ensures { self.new ≡ with_changed id.now (without_rule_at at) self.old }
     {
         let Some(place) = place_of(&self.places, id) else {
@@ -228,7 +235,9 @@ impl Policy {
     /// Takes the rule at a place, counted from 0, out of a subject's rules, and puts it so that it
     /// stands at another.
     pub fn move_rule(&mut self, id: &SubjectId, from: usize, to: usize)
-        requires { IsTrue (option_map_or (λ subject. nat_lt from (length subject.rules) && nat_lt to (length subject.rules)) (find_subject id.now self.old) false) }
+        requires { IsTrue (option_map_or
+            (λ subject. nat_lt from (length subject.rules) && nat_lt to (length subject.rules))
+            (find_subject id.now self.old) false) }
         ensures { self.new ≡ with_changed id.now (with_rule_moved from to) self.old }
     {
         let Some(place) = place_of(&self.places, id) else {

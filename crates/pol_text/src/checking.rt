@@ -66,7 +66,8 @@ fn refuse(
     refusal: PolicyRefusal,
 ) -> Result<(), PolicyFault>
     requires { IfSome failing (λ place. place < length lines.now) }
-    ensures { result ≡ option_map_or (λ place. Err (PolicyFault.Refused (slice_index lines.now place) refusal)) failing (Ok tt) }
+    ensures { result ≡ option_map_or
+        (λ place. Err (PolicyFault.Refused (slice_index lines.now place) refusal)) failing (Ok tt) }
 {
     match failing {
         Some(place) => Err(PolicyFault::Refused {
@@ -81,8 +82,10 @@ fn refuse(
 fn check_chains(parts: &Parts) -> Result<(), PolicyFault>
     requires places { parts.now.places.keys ≡ map id_of parts.now.subjects }
     requires sizes { length parts.now.lines.items ≡ length parts.now.subjects }
-    ensures { (draft : DraftValue) → parts.now.lines.items ≡ map (λ entry. entry.0) draft → parts.now.subjects ≡ subjects_of draft
-        → MatchResult result (λ _. with_right_chains draft ≡ Ok parts.now.subjects) (λ fault. with_right_chains draft ≡ Err fault) }
+    ensures { (draft : DraftValue) → parts.now.lines.items ≡ map (λ entry. entry.0) draft
+        → parts.now.subjects ≡ subjects_of draft
+        → MatchResult result (λ _. with_right_chains draft ≡ Ok parts.now.subjects)
+        (λ fault. with_right_chains draft ≡ Err fault) }
 {
     let Parts {
         lines,

@@ -34,7 +34,8 @@ impl Model for Draft {
 
     ghost view = { λ draft. draft.entries.items };
 
-    ghost invariant = { λ draft. draft.places.keys ≡ map (λ entry. id_of entry.1) draft.entries.items };
+    ghost invariant = { λ draft. draft.places.keys
+        ≡ map (λ entry. id_of entry.1) draft.entries.items };
 }
 
 impl Draft {
@@ -108,7 +109,8 @@ impl Draft {
     pub(crate) fn into_parts(self, alloc: Global) -> Result<Parts, AllocError>
         ensures lines { IfOk result (λ parts. parts.lines.items ≡ map (λ entry. entry.0) self) }
         ensures subjects { IfOk result (λ parts. parts.subjects ≡ subjects_of self) }
-        ensures places { IfOk result (λ parts. parts.places.keys ≡ map id_of (subjects_of self)) }
+        ensures places { IfOk result
+            (λ parts. parts.places.keys ≡ map id_of (subjects_of self)) }
     {
         let Draft { entries, places } = self;
         let mut lines = Vec::new(alloc);

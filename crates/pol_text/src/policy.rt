@@ -32,7 +32,8 @@ impl Model for Policy {
 
     ghost view = { λ policy. policy.subjects };
 
-    ghost invariant = { λ policy. WellFormed policy.subjects × (policy.places.keys ≡ map id_of policy.subjects) };
+    ghost invariant = { λ policy. WellFormed policy.subjects
+        × (policy.places.keys ≡ map id_of policy.subjects) };
 }
 
 impl PartialEq for Policy {

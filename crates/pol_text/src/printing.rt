@@ -12,7 +12,8 @@ use std::alloc::{AllocError, Global};
 
 // Two parts of a line, and LF.
 fn print_line(text: &mut Bytes, front: &[u8], back: &[u8]) -> Result<(), AllocError>
-    ensures { OnOk result (text.new ≡ text.old ++ text_of_lines ((front.now ++ back.now) ∷ [])) }
+    ensures { OnOk result
+        (text.new ≡ text.old ++ text_of_lines ((front.now ++ back.now) ∷ [])) }
 {
     text.extend_from_slice(front)?;
     text.extend_from_slice(back)?;
@@ -22,7 +23,8 @@ fn print_line(text: &mut Bytes, front: &[u8], back: &[u8]) -> Result<(), AllocEr
 
 // The line that begins a subject.
 fn print_heading(text: &mut Bytes, subject: &Subject) -> Result<(), AllocError>
-    ensures { OnOk result (text.new ≡ text.old ++ text_of_lines (heading_line subject.now ∷ [])) }
+    ensures { OnOk result
+        (text.new ≡ text.old ++ text_of_lines (heading_line subject.now ∷ [])) }
 {
     text.extend_from_slice(subject.kind.keyword().as_bytes())?;
     let name = subject.name.as_slice();
@@ -37,7 +39,8 @@ fn print_heading(text: &mut Bytes, subject: &Subject) -> Result<(), AllocError>
 
 // A secret's line, if it is set.
 fn print_secret(text: &mut Bytes, word: &[u8], secret: &Option<Secret>) -> Result<(), AllocError>
-    ensures { OnOk result (text.new ≡ text.old ++ text_of_lines (line_for (λ secret. word.now ++ secret) secret.now)) }
+    ensures { OnOk result (text.new
+        ≡ text.old ++ text_of_lines (line_for (λ secret. word.now ++ secret) secret.now)) }
 {
     match secret {
         Some(secret) => print_line(text, word, secret.as_slice()),
@@ -47,7 +50,8 @@ fn print_secret(text: &mut Bytes, word: &[u8], secret: &Option<Secret>) -> Resul
 
 // The level's line, if it is set.
 fn print_level(alloc: Global, text: &mut Bytes, level: Option<u8>) -> Result<(), AllocError>
-    ensures { OnOk result (text.new ≡ text.old ++ text_of_lines (line_for (λ level. codes "priv " ++ decimal level) level)) }
+    ensures { OnOk result (text.new
+        ≡ text.old ++ text_of_lines (line_for (λ level. codes "priv " ++ decimal level) level)) }
 {
     match level {
         Some(level) => {

@@ -24,7 +24,8 @@ fn is_below(group: &Name, subject: &Subject) -> bool
 impl Policy {
     /// Where the subject of this kind and name stands, counted from 0. A hash look-up.
     pub fn index_of(&self, id: &SubjectId) -> Option<usize>
-        ensures found { find_subject id.now self.now ≡ option_and_then (slice_get self.now) result }
+        ensures found { find_subject id.now self.now
+            ≡ option_and_then (slice_get self.now) result }
         ensures within { IfSome result (λ at. at < length self.now) }
     {
         self.places.get_index_of(id)
