@@ -61,15 +61,7 @@ fn sends<R: Abort + AllocGlobal>(
 #[test]
 fn whole(rt: HostRuntime) -> Result<(), Fail> {
     for letters in [
-        "",
-        "8",
-        "9",
-        "11111111",
-        "3",
-        "i",
-        "iii",
-        "3i1ii2i2",
-        "i11111",
+        "", "8", "9", "11111111", "3", "i", "iii", "3i1ii2i2", "i11111",
     ] {
         sends(&rt, letters, 8, true)?;
     }

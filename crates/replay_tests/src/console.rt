@@ -151,10 +151,33 @@ fn decisions(rt: HostRuntime) -> Result<(), Fail> {
 #[test]
 fn lines_that_ask_nothing(rt: HostRuntime) -> Result<(), Fail> {
     let lines = [
-        "", " ", "policy ", " policy", "Policy", "records 1", "tally", "tally ", "tally bob",
-        "tally user", "tally user ", "tally user a b", "tally host bob", "why", "why ", "why  bob",
-        "why b*b x", "shadow", "reach group ops", "quit", "\u{e9}", "why bob \t", "run", "key k",
-        "console policy", "packet 1 00", "open 2",
+        "",
+        " ",
+        "policy ",
+        " policy",
+        "Policy",
+        "records 1",
+        "tally",
+        "tally ",
+        "tally bob",
+        "tally user",
+        "tally user ",
+        "tally user a b",
+        "tally host bob",
+        "why",
+        "why ",
+        "why  bob",
+        "why b*b x",
+        "shadow",
+        "reach group ops",
+        "quit",
+        "\u{e9}",
+        "why bob \t",
+        "run",
+        "key k",
+        "console policy",
+        "packet 1 00",
+        "open 2",
     ];
     for line in &lines {
         plays(
@@ -169,7 +192,9 @@ fn lines_that_ask_nothing(rt: HostRuntime) -> Result<(), Fail> {
 #[test]
 fn nothing_is_changed_for_connections(rt: HostRuntime) -> Result<(), Fail> {
     let script = [
-        "key k\n", OPS, "run\nopen 1\npieces 7\nbytes 1 c002010000000001\nconsole policy\n",
+        "key k\n",
+        OPS,
+        "run\nopen 1\npieces 7\nbytes 1 c002010000000001\nconsole policy\n",
         "bytes 1 0000\nlost 2\nlost 1\nconsole records\nopen 1\nlost 1\nconsole why bob\n",
     ];
     let script = joined(&rt, &script)?;
