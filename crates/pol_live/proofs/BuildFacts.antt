@@ -1,9 +1,6 @@
 -- Deciders, one for each subject.
-use Rattle.std.proofs.Common.{◌≡◌, ℕ, zero, suc, ◌+◌, ◌<◌, List, [], ◌∷◌, ◌++◌, length, take, Option, None, Some, refl, sym, ap, subst, ◌∙◌, inl, inr, arith, Bool, true, false, add-one, slice_get, get_or}
-use Rattle.std.specs.List.{AllZip}
+use Rattle.std.proofs.Common.{◌≡◌, ℕ, zero, suc, ◌<◌, List, [], ◌∷◌, ◌++◌, length, take, None, Some, refl, sym, ap, subst, inl, inr, arith, Bool, true, false, slice_get, get_or}
 use Rattle.basics.specs.Memory.{Except}
-use Rattle.std.specs.Option.{option_copied}
-use Rattle.pol_names.specs.declared.subject_id.SubjectId.{SubjectId}
 use Rattle.pol_text.specs.declared.subject.Subject.{Subject}
 use Rattle.pol_text.specs.Policy.{id_of}
 use Rattle.pol_automaton.specs.Automaton.{Automaton, IsDecider}

@@ -3,3 +3,4 @@ pub mod PlaceFacts
 pub mod MatchFacts
 pub mod BuildFacts
 pub mod TextFacts
+pub mod OnlyFacts

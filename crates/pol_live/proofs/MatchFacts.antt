@@ -1,11 +1,10 @@
 -- The first match, and what is decided by it.
-use Rattle.std.proofs.Common.{◌≡◌, ℕ, zero, suc, ◌<◌, Bool, true, false, cond, List, [], ◌∷◌, length, map, Option, None, Some, All, refl, sym, ap, ◌∙◌, arith, slice_get}
+use Rattle.std.proofs.Common.{◌≡◌, ℕ, zero, suc, ◌<◌, Bool, true, false, cond, List, [], ◌∷◌, length, None, Some, refl, sym, ap, ◌∙◌, arith, slice_get}
 use Rattle.std.specs.Option.{option_map}
 use Rattle.pol_pattern.specs.Matching.{matches}
 use Rattle.pol_pattern.specs.Spelling.{Holds}
 use Rattle.pol_pattern.proofs.Laws.{test_is_set}
 use Rattle.pol_pattern.proofs.Marks.{matches_holds}
-use Rattle.pol_names.specs.declared.decision.Decision.{Decision}
 use Rattle.pol_text.specs.Policy.{Entry, first_entry}
 use Rattle.pol_automaton.specs.Decision.{IsFirstMatch}
 use Rattle.pol_live.proofs.TextFacts.{holds_text}

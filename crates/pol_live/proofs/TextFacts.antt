@@ -1,10 +1,10 @@
 -- Patterns hold texts alone: a byte that is no symbol is in none of their classes.
-use Rattle.std.proofs.Common.{◌≡◌, ℕ, Bool, true, false, ◌&&◌, List, [], ◌∷◌, ◌++◌, inl, inr, ◌⊎◌, refl, sym, ap, subst, ◌∙◌, IsTrue}
-use Rattle.std.specs.List.{list_all, AllByRecursion, concat}
+use Rattle.std.proofs.Common.{◌≡◌, ℕ, true, List, [], ◌∷◌, ◌++◌, inl, inr, refl, IsTrue}
+use Rattle.std.specs.List.{AllByRecursion, concat}
 use Rattle.std.proofs.lemmas.Bool.{and_parts}
 use Rattle.basics.specs.Symbol.{is_symbol, is_text}
 use Rattle.pol_pattern.specs.Flat.{Class, holds_symbol, Factor, class, group, star, Term, empty, put, Terms, none, alt}
-use Rattle.pol_pattern.specs.Sets.{InClass, Joins, InFactor, InTerm, InTerms}
+use Rattle.pol_pattern.specs.Sets.{InClass, InFactor, InTerm, InTerms}
 use Rattle.pol_pattern.specs.Spelling.{Holds}
 
 text_append : (xs ys : List ℕ) → is_text xs ≡ true → is_text ys ≡ true → is_text (xs ++ ys) ≡ true

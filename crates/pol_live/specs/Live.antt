@@ -1,5 +1,5 @@
 -- What is kept of a policy that decides, and of a change of it that is ready to be made.
-use Rattle.std.specs.Prelude.{◌≡◌, ℕ, List, Result, Ok, Err, Bool, true, false, Option, Some, None}
+use Rattle.std.specs.Prelude.{◌≡◌, List, Result, Ok, Err, Bool, true, false, Option, Some, None}
 use Rattle.basics.specs.Memory.{Except}
 use Rattle.std.specs.List.{AllZip}
 use Rattle.pol_automaton.specs.Automaton.{Automaton, IsDecider}
@@ -29,6 +29,13 @@ PreparesTo before (Err refusal) answer = answer ≡ Err refusal
 
 abbrev pub Prepares : List Subject → Edit → Result Step EditFault → Type 0
 Prepares before edit answer = PreparesTo before (applied before edit) answer
+
+-- no other answer is right
+abbrev pub IsOnlyBuilt : List Subject → Result (List Subject) EditFault → Type 0
+IsOnlyBuilt policy answer = (other : Result (List Subject) EditFault) → Builds policy other → answer ≡ other
+
+abbrev pub IsOnlyPrepared : List Subject → Edit → Result Step EditFault → Type 0
+IsOnlyPrepared before edit answer = (other : Result Step EditFault) → Prepares before edit other → answer ≡ other
 
 -- each subject has the decider of the rules along its chain
 abbrev pub AreDeciders : List Subject → List Subject → List Automaton → Type 0

@@ -1,5 +1,5 @@
 -- Which policies are too large: sizes are numbers of residuals, and nothing else is.
-use Rattle.std.specs.Prelude.{◌≡◌, ◌⊎◌, List, [], ◌∷◌, Result, Ok, Err}
+use Rattle.std.specs.Prelude.{◌≡◌, ◌⊎◌, List, [], ◌∷◌}
 use Rattle.pol_automaton.specs.Residuals.{HasMoreResiduals}
 use Rattle.pol_names.specs.declared.subject_id.SubjectId.{SubjectId}
 use Rattle.pol_text.specs.declared.subject.Subject.{Subject}

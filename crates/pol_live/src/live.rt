@@ -6,7 +6,7 @@ ghost use Rattle.pol_automaton.specs.Automaton.{IsDecider};
 ghost use Rattle.pol_text.specs.Policy.{WellFormed, find_subject, decide};
 ghost use Rattle.pol_live.specs.Along.{patterns_along as patterns, MatchLaw};
 ghost use Rattle.pol_live.specs.Sizes.{IsSmall};
-ghost use Rattle.pol_live.specs.Live.{Builds, IsDeciderFor, UnlessMemory, is_memory};
+ghost use Rattle.pol_live.specs.Live.{Builds, IsOnlyBuilt, IsDeciderFor, UnlessMemory, is_memory};
 
 use crate::building::build_deciders;
 use crate::deciding::decided;
@@ -41,13 +41,20 @@ impl Model for Live {
 }
 
 impl Live {
-    /// The policy with its automata, all built anew. Refused where a subject has too many
-    /// residuals, with the first such subject in the policy's order.
-    pub fn build(alloc: Global, policy: Policy, meter: &mut Meter) -> Result<Live, EditFault>
+    fn build_anew(alloc: Global, policy: Policy, meter: &mut Meter) -> Result<Live, EditFault>
         ensures { UnlessMemory is_memory result (Builds policy result) }
     {
         let deciders = build_deciders(alloc, &policy, meter)?;
         Ok(Live { policy, deciders })
+    }
+
+    /// The policy with its automata, all built anew. Refused where a subject has too many
+    /// residuals, with the first such subject in the policy's order.
+    pub fn build(alloc: Global, policy: Policy, meter: &mut Meter) -> Result<Live, EditFault>
+        ensures found { UnlessMemory is_memory result (Builds policy result) }
+        ensures only { UnlessMemory is_memory result (IsOnlyBuilt policy result) }
+    {
+        Live::build_anew(alloc, policy, meter)
     }
 
     /// The present policy.

@@ -5,7 +5,7 @@ ghost use Rattle.std.specs.Option.{option_copied};
 ghost use Rattle.pol_text.specs.Policy.{find_subject, decide};
 ghost use Rattle.pol_live.specs.Along.{MatchLaw};
 ghost use Rattle.pol_live.specs.Sizes.{IsSmall};
-ghost use Rattle.pol_live.specs.Live.{Prepares, IsDeciderFor, UnlessMemory, is_memory};
+ghost use Rattle.pol_live.specs.Live.{Prepares, IsOnlyPrepared, IsDeciderFor, UnlessMemory, is_memory};
 
 use crate::live::Live;
 use basics::StructuralEq;
@@ -36,6 +36,18 @@ impl Live {
     /// Makes an edit ready, and changes nothing. Refused as the edit is, and where a subject of the
     /// new policy has too many residuals, with the first such subject in its order.
     pub fn prepare(
+        &self,
+        alloc: Global,
+        edit: &Edit,
+        meter: &mut Meter,
+    ) -> Result<Prepared, EditFault>
+        ensures found { UnlessMemory is_memory result (Prepares self.now edit.now result) }
+        ensures only { UnlessMemory is_memory result (IsOnlyPrepared self.now edit.now result) }
+    {
+        self.prepare_anew(alloc, edit, meter)
+    }
+
+    fn prepare_anew(
         &self,
         alloc: Global,
         edit: &Edit,

@@ -1,4 +1,4 @@
-use Rattle.std.proofs.Common.{◌≡◌, ◌<◌, ◌++◌, ℕ, List, length, get_or, sym, subst, refl, append-nil}
+use Rattle.std.proofs.Common.{◌≡◌, ◌<◌, ℕ, List, length, get_or, sym, subst}
 use Rattle.pol_automaton.specs.Entries.{AreEntries}
 use Rattle.pol_live.proofs.AlongFacts.{more_patterns}
 use Rattle.pol_live.proofs.along.add_patterns.Goals as goal

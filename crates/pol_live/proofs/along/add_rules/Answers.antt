@@ -1,4 +1,4 @@
-use Rattle.std.proofs.Common.{◌≡◌, ◌<◌, length, get_or, sym, ap, ◌∙◌, arith}
+use Rattle.std.proofs.Common.{◌≡◌, ◌<◌, length, get_or, sym}
 use Rattle.pol_text.specs.Policy.{id_of}
 use Rattle.pol_live.proofs.AlongFacts.{add_step}
 use Rattle.pol_live.proofs.along.add_rules.Goals as goal

@@ -1,6 +1,6 @@
-use Rattle.std.proofs.Common.{◌≡◌, ◌+◌, ◌<◌, ◌≤◌, None, Some, refl, sym, ap, ◌∙◌, arith, slice_get}
+use Rattle.std.proofs.Common.{◌≡◌, ◌<◌, ◌≤◌, None, Some, refl, sym, ap, ◌∙◌, arith, slice_get}
 use Rattle.std.specs.Option.{option_map, option_copied}
-use Rattle.pol_text.specs.Policy.{Entry, parent_of, id_of}
+use Rattle.pol_text.specs.Policy.{parent_of}
 use Rattle.pol_live.specs.Along.{chain_rule as rule_of}
 use Rattle.pol_live.proofs.PlaceFacts.{got, place_here, place_later, place_none}
 use Rattle.pol_live.proofs.along.chain_rule.Goals as goal

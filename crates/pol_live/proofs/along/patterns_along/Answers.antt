@@ -1,4 +1,4 @@
-use Rattle.std.proofs.Common.{◌≡◌, ◌<◌, ◌≤◌, ◌++◌, ℕ, List, None, Some, map, sym, subst, ◌∙◌, arith, append-nil, refl, []}
+use Rattle.std.proofs.Common.{◌<◌, ◌≤◌, ◌++◌, ℕ, List, None, Some, map, sym, subst, ◌∙◌, arith, append-nil, refl, []}
 use Rattle.pol_automaton.specs.Entries.{AreEntries}
 use Rattle.pol_live.proofs.AlongFacts.{patterns_step, patterns_end}
 use Rattle.pol_live.proofs.along.patterns_along.Goals as goal

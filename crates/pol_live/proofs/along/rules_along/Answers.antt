@@ -1,6 +1,4 @@
-use Rattle.std.proofs.Common.{◌≡◌, List, sym, ap, map, Some, None, ◌∙◌}
-use Rattle.std.specs.Option.{option_map_or}
-use Rattle.pol_text.specs.Policy.{entries}
+use Rattle.std.proofs.Common.{sym}
 use Rattle.pol_live.proofs.PlaceFacts.{found_few}
 use Rattle.pol_live.proofs.along.rules_along.Goals as goal
 

@@ -1,4 +1,4 @@
-use Rattle.std.proofs.Common.{◌<◌, ◌≤◌, None, Some, map, sym, ◌∙◌, arith, append-nil}
+use Rattle.std.proofs.Common.{◌<◌, ◌≤◌, None, Some, sym, ◌∙◌, arith, append-nil}
 use Rattle.pol_live.proofs.AlongFacts.{rules_step, rules_end}
 use Rattle.pol_live.proofs.along.rules_from.Goals as goal
 

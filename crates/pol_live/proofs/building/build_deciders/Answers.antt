@@ -1,6 +1,5 @@
-use Rattle.std.proofs.Common.{◌≡◌, ◌<◌, length, get_or, refl, sym, ap, ◌∙◌, arith, add-one}
+use Rattle.std.proofs.Common.{◌≡◌, ◌<◌, length, get_or, sym, add-one}
 use Rattle.std.proofs.lemmas.Result.{err_from_is_err_and}
-use Rattle.pol_edit.specs.declared.fault.EditFault.TheVariants.{TooManyStates}
 use Rattle.pol_text.specs.Policy.{id_of}
 use Rattle.pol_live.specs.Live.{is_memory}
 use Rattle.pol_live.proofs.BuildFacts.{first_large, more_deciders, more_small, except_so}

@@ -1,6 +1,5 @@
-use Rattle.std.proofs.Common.{◌≡◌, Some, None, refl, sym, ap, ◌∙◌, slice_get}
+use Rattle.std.proofs.Common.{◌≡◌, Some, None, sym, ap, ◌∙◌, slice_get}
 use Rattle.std.specs.Option.{option_copied}
-use Rattle.pol_text.specs.Policy.{find_subject}
 use Rattle.pol_live.proofs.PlaceFacts.{got, found_few}
 use Rattle.pol_live.proofs.BuildFacts.{decider_at, no_decider_at}
 use Rattle.pol_live.proofs.live.Live.part.Goals as goal

@@ -1,0 +1,51 @@
+-- A policy is built, and an edit prepared, in one way.
+use Rattle.std.proofs.Common.{◌≡◌, Bool, true, false, List, [], ◌∷◌, Result, Ok, Err, sym, ap, ◌∙◌, inl, inr}
+use Rattle.basics.specs.Memory.{Except}
+use Rattle.pol_names.specs.declared.subject_id.SubjectId.{SubjectId}
+use Rattle.pol_text.specs.declared.subject.Subject.{Subject}
+use Rattle.pol_edit.specs.Applying.{applied}
+use Rattle.pol_edit.specs.declared.edit.Edit.{Edit}
+use Rattle.pol_edit.specs.declared.fault.EditFault.{EditFault}
+use Rattle.pol_edit.specs.declared.fault.EditFault.TheVariants.{TooManyStates}
+use Rattle.pol_live.specs.Sizes.{AreSmall, IsFirstLarge, IsRefusedFor}
+use Rattle.pol_live.specs.Live.{Builds, Step, PreparesTo, Prepares, UnlessMemory}
+
+module _ (policy : List Subject) where
+  first_unique : (subjects : List Subject) (a b : SubjectId) → IsFirstLarge policy subjects a → IsFirstLarge policy subjects b → a ≡ b
+  first_unique [] a b h k = absurd h
+  first_unique (s ∷ rest) a b (inl h) (inl k) = h.1 ∙ sym k.1
+  first_unique (s ∷ rest) a b (inl h) (inr k) = absurd (k.0 h.0)
+  first_unique (s ∷ rest) a b (inr h) (inl k) = absurd (h.0 k.0)
+  first_unique (s ∷ rest) a b (inr h) (inr k) = first_unique rest a b h.1 k.1
+
+  none_large : (subjects : List Subject) (id : SubjectId) → AreSmall policy subjects → IsFirstLarge policy subjects id → ⊥
+  none_large [] id small h = h
+  none_large (s ∷ rest) id small (inl h) = small.0 h.0
+  none_large (s ∷ rest) id small (inr h) = none_large rest id small.1 h.1
+
+  refused_unique : (a b : EditFault) → IsRefusedFor policy a → IsRefusedFor policy b → a ≡ b
+  refused_unique a b h k = h.1 ∙ ap TooManyStates (first_unique policy h.0 k.0 h.2 k.2) ∙ sym k.1
+
+  pub only_built : (a b : Result (List Subject) EditFault) → Builds policy a → Builds policy b → a ≡ b
+  only_built (Ok a) (Ok b) h k = ap Ok (h.0 ∙ sym k.0)
+  only_built (Ok a) (Err b) h k = absurd (none_large policy k.0 h.1 k.2)
+  only_built (Err a) (Ok b) h k = absurd (none_large policy h.0 k.1 h.2)
+  only_built (Err a) (Err b) h k = ap Err (refused_unique a b h k)
+
+only_prepared_to : (before : List Subject) (made : Result (List Subject) EditFault) (a b : Result Step EditFault) → PreparesTo before made a → PreparesTo before made b → a ≡ b
+only_prepared_to before (Ok after) (Ok a) (Ok b) h k = ap Ok (h.0 ∙ sym k.0)
+only_prepared_to before (Ok after) (Ok a) (Err b) h k = absurd (none_large after after k.0 h.1 k.2)
+only_prepared_to before (Ok after) (Err a) (Ok b) h k = absurd (none_large after after h.0 k.1 h.2)
+only_prepared_to before (Ok after) (Err a) (Err b) h k = ap Err (refused_unique after a b h k)
+only_prepared_to before (Err fault) a b h k = h ∙ sym k
+
+pub only_prepared : (before : List Subject) (edit : Edit) (a b : Result Step EditFault) → Prepares before edit a → Prepares before edit b → a ≡ b
+only_prepared before edit a b = only_prepared_to before (applied before edit) a b
+
+pub unless_so : {X E A B : Type 0} (is_memory : E → Bool) (r : Result X E) → (A → B) → UnlessMemory is_memory r A → UnlessMemory is_memory r B
+unless_so is_memory (Ok x) so h = so h
+unless_so is_memory (Err fault) so h = by (is_memory fault) so h
+  where
+    by : {A B : Type 0} (memory : Bool) → (A → B) → Except memory A → Except memory B
+    by true so h = tt
+    by false so h = so h

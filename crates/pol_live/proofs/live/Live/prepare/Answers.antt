@@ -1,0 +1,7 @@
+use Rattle.pol_live.specs.Live.{is_memory}
+use Rattle.pol_live.proofs.OnlyFacts.{only_prepared, unless_so}
+use Rattle.pol_live.proofs.live.Live.prepare.Goals as goal
+
+pub returns-clause-only : goal.returns-clause-only
+returns-clause-only c =
+    unless_so is_memory c.prepare_anew.result (λ h other k. only_prepared c.args.self.now c.args.edit.now c.prepare_anew.result other h k) c.prepare_anew.ensures
