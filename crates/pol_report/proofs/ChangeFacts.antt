@@ -1,5 +1,5 @@
 -- What changes for a user, by automata with verdicts and by the policies.
-use Rattle.std.proofs.Common.{◌≡◌, ◌<◌, ℕ, zero, suc, Bool, true, false, cond, IsTrue, List, [], ◌∷◌, length, map, Option, Some, None, refl, sym, ap, subst, ◌∙◌, arith, slice_get, slice_index_or, unwrap_or}
+use Rattle.std.proofs.Common.{◌≡◌, ◌<◌, ℕ, zero, suc, Bool, true, false, cond, IsTrue, List, [], ◌∷◌, length, map, Option, Some, None, refl, sym, ap, subst, ◌∙◌, arith, slice_index_or}
 use Rattle.std.specs.Option.{option_map, option_map_or}
 use Rattle.basics.specs.Symbol.{is_text}
 use Rattle.pol_pattern.specs.Matching.{matches}
@@ -13,9 +13,8 @@ use Rattle.pol_names.specs.declared.decision.Decision.{Decision}
 use Rattle.pol_text.specs.declared.subject.Subject.{Subject}
 use Rattle.pol_text.specs.Policy.{find_subject, Entry, entries, first_entry, decision}
 use Rattle.pol_automaton.specs.Automaton.{Automaton, IsDecider}
-use Rattle.pol_automaton.specs.Decision.{IsFirstMatch, verdict_by, IsDecided, Ruling, IsChanged}
+use Rattle.pol_automaton.specs.Decision.{IsFirstMatch, verdict_by, IsDecided, IsChanged}
 use Rattle.pol_automaton.specs.declared.way.Way.TheVariants.{NowPermitted, NowDenied}
-use Rattle.pol_live.specs.declared.along.ChainRule.{ChainRule}
 use Rattle.pol_live.specs.Along.{MatchLaw, patterns_of, chain_rule, entries_of}
 use Rattle.pol_live.specs.Live.{IsDeciderFor}
 use Rattle.pol_report.specs.Reach.{IsLeastIfAny}

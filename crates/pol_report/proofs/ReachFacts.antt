@@ -1,8 +1,7 @@
 -- Which line reaches which rule, by the automaton and by the policy.
-use Rattle.std.proofs.Common.{Result, Ok, Err, IfOk, ◌≡◌, ◌⊎◌, ◌<◌, ◌+◌, ℕ, zero, suc, Bool, true, false, IsTrue, List, [], ◌∷◌, ◌++◌, length, map, Option, Some, None, IfSome, refl, sym, ap, subst, ◌∙◌, inl, inr, arith, slice_get, get_or, length-append}
+use Rattle.std.proofs.Common.{Result, Ok, Err, IfOk, ◌≡◌, ◌⊎◌, ◌<◌, ◌+◌, ℕ, zero, suc, Bool, true, false, List, [], ◌∷◌, ◌++◌, length, map, Option, Some, None, IfSome, refl, sym, ap, subst, ◌∙◌, inl, inr, arith, slice_get, get_or, length-append}
 use Rattle.std.specs.Prelude.{IfNone}
 use Rattle.std.specs.Option.{option_map}
-use Rattle.basics.specs.TextOrder.{IsLeast}
 use Rattle.pol_pattern.specs.Matching.{matches}
 use Rattle.pol_pattern.specs.Spelling.{Holds}
 use Rattle.pol_names.specs.declared.subject_id.SubjectId.{SubjectId}

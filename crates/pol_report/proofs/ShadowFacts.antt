@@ -1,5 +1,5 @@
 -- Rules that no line reaches, a subject at a time.
-use Rattle.std.proofs.Common.{◌≡◌, ◌<◌, ◌+◌, ℕ, zero, suc, Bool, true, false, not, cond, is_some, List, [], ◌∷◌, ◌++◌, length, map, filter, take, Option, refl, sym, ap, subst, ◌∙◌, arith, get_or, append_assoc, append-nil}
+use Rattle.std.proofs.Common.{◌≡◌, ◌<◌, ℕ, zero, suc, Bool, true, false, not, cond, is_some, List, [], ◌∷◌, ◌++◌, length, map, filter, take, refl, sym, ap, subst, ◌∙◌, arith, get_or, append_assoc, append-nil}
 use Rattle.pol_names.specs.declared.subject_id.SubjectId.{SubjectId}
 use Rattle.pol_text.specs.declared.subject.Subject.{Subject}
 use Rattle.pol_text.specs.Policy.{id_of}

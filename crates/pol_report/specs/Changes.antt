@@ -1,5 +1,5 @@
 -- What a change of the policy lets users do, or no longer do. Nothing here speaks of automata.
-use Rattle.std.specs.Prelude.{◌≡◌, ℕ, IsTrue, Bool, true, false, not, ◌&&◌, ◌||◌, is_some, List, ◌++◌, map, filter, Option}
+use Rattle.std.specs.Prelude.{◌≡◌, ℕ, Bool, true, false, not, ◌&&◌, ◌||◌, is_some, List, ◌++◌, map, filter}
 use Rattle.std.specs.List.{AllZip}
 use Rattle.std.specs.Option.{option_map_or}
 use Rattle.pol_names.specs.SubjectId.{same_kind}

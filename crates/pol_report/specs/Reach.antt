@@ -1,5 +1,5 @@
 -- By which lines the rules along a subject's chain are reached. Nothing here speaks of automata.
-use Rattle.std.specs.Prelude.{◌≡◌, ℕ, zero, suc, IsTrue, Bool, true, false, is_some, not, List, [], ◌∷◌, ◌++◌, length, map, filter, slice_get, Option, Some, None}
+use Rattle.std.specs.Prelude.{◌≡◌, ℕ, zero, suc, IsTrue, false, is_some, not, List, [], ◌∷◌, ◌++◌, length, map, filter, slice_get, Option, Some, None}
 use Rattle.basics.specs.TextOrder.{IsLeast}
 use Rattle.pol_pattern.specs.Matching.{matches}
 use Rattle.pol_names.specs.declared.subject_id.SubjectId.{SubjectId}

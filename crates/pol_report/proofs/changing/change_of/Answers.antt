@@ -1,8 +1,6 @@
 use Rattle.std.proofs.Common.{◌≡◌, List, map, sym, ap, ◌∙◌}
 use Rattle.pol_names.specs.SubjectId.{user_id}
-use Rattle.pol_names.specs.declared.decision.Verdict.{Verdict}
 use Rattle.pol_names.specs.declared.decision.Verdict.TheVariants.{Deny}
-use Rattle.pol_text.specs.Policy.{find_subject}
 use Rattle.pol_automaton.specs.Automaton.{IsDecider}
 use Rattle.pol_live.specs.declared.along.ChainRule.{ChainRule}
 use Rattle.pol_live.specs.Along.{entries_of, patterns_of, chain_rule}

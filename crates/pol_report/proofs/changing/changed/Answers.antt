@@ -1,5 +1,4 @@
-use Rattle.std.proofs.Common.{subst, sym, refl}
-use Rattle.pol_automaton.specs.Decision.{IsChanged, IsLeastChange, ruling}
+use Rattle.pol_automaton.specs.Decision.{IsChanged, ruling}
 use Rattle.pol_automaton.specs.declared.way.Way.TheVariants.{NowPermitted, NowDenied}
 use Rattle.pol_report.proofs.Leasts.{if_any}
 use Rattle.pol_report.proofs.changing.changed.Goals as goal

@@ -1,7 +1,6 @@
 use Rattle.std.proofs.Common.{◌≡◌, ◌<◌, length, get_or, sym, ◌∙◌}
 use Rattle.pol_names.specs.SubjectId.{same_kind}
 use Rattle.pol_names.specs.declared.subject_id.Kind.TheVariants.{User}
-use Rattle.pol_report.specs.Changes.{is_alone}
 use Rattle.pol_report.proofs.ListFacts.{step_listed, step_passed}
 use Rattle.pol_report.proofs.changing.list_present.Goals as goal
 use Rattle.pol_report.proofs.changing.list_present.Goals.{then-is_user+in_ok-changed+in_ok-list_change, else-is_user}

@@ -1,6 +1,4 @@
-use Rattle.std.proofs.Common.{◌≡◌, sym, ap, ◌∙◌}
 use Rattle.pol_live.specs.Along.{entries_of}
-use Rattle.pol_report.specs.Reach.{AreReached}
 use Rattle.pol_report.proofs.ReachFacts.{only_reached, if_ok_so}
 use Rattle.pol_report.proofs.reaching.reach.Goals as goal
 

@@ -1,5 +1,5 @@
-use Rattle.std.proofs.Common.{◌≡◌, ◌<◌, length, map, get_or, sym, ap, ◌∙◌, arith}
-use Rattle.pol_live.specs.Along.{chain_rule, entries_of, patterns_of}
+use Rattle.std.proofs.Common.{◌≡◌, map, get_or, sym, ◌∙◌}
+use Rattle.pol_live.specs.Along.{chain_rule, entries_of}
 use Rattle.pol_report.proofs.ReachFacts.{more_rows, reached_text}
 use Rattle.pol_report.proofs.reaching.reach_along.Goals as goal
 

@@ -1,5 +1,4 @@
-use Rattle.std.proofs.Common.{◌≡◌, map}
-use Rattle.pol_live.specs.Along.{chain_rule, entries_of}
+use Rattle.pol_live.specs.Along.{entries_of}
 use Rattle.pol_report.proofs.ReachFacts.{AreReachedTo}
 use Rattle.pol_report.proofs.reaching.reach_along.Given as goal
 

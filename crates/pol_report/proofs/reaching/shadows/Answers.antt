@@ -1,5 +1,4 @@
-use Rattle.std.proofs.Common.{◌≡◌, ◌<◌, ◌≤◌, ◌+◌, suc, List, length, take, get_or, sym, ap, ◌∙◌, arith, add-one}
-use Rattle.pol_text.specs.Policy.{id_of}
+use Rattle.std.proofs.Common.{◌≡◌, ◌<◌, ◌≤◌, length, get_or, sym, add-one}
 use Rattle.pol_report.proofs.Leasts.{take_all}
 use Rattle.pol_report.proofs.ShadowFacts.{more_shadows, only_shadows}
 use Rattle.pol_report.proofs.reaching.shadows.Goals as goal
