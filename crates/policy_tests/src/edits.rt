@@ -1,27 +1,37 @@
 //! Edits: their lines, and what they make of a policy.
 
+use crate::support::{is_shown, name, prints};
 use pol_edit::{EditFault, apply, read_edit};
-use pol_names::{Name, SubjectId};
+use pol_names::SubjectId;
 use pol_text::Policy;
+use std::alloc::Global;
 use std::fmt::Write;
 use std::process::Abort;
 use std::test::Fail;
 
 // What a line makes of a policy.
-fn edit<R: AllocGlobal>(rt: &R, policy: &mut Policy, line: &str) -> Result<(), EditFault> {
-    let edit = read_edit(rt.alloc(), line.as_bytes())?;
-    apply(rt.alloc(), policy, &edit)
+fn edit(alloc: Global, policy: &mut Policy, line: &str) -> Result<(), EditFault> {
+    let edit = read_edit(alloc, line.as_bytes())?;
+    apply(alloc, policy, &edit)
 }
 
-// The policy is printed so.
-fn prints<R: Abort + AllocGlobal>(rt: &R, policy: &Policy, expected: &str) -> Result<(), Fail> {
-    let text = policy.print(rt.alloc())?;
-    let printed = str::from_utf8(text.as_slice())?;
-    assert!(rt;
-        printed == expected,
-        "expected\n{expected}printed\n{printed}"
-    );
+// What lines make of a policy, one after another.
+fn edit_by_each(alloc: Global, policy: &mut Policy, lines: &str) -> Result<(), EditFault> {
+    for line in lines.lines() {
+        edit(alloc, policy, line)?;
+    }
     Ok(())
+}
+
+// Of the policy the edits, one a line, make that of the text.
+fn becomes<R: Abort + AllocGlobal>(
+    rt: &R,
+    policy: &mut Policy,
+    edits: &str,
+    after: &str,
+) -> Result<(), Fail> {
+    edit_by_each(rt.alloc(), policy, edits)?;
+    prints(rt, policy, after)
 }
 
 // Of the policy of the first text the edits, one a line, make that of the other.
@@ -32,13 +42,25 @@ fn makes<R: Abort + AllocGlobal>(
     after: &str,
 ) -> Result<(), Fail> {
     let mut policy = Policy::read(rt.alloc(), before.as_bytes())?;
-    for line in edits.lines() {
-        edit(rt, &mut policy, line)?;
-    }
-    prints(rt, &policy, after)
+    becomes(rt, &mut policy, edits, after)
 }
 
 // The line is refused so, as it is printed, and the policy is as before.
+fn stays<R: Abort + AllocGlobal>(
+    rt: &R,
+    policy: &mut Policy,
+    before: &str,
+    line: &str,
+    expected: &str,
+) -> Result<(), Fail> {
+    match edit(rt.alloc(), policy, line) {
+        Ok(()) => assert!(rt; false, "{line} is accepted"),
+        Err(fault) => is_shown(rt, line, &fault, expected)?,
+    }
+    prints(rt, policy, before)
+}
+
+// The line is refused so by the policy of the text.
 fn refuses<R: Abort + AllocGlobal>(
     rt: &R,
     before: &str,
@@ -46,22 +68,16 @@ fn refuses<R: Abort + AllocGlobal>(
     expected: &str,
 ) -> Result<(), Fail> {
     let mut policy = Policy::read(rt.alloc(), before.as_bytes())?;
-    match edit(rt, &mut policy, line) {
-        Ok(()) => assert!(rt; false, "{line} is accepted"),
-        Err(fault) => {
-            let printed = format!(in rt.alloc(); "{fault}")?;
-            assert!(rt; printed.as_str() == expected, "{printed} for {line}");
-        }
-    }
-    prints(rt, &policy, before)
+    stays(rt, &mut policy, before, line, expected)
 }
 
 // Each line is refused with what stands before it, up to a colon and a blank.
 fn refuses_each<R: Abort + AllocGlobal>(rt: &R, policy: &str, lines: &str) -> Result<(), Fail> {
     for case in lines.lines() {
-        match case.trim_start().split_once(": ") {
+        let case = case.trim_start();
+        match case.split_once(": ") {
             Some((fault, line)) => refuses(rt, policy, line, fault)?,
-            None => assert!(rt; case.trim_start().is_empty(), "{case}"),
+            None => assert!(rt; case.is_empty(), "{case}"),
         }
     }
     Ok(())
@@ -262,32 +278,45 @@ fn chains_that_grow_too_long(rt: HostRuntime) -> Result<(), Fail> {
     )
 }
 
+// The policy of the text accepts the line.
+fn accepts<R: AllocGlobal>(rt: &R, before: &str, line: &str) -> Result<(), Fail> {
+    let mut policy = Policy::read(rt.alloc(), before.as_bytes())?;
+    edit(rt.alloc(), &mut policy, line)?;
+    Ok(())
+}
+
 #[test]
 fn a_secret_of_129_symbols(rt: HostRuntime) -> Result<(), Fail> {
-    let mut line = String::from_str(rt.alloc(), "login bob ")?;
-    for _ in 0..8 {
-        line.push_str("0123456789abcdef")?;
+    let line = "login bob 0123456789abcdef0123456789abcdef0123456789abcdef0123456789abcdef\
+         0123456789abcdef0123456789abcdef0123456789abcdef0123456789abcdefx";
+    refuses(&rt, "user bob\n", line, "9 BadValue")?;
+    accepts(&rt, "user bob\n", line.strip_suffix("x").ok_or("no x")?)
+}
+
+// A policy that is full refuses rules.
+fn is_full<R: Abort + AllocGlobal>(rt: &R, printed: &[u8]) -> Result<(), Fail> {
+    // A pattern comes before a limit.
+    refuses_each(
+        rt,
+        str::from_utf8(printed)?,
+        "8 BadPattern 5 NothingToRepeat at 0: insert group g 257 deny *
+         10 Limit: insert group g 257 deny x",
+    )
+}
+
+// The group takes as many rules as there may be.
+fn fills<R: Abort + AllocGlobal>(rt: &R, policy: &mut Policy) -> Result<(), Fail> {
+    for _ in 0..256 {
+        edit(rt.alloc(), policy, "insert group g 1 permit x")?;
     }
-    let mut policy = Policy::read(rt.alloc(), b"user bob\n")?;
-    edit(&rt, &mut policy, line.as_str())?;
-    line.push_str("x")?;
-    refuses(&rt, "user bob\n", line.as_str(), "9 BadValue")
+    let full = policy.print(rt.alloc())?;
+    is_full(rt, full.as_slice())
 }
 
 #[test]
 fn as_many_rules_as_there_may_be(rt: HostRuntime) -> Result<(), Fail> {
     let mut policy = Policy::read(rt.alloc(), b"group g\n")?;
-    for _ in 0..256 {
-        edit(&rt, &mut policy, "insert group g 1 permit x")?;
-    }
-    let full = policy.print(rt.alloc())?;
-    // A pattern comes before a limit.
-    refuses_each(
-        &rt,
-        str::from_utf8(full.as_slice())?,
-        "8 BadPattern 5 NothingToRepeat at 0: insert group g 257 deny *
-         10 Limit: insert group g 257 deny x",
-    )
+    fills(&rt, &mut policy)
 }
 
 #[test]
@@ -306,10 +335,8 @@ fn as_many_subjects_as_there_may_be(rt: HostRuntime) -> Result<(), Fail> {
 
 #[test]
 fn printed_refusals(rt: HostRuntime) -> Result<(), Fail> {
-    let ops = SubjectId::group(Name::read(b"ops").ok_or("no name")?);
-    let states = format!(in rt.alloc(); "{}", EditFault::TooManyStates(ops))?;
-    assert!(rt; states.as_str() == "11 TooManyStates group ops");
-    let memory = format!(in rt.alloc(); "{}", EditFault::Memory)?;
-    assert!(rt; memory.as_str() == "12 Memory");
-    Ok(())
+    let ops = SubjectId::group(name(b"ops")?);
+    let states = EditFault::TooManyStates(ops);
+    is_shown(&rt, "states", &states, "11 TooManyStates group ops")?;
+    is_shown(&rt, "memory", &EditFault::Memory, "12 Memory")
 }

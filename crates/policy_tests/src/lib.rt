@@ -7,3 +7,7 @@ mod edits;
 mod patterns;
 #[cfg(test)]
 mod policies;
+#[cfg(test)]
+mod sizes;
+#[cfg(test)]
+mod support;

@@ -1,60 +1,56 @@
 //! Patterns: which bytes are one, and which texts they hold.
 
-use pol_pattern::{Factor, Pattern};
+use pol_pattern::{Factor, Pattern, Term};
+use std::alloc::Global;
 use std::process::Abort;
 use std::test::Fail;
 
-// The pattern that the source is, whose source it gives back.
-fn pattern<R: Abort + AllocGlobal>(rt: &R, source: &[u8]) -> Result<Pattern, Fail> {
-    let pattern = Pattern::read(rt.alloc(), source)?;
-    assert!(rt; pattern.source() == source, "{source:?}");
-    Ok(pattern)
-}
-
-// Whether the pattern of this source holds the text.
-fn holds<R: Abort + AllocGlobal>(
-    rt: &R,
-    source: &[u8],
-    text: &[u8],
-    expected: bool,
-) -> Result<(), Fail> {
-    let found = pattern(rt, source)?.contains(text);
-    assert_eq!(rt; found, expected, "{text:?} in {source:?}");
-    Ok(())
-}
-
-// The bytes are refused so, as it is printed.
-fn refuses<R: Abort + AllocGlobal>(rt: &R, source: &[u8], expected: &[u8]) -> Result<(), Fail> {
-    match Pattern::read(rt.alloc(), source) {
-        Ok(_) => assert!(rt; false, "{source:?} is read"),
-        Err(fault) => {
-            let printed = format!(in rt.alloc(); "{fault}")?;
-            assert!(rt; printed.as_bytes() == expected, "{printed} for {source:?}");
-        }
+// Whether the bytes are a pattern's source, and the pattern holds the text or not, as expected.
+fn tells(alloc: Global, source: &[u8], text: &[u8], expected: bool) -> bool {
+    match Pattern::read(alloc, source) {
+        Ok(pattern) => pattern.source() == source && pattern.contains(text) == expected,
+        Err(_) => false,
     }
-    Ok(())
 }
 
-// What the lines say, each behind a mark: `/` a source, and of the last source `+` a text that it
-// holds, `-` one that it doesn't hold, `!` the refusal. A line that begins with `#` is a comment.
-fn judges<R: Abort + AllocGlobal>(rt: &R, lines: &str) -> Result<(), Fail> {
+// Whether the bytes are refused so, as it is printed.
+fn is_refused(alloc: Global, source: &[u8], expected: &[u8]) -> bool {
+    let Some(fault) = Pattern::read(alloc, source).err() else {
+        return false;
+    };
+    match format!(in alloc; "{fault}") {
+        Ok(printed) => printed.as_bytes() == expected,
+        Err(_) => false,
+    }
+}
+
+// Whether what a line says of the source is so: `+` a text that it holds, `-` one that it doesn't
+// hold, `!` the refusal.
+fn is_so(alloc: Global, source: &[u8], line: &[u8]) -> bool {
+    match line {
+        [b'+', text @ ..] => tells(alloc, source, text, true),
+        [b'-', text @ ..] => tells(alloc, source, text, false),
+        [b'!', fault @ ..] => is_refused(alloc, source, fault),
+        _ => false,
+    }
+}
+
+// Judges the lines, each behind a mark: `/` a source, and then what is so of it. A line that begins
+// with `#` is a comment.
+fn judges<R: Abort + AllocGlobal>(rt: &R, lines: &str) {
     let mut source = b"".as_slice();
     for line in lines.lines() {
         let line = line.trim_start();
         match line.as_bytes() {
             [b'/', bytes @ ..] => source = bytes,
-            [b'+', text @ ..] => holds(rt, source, text, true)?,
-            [b'-', text @ ..] => holds(rt, source, text, false)?,
-            [b'!', fault @ ..] => refuses(rt, source, fault)?,
             [] | [b'#', ..] => {}
-            _ => return Err(Fail::from("a line without a mark")),
+            said => assert!(rt; is_so(rt.alloc(), source, said), "{line} of {source:?}"),
         }
     }
-    Ok(())
 }
 
 #[test]
-fn texts_of_patterns(rt: HostRuntime) -> Result<(), Fail> {
+fn texts_of_patterns(rt: HostRuntime) {
     judges(
         &rt,
         "
@@ -139,25 +135,27 @@ fn texts_of_patterns(rt: HostRuntime) -> Result<(), Fail> {
         /\\.\\*
         +.*
         ",
-    )
+    );
 }
 
 #[test]
 fn many_stars_take_no_time(rt: HostRuntime) -> Result<(), Fail> {
     let source = ".*".repeat(rt.alloc(), 99)?;
-    holds(&rt, source.as_bytes(), &[b'a'; 60_000], true)?;
+    assert!(&rt; tells(rt.alloc(), source.as_bytes(), &[b'a'; 60_000], true));
     let source = b"a*a*a*a*a*a*a*a*a*a*a*a*a*a*a*a*a*a*a*a*a*a*a*a*b";
-    holds(&rt, source, &[b'a'; 60_000], false)
+    assert!(&rt; tells(rt.alloc(), source, &[b'a'; 60_000], false));
+    Ok(())
 }
 
 #[test]
-fn nested_stars_take_no_time(rt: HostRuntime) -> Result<(), Fail> {
-    holds(&rt, b"((((a*)*)*)*)*b", &[b'a'; 4_000], false)?;
-    holds(&rt, b"(((a|aa)*)+)?(a*a*a*)*", &[b'a'; 4_000], true)
+fn nested_stars_take_no_time(rt: HostRuntime) {
+    let letters = [b'a'; 4_000];
+    assert!(&rt; tells(rt.alloc(), b"((((a*)*)*)*)*b", &letters, false));
+    assert!(&rt; tells(rt.alloc(), b"(((a|aa)*)+)?(a*a*a*)*", &letters, true));
 }
 
 #[test]
-fn bytes_that_are_no_pattern(rt: HostRuntime) -> Result<(), Fail> {
+fn bytes_that_are_no_pattern(rt: HostRuntime) {
     judges(
         &rt,
         "
@@ -238,87 +236,90 @@ fn bytes_that_are_no_pattern(rt: HostRuntime) -> Result<(), Fail> {
         /a+++++++++[
         !6 BadClass at 10
         ",
-    )?;
-    refuses(&rt, &[b'('; 33], b"8 TooDeep")?;
-    refuses(&rt, &[b'a'; 201], b"1 TooLong")?;
+    );
+    assert!(&rt; is_refused(rt.alloc(), &[b'('; 33], b"8 TooDeep"));
+    assert!(&rt; is_refused(rt.alloc(), &[b'a'; 201], b"1 TooLong"));
     // The length comes before all else.
-    refuses(&rt, &[0xff; 201], b"1 TooLong")?;
+    assert!(&rt; is_refused(rt.alloc(), &[0xff; 201], b"1 TooLong"));
     // A size of about two to the power of 200 is not counted out.
     let mut deep = [b'+'; 200];
     deep[0] = b'a';
-    refuses(&rt, &deep, b"9 TooLarge")
+    assert!(&rt; is_refused(rt.alloc(), &deep, b"9 TooLarge"));
 }
 
 #[test]
-fn as_large_as_a_pattern_may_be(rt: HostRuntime) -> Result<(), Fail> {
+fn as_large_as_a_pattern_may_be(rt: HostRuntime) {
     // 255 factors.
-    pattern(&rt, b"a+++++++")?;
+    assert!(&rt; tells(rt.alloc(), b"a+++++++", b"a", true));
     // 255, 127, 15 and 3 are 400, and one more is too many.
-    pattern(&rt, b"a+++++++a++++++a+++a+")?;
-    refuses(&rt, b"a+++++++a++++++a+++a+a", b"9 TooLarge")?;
-    pattern(&rt, &[b'a'; 200])?;
+    assert!(&rt; tells(rt.alloc(), b"a+++++++a++++++a+++a+", b"aaaa", true));
+    assert!(&rt; is_refused(rt.alloc(), b"a+++++++a++++++a+++a+a", b"9 TooLarge"));
+    assert!(&rt; tells(rt.alloc(), &[b'a'; 200], &[b'a'; 200], true));
     // 32 parentheses open at once.
-    let mut deep = Vec::new(rt.alloc());
-    deep.extend_from_slice(&[b'('; 32])?;
-    deep.push(b'a')?;
-    deep.extend_from_slice(&[b')'; 32])?;
-    holds(&rt, deep.as_slice(), b"a", true)?;
-    holds(&rt, deep.as_slice(), b"aa", false)
+    let mut deep = [b')'; 65];
+    deep[..32].copy_from_slice(&[b'('; 32]);
+    deep[32] = b'a';
+    assert!(&rt; tells(rt.alloc(), &deep, b"a", true));
+    assert!(&rt; tells(rt.alloc(), &deep, b"aa", false));
 }
 
-// The pattern is one star of two terms, of which the second is empty.
-fn spells_star_of_two<R: Abort + AllocGlobal>(rt: &R, source: &[u8]) -> Result<(), Fail> {
-    let pattern = pattern(rt, source)?;
-    let [term] = pattern.terms() else {
-        return Err(Fail::from("not one term"));
+// The terms are one star of two terms, of which the second is empty.
+fn are_star_of_two(terms: &[Term]) -> bool {
+    let [term] = terms else {
+        return false;
     };
     let [Factor::Star(inner)] = term.as_slice() else {
-        return Err(Fail::from("not one star"));
+        return false;
     };
-    let [first, second] = inner.as_slice() else {
-        return Err(Fail::from("not two terms"));
-    };
-    assert_eq!(rt; first.len(), 1);
-    assert!(rt; second.is_empty());
-    Ok(())
+    match inner.as_slice() {
+        [first, second] => first.len() == 1 && second.is_empty(),
+        _ => false,
+    }
 }
 
-#[test]
-fn flat_forms(rt: HostRuntime) -> Result<(), Fail> {
-    // A star of exactly one group is a star of the group's terms.
-    spells_star_of_two(&rt, b"(a|)*")?;
-    spells_star_of_two(&rt, b"a?*")?;
-    // Once, and then any number of times.
-    let repeated = pattern(&rt, b"a+|b")?;
-    let [first, second] = repeated.terms() else {
-        return Err(Fail::from("not two terms"));
+// The terms are `a` and a star of one term, and one other factor.
+fn are_repeated_and_one(terms: &[Term]) -> bool {
+    let [first, second] = terms else {
+        return false;
     };
     let [Factor::Class(class), Factor::Star(inner)] = first.as_slice() else {
-        return Err(Fail::from("not a class and a star"));
+        return false;
     };
-    assert!(rt; class.holds(b'a'));
-    assert!(rt; !class.holds(b'b'));
-    assert_eq!(rt; inner.len(), 1);
-    assert_eq!(rt; second.len(), 1);
-    // The empty pattern is one empty term.
-    let empty = pattern(&rt, b"")?;
-    let [term] = empty.terms() else {
-        return Err(Fail::from("not one term"));
-    };
-    assert!(rt; term.is_empty());
+    class.holds(b'a') && !class.holds(b'b') && inner.len() == 1 && second.len() == 1
+}
+
+// The terms are one empty term.
+fn are_one_empty(terms: &[Term]) -> bool {
+    match terms {
+        [term] => term.is_empty(),
+        _ => false,
+    }
+}
+
+fn is_star_of_two(alloc: Global, source: &[u8]) -> bool {
+    match Pattern::read(alloc, source) {
+        Ok(pattern) => are_star_of_two(pattern.terms()),
+        Err(_) => false,
+    }
+}
+
+#[test]
+fn stars_of_groups(rt: HostRuntime) {
+    // A star of exactly one group is a star of the group's terms.
+    assert!(&rt; is_star_of_two(rt.alloc(), b"(a|)*"));
+    assert!(&rt; is_star_of_two(rt.alloc(), b"a?*"));
+}
+
+#[test]
+fn once_and_then_any_number_of_times(rt: HostRuntime) -> Result<(), Fail> {
+    let repeated = Pattern::read(rt.alloc(), b"a+|b")?;
+    assert!(&rt; are_repeated_and_one(repeated.terms()));
     Ok(())
 }
 
 #[test]
-fn copies_of_patterns(rt: HostRuntime) -> Result<(), Fail> {
-    for source in "\nshow( [^ ]+)*\na|b+\n".lines() {
-        let pattern = pattern(&rt, source.as_bytes())?;
-        let copy = pattern.copy(rt.alloc())?;
-        assert!(rt; copy.source() == pattern.source());
-        assert_eq!(rt;
-            copy.contains(b"show ip route"),
-            pattern.contains(b"show ip route")
-        );
-    }
+fn the_empty_pattern(rt: HostRuntime) -> Result<(), Fail> {
+    let empty = Pattern::read(rt.alloc(), b"")?;
+    assert!(&rt; are_one_empty(empty.terms()));
     Ok(())
 }

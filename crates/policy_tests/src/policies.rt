@@ -1,28 +1,19 @@
 //! Policies: their text, chains and decisions.
 
+use crate::support::{is_shown, name, prints};
 use pol_names::{By, Decision, Name, SubjectId};
 use pol_text::{Policy, PolicyFault};
+use std::alloc::Global;
 use std::fmt::Write;
 use std::process::Abort;
 use std::test::Fail;
 
 // The text is refused so, as it is printed.
 fn refuses<R: Abort + AllocGlobal>(rt: &R, text: &str, expected: &str) -> Result<(), Fail> {
-    match Policy::read(rt.alloc(), text.as_bytes()) {
-        Ok(_) => assert!(rt; false, "{text} is read"),
-        Err(fault) => {
-            let printed = format!(in rt.alloc(); "{fault}")?;
-            assert!(rt; printed.as_str() == expected, "{printed} for {text}");
-        }
+    match Policy::read(rt.alloc(), text.as_bytes()).err() {
+        Some(fault) => is_shown(rt, text, &fault, expected)?,
+        None => assert!(rt; false, "{text} is read"),
     }
-    Ok(())
-}
-
-// The text is a policy, of which a copy is printed so.
-fn prints<R: Abort + AllocGlobal>(rt: &R, text: &str, expected: &str) -> Result<(), Fail> {
-    let copy = Policy::read(rt.alloc(), text.as_bytes())?.copy(rt.alloc())?;
-    let printed = copy.print(rt.alloc())?;
-    assert!(rt; printed.as_slice() == expected.as_bytes(), "{text}");
     Ok(())
 }
 
@@ -49,9 +40,7 @@ fn texts_that_are_no_policy(rt: HostRuntime) -> Result<(), Fail> {
 
 #[test]
 fn want_of_memory(rt: HostRuntime) -> Result<(), Fail> {
-    let printed = format!(in rt.alloc(); "{}", PolicyFault::Memory)?;
-    assert!(rt; printed.as_str() == "11 Memory");
-    Ok(())
+    is_shown(&rt, "memory", &PolicyFault::Memory, "11 Memory")
 }
 
 /// Every kind of line, with what a careless printer would lose: empty patterns, blanks that begin a
@@ -59,22 +48,64 @@ fn want_of_memory(rt: HostRuntime) -> Result<(), Fail> {
 const FULL: &str = "group ops in all\npriv 0\npermit \ndeny  x \ngroup all\nuser bob in ops\n\
                     login  two words \nenable  \npriv 15\npermit show( [^ ]+)?\nuser all\n";
 
+// A copy of the policy that the text is.
+fn copied(alloc: Global, text: &str) -> Result<Policy, PolicyFault> {
+    let policy = Policy::read(alloc, text.as_bytes())?;
+    Ok(policy.copy(alloc)?)
+}
+
+// The text is a policy, of which a copy is printed so.
+fn is_printed<R: Abort + AllocGlobal>(rt: &R, text: &str, expected: &str) -> Result<(), Fail> {
+    let copy = copied(rt.alloc(), text)?;
+    prints(rt, &copy, expected)
+}
+
 #[test]
 fn printed_policies(rt: HostRuntime) -> Result<(), Fail> {
-    prints(&rt, FULL, FULL)?;
+    is_printed(&rt, FULL, FULL)?;
     // Comments, blank lines, indentation and leading zeros are not kept.
-    prints(
+    is_printed(
         &rt,
         "# all\n\n  group ops in all\npriv 000\n permit \ndeny  x \ngroup all\nuser bob in ops\n\
          permit show( [^ ]+)?\npriv 0015\nenable  \nlogin  two words \nuser all",
         FULL,
     )?;
     let empty = Policy::new(rt.alloc());
-    assert!(rt; empty.print(rt.alloc())?.is_empty());
+    prints(&rt, &empty, "")
+}
+
+// Adds the subjects, with a comma and a blank behind each.
+fn push_list(list: &mut String, ids: &[SubjectId]) -> Result<(), Fail> {
+    for id in ids {
+        write!(list, "{id}, ")?;
+    }
     Ok(())
 }
 
-// The user's chain, as it is printed.
+// The subjects are listed so.
+fn are_listed<R: Abort + AllocGlobal>(
+    rt: &R,
+    ids: &[SubjectId],
+    expected: &str,
+) -> Result<(), Fail> {
+    let mut list = String::new(rt.alloc());
+    push_list(&mut list, ids)?;
+    assert_eq!(rt; list.as_str(), expected);
+    Ok(())
+}
+
+// The user's chain in the policy is this.
+fn has_chain<R: Abort + AllocGlobal>(
+    rt: &R,
+    policy: &Policy,
+    user: &[u8],
+    expected: &str,
+) -> Result<(), Fail> {
+    let chain = policy.chain(rt.alloc(), &SubjectId::user(name(user)?))?;
+    are_listed(rt, chain.as_slice(), expected)
+}
+
+// The user's chain in the policy that the text is.
 fn follows<R: Abort + AllocGlobal>(
     rt: &R,
     text: &str,
@@ -82,14 +113,7 @@ fn follows<R: Abort + AllocGlobal>(
     expected: &str,
 ) -> Result<(), Fail> {
     let policy = Policy::read(rt.alloc(), text.as_bytes())?;
-    let mut printed = String::new(rt.alloc());
-    let name = Name::read(user).ok_or("no name")?;
-    let chain = policy.chain(rt.alloc(), &SubjectId::user(name))?;
-    for id in chain.as_slice() {
-        write!(printed, "{id}, ")?;
-    }
-    assert!(rt; printed.as_str() == expected, "{printed}");
-    Ok(())
+    has_chain(rt, &policy, user, expected)
 }
 
 #[test]
@@ -104,48 +128,58 @@ fn chains(rt: HostRuntime) -> Result<(), Fail> {
 const RULES: &str = "group all\npermit ping\ngroup ops in all\ndeny show clock\npermit show .*\n\
                      user bob in ops\ndeny reload\n";
 
-// A decision in words.
-fn worded<R: AllocGlobal>(rt: &R, decision: Decision) -> Result<String, Fail> {
-    let verdict = decision.verdict.keyword();
-    let words = match decision.by {
-        By::Rule(owner, number) => format!(in rt.alloc(); "{verdict}by {owner} rule {number}")?,
-        By::Default => format!(in rt.alloc(); "{verdict}by default")?,
+// Adds a decision in words; nothing where nothing was decided.
+fn push_words(words: &mut String, decision: Option<Decision>) -> Result<(), Fail> {
+    let Some(decision) = decision else {
+        return Ok(());
     };
-    Ok(words)
-}
-
-// What is decided of the user's line, in words; nothing for no user.
-fn decides<R: Abort + AllocGlobal>(
-    rt: &R,
-    user: &[u8],
-    line: &[u8],
-    expected: Option<&str>,
-) -> Result<(), Fail> {
-    let policy = Policy::read(rt.alloc(), RULES.as_bytes())?;
-    let name = Name::read(user).ok_or("no name")?;
-    match (policy.plain_decide(&name, line)?, expected) {
-        (Some(decision), Some(words)) => assert!(rt; worded(rt, decision)?.as_str() == words),
-        (None, None) => {}
-        _ => assert!(rt; false, "a decision for no user, or none for a user"),
+    words.push_str(decision.verdict.keyword())?;
+    match decision.by {
+        By::Rule(owner, number) => write!(words, "by {owner} rule {number}")?,
+        By::Default => words.push_str("by default")?,
     }
     Ok(())
 }
 
+// The decision is this in words.
+fn is_worded<R: Abort + AllocGlobal>(
+    rt: &R,
+    decision: Option<Decision>,
+    expected: &str,
+) -> Result<(), Fail> {
+    let mut words = String::new(rt.alloc());
+    push_words(&mut words, decision)?;
+    assert_eq!(rt; words.as_str(), expected);
+    Ok(())
+}
+
+// What is decided of the user's line by the rules above, in words; nothing for no user.
+fn decides<R: Abort + AllocGlobal>(
+    rt: &R,
+    user: &[u8],
+    line: &[u8],
+    expected: &str,
+) -> Result<(), Fail> {
+    let user = name(user)?;
+    let policy = Policy::read(rt.alloc(), RULES.as_bytes())?;
+    let decision = policy.plain_decide(&user, line)?;
+    is_worded(rt, decision, expected)
+}
+
 #[test]
 fn decisions(rt: HostRuntime) -> Result<(), Fail> {
-    decides(&rt, b"bob", b"reload", Some("deny by user bob rule 1"))?;
-    decides(&rt, b"bob", b"show clock", Some("deny by group ops rule 1"))?;
-    decides(&rt, b"bob", b"show it", Some("permit by group ops rule 2"))?;
-    decides(&rt, b"bob", b"ping", Some("permit by group all rule 1"))?;
-    decides(&rt, b"bob", b"show\n", Some("deny by default"))?;
-    decides(&rt, b"ops", b"ping", None)
+    decides(&rt, b"bob", b"reload", "deny by user bob rule 1")?;
+    decides(&rt, b"bob", b"show clock", "deny by group ops rule 1")?;
+    decides(&rt, b"bob", b"show it", "permit by group ops rule 2")?;
+    decides(&rt, b"bob", b"ping", "permit by group all rule 1")?;
+    decides(&rt, b"bob", b"show\n", "deny by default")?;
+    decides(&rt, b"ops", b"ping", "")
 }
 
 #[test]
 fn names(rt: HostRuntime) -> Result<(), Fail> {
     for text in "a\nA-Z_0.9@x\n0123456789abcdef0123456789abcdef".lines() {
-        let name = Name::read(text.as_bytes()).ok_or("no name")?;
-        assert!(rt; name.as_str() == text);
+        assert!(rt; name(text.as_bytes())?.as_str() == text);
     }
     for text in "\na b\na/b\né\n0123456789abcdef0123456789abcdef0".lines() {
         assert!(rt; Name::read(text.as_bytes()).is_none());
