@@ -12,7 +12,7 @@ use Rattle.pol_text.specs.Change.{with_changed, with_parent, chain_fault}
 use Rattle.pol_text.proofs.RightSubject.{right_from}
 use Rattle.pol_text.proofs.Keeps.{set_at, set_is_changed, ids_map, changes_keep, changes, kept_but_short}
 use Rattle.pol_text.proofs.KeepsAdd.{group_name}
-use Rattle.pol_text.proofs.Placed.{AreFields, Placed, placed, not_missing, right_now}
+use Rattle.pol_text.proofs.Placed.{AreFields, Placed, placed, somewhere, not_missing, right_now}
 
 -- the subject at the place
 pub the_placed : (id : SubjectId) (now p : List Subject) (keys : List SubjectId) (i : ℕ) → p ≡ now → AreFields p keys → position (same_id id) keys ≡ Some i
@@ -20,7 +20,7 @@ pub the_placed : (id : SubjectId) (now p : List Subject) (keys : List SubjectId)
 the_placed id now p keys i view w some there = by (slice_get p i) refl
   where
     by : (o : Option Subject) → slice_get p i ≡ o → (s : Subject) × Placed id now p keys i s
-    by None e = not_missing id now p keys i view w some (sym e) there
+    by None e = not_missing id now p view (sym (somewhere id p keys i w some ∙ e)) there
     by (Some s) e = (s, placed id now p keys i s view w some (sym e))
 
 put_back : (p : List Subject) (i : ℕ) (parent former : Option (List ℕ)) → option_map_or (λ s. s.parent) (slice_get p i) None ≡ former

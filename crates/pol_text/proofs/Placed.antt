@@ -1,7 +1,7 @@
 -- What is known where a function has found a subject at its place.
 use Rattle.std.proofs.Common.{◌≡◌, ℕ, ◌<◌, length, arith, Bool, true, false, ◌||◌, List, map, Option, None, Some, refl, sym, ap, subst, ◌∙◌, slice_get, slice_set, is_some, Result, Ok, Err, OnErr}
 use Rattle.std.specs.Option.{option_map_or}
-use Rattle.std.specs.List.{position}
+use Rattle.std.specs.List.{position, position_or_len}
 use Rattle.std.proofs.lemmas.Bool.{or_left}
 use Rattle.std.proofs.lemmas.List.{length-map}
 use Rattle.std.proofs.lemmas.List.Quantifiers.{position-Some}
@@ -11,7 +11,7 @@ use Rattle.pol_text.specs.declared.subject.Subject.{Subject}
 use Rattle.pol_names.specs.SubjectId.{same_kind, same_id}
 use Rattle.pol_text.specs.Policy.{id_of, find_subject, is_right_subject, WellFormed}
 use Rattle.pol_text.specs.Change.{with_changed}
-use Rattle.pol_text.proofs.SubjectFacts.{found_at, found_nowhere}
+use Rattle.pol_text.proofs.SubjectFacts.{at_place, found_at, found_nowhere}
 use Rattle.pol_text.proofs.RightSubject.{Right, right_parts, right_from}
 use Rattle.pol_text.proofs.Keeps.{same_id_is, found_same, all_at, set_back, set_is_changed, kept_at}
 
@@ -51,10 +51,19 @@ placed id now p keys i s view w some item =
     let found : find_subject id p ≡ Some s = somewhere id p keys i w some ∙ sym item in
     record { view = view; fields = w; at = sym item; found = found; same = found_same id p s found }
 
-pub not_missing : {P : Type 0} (id : SubjectId) (now p : List Subject) (keys : List SubjectId) (i : ℕ) → p ≡ now → AreFields p keys → position (same_id id) keys ≡ Some i
-    → None ≡ slice_get p i → is_some (find_subject id now) ≡ true → P
-not_missing id now p keys i view w some item there =
-    let e : find_subject id now ≡ None = ap (find_subject id) (sym view) ∙ somewhere id p keys i w some ∙ sym item in
+-- the place of the subject of this kind and name
+abbrev pub place_in : SubjectId → List SubjectId → ℕ
+place_in id keys = position_or_len (same_id id) keys
+
+pub lent : (id : SubjectId) (now p : List Subject) (keys : List SubjectId) (s : Subject) → p ≡ now → AreFields p keys → Some s ≡ find_subject id p
+    → Placed id now p keys (place_in id keys) s
+lent id now p keys s view w found =
+    let at : slice_get p (place_in id keys) ≡ Some s = ap (λ ids. slice_get p (place_in id ids)) w.1 ∙ sym (at_place id p) ∙ sym found in
+    record { view = view; fields = w; at = at; found = sym found; same = found_same id p s (sym found) }
+
+pub not_missing : {P : Type 0} (id : SubjectId) (now p : List Subject) → p ≡ now → None ≡ find_subject id p → is_some (find_subject id now) ≡ true → P
+not_missing id now p view none there =
+    let e : find_subject id now ≡ None = ap (find_subject id) (sym view) ∙ sym none in
     absurd (cc)
 
 module _ {id : SubjectId} {now p : List Subject} {keys : List SubjectId} {i : ℕ} {s : Subject} (h : Placed id now p keys i s) where

@@ -14,7 +14,7 @@ use Rattle.pol_names.specs.SubjectId.{same_id, group_id}
 use Rattle.pol_text.specs.Policy.{id_of, find_subject, parent_of}
 
 -- the subject at the place of its kind and name
-at_place : (id : SubjectId) (policy : List Subject) → find_subject id policy ≡ slice_get policy (position_or_len (same_id id) (map id_of policy))
+pub at_place : (id : SubjectId) (policy : List Subject) → find_subject id policy ≡ slice_get policy (position_or_len (same_id id) (map id_of policy))
 at_place id [] = refl
 at_place id (subject ∷ rest) = by (same_id id (id_of subject)) (at_place id rest)
   where
@@ -26,10 +26,11 @@ at_place id (subject ∷ rest) = by (same_id id (id_of subject)) (at_place id re
     by true h = refl
     by false h = let e : 1 + place ≡ suc place = omega arith in h ∙ sym (ap (slice_get (subject ∷ rest)) e)
 
+pub place_is : (id : SubjectId) (ids : List SubjectId) (place : ℕ) → position (same_id id) ids ≡ Some place → position_or_len (same_id id) ids ≡ place
+place_is id ids place e = grind (arith, common_steps)
+
 pub found_at : (id : SubjectId) (policy : List Subject) (place : ℕ) → position (same_id id) (map id_of policy) ≡ Some place → find_subject id policy ≡ slice_get policy place
-found_at id policy place e =
-    let at : position_or_len (same_id id) (map id_of policy) ≡ place = grind (arith, common_steps) in
-    at_place id policy ∙ ap (slice_get policy) at
+found_at id policy place e = at_place id policy ∙ ap (slice_get policy) (place_is id (map id_of policy) place e)
 
 pub found_nowhere : (id : SubjectId) (policy : List Subject) → position (same_id id) (map id_of policy) ≡ None → find_subject id policy ≡ None
 found_nowhere id policy e =

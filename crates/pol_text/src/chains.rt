@@ -1,7 +1,12 @@
 //! Look-ups and chains over a list of subjects, which may be no policy yet.
 
 ghost use Rattle.std.specs.Prelude.{◌≡◌, map, IfOk};
-ghost use Rattle.std.specs.Option.{option_copied};
+ghost use Rattle.std.specs.Borrow.{sem};
+ghost use Rattle.std.specs.List.{position_or_len};
+ghost use Rattle.std.specs.Option.{option_copied, option_map};
+ghost use Rattle.basics.specs.Lending.{lends_item};
+ghost use Rattle.pol_names.specs.SubjectId.{same_id};
+ghost use Rattle.pol_text.specs.contracts.subject.Subject.{the_row as subject_row};
 ghost use Rattle.pol_text.specs.Policy.{id_of, find_subject, parent_of as parent_among, ends_within as chain_ends_within, chain_within};
 
 use crate::subject::Subject;
@@ -23,6 +28,23 @@ pub(crate) fn find_in<'a>(
         return None;
     };
     subjects.as_slice().get(place)
+}
+
+/// The subject of this kind and name, to be changed. A hash look-up.
+pub(crate) fn find_mut<'a>(
+    subjects: &'a mut Sequence<Subject>,
+    places: &IndexSet<SubjectId>,
+    id: &SubjectId,
+) -> Option<&'a mut Subject>
+    requires { places.now.keys ≡ map id_of subjects.old }
+    ensures* writes_back { sem 𝓛 (lends_item subject_row subjects.entry
+        (position_or_len (same_id id.now) places.now.keys) result) }
+    ensures found { option_map (λ subject. subject.now) result ≡ find_subject id.now subjects.old }
+{
+    let Some(place) = places.get_index_of(id) else {
+        return None;
+    };
+    subjects.get_mut(place)
 }
 
 /// The group that the subject belongs to.

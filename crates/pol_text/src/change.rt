@@ -2,7 +2,7 @@
 
 ghost use Rattle.std.specs.Prelude.{◌≡◌, ◌<◌, ◌≤◌, ◌∷◌, ◌++◌, ◌&&◌, [], length, map, position, slice_get, nat_lt, nat_le, false, is_some, IsTrue, Ok, Err, None, OnOk, OnErr};
 ghost use Rattle.std.specs.List.{list_all};
-ghost use Rattle.std.specs.Option.{option_map_or, option_copied};
+ghost use Rattle.std.specs.Option.{option_map_or};
 ghost use Rattle.std.specs.Result.{result_err};
 ghost use Rattle.pol_names.specs.Name.{is_name};
 ghost use Rattle.pol_names.specs.Secret.{is_secret};
@@ -13,7 +13,7 @@ ghost use Rattle.pol_text.specs.Places.{changed_at};
 ghost use Rattle.pol_text.specs.Text.{new_subject};
 ghost use Rattle.pol_names.specs.declared.subject_id.Kind.TheVariants.{Group, User};
 
-use crate::chains::ends_within;
+use crate::chains::{ends_within, find_mut};
 use crate::fault::ChainFault;
 use crate::policy::Policy;
 use crate::subject::{Rule, Subject};
@@ -173,10 +173,7 @@ impl Policy {
         ensures { self.new ≡ with_changed id.now (with_secret credential secret) self.old }
     {
         see_secret(&secret);
-        let Some(place) = place_of(&self.places, id) else {
-            return;
-        };
-        let Some(subject) = self.subjects.get_mut(place) else {
+        let Some(subject) = find_mut(&mut self.subjects, &self.places, id) else {
             return;
         };
         put_secret(subject, credential, secret);
@@ -188,10 +185,7 @@ impl Policy {
         requires small { IsTrue (all_of (λ n. nat_le n 15) level) }
         ensures { self.new ≡ with_changed id.now (with_priv level) self.old }
     {
-        let Some(place) = place_of(&self.places, id) else {
-            return;
-        };
-        let Some(subject) = self.subjects.get_mut(place) else {
+        let Some(subject) = find_mut(&mut self.subjects, &self.places, id) else {
             return;
         };
         subject.priv_lvl = level;
@@ -207,10 +201,7 @@ impl Policy {
         ensures err { OnErr result (self.new ≡ self.old) }
     {
         see_rule(&rule);
-        let Some(place) = place_of(&self.places, id) else {
-            return Ok(());
-        };
-        let Some(subject) = self.subjects.get_mut(place) else {
+        let Some(subject) = find_mut(&mut self.subjects, &self.places, id) else {
             return Ok(());
         };
         subject.rules.insert(at, rule)?;
@@ -223,10 +214,7 @@ impl Policy {
             (find_subject id.now self.old) false) }
         ensures { self.new ≡ with_changed id.now (without_rule_at at) self.old }
     {
-        let Some(place) = place_of(&self.places, id) else {
-            return;
-        };
-        let Some(subject) = self.subjects.get_mut(place) else {
+        let Some(subject) = find_mut(&mut self.subjects, &self.places, id) else {
             return;
         };
         let _ = subject.rules.remove(at);
@@ -240,10 +228,7 @@ impl Policy {
             (find_subject id.now self.old) false) }
         ensures { self.new ≡ with_changed id.now (with_rule_moved from to) self.old }
     {
-        let Some(place) = place_of(&self.places, id) else {
-            return;
-        };
-        let Some(subject) = self.subjects.get_mut(place) else {
+        let Some(subject) = find_mut(&mut self.subjects, &self.places, id) else {
             return;
         };
         subject.rules.move_item(from, to);

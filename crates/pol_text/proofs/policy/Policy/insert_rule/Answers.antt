@@ -1,51 +1,41 @@
-use Rattle.std.proofs.Common.{◌&&◌, length, nat_lt, nat_le, refl, sym, ap, ◌∙◌, ltb-true, leb-true}
+use Rattle.std.proofs.Common.{◌&&◌, length, nat_lt, nat_le, refl, ap, ltb-true, leb-true}
 use Rattle.std.proofs.lemmas.Bool.{and_parts}
 use Rattle.pol_text.specs.declared.subject.Subject.{Subject}
 use Rattle.pol_text.specs.Policy.{is_right_rule}
 use Rattle.pol_text.specs.Change.{with_rule_at}
-use Rattle.pol_text.proofs.Placed.{placed, not_nowhere, not_missing, changed_to, fields_to, unchanged_to, on_err, fields_unchanged, right_now, test_now, test_there}
+use Rattle.pol_text.proofs.Placed.{lent, not_missing, changed_to, fields_to, unchanged_to, on_err, fields_unchanged, right_now, test_now, test_there}
 use Rattle.pol_text.proofs.Rules.{all_insert, few_inserted}
 use Rattle.pol_text.proofs.policy.Policy.insert_rule.Goals as goal
 
 pub returns-in_default-clause-ok : goal.returns-in_default-clause-ok
 returns-in_default-clause-ok c =
-    not_nowhere c.args.id.now c.args.self.now c.self.inside.subjects c.self.inside.places.keys c.self.view_is c.self.invariant (sym c.place_of.ensures ∙ c.in_default.is) (test_there _ (λ (s : Subject). nat_le c.args.at (length s.rules) && nat_lt (length s.rules) 256) c.requires)
-
-pub returns-in_default-get_mut-clause-ok : goal.returns-in_default-get_mut-clause-ok
-returns-in_default-get_mut-clause-ok c =
-    not_missing c.args.id.now c.args.self.now c.self.inside.subjects c.self.inside.places.keys c.in-Some.place c.self.view_is c.self.invariant (sym c.place_of.ensures ∙ c.in-Some.is)
-    c.in_default-get_mut.ensures.item (test_there _ (λ (s : Subject). nat_le c.args.at (length s.rules) && nat_lt (length s.rules) 256) c.requires)
+    not_missing c.args.id.now c.args.self.now c.self.inside.subjects c.self.view_is c.in_default.ensures.found (test_there _ (λ (s : Subject). nat_le c.args.at (length s.rules) && nat_lt (length s.rules) 256) c.requires)
 
 pub insert-requires : goal.insert-requires
 insert-requires c =
-    let h = placed c.args.id.now c.args.self.now c.self.inside.subjects c.self.inside.places.keys c.in-Some.place c.in-Some-get_mut.subject.now c.self.view_is c.self.invariant
-    (sym c.place_of.ensures ∙ c.in-Some.is) c.in-Some-get_mut.ensures.item in
-    let both = and_parts (nat_le c.args.at (length c.in-Some-get_mut.subject.now.rules)) (nat_lt (length c.in-Some-get_mut.subject.now.rules) 256) (test_now h (λ (s : Subject). nat_le c.args.at (length s.rules) && nat_lt (length s.rules) 256) c.requires) in
-    leb-true c.args.at (length c.in-Some-get_mut.subject.now.rules) both.0
+    let h = lent c.args.id.now c.args.self.now c.self.inside.subjects c.self.inside.places.keys c.in-Some.subject.now c.self.view_is c.self.invariant c.in-Some.ensures.found in
+    let both = and_parts (nat_le c.args.at (length c.in-Some.subject.now.rules)) (nat_lt (length c.in-Some.subject.now.rules) 256) (test_now h (λ (s : Subject). nat_le c.args.at (length s.rules) && nat_lt (length s.rules) 256) c.requires) in
+    leb-true c.args.at (length c.in-Some.subject.now.rules) both.0
 
 pub invariant_of-self-in_err-insert : goal.invariant_of-self-in_err-insert
 invariant_of-self-in_err-insert c =
-    let h = placed c.args.id.now c.args.self.now c.self.inside.subjects c.self.inside.places.keys c.in-Some.place c.in-Some-get_mut.subject.now c.self.view_is c.self.invariant
-    (sym c.place_of.ensures ∙ c.in-Some.is) c.in-Some-get_mut.ensures.item in
-    fields_unchanged h _ (ap (λ rules. record c.in-Some-get_mut.subject.now { rules = rules }) c.in_err-insert.ensures.err)
+    let h = lent c.args.id.now c.args.self.now c.self.inside.subjects c.self.inside.places.keys c.in-Some.subject.now c.self.view_is c.self.invariant c.in-Some.ensures.found in
+    fields_unchanged h _ (ap (λ rules. record c.in-Some.subject.now { rules = rules }) c.in_err-insert.ensures.err)
 
 pub returns-in_err-insert-clause-err : goal.returns-in_err-insert-clause-err
 returns-in_err-insert-clause-err c =
-    let h = placed c.args.id.now c.args.self.now c.self.inside.subjects c.self.inside.places.keys c.in-Some.place c.in-Some-get_mut.subject.now c.self.view_is c.self.invariant
-    (sym c.place_of.ensures ∙ c.in-Some.is) c.in-Some-get_mut.ensures.item in
-    on_err c.from_residual.result (unchanged_to h _ (ap (λ rules. record c.in-Some-get_mut.subject.now { rules = rules }) c.in_err-insert.ensures.err))
+    let h = lent c.args.id.now c.args.self.now c.self.inside.subjects c.self.inside.places.keys c.in-Some.subject.now c.self.view_is c.self.invariant c.in-Some.ensures.found in
+    on_err c.from_residual.result (unchanged_to h _ (ap (λ rules. record c.in-Some.subject.now { rules = rules }) c.in_err-insert.ensures.err))
 
 pub invariant_of-self-2 : goal.invariant_of-self-2
 invariant_of-self-2 c =
-    let h = placed c.args.id.now c.args.self.now c.self.inside.subjects c.self.inside.places.keys c.in-Some.place c.in-Some-get_mut.subject.now c.self.view_is c.self.invariant
-    (sym c.place_of.ensures ∙ c.in-Some.is) c.in-Some-get_mut.ensures.item in
-    let both = and_parts (nat_le c.args.at (length c.in-Some-get_mut.subject.now.rules)) (nat_lt (length c.in-Some-get_mut.subject.now.rules) 256) (test_now h (λ (s : Subject). nat_le c.args.at (length s.rules) && nat_lt (length s.rules) 256) c.requires) in
+    let h = lent c.args.id.now c.args.self.now c.self.inside.subjects c.self.inside.places.keys c.in-Some.subject.now c.self.view_is c.self.invariant c.in-Some.ensures.found in
+    let both = and_parts (nat_le c.args.at (length c.in-Some.subject.now.rules)) (nat_lt (length c.in-Some.subject.now.rules) 256) (test_now h (λ (s : Subject). nat_le c.args.at (length s.rules) && nat_lt (length s.rules) 256) c.requires) in
     let r = right_now h in
-    fields_to h (with_rule_at c.args.at c.args.rule) _ (ap (λ rules. record c.in-Some-get_mut.subject.now { rules = rules }) c.in_ok-insert.ensures.ok) (λ t. refl) (λ t. refl)
-    (record { name = r.name; parent = r.parent; login = r.login; enable = r.enable; secrets = r.secrets; level = r.level; few = few_inserted c.in-Some-get_mut.subject.now.rules c.args.at c.args.rule (leb-true c.args.at (length c.in-Some-get_mut.subject.now.rules) both.0) (ltb-true (length c.in-Some-get_mut.subject.now.rules) 256 both.1); rules = all_insert is_right_rule c.in-Some-get_mut.subject.now.rules c.args.at c.args.rule r.rules c.see_rule.ensures })
+    fields_to h (with_rule_at c.args.at c.args.rule) _ (ap (λ rules. record c.in-Some.subject.now { rules = rules }) c.in_ok-insert.ensures.ok) (λ t. refl) (λ t. refl)
+    (record { name = r.name; parent = r.parent; login = r.login; enable = r.enable; secrets = r.secrets; level = r.level; few = few_inserted c.in-Some.subject.now.rules c.args.at c.args.rule (leb-true c.args.at (length c.in-Some.subject.now.rules) both.0) (ltb-true (length c.in-Some.subject.now.rules) 256 both.1); rules = all_insert is_right_rule c.in-Some.subject.now.rules c.args.at c.args.rule r.rules c.see_rule.ensures })
 
 pub returns-clause-ok : goal.returns-clause-ok
 returns-clause-ok c =
-    let h = placed c.args.id.now c.args.self.now c.self.inside.subjects c.self.inside.places.keys c.in-Some.place c.in-Some-get_mut.subject.now c.self.view_is c.self.invariant
-    (sym c.place_of.ensures ∙ c.in-Some.is) c.in-Some-get_mut.ensures.item in
-    changed_to h (with_rule_at c.args.at c.args.rule) _ (ap (λ rules. record c.in-Some-get_mut.subject.now { rules = rules }) c.in_ok-insert.ensures.ok)
+    let h = lent c.args.id.now c.args.self.now c.self.inside.subjects c.self.inside.places.keys c.in-Some.subject.now c.self.view_is c.self.invariant c.in-Some.ensures.found in
+    changed_to h (with_rule_at c.args.at c.args.rule) _ (ap (λ rules. record c.in-Some.subject.now { rules = rules }) c.in_ok-insert.ensures.ok)

@@ -1,4 +1,4 @@
-use Rattle.std.proofs.Common.{◌≡◌, Option, List, ℕ, true, refl, sym, ◌∙◌}
+use Rattle.std.proofs.Common.{◌≡◌, Option, List, ℕ, true, refl}
 use Rattle.pol_names.specs.Secret.{is_secret}
 use Rattle.pol_names.specs.declared.secret.Credential.{Credential}
 use Rattle.pol_names.specs.declared.secret.Credential.TheVariants.{Login, Enable}
@@ -8,17 +8,12 @@ use Rattle.pol_text.specs.declared.subject.Subject.{Subject}
 use Rattle.pol_text.specs.Policy.{id_of, all_of}
 use Rattle.pol_text.specs.Change.{with_secret}
 use Rattle.pol_text.proofs.RightSubject.{Right}
-use Rattle.pol_text.proofs.Placed.{Placed, placed, not_nowhere, not_missing, changed_to, fields_to, right_now, user_now}
+use Rattle.pol_text.proofs.Placed.{Placed, lent, not_missing, changed_to, fields_to, right_now, user_now}
 use Rattle.pol_text.proofs.policy.Policy.set_secret.Goals as goal
 
 pub returns-in_default : goal.returns-in_default
 returns-in_default c =
-    not_nowhere c.args.id.now c.args.self.now c.self.inside.subjects c.self.inside.places.keys c.self.view_is c.self.invariant (sym c.place_of.ensures ∙ c.in_default.is) c.requires.there
-
-pub returns-in_default-get_mut : goal.returns-in_default-get_mut
-returns-in_default-get_mut c =
-    not_missing c.args.id.now c.args.self.now c.self.inside.subjects c.self.inside.places.keys c.in-Some.place c.self.view_is c.self.invariant (sym c.place_of.ensures ∙ c.in-Some.is)
-    c.in_default-get_mut.ensures.item c.requires.there
+    not_missing c.args.id.now c.args.self.now c.self.inside.subjects c.self.view_is c.in_default.ensures.found c.requires.there
 
 same_name : (credential : Credential) (secret : Option (List ℕ)) (t : Subject) → id_of (with_secret credential secret t) ≡ id_of t
 same_name Login secret t = refl
@@ -39,13 +34,11 @@ module _ {id : SubjectId} {now p : List Subject} {keys : List SubjectId} {i : �
 
 pub invariant_of-self-2 : goal.invariant_of-self-2
 invariant_of-self-2 c =
-    let h = placed c.args.id.now c.args.self.now c.self.inside.subjects c.self.inside.places.keys c.in-Some.place c.in-Some-get_mut.subject.now c.self.view_is c.self.invariant
-    (sym c.place_of.ensures ∙ c.in-Some.is) c.in-Some-get_mut.ensures.item in
+    let h = lent c.args.id.now c.args.self.now c.self.inside.subjects c.self.inside.places.keys c.in-Some.subject.now c.self.view_is c.self.invariant c.in-Some.ensures.found in
     fields_to h (with_secret c.args.credential c.args.secret) _ c.put_secret.ensures (same_name c.args.credential c.args.secret) (same_parent c.args.credential c.args.secret)
     (still_right h c.args.secret c.see_secret.ensures c.requires.user c.args.credential)
 
 pub returns : goal.returns
 returns c =
-    let h = placed c.args.id.now c.args.self.now c.self.inside.subjects c.self.inside.places.keys c.in-Some.place c.in-Some-get_mut.subject.now c.self.view_is c.self.invariant
-    (sym c.place_of.ensures ∙ c.in-Some.is) c.in-Some-get_mut.ensures.item in
+    let h = lent c.args.id.now c.args.self.now c.self.inside.subjects c.self.inside.places.keys c.in-Some.subject.now c.self.view_is c.self.invariant c.in-Some.ensures.found in
     changed_to h (with_secret c.args.credential c.args.secret) _ c.put_secret.ensures
