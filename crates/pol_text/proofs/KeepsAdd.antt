@@ -147,7 +147,3 @@ group_name p w (Some name) h = by (find_subject (group_id name) p) refl h
     by (Some s) e h =
         let same : group_id name ≡ id_of s = same_id_is (group_id name) (id_of s) (found_same (group_id name) p s e) in
         ap (λ t. is_name t.name) same ∙ (right_parts s (all_found is_right_subject (group_id name) p s w.right e)).name
-
--- the group is of the policy, so the parent is a name
-pub room_name : (p : List Subject) → WellFormed p → (parent : Option (List ℕ)) → all_of (λ group. has_room_below group p) parent ≡ true → all_of is_name parent ≡ true
-room_name p w parent h = group_name p w parent (room_parent p w parent h)

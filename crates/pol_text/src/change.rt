@@ -4,10 +4,8 @@ ghost use Rattle.std.specs.Prelude.{◌≡◌, ◌<◌, ◌≤◌, ◌∷◌, �
 ghost use Rattle.std.specs.List.{list_all};
 ghost use Rattle.std.specs.Option.{option_map_or};
 ghost use Rattle.std.specs.Result.{result_err};
-ghost use Rattle.pol_names.specs.Name.{is_name};
-ghost use Rattle.pol_names.specs.Secret.{is_secret};
 ghost use Rattle.pol_names.specs.SubjectId.{same_id, group_id};
-ghost use Rattle.pol_text.specs.Policy.{id_of, find_subject, ends_within as ends_test, all_of, is_right_rule};
+ghost use Rattle.pol_text.specs.Policy.{id_of, find_subject, ends_within as ends_test, all_of};
 ghost use Rattle.pol_text.specs.Change.{with_changed, without, is_parent, has_room_below, chain_fault, with_parent, with_secret, with_priv, with_rule_at, without_rule_at, with_rule_moved};
 ghost use Rattle.pol_text.specs.Places.{changed_at};
 ghost use Rattle.pol_text.specs.Text.{new_subject};
@@ -27,37 +25,6 @@ fn place_of(places: &IndexSet<SubjectId>, id: &SubjectId) -> Option<usize>
     ensures { result ≡ position (same_id id.now) places.now.keys }
 {
     places.get_index_of(id)
-}
-
-// By its type a name is right, and so are a secret and a rule's pattern. These only say so.
-fn see_name(name: &Name)
-    ensures { IsTrue (is_name name.now) }
-{
-    let _ = name.as_slice();
-}
-
-fn see_secret(secret: &Option<Secret>)
-    ensures { IsTrue (all_of is_secret secret.now) }
-{
-    if let Some(secret) = secret {
-        let _ = secret.as_slice();
-    }
-}
-
-fn see_rule(rule: &Rule)
-    ensures { IsTrue (is_right_rule rule.now) }
-{
-    let _ = rule.pattern.source();
-}
-
-// Puts the secret in place of the one that the subject has.
-fn put_secret(subject: &mut Subject, credential: Credential, secret: Option<Secret>)
-    ensures { subject.new ≡ with_secret credential secret subject.old }
-{
-    match credential {
-        Credential::Login => subject.login = secret,
-        Credential::Enable => subject.enable = secret,
-    }
 }
 
 // Puts the subject at the place below another group, and returns the one that it was below.
@@ -114,18 +81,8 @@ impl Policy {
         ensures ok { OnOk result (self.new ≡ self.old ++ new_subject kind name parent ∷ []) }
         ensures err { OnErr result (self.new ≡ self.old) }
     {
-        see_name(&name);
         self.places.reserve(1)?;
-        let subject = Subject {
-            kind,
-            name,
-            parent,
-            login: None,
-            enable: None,
-            priv_lvl: None,
-            rules: Sequence::new(alloc),
-        };
-        self.subjects.push(subject)?;
+        self.subjects.push(Subject::new(alloc, kind, name, parent))?;
         // there is room, so it is added
         self.places.insert(SubjectId { kind, name })?;
         Ok(())
@@ -172,11 +129,10 @@ impl Policy {
         requires user { id.now.kind ≡ User }
         ensures { self.new ≡ with_changed id.now (with_secret credential secret) self.old }
     {
-        see_secret(&secret);
         let Some(subject) = find_mut(&mut self.subjects, &self.places, id) else {
             return;
         };
-        put_secret(subject, credential, secret);
+        subject.set_secret(credential, secret);
     }
 
     /// Gives a subject another privilege level, or none.
@@ -200,11 +156,10 @@ impl Policy {
             (self.new ≡ with_changed id.now (with_rule_at at rule) self.old) }
         ensures err { OnErr result (self.new ≡ self.old) }
     {
-        see_rule(&rule);
         let Some(subject) = find_mut(&mut self.subjects, &self.places, id) else {
             return Ok(());
         };
-        subject.rules.insert(at, rule)?;
+        subject.insert_rule(at, rule)?;
         Ok(())
     }
 

@@ -71,16 +71,7 @@ impl Draft {
         if entries.len() >= Policy::MAX_SUBJECTS {
             return Err(LineFault::Refused(PolicyRefusal::Limit));
         }
-        let subject = Subject {
-            kind,
-            name,
-            parent,
-            login: None,
-            enable: None,
-            priv_lvl: None,
-            rules: Sequence::new(alloc),
-        };
-        entries.push((line, subject))?;
+        entries.push((line, Subject::new(alloc, kind, name, parent)))?;
         Ok(Draft { entries, places })
     }
 

@@ -1,12 +1,15 @@
 //! Groups and users, and what decides.
 
-ghost use Rattle.std.specs.Prelude.{◌≡◌, ◌≤◌, length, IfOk};
+ghost use Rattle.std.specs.Prelude.{◌≡◌, ◌≤◌, length, IsTrue, IfOk, OnOk, OnErr};
+ghost use Rattle.pol_names.specs.Secret.{is_secret};
 ghost use Rattle.pol_names.specs.SubjectId.{kind_word};
 ghost use Rattle.pol_names.specs.SubjectId.{group_id, user_id};
-ghost use Rattle.pol_text.specs.Policy.{id_of, first_match as first_of};
+ghost use Rattle.pol_text.specs.Policy.{id_of, all_of, is_right_rule, is_right_subject, first_match as first_of};
+ghost use Rattle.pol_text.specs.Change.{with_secret, with_rule_at};
+ghost use Rattle.pol_text.specs.Text.{new_subject};
 
 use basics::{Sequence, StructuralEq};
-use pol_names::{By, Decision, Kind, Name, Secret, SubjectId, Verdict};
+use pol_names::{By, Credential, Decision, Kind, Name, Secret, SubjectId, Verdict};
 use pol_pattern::Pattern;
 use std::alloc::{AllocError, Global};
 
@@ -105,6 +108,28 @@ impl StructuralEq for Subject {
 }
 
 impl Subject {
+    /// A subject without secrets, level and rules, which is right by the types of its names. Takes
+    /// no memory.
+    pub(crate) fn new(alloc: Global, kind: Kind, name: Name, parent: Option<Name>) -> Subject
+        ensures subject { result ≡ new_subject kind name parent }
+        ensures right { IsTrue (is_right_subject result) }
+    {
+        // a slice of a name says that it is one
+        let _ = name.as_slice();
+        if let Some(parent) = &parent {
+            let _ = parent.as_slice();
+        }
+        Subject {
+            kind,
+            name,
+            parent,
+            login: None,
+            enable: None,
+            priv_lvl: None,
+            rules: Sequence::new(alloc),
+        }
+    }
+
     /// The subject's kind and name.
     pub fn id(&self) -> SubjectId
         ensures { result ≡ id_of self.now }
@@ -113,6 +138,35 @@ impl Subject {
             kind: self.kind,
             name: self.name,
         }
+    }
+
+    /// Gives the user another secret, or none. By its type a secret is right.
+    pub(crate) fn set_secret(&mut self, credential: Credential, secret: Option<Secret>)
+        ensures changed { self.new ≡ with_secret credential secret self.old }
+        ensures right { IsTrue (all_of is_secret secret) }
+    {
+        // a slice of a secret says that it is one
+        if let Some(secret) = &secret {
+            let _ = secret.as_slice();
+        }
+        match credential {
+            Credential::Login => self.login = secret,
+            Credential::Enable => self.enable = secret,
+        }
+    }
+
+    /// Puts a rule at a place, counted from 0; those from there on move up. By its type a rule's
+    /// pattern is right.
+    pub(crate) fn insert_rule(&mut self, at: usize, rule: Rule) -> Result<(), AllocError>
+        requires { at ≤ length self.old.rules }
+        ensures ok { OnOk result (self.new ≡ with_rule_at at rule self.old) }
+        ensures err { OnErr result (self.new ≡ self.old) }
+        ensures right { IsTrue (is_right_rule rule) }
+    {
+        // a pattern's source says that it is one
+        let _ = rule.pattern.source();
+        self.rules.insert(at, rule)?;
+        Ok(())
     }
 
     /// What the first of the subject's own rules whose pattern holds the line decides.

@@ -15,6 +15,6 @@ returns-then-len-ge-MAX_SUBJECTS c =
 
 pub returns : goal.returns
 returns c =
-    rw (c.in_ok-push.ensures.items, ← c.self.view_is, c.new.ensures)
+    rw (c.in_ok-push.ensures.items, ← c.self.view_is, c.new.ensures.subject)
     (subject_added c.args.line c.args.kind c.args.name c.args.parent c.self.inside.entries.items c.self.inside.places.keys c.in_ok-insert.field-0
     c.self.invariant c.in_ok-insert.ensures.added c.if-not-branch.false (omega arith))

@@ -1,4 +1,4 @@
-use Rattle.std.proofs.Common.{◌&&◌, length, nat_lt, nat_le, refl, ap, ltb-true, leb-true}
+use Rattle.std.proofs.Common.{◌&&◌, length, nat_lt, nat_le, refl, ltb-true, leb-true}
 use Rattle.std.proofs.lemmas.Bool.{and_parts}
 use Rattle.pol_text.specs.declared.subject.Subject.{Subject}
 use Rattle.pol_text.specs.Policy.{is_right_rule}
@@ -11,31 +11,31 @@ pub returns-in_default-clause-ok : goal.returns-in_default-clause-ok
 returns-in_default-clause-ok c =
     not_missing c.args.id.now c.args.self.now c.self.inside.subjects c.self.view_is c.in_default.ensures.found (test_there _ (λ (s : Subject). nat_le c.args.at (length s.rules) && nat_lt (length s.rules) 256) c.requires)
 
-pub insert-requires : goal.insert-requires
-insert-requires c =
+pub insert_rule-requires : goal.insert_rule-requires
+insert_rule-requires c =
     let h = lent c.args.id.now c.args.self.now c.self.inside.subjects c.self.inside.places.keys c.in-Some.subject.now c.self.view_is c.self.invariant c.in-Some.ensures.found in
     let both = and_parts (nat_le c.args.at (length c.in-Some.subject.now.rules)) (nat_lt (length c.in-Some.subject.now.rules) 256) (test_now h (λ (s : Subject). nat_le c.args.at (length s.rules) && nat_lt (length s.rules) 256) c.requires) in
     leb-true c.args.at (length c.in-Some.subject.now.rules) both.0
 
-pub invariant_of-self-in_err-insert : goal.invariant_of-self-in_err-insert
-invariant_of-self-in_err-insert c =
+pub invariant_of-self-in_err-insert_rule : goal.invariant_of-self-in_err-insert_rule
+invariant_of-self-in_err-insert_rule c =
     let h = lent c.args.id.now c.args.self.now c.self.inside.subjects c.self.inside.places.keys c.in-Some.subject.now c.self.view_is c.self.invariant c.in-Some.ensures.found in
-    fields_unchanged h _ (ap (λ rules. record c.in-Some.subject.now { rules = rules }) c.in_err-insert.ensures.err)
+    fields_unchanged h _ c.in_err-insert_rule.ensures.err
 
-pub returns-in_err-insert-clause-err : goal.returns-in_err-insert-clause-err
-returns-in_err-insert-clause-err c =
+pub returns-in_err-insert_rule-clause-err : goal.returns-in_err-insert_rule-clause-err
+returns-in_err-insert_rule-clause-err c =
     let h = lent c.args.id.now c.args.self.now c.self.inside.subjects c.self.inside.places.keys c.in-Some.subject.now c.self.view_is c.self.invariant c.in-Some.ensures.found in
-    on_err c.from_residual.result (unchanged_to h _ (ap (λ rules. record c.in-Some.subject.now { rules = rules }) c.in_err-insert.ensures.err))
+    on_err c.from_residual.result (unchanged_to h _ c.in_err-insert_rule.ensures.err)
 
 pub invariant_of-self-2 : goal.invariant_of-self-2
 invariant_of-self-2 c =
     let h = lent c.args.id.now c.args.self.now c.self.inside.subjects c.self.inside.places.keys c.in-Some.subject.now c.self.view_is c.self.invariant c.in-Some.ensures.found in
     let both = and_parts (nat_le c.args.at (length c.in-Some.subject.now.rules)) (nat_lt (length c.in-Some.subject.now.rules) 256) (test_now h (λ (s : Subject). nat_le c.args.at (length s.rules) && nat_lt (length s.rules) 256) c.requires) in
     let r = right_now h in
-    fields_to h (with_rule_at c.args.at c.args.rule) _ (ap (λ rules. record c.in-Some.subject.now { rules = rules }) c.in_ok-insert.ensures.ok) (λ t. refl) (λ t. refl)
-    (record { name = r.name; parent = r.parent; login = r.login; enable = r.enable; secrets = r.secrets; level = r.level; few = few_inserted c.in-Some.subject.now.rules c.args.at c.args.rule (leb-true c.args.at (length c.in-Some.subject.now.rules) both.0) (ltb-true (length c.in-Some.subject.now.rules) 256 both.1); rules = all_insert is_right_rule c.in-Some.subject.now.rules c.args.at c.args.rule r.rules c.see_rule.ensures })
+    fields_to h (with_rule_at c.args.at c.args.rule) _ c.in_ok-insert_rule.ensures.ok (λ t. refl) (λ t. refl)
+    (record { name = r.name; parent = r.parent; login = r.login; enable = r.enable; secrets = r.secrets; level = r.level; few = few_inserted c.in-Some.subject.now.rules c.args.at c.args.rule (leb-true c.args.at (length c.in-Some.subject.now.rules) both.0) (ltb-true (length c.in-Some.subject.now.rules) 256 both.1); rules = all_insert is_right_rule c.in-Some.subject.now.rules c.args.at c.args.rule r.rules c.in_ok-insert_rule.ensures.right })
 
 pub returns-clause-ok : goal.returns-clause-ok
 returns-clause-ok c =
     let h = lent c.args.id.now c.args.self.now c.self.inside.subjects c.self.inside.places.keys c.in-Some.subject.now c.self.view_is c.self.invariant c.in-Some.ensures.found in
-    changed_to h (with_rule_at c.args.at c.args.rule) _ (ap (λ rules. record c.in-Some.subject.now { rules = rules }) c.in_ok-insert.ensures.ok)
+    changed_to h (with_rule_at c.args.at c.args.rule) _ c.in_ok-insert_rule.ensures.ok

@@ -35,10 +35,10 @@ module _ {id : SubjectId} {now p : List Subject} {keys : List SubjectId} {i : â„
 pub invariant_of-self-2 : goal.invariant_of-self-2
 invariant_of-self-2 c =
     let h = lent c.args.id.now c.args.self.now c.self.inside.subjects c.self.inside.places.keys c.in-Some.subject.now c.self.view_is c.self.invariant c.in-Some.ensures.found in
-    fields_to h (with_secret c.args.credential c.args.secret) _ c.put_secret.ensures (same_name c.args.credential c.args.secret) (same_parent c.args.credential c.args.secret)
-    (still_right h c.args.secret c.see_secret.ensures c.requires.user c.args.credential)
+    fields_to h (with_secret c.args.credential c.args.secret) _ c.set_secret.ensures.changed (same_name c.args.credential c.args.secret) (same_parent c.args.credential c.args.secret)
+    (still_right h c.args.secret c.set_secret.ensures.right c.requires.user c.args.credential)
 
 pub returns : goal.returns
 returns c =
     let h = lent c.args.id.now c.args.self.now c.self.inside.subjects c.self.inside.places.keys c.in-Some.subject.now c.self.view_is c.self.invariant c.in-Some.ensures.found in
-    changed_to h (with_secret c.args.credential c.args.secret) _ c.put_secret.ensures
+    changed_to h (with_secret c.args.credential c.args.secret) _ c.set_secret.ensures.changed
