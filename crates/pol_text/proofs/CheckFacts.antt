@@ -2,22 +2,19 @@
 use Rattle.std.proofs.Common.{◌≡◌, ℕ, suc, ◌+◌, ◌-◌, Bool, true, false, not, cond, List, [], ◌∷◌, length, map, find, get_or, Option, None, Some, IfSome, Result, Ok, Err, refl, sym, ap, ◌∙◌, arith, ◌<◌, ◌≤◌}
 use Rattle.std.specs.Option.{option_map_or}
 use Rattle.std.proofs.lemmas.List.{length-map}
-use Rattle.pol_names.specs.declared.subject_id.SubjectId.{SubjectId}
 use Rattle.pol_text.specs.declared.subject.Subject.{Subject}
 use Rattle.pol_text.specs.declared.fault.PolicyRefusal.{PolicyRefusal}
 use Rattle.pol_text.specs.declared.fault.PolicyRefusal.TheVariants.{NoSuchParent, Cycle, TooDeep}
 use Rattle.pol_text.specs.declared.fault.PolicyFault.{PolicyFault}
 use Rattle.pol_text.specs.declared.fault.PolicyFault.TheVariants.{Refused}
-use Rattle.pol_text.specs.Policy.{id_of, has_parent, ends_within}
+use Rattle.pol_text.specs.Policy.{has_parent, ends_within}
 use Rattle.pol_text.specs.Draft.{first_failing}
 use Rattle.pol_text.specs.Text.{Draft, subjects_of, checked, with_right_chains}
+use Rattle.std.specs.List.{zip}
+use Rattle.pol_text.proofs.Pairs.{firsts, seconds}
 
 abbrev pub lines_in : Draft → List ℕ
 lines_in draft = map (λ entry. entry.0) draft
-
-pub ids_in : (draft : Draft) → map (λ (entry : ℕ × Subject). id_of entry.1) draft ≡ map id_of (subjects_of draft)
-ids_in [] = refl
-ids_in (entry ∷ rest) = ap (λ (ids : List SubjectId). id_of entry.1 ∷ ids) (ids_in rest)
 
 failing_below : (place k : ℕ) (test : Subject → Bool) (subjects : List Subject) → first_failing place test subjects ≡ Some k → k < place + length subjects
 failing_below place k test [] h = absurd cc
@@ -92,6 +89,9 @@ check_passes test refusal draft (Some k) u is told = absurd cc
 pub record Of (draft : Draft) (lines : List ℕ) (subjects : List Subject) : Type 0 where
   pub lines_are : lines ≡ lines_in draft
   pub subjects_are : subjects ≡ subjects_of draft
+
+pub paired : (lines : List ℕ) (subjects : List Subject) → length lines ≡ length subjects → Of (zip lines subjects) lines subjects
+paired lines subjects long = record { lines_are = sym (firsts lines subjects long); subjects_are = sym (seconds lines subjects long) }
 
 long_is : (draft : Draft) (lines : List ℕ) (subjects : List Subject) → Of draft lines subjects → length subjects ≡ length draft
 long_is draft lines subjects of = ap length of.subjects_are ∙ length-map draft (λ (entry : ℕ × Subject). entry.1)

@@ -16,21 +16,18 @@ use Rattle.pol_text.specs.Policy.{id_of, find_subject}
 use Rattle.pol_text.specs.Draft.{LineFails, at_place}
 use Rattle.pol_text.specs.Text.{Draft, subjects_of, new_subject, with_subject, with_present, behind_first, split_last, ◌>>=◌, with_line, with_lines, FailsUnlessMemory}
 
-abbrev pub ids_of : Draft → List SubjectId
-ids_of draft = map (λ entry. id_of entry.1) draft
-
-any_found : (id : SubjectId) (draft : Draft) → list_any (same_id id) (ids_of draft) ≡ is_some (find_subject id (subjects_of draft))
+any_found : (id : SubjectId) (subjects : List Subject) → list_any (same_id id) (map id_of subjects) ≡ is_some (find_subject id subjects)
 any_found id [] = refl
-any_found id (entry ∷ rest) = rw (any_found id rest) (by (same_id id (id_of entry.1)))
+any_found id (subject ∷ rest) = rw (any_found id rest) (by (same_id id (id_of subject)))
   where
-    by : (b : Bool) → (b || is_some (find_subject id (subjects_of rest))) ≡ is_some (cond b (Some entry.1) (find_subject id (subjects_of rest)))
+    by : (b : Bool) → (b || is_some (find_subject id rest)) ≡ is_some (cond b (Some subject) (find_subject id rest))
     by true = refl
     by false = refl
 
 -- whether there is such a subject is what the set says of its id
-there_is : (id : SubjectId) (draft : Draft) (keys : List SubjectId) (added : Bool) → keys ≡ ids_of draft → added ≡ not (list_any (same_id id) keys)
+there_is : (id : SubjectId) (draft : Draft) (keys : List SubjectId) (added : Bool) → keys ≡ map id_of (subjects_of draft) → added ≡ not (list_any (same_id id) keys)
     → added ≡ not (is_some (find_subject id (subjects_of draft)))
-there_is id draft keys added e is = is ∙ ap (λ (ids : List SubjectId). not (list_any (same_id id) ids)) e ∙ ap not (any_found id draft)
+there_is id draft keys added e is = is ∙ ap (λ (ids : List SubjectId). not (list_any (same_id id) ids)) e ∙ ap not (any_found id (subjects_of draft))
 
 not_false : (b : Bool) → false ≡ not b → b ≡ true
 not_false true h = refl
@@ -41,7 +38,7 @@ not_true true h = h
 not_true false h = refl
 
 pub subject_repeated : (line : ℕ) (kind : Kind) (name : List ℕ) (parent : Option (List ℕ)) (draft : Draft) (keys : List SubjectId) (added : Bool)
-    → keys ≡ ids_of draft → added ≡ not (list_any (same_id (record { kind = kind; name = name })) keys) → added ≡ false
+    → keys ≡ map id_of (subjects_of draft) → added ≡ not (list_any (same_id (record { kind = kind; name = name })) keys) → added ≡ false
     → with_subject line kind name parent draft ≡ Err Repeated
 unfolding with_subject
 subject_repeated line kind name parent draft keys added e is old =
@@ -49,12 +46,12 @@ subject_repeated line kind name parent draft keys added e is old =
     rw there refl
 
 absent : (kind : Kind) (name : List ℕ) (draft : Draft) (keys : List SubjectId) (added : Bool)
-    → keys ≡ ids_of draft → added ≡ not (list_any (same_id (record { kind = kind; name = name })) keys) → added ≡ true
+    → keys ≡ map id_of (subjects_of draft) → added ≡ not (list_any (same_id (record { kind = kind; name = name })) keys) → added ≡ true
     → is_some (find_subject (record { kind = kind; name = name }) (subjects_of draft)) ≡ false
 absent kind name draft keys added e is new = not_true _ (sym new ∙ there_is (record { kind = kind; name = name }) draft keys added e is)
 
 pub subject_over : (line : ℕ) (kind : Kind) (name : List ℕ) (parent : Option (List ℕ)) (draft : Draft) (keys : List SubjectId) (added : Bool)
-    → keys ≡ ids_of draft → added ≡ not (list_any (same_id (record { kind = kind; name = name })) keys) → added ≡ true → 1024 ≤ length draft
+    → keys ≡ map id_of (subjects_of draft) → added ≡ not (list_any (same_id (record { kind = kind; name = name })) keys) → added ≡ true → 1024 ≤ length draft
     → with_subject line kind name parent draft ≡ Err Limit
 unfolding with_subject
 subject_over line kind name parent draft keys added e is new full =
@@ -62,7 +59,7 @@ subject_over line kind name parent draft keys added e is new full =
     rw (absent kind name draft keys added e is new, test) refl
 
 pub subject_added : (line : ℕ) (kind : Kind) (name : List ℕ) (parent : Option (List ℕ)) (draft : Draft) (keys : List SubjectId) (added : Bool)
-    → keys ≡ ids_of draft → added ≡ not (list_any (same_id (record { kind = kind; name = name })) keys) → added ≡ true → length draft < 1024
+    → keys ≡ map id_of (subjects_of draft) → added ≡ not (list_any (same_id (record { kind = kind; name = name })) keys) → added ≡ true → length draft < 1024
     → with_subject line kind name parent draft ≡ Ok (draft ++ (line, new_subject kind name parent) ∷ [])
 unfolding with_subject
 subject_added line kind name parent draft keys added e is new room =
@@ -94,11 +91,10 @@ pub present_changed : (change : Subject → Result Subject PolicyRefusal) (draft
 present_changed change draft front line subject next e h = ap (with_present change) e ∙ present_is change front line subject ∙ rw h refl
 
 -- the ids stay where the last subject keeps its own
-pub ids_kept : (keys : List SubjectId) (draft front : Draft) (line : ℕ) (subject next : Subject) → keys ≡ ids_of draft → draft ≡ front ++ (line, subject) ∷ [] → id_of next ≡ id_of subject
-    → keys ≡ ids_of (front ++ (line, next) ∷ [])
-ids_kept keys draft front line subject next is e same =
-    is ∙ ap ids_of e ∙ map-append (λ (entry : ℕ × Subject). id_of entry.1) front ((line, subject) ∷ [])
-    ∙ ap (λ (id : SubjectId). ids_of front ++ id ∷ []) (sym same) ∙ sym (map-append (λ (entry : ℕ × Subject). id_of entry.1) front ((line, next) ∷ []))
+pub ids_kept : (keys : List SubjectId) (subjects front : List Subject) (old next : Subject) → keys ≡ map id_of subjects → subjects ≡ front ++ old ∷ [] → id_of next ≡ id_of old
+    → keys ≡ map id_of (front ++ next ∷ [])
+ids_kept keys subjects front old next is e same =
+    is ∙ ap (map id_of) e ∙ map-append id_of front (old ∷ []) ∙ ap (λ (id : SubjectId). map id_of front ++ id ∷ []) (sym same) ∙ sym (map-append id_of front (next ∷ []))
 
 -- ---- lines one after another
 

@@ -10,6 +10,7 @@ pub mod KeepsRemove
 pub mod KeepsParent
 pub mod CheckFacts
 pub mod DepthFacts
+pub mod Pairs
 pub mod DraftFacts
 pub mod LevelFacts
 pub mod PatternFacts

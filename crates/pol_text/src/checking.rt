@@ -1,22 +1,22 @@
 //! Whether the chains of a draft are right, and the policy that it then is.
 
 ghost use Rattle.std.specs.Prelude.{◌≡◌, ◌<◌, Ok, Err, length, map, slice_index, IfSome, MatchResult};
+ghost use Rattle.std.specs.List.{zip};
 ghost use Rattle.std.specs.Option.{option_map_or};
 ghost use Rattle.pol_text.specs.Draft.{RightDraft, first_failing};
 ghost use Rattle.pol_text.specs.Policy.{id_of};
 ghost use Rattle.pol_text.specs.Policy.{has_parent as parent_test, ends_within as chain_ends_within};
-ghost use Rattle.pol_text.specs.Text.{Draft as DraftValue, IsUnlessMemory, subjects_of, with_right_chains};
+ghost use Rattle.pol_text.specs.Text.{IsUnlessMemory, with_right_chains};
 ghost use Rattle.pol_text.specs.declared.fault.PolicyFault.TheVariants.{Refused};
 
 use crate::chains::{ends_within, find_in};
-use crate::draft::{Draft, Parts};
+use crate::draft::Draft;
 use crate::fault::{PolicyFault, PolicyRefusal};
 use crate::policy::Policy;
 use crate::subject::Subject;
 use basics::Sequence;
 use indexmap::IndexSet;
 use pol_names::SubjectId;
-use std::alloc::Global;
 
 // The place of the first subject whose parent isn't among the subjects.
 fn first_orphan(subjects: &Sequence<Subject>, places: &IndexSet<SubjectId>) -> Option<usize>
@@ -79,19 +79,17 @@ fn refuse(
 }
 
 // Each over all subjects in order: its parent is among them, its chain ends, and ends within 8.
-fn check_chains(parts: &Parts) -> Result<(), PolicyFault>
-    requires places { parts.now.places.keys ≡ map id_of parts.now.subjects }
-    requires sizes { length parts.now.lines.items ≡ length parts.now.subjects }
-    ensures { (draft : DraftValue) → parts.now.lines.items ≡ map (λ entry. entry.0) draft
-        → parts.now.subjects ≡ subjects_of draft
-        → MatchResult result (λ _. with_right_chains draft ≡ Ok parts.now.subjects)
-        (λ fault. with_right_chains draft ≡ Err fault) }
+fn check_chains(
+    lines: &[usize],
+    subjects: &Sequence<Subject>,
+    places: &IndexSet<SubjectId>,
+) -> Result<(), PolicyFault>
+    requires sizes { length lines.now ≡ length subjects.now }
+    requires places { places.now.keys ≡ map id_of subjects.now }
+    ensures { MatchResult result
+        (λ _. with_right_chains (zip lines.now subjects.now) ≡ Ok subjects.now)
+        (λ fault. with_right_chains (zip lines.now subjects.now) ≡ Err fault) }
 {
-    let Parts {
-        lines,
-        subjects,
-        places,
-    } = parts;
     let orphan = first_orphan(subjects, places);
     refuse(lines, orphan, PolicyRefusal::NoSuchParent)?;
     let endless = first_longer(subjects, places, subjects.len());
@@ -102,16 +100,15 @@ fn check_chains(parts: &Parts) -> Result<(), PolicyFault>
 }
 
 /// The policy that the draft is.
-pub(crate) fn finish(alloc: Global, draft: Draft) -> Result<Policy, PolicyFault>
+pub(crate) fn finish(draft: Draft) -> Result<Policy, PolicyFault>
     requires { RightDraft draft }
     ensures { IsUnlessMemory (λ policy. policy) result (with_right_chains draft) }
 {
-    let parts = draft.into_parts(alloc)?;
-    check_chains(&parts)?;
-    let Parts {
+    let Draft {
+        lines,
         subjects,
         places,
-        ..
-    } = parts;
+    } = draft;
+    check_chains(&lines, &subjects, &places)?;
     Ok(Policy { subjects, places })
 }

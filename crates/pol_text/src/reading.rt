@@ -161,7 +161,7 @@ fn read_policy(alloc: Global, text: &[u8]) -> Result<Policy, PolicyFault>
     ensures well_formed { IfOk result WellFormed }
 {
     let draft = read_lines(alloc, text)?;
-    finish(alloc, draft)
+    finish(draft)
 }
 
 impl Policy {
