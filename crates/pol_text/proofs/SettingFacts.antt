@@ -9,6 +9,7 @@ use Rattle.basics.specs.Number.{number_of}
 use Rattle.pol_pattern.specs.Reading.{pattern_of, reading}
 use Rattle.pol_pattern.specs.Flat.{Terms}
 use Rattle.pol_pattern.specs.declared.fault.PatternFault.{PatternFault}
+use Rattle.pol_names.specs.declared.secret.Credential.TheVariants.{Login, Enable}
 use Rattle.pol_names.specs.declared.subject_id.Kind.{Kind}
 use Rattle.pol_names.specs.declared.subject_id.Kind.TheVariants.{Group, User}
 use Rattle.pol_names.specs.declared.decision.Verdict.{Verdict}
@@ -219,7 +220,7 @@ rule_kept verdict text subject next h = by (pattern_of text) refl
     by (Err fault) e = let none = sym (rule_refused verdict text fault subject e) ∙ h in absurd cc
 
 pub change_kept : (setting : Setting) (subject next : Subject) → changed_by setting subject ≡ Ok next → Kept subject next
-change_kept (settings.Login text) subject next h = login_kept text.now subject next h
-change_kept (settings.Enable text) subject next h = enable_kept text.now subject next h
+change_kept (settings.Secret Login text) subject next h = login_kept text.now subject next h
+change_kept (settings.Secret Enable text) subject next h = enable_kept text.now subject next h
 change_kept (settings.Priv text) subject next h = priv_kept text.now subject next h
 change_kept (settings.Rule verdict text) subject next h = rule_kept verdict text.now subject next h

@@ -1,13 +1,30 @@
 -- What a line of the present subject makes of it.
-use Rattle.std.specs.Prelude.{Result}
+use Rattle.std.specs.Prelude.{ℕ, List, Option, Some, Result, Err, if◌then◌else◌}
+use Rattle.pol_names.specs.Secret.{secret_of}
+use Rattle.pol_names.specs.SubjectId.{same_kind}
+use Rattle.pol_names.specs.declared.secret.Credential.{Credential}
+use Rattle.pol_names.specs.declared.secret.Credential.TheVariants as credentials
+use Rattle.pol_names.specs.declared.subject_id.Kind.TheVariants.{Group}
 use Rattle.pol_text.specs.declared.fault.PolicyRefusal.{PolicyRefusal}
+use Rattle.pol_text.specs.declared.fault.PolicyRefusal.TheVariants.{BadLine}
 use Rattle.pol_text.specs.declared.subject.Subject.{Subject}
 use Rattle.pol_text.specs.declared.setting.Setting.{Setting}
-use Rattle.pol_text.specs.declared.setting.Setting.TheVariants.{Login, Enable, Priv, Rule}
-use Rattle.pol_text.specs.Text.{with_login, with_enable, with_priv, with_rule}
+use Rattle.pol_text.specs.declared.setting.Setting.TheVariants.{Secret, Priv, Rule}
+use Rattle.pol_text.specs.Change.{with_secret}
+use Rattle.pol_text.specs.Text.{set_once, with_priv, with_rule}
+
+-- the secret that a subject logs in with, or enables with
+abbrev pub secret_for : Credential → Subject → Option (List ℕ)
+secret_for credentials.Login subject = subject.login
+secret_for credentials.Enable subject = subject.enable
+
+-- what a line `login` or `enable` makes of a subject
+abbrev pub secret_given : Credential → List ℕ → Subject → Result Subject PolicyRefusal
+secret_given credential text subject =
+    if same_kind subject.kind Group then Err BadLine
+    else set_once (secret_for credential subject) (secret_of text) (λ secret. with_secret credential (Some secret) subject)
 
 abbrev pub changed_by : Setting → Subject → Result Subject PolicyRefusal
-changed_by (Login text) = with_login text.now
-changed_by (Enable text) = with_enable text.now
+changed_by (Secret credential text) = secret_given credential text.now
 changed_by (Priv text) = with_priv text.now
 changed_by (Rule verdict text) = with_rule verdict text.now

@@ -18,7 +18,7 @@ use crate::fault::{LineFault, PolicyFault, PolicyRefusal};
 use crate::policy::Policy;
 use crate::setting::Setting;
 use basics::{Lines, is_text, split_once, without_leading_spaces};
-use pol_names::{Kind, Name, Verdict};
+use pol_names::{Credential, Kind, Name, Verdict};
 use std::alloc::Global;
 
 fn named(text: &[u8]) -> Result<Name, PolicyRefusal>
@@ -86,10 +86,10 @@ fn add_words(
         return draft.with_subject(alloc, number, Kind::User, name, parent);
     }
     if word == b"login".as_slice() {
-        return draft.with_present(alloc, Setting::Login(rest));
+        return draft.with_present(alloc, Setting::Secret(Credential::Login, rest));
     }
     if word == b"enable".as_slice() {
-        return draft.with_present(alloc, Setting::Enable(rest));
+        return draft.with_present(alloc, Setting::Secret(Credential::Enable, rest));
     }
     if word == b"priv".as_slice() {
         if !is_field(rest) {

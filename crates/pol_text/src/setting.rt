@@ -6,22 +6,21 @@ ghost use Rattle.pol_names.specs.declared.subject_id.Kind.TheVariants.{Group};
 ghost use Rattle.pol_text.specs.Draft.{LineGives};
 ghost use Rattle.pol_names.specs.SubjectId.{same_kind};
 ghost use Rattle.pol_names.specs.Secret.{secret_of};
-ghost use Rattle.pol_text.specs.Setting.{changed_by};
-ghost use Rattle.pol_text.specs.Text.{level_of, pattern_read, with_login as login_set, with_enable as enable_set, with_priv as priv_set, with_rule as rule_added};
+ghost use Rattle.pol_text.specs.Setting.{changed_by, secret_given};
+ghost use Rattle.pol_text.specs.Text.{level_of, pattern_read, with_priv as priv_set, with_rule as rule_added};
 
 use crate::fault::{LineFault, PolicyRefusal};
 use crate::policy::Policy;
 use crate::subject::{Rule, Subject};
 use basics::read_number;
-use pol_names::{Kind, Secret, Verdict};
+use pol_names::{Credential, Kind, Secret, Verdict};
 use pol_pattern::{Pattern, PatternFault};
 use std::alloc::Global;
 
 /// A line of a subject, behind its first word.
 #[derive(Clone, Copy)]
 pub(crate) enum Setting<'a> {
-    Login(&'a [u8]),
-    Enable(&'a [u8]),
+    Secret(Credential, &'a [u8]),
     Priv(&'a [u8]),
     Rule(Verdict, &'a [u8]),
 }
@@ -32,8 +31,7 @@ impl<'a> Setting<'a> {
         ensures { LineGives result (changed_by self.entry subject) }
     {
         match self {
-            Setting::Login(text) => with_login(alloc, subject, text),
-            Setting::Enable(text) => with_enable(alloc, subject, text),
+            Setting::Secret(credential, text) => with_secret(alloc, subject, credential, text),
             Setting::Priv(text) => with_priv(subject, text),
             Setting::Rule(verdict, text) => with_rule(alloc, subject, verdict, text),
         }
@@ -59,27 +57,20 @@ fn refuse_group(kind: Kind) -> Result<(), PolicyRefusal>
     }
 }
 
-fn with_login(alloc: Global, mut subject: Subject, text: &[u8]) -> Result<Subject, LineFault>
-    ensures { LineGives result (login_set text.now subject) }
+fn with_secret(
+    alloc: Global,
+    mut subject: Subject,
+    credential: Credential,
+    text: &[u8],
+) -> Result<Subject, LineFault>
+    ensures { LineGives result (secret_given credential text.now subject) }
 {
     refuse_group(subject.kind)?;
-    if subject.login.is_some() {
+    if subject.has_secret(credential) {
         return Err(LineFault::Refused(PolicyRefusal::Repeated));
     }
     let secret = secret(alloc, text)?;
-    subject.login = Some(secret);
-    Ok(subject)
-}
-
-fn with_enable(alloc: Global, mut subject: Subject, text: &[u8]) -> Result<Subject, LineFault>
-    ensures { LineGives result (enable_set text.now subject) }
-{
-    refuse_group(subject.kind)?;
-    if subject.enable.is_some() {
-        return Err(LineFault::Refused(PolicyRefusal::Repeated));
-    }
-    let secret = secret(alloc, text)?;
-    subject.enable = Some(secret);
+    subject.set_secret(credential, Some(secret));
     Ok(subject)
 }
 

@@ -1,11 +1,12 @@
 //! Groups and users, and what decides.
 
-ghost use Rattle.std.specs.Prelude.{◌≡◌, ◌≤◌, length, IsTrue, IfOk, OnOk, OnErr};
+ghost use Rattle.std.specs.Prelude.{◌≡◌, ◌≤◌, length, is_some, IsTrue, IfOk, OnOk, OnErr};
 ghost use Rattle.pol_names.specs.Secret.{is_secret};
 ghost use Rattle.pol_names.specs.SubjectId.{kind_word};
 ghost use Rattle.pol_names.specs.SubjectId.{group_id, user_id};
 ghost use Rattle.pol_text.specs.Policy.{id_of, all_of, is_right_rule, is_right_subject, first_match as first_of};
 ghost use Rattle.pol_text.specs.Change.{with_secret, with_rule_at};
+ghost use Rattle.pol_text.specs.Setting.{secret_for};
 ghost use Rattle.pol_text.specs.Text.{new_subject};
 
 use basics::{Sequence, StructuralEq};
@@ -137,6 +138,16 @@ impl Subject {
         SubjectId {
             kind: self.kind,
             name: self.name,
+        }
+    }
+
+    /// Whether the subject has this secret.
+    pub(crate) fn has_secret(&self, credential: Credential) -> bool
+        ensures { result ≡ is_some (secret_for credential self.now) }
+    {
+        match credential {
+            Credential::Login => self.login.is_some(),
+            Credential::Enable => self.enable.is_some(),
         }
     }
 
