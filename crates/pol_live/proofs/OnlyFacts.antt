@@ -1,14 +1,29 @@
 -- A policy is built, and an edit prepared, in one way.
-use Rattle.std.proofs.Common.{◌≡◌, Bool, true, false, List, [], ◌∷◌, Result, Ok, Err, sym, ap, ◌∙◌, inl, inr}
+use Rattle.std.proofs.Common.{◌≡◌, Bool, true, false, List, [], ◌∷◌, Result, Ok, Err, IfErr, refl, sym, ap, ◌∙◌, inl, inr}
 use Rattle.basics.specs.Memory.{Except}
 use Rattle.pol_names.specs.declared.subject_id.SubjectId.{SubjectId}
 use Rattle.pol_text.specs.declared.subject.Subject.{Subject}
 use Rattle.pol_edit.specs.Applying.{applied}
 use Rattle.pol_edit.specs.declared.edit.Edit.{Edit}
 use Rattle.pol_edit.specs.declared.fault.EditFault.{EditFault}
-use Rattle.pol_edit.specs.declared.fault.EditFault.TheVariants.{TooManyStates}
+use Rattle.pol_edit.specs.declared.fault.EditFault.TheVariants.{BadEdit, NoSuch, Exists, InUse, Cycle, TooDeep, BadIndex, BadPattern, BadValue, Limit, TooManyStates, Memory}
 use Rattle.pol_live.specs.Sizes.{AreSmall, IsFirstLarge, IsRefusedFor}
-use Rattle.pol_live.specs.Live.{Builds, Step, PreparesTo, Prepares, UnlessMemory}
+use Rattle.pol_live.specs.Live.{Builds, Step, PreparesTo, Prepares, UnlessMemory, is_memory}
+
+-- what can't be refused but for want of memory is that
+memory_alone : {X : Type 0} (fault : EditFault) → ¬ X → Except (is_memory fault) X → fault ≡ Memory
+memory_alone Memory never h = refl
+memory_alone BadEdit never h = absurd (never h)
+memory_alone NoSuch never h = absurd (never h)
+memory_alone Exists never h = absurd (never h)
+memory_alone InUse never h = absurd (never h)
+memory_alone Cycle never h = absurd (never h)
+memory_alone TooDeep never h = absurd (never h)
+memory_alone BadIndex never h = absurd (never h)
+memory_alone (BadPattern pattern) never h = absurd (never h)
+memory_alone BadValue never h = absurd (never h)
+memory_alone Limit never h = absurd (never h)
+memory_alone (TooManyStates subject) never h = absurd (never h)
 
 module _ (policy : List Subject) where
   first_unique : (subjects : List Subject) (a b : SubjectId) → IsFirstLarge policy subjects a → IsFirstLarge policy subjects b → a ≡ b
@@ -25,6 +40,11 @@ module _ (policy : List Subject) where
 
   refused_unique : (a b : EditFault) → IsRefusedFor policy a → IsRefusedFor policy b → a ≡ b
   refused_unique a b h k = h.1 ∙ ap TooManyStates (first_unique policy h.0 k.0 h.2 k.2) ∙ sym k.1
+
+  -- a small one is refused for want of memory alone
+  pub small_memory : (r : Result (List Subject) EditFault) → AreSmall policy policy → UnlessMemory is_memory r (Builds policy r) → IfErr r (λ fault. fault ≡ Memory)
+  small_memory (Ok built) small h = tt
+  small_memory (Err fault) small h = memory_alone fault (λ refused. none_large policy refused.0 small refused.2) h
 
   pub only_built : (a b : Result (List Subject) EditFault) → Builds policy a → Builds policy b → a ≡ b
   only_built (Ok a) (Ok b) h k = ap Ok (h.0 ∙ sym k.0)

@@ -1,9 +1,10 @@
 //! A policy with its automata.
 
-ghost use Rattle.std.specs.Prelude.{◌≡◌, ◌≤◌, length, IfOk, IfNone, IfSome, None, Some};
+ghost use Rattle.std.specs.Prelude.{◌≡◌, ◌≤◌, length, IfOk, IfErr, IfNone, IfSome, None, Some};
 ghost use Rattle.std.specs.Option.{option_copied};
 ghost use Rattle.pol_automaton.specs.Automaton.{IsDecider};
 ghost use Rattle.pol_text.specs.Policy.{WellFormed, find_subject, decide};
+ghost use Rattle.pol_edit.specs.declared.fault.EditFault.TheVariants.{Memory};
 ghost use Rattle.pol_live.specs.Along.{patterns_along as patterns, MatchLaw};
 ghost use Rattle.pol_live.specs.Sizes.{IsSmall};
 ghost use Rattle.pol_live.specs.Live.{Builds, IsOnlyBuilt, IsDeciderFor, UnlessMemory, is_memory};
@@ -53,8 +54,19 @@ impl Live {
     pub fn build(alloc: Global, policy: Policy, meter: &mut Meter) -> Result<Live, EditFault>
         ensures found { UnlessMemory is_memory result (Builds policy result) }
         ensures only { UnlessMemory is_memory result (IsOnlyBuilt policy result) }
+
+        // A policy that may stand is refused for want of memory alone.
+        ensures small { IsSmall policy → IfErr result (λ fault. fault ≡ Memory) }
     {
         Live::build_anew(alloc, policy, meter)
+    }
+
+    /// The policy, without its automata. Takes no memory.
+    pub fn into_policy(self) -> Policy
+        ensures policy { result ≡ self }
+        ensures small { IsSmall self }
+    {
+        self.policy
     }
 
     /// The present policy.
