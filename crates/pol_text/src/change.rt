@@ -1,15 +1,17 @@
 //! Changes of a policy, each of which keeps it well formed.
 
-ghost use Rattle.std.specs.Prelude.{◌≡◌, ◌<◌, ◌≤◌, ◌∷◌, ◌++◌, ◌&&◌, [], length, map, position, slice_get, nat_lt, nat_le, false, is_some, IsTrue, Ok, Err, None, OnOk, OnErr};
+ghost use Rattle.std.specs.Prelude.{◌≡◌, List, ◌<◌, ◌≤◌, ◌∷◌, ◌++◌, ◌&&◌, [], length, map, position, slice_get, nat_lt, nat_le, false, is_some, IsTrue, Ok, Err, None, OnOk, OnErr};
 ghost use Rattle.std.specs.List.{list_all};
 ghost use Rattle.std.specs.Option.{option_map_or};
 ghost use Rattle.std.specs.Result.{result_err};
 ghost use Rattle.pol_names.specs.SubjectId.{same_id, group_id};
 ghost use Rattle.pol_text.specs.Policy.{id_of, find_subject, ends_within as ends_test, all_of};
+ghost use Rattle.pol_text.specs.Policy.{TellsEndless};
 ghost use Rattle.pol_text.specs.Change.{with_changed, without, is_parent, has_room_below, chain_fault, with_parent, with_secret, with_priv, with_rule_at, without_rule_at, with_rule_moved};
 ghost use Rattle.pol_text.specs.Places.{changed_at};
 ghost use Rattle.pol_text.specs.Text.{new_subject};
 ghost use Rattle.pol_names.specs.declared.subject_id.Kind.TheVariants.{Group, User};
+ghost use Rattle.pol_text.specs.declared.subject.Subject.{Subject as SubjectValue};
 
 use crate::chains::{ends_within, find_mut};
 use crate::fault::ChainFault;
@@ -111,6 +113,9 @@ impl Policy {
             ≡ chain_fault (with_changed id.now (with_parent parent) self.old) }
         ensures ok { OnOk result (self.new ≡ with_changed id.now (with_parent parent) self.old) }
         ensures err { OnErr result (self.new ≡ self.old) }
+
+        // What is refused as a cycle is exactly a chain that doesn't end.
+        ensures endless { (policy : List SubjectValue) → TellsEndless policy }
     {
         let Some(place) = place_of(&self.places, id) else {
             return Ok(());

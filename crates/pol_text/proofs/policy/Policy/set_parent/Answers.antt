@@ -3,6 +3,7 @@ use Rattle.pol_text.specs.declared.subject.Subject.{Subject}
 use Rattle.pol_text.specs.Change.{with_parent, chain_fault}
 use Rattle.pol_text.proofs.Placed.{AreFields, within, not_nowhere}
 use Rattle.pol_text.proofs.KeepsParent.{the_placed, within_changed, back_again, parent_changed, keys_changed, fields_changed}
+use Rattle.pol_text.proofs.DepthFacts.{tells_endless}
 use Rattle.pol_text.proofs.policy.Policy.set_parent.Goals as goal
 
 pub returns-in_default-clause-fault : goal.returns-in_default-clause-fault
@@ -59,3 +60,12 @@ returns-clause-ok c =
     let h = the_placed c.args.id.now c.args.self.now c.self.inside.subjects c.self.inside.places.keys c.in-Some.place c.self.view_is c.self.invariant
     (sym c.place_of.ensures ∙ c.in-Some.is) c.requires.there in
     parent_changed h.1 c.args.parent c.put_parent-former.new.subjects c.put_parent-former.ensures.changed
+
+pub returns-in_default-clause-endless : goal.returns-in_default-clause-endless
+returns-in_default-clause-endless c = tells_endless
+
+pub returns-in-Some-chain_fault_of-clause-endless : goal.returns-in-Some-chain_fault_of-clause-endless
+returns-in-Some-chain_fault_of-clause-endless c = tells_endless
+
+pub returns-clause-endless : goal.returns-clause-endless
+returns-clause-endless c = tells_endless
