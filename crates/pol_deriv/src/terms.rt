@@ -68,6 +68,9 @@ impl Terms {
         // What is read is spelled so.
         ensures spelled { (parsed : flat.Terms) × Spells pattern.now parsed }
         ensures law { FirstResidual }
+
+        // What a pattern holds is told by its residuals.
+        ensures holds { ResidualLaw }
         ensures numbers { IfOk result (λ set. AreNumbers self.new set) }
     {
         let numbers = self.table.add_each(pattern.terms())?;

@@ -2,7 +2,7 @@ use Rattle.std.proofs.Common.{[], refl, sym, subst}
 use Rattle.pol_pattern.specs.Flat.{Terms}
 use Rattle.pol_deriv.specs.Derivative.{Residual}
 use Rattle.pol_deriv.specs.Table.{IsSetOf}
-use Rattle.pol_deriv.proofs.Residuals.{first_residual}
+use Rattle.pol_deriv.proofs.Residuals.{first_residual, residual_law}
 use Rattle.pol_deriv.proofs.Sets.{stands_same, stands_moved, stands_within}
 use Rattle.pol_deriv.proofs.RowFacts.{rows_kept}
 use Rattle.pol_deriv.proofs.terms.Terms.start.Goals as goal
@@ -40,6 +40,12 @@ returns-clause-law c = first_residual
 
 pub returns-in_err-numbers-clause-law : goal.returns-in_err-numbers-clause-law
 returns-in_err-numbers-clause-law c = first_residual
+
+pub returns-clause-holds : goal.returns-clause-holds
+returns-clause-holds c = residual_law
+
+pub returns-in_err-numbers-clause-holds : goal.returns-in_err-numbers-clause-holds
+returns-in_err-numbers-clause-holds c = residual_law
 
 pub returns-clause-spelled : goal.returns-clause-spelled
 returns-clause-spelled c = (_, c.terms.ensures.spelled)
