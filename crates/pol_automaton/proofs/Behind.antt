@@ -1,15 +1,13 @@
 -- The residuals of entries by texts, and what the scan keeps of them.
-use Rattle.std.proofs.Common.{◌≡◌, ◌<◌, ◌≤◌, ◌↔◌, ◌⊎◌, inl, inr, ℕ, List, [], ◌∷◌, ◌++◌, length, refl, sym, subst, append_assoc, append-nil, arith}
-use Rattle.std.specs.Prelude.{All}
+use Rattle.std.proofs.Common.{◌≡◌, ◌<◌, ◌≤◌, ◌↔◌, ◌⊎◌, inl, inr, ℕ, List, [], ◌∷◌, ◌++◌, length, sym, subst, append_assoc, append-nil, arith}
 use Rattle.std.specs.List.{slice_index_or}
 use Rattle.std.proofs.lemmas.Bool.{cases_lt}
 use Rattle.std.proofs.lemmas.List.{get_or_default}
 use Rattle.std.proofs.lemmas.List.Elements.{All-contains}
 use Rattle.pol_pattern.specs.Flat.{Term, Terms}
-use Rattle.pol_pattern.specs.Sets.{InTerm, InTerms}
-use Rattle.pol_pattern.specs.Spelling.{Spells, Holds}
-use Rattle.pol_deriv.specs.Derivative.{Derivative, Derivatives, Residual, at_first, by_more}
-use Rattle.pol_deriv.proofs.Residuals.{residual_law}
+use Rattle.pol_pattern.specs.Sets.{InTerm}
+use Rattle.pol_pattern.specs.Spelling.{Holds}
+use Rattle.pol_deriv.specs.Derivative.{Derivatives, Residual, at_first, by_more}
 use Rattle.pol_automaton.specs.declared.entry_term.EntryTerm.{EntryTerm}
 use Rattle.pol_automaton.specs.After.{After, after_more, after_same, after_push}
 use Rattle.pol_automaton.specs.Decision.{entry_at}
@@ -81,11 +79,9 @@ same_after e entries whole are text other = (to, from)
 
 pub holds_after : (e : Entries) (entries : List (List ℕ)) → AreEntries e entries → (entry : ℕ) → entry < length entries → (text : List ℕ)
     → Holds (entry_at entries entry) text ↔ ((term : Term) × After (HasTerm e.terms e.start entry) text term × InTerm term [])
-holds_after e entries are entry lt text = (
-  λ h.
-      let w = (residual_law h.0 text []).0 (subst (λ (l : List ℕ). InTerms h.0 l) (sym (append-nil text)) h.2) in
-      (w.0, (behind_is e entries are entry lt text w.0).1 (h.0, h.1, w.1), w.2),
-  λ w.
-      let r = (behind_is e entries are entry lt text w.0).0 w.1 in
-      (r.0, r.1, subst (λ (l : List ℕ). InTerms r.0 l) (append-nil text) ((residual_law r.0 text []).1 (w.0, r.2, w.2))),
-)
+holds_after e entries are entry lt text =
+    let told = are.told entry [] lt text in
+    let behind = behind_is e entries are entry lt text in (
+      λ h. let w = told.0 h in (w.0, (behind w.0).1 w.1, w.2),
+      λ w. told.1 (w.0, (behind w.0).0 w.1, w.2),
+    )

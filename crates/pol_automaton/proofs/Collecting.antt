@@ -1,5 +1,5 @@
 -- Entries that grow: by terms alone, and by one more entry.
-use Rattle.std.proofs.Common.{◌≡◌, ◌<◌, ◌≤◌, ◌+◌, ◌-◌, ◌↔◌, ◌⊎◌, inl, inr, ℕ, Bool, true, false, ◌&&◌, IsTrue, List, [], ◌∷◌, ◌++◌, map, Contains, length, Less, Equal, Result, Ok, Err, refl, sym, subst, ap, ◌∙◌, arith, rules}
+use Rattle.std.proofs.Common.{◌≡◌, ◌<◌, ◌≤◌, ◌+◌, ◌-◌, ◌↔◌, ◌⊎◌, inl, inr, ℕ, Bool, true, false, ◌&&◌, IsTrue, List, [], ◌∷◌, ◌++◌, map, length, Less, Equal, Result, Ok, Err, refl, sym, subst, ap, ◌∙◌, append-nil, arith, rules}
 use Rattle.std.specs.Prelude.{All, OnErr, IfOk}
 use Rattle.std.specs.List.{AllByRecursion}
 use Rattle.std.specs.List.Sorted.{IsStrictlySortedBy, IsStrictlyIncreasing}
@@ -7,18 +7,19 @@ use Rattle.std.specs.Ordering.{nat_cmp}
 use Rattle.std.proofs.lemmas.Bool.{cases_lt}
 use Rattle.std.proofs.lemmas.Cmp.{nat_cmp_total, tied_itself}
 use Rattle.std.proofs.lemmas.List.{get_or_append_left, get_or-append-add, length-append}
-use Rattle.std.proofs.lemmas.List.Elements.{All-append, All-map, All-weaker, All-contains, All-head, All-tail}
+use Rattle.std.proofs.lemmas.List.Elements.{All-append, All-from_recursion, All-map, All-weaker, All-contains, All-head, All-tail}
 use Rattle.std.proofs.lemmas.Map.Keys.{sorted_from_strictly_increasing}
 use Rattle.basics.specs.Symbol.{is_symbol, is_text}
 use Rattle.pol_pattern.specs.Flat.{Term, Terms}
+use Rattle.pol_pattern.specs.Sets.{InTerms}
 use Rattle.pol_pattern.specs.Spelling.{Spells}
-use Rattle.pol_deriv.specs.Derivative.{Residual}
+use Rattle.pol_deriv.specs.Derivative.{Residual, ResidualLaw}
 use Rattle.pol_deriv.specs.Table.{Grows, IsSetOf}
 use Rattle.pol_scan.specs.Alphabet.{Alphabet, IsAlphabet, column_of, least_of, word_of, text_of}
 use Rattle.pol_automaton.specs.declared.entry_term.EntryTerm.{EntryTerm}
 use Rattle.pol_automaton.specs.Decision.{entry_at}
-use Rattle.pol_automaton.specs.Scanning.{item_of, HasTerm, order, AreResiduals}
-use Rattle.pol_automaton.specs.Entries.{Entries, IsExact, AreWhole, AreEntries, GrowsTo, SameTerms}
+use Rattle.pol_automaton.specs.Scanning.{item_of, HasTerm, order}
+use Rattle.pol_automaton.specs.Entries.{Entries, IsExact, AreWhole, IsToldByResiduals, AreEntries, GrowsTo}
 use Rattle.pol_automaton.specs.Having.{adds_set, added_within}
 use Rattle.pol_automaton.specs.Telling.{grown}
 
@@ -61,6 +62,7 @@ whole_terms e terms whole grows = record { letters = whole.letters; exact = whol
 pub entries_kept : (a b : Entries) → GrowsTo a b → (entries : List (List ℕ)) → AreEntries a entries → AreEntries b entries
 entries_kept a b g entries are = record {
   many = g.count ∙ are.many;
+  told = are.told;
   spelled = are.spelled;
   first = λ entry flat lt spells term.
       let begun = subst (λ (s : List EntryTerm). HasTerm a.terms a.start entry term ↔ HasTerm b.terms s entry term) (sym g.start) (g.begins entry term) in
@@ -105,9 +107,20 @@ sorted_append own (x ∷ items) numbers below p q = (
 
 -- ---- one more entry
 
+pub told_by : ResidualLaw → (source : List ℕ) → IsToldByResiduals source
+told_by law source text = (
+  λ h.
+      let w = (law h.0 text []).0 (subst (λ (l : List ℕ). InTerms h.0 l) (sym (append-nil text)) h.2) in
+      (w.0, (h.0, h.1, w.1), w.2),
+  λ w.
+      let r = w.1 in
+      (r.0, r.1, subst (λ (l : List ℕ). InTerms r.0 l) (append-nil text) ((law r.0 text []).1 (w.0, r.2, w.2))),
+)
+
 -- the numbers are the residual by the empty text of the pattern that the source spells
 pub record AreFirst (table : List Term) (source numbers : List ℕ) : Type 0 where
   pub spelled : (flat : Terms) × Spells source flat
+  pub told : IsToldByResiduals source
   pub sets : (flat : Terms) → Spells source flat → IsSetOf table numbers (Residual flat [])
 
 abbrev pub with_entry : Entries → List Term → List ℕ → Entries
@@ -131,6 +144,7 @@ pub entries_more : (e : Entries) (terms : List Term) (source numbers : List ℕ)
     → AreEntries (with_entry e terms numbers) (entries ++ source ∷ [])
 entries_more e terms source numbers whole grows new entries are = record {
   many = omega (arith, length-append entries (source ∷ []), are.many);
+  told = All-append IsToldByResiduals entries (source ∷ []) are.told (All-from_recursion IsToldByResiduals (source ∷ []) (new.told, tt));
   spelled = λ entry lt. spelled_at entry (place entry lt);
   first = λ entry flat lt spells term. first_at entry flat term (place entry lt) spells;
 }
@@ -171,6 +185,7 @@ entries_more e terms source numbers whole grows new entries are = record {
 pub no_entries : (alphabet : Alphabet) → AreEntries (record { alphabet = alphabet; terms = []; start = []; count = 0 }) []
 no_entries alphabet = record {
   many = refl;
+  told = λ k d lt. absurd (omega arith);
   spelled = λ entry lt. absurd (omega arith);
   first = λ entry flat lt spells term. absurd (omega arith);
 }

@@ -1,12 +1,54 @@
 -- How many residuals entries have: a count excludes more.
-use Rattle.std.proofs.Common.{◌≡◌, ◌⊎◌, ◌<◌, ◌≤◌, ℕ, IsTrue, List, [], length, refl, sym, ◌∙◌, subst, inl, inr, arith}
-use Rattle.std.specs.Prelude.{All}
-use Rattle.std.specs.List.{slice_index_or}
-use Rattle.std.proofs.lemmas.Bool.{cases_lt}
+use Rattle.std.proofs.Common.{◌≡◌, ◌⊎◌, ◌<◌, ◌≤◌, ℕ, zero, suc, true, false, IsTrue, List, [], ◌∷◌, length, refl, sym, ap, ◌∙◌, subst, inl, inr, eqb, arith}
+use Rattle.std.specs.List.{slice_index_or, list_any, AllByRecursion, IsDistinct}
+use Rattle.std.proofs.lemmas.Bool.{cases_lt, or_cases, eqb-true, ne_eqb}
 use Rattle.std.proofs.lemmas.List.{get_or_past, get_or_default}
-use Rattle.indexmap.proofs.IndexTableLemmas.Probe.{pigeonhole}
+use Rattle.std.proofs.lemmas.Map.Keys.{IsDistinct-cons, IsDistinct-from_apart}
+use Rattle.std.proofs.lemmas.Map.Steps.{length-le_from_distinct_below}
 use Rattle.basics.specs.Symbol.{is_text}
 use Rattle.pol_automaton.specs.Residuals.{SameResiduals, IsResidualCount, HasMoreResiduals, ExcludesLaw}
+
+-- ---- different numbers below a bound
+
+numbers : (ℕ → ℕ) → ℕ → List ℕ
+numbers f zero = []
+numbers f (suc m) = f m ∷ numbers f m
+
+length-numbers : (f : ℕ → ℕ) (m : ℕ) → length (numbers f m) ≡ m
+unfolding numbers
+length-numbers f zero = refl
+length-numbers f (suc m) = ap suc (length-numbers f m)
+
+numbers_below : (f : ℕ → ℕ) (m n q : ℕ) → ((i : ℕ) → i < m → f i < n) → list_any (eqb q) (numbers f m) ≡ true → q < n
+unfolding numbers
+numbers_below f zero n q below h = absurd cc
+numbers_below f (suc m) n q below h =
+    elim (or_cases (eqb q (f m)) (list_any (eqb q) (numbers f m)) h) [
+      | inl e ↦ omega (arith, eqb-true q (f m) e, below m (omega arith))
+      | inr k ↦ numbers_below f m n q (λ i lt. below i (omega arith)) k
+    ]
+
+IsOneToOne : (ℕ → ℕ) → ℕ → Type 0
+IsOneToOne f m = (i j : ℕ) → i < m → j < m → f i ≡ f j → i ≡ j
+
+numbers_apart : (f : ℕ → ℕ) (m k : ℕ) → k < m → IsOneToOne f m → (n : ℕ) → n ≤ k → AllByRecursion (λ y. eqb (f k) y ≡ false) (numbers f n)
+unfolding numbers IsOneToOne
+numbers_apart f m k lt one zero le = tt
+numbers_apart f m k lt one (suc n) le = (
+  ne_eqb (f k) (f n) (λ e. let same : k ≡ n = one k n lt (omega arith) e in absurd (omega arith)),
+  numbers_apart f m k lt one n (omega arith),
+)
+
+numbers_distinct : (f : ℕ → ℕ) (m n : ℕ) → n ≤ m → IsOneToOne f m → IsDistinct eqb (numbers f n)
+unfolding numbers
+numbers_distinct f m zero le one = IsDistinct-from_apart eqb [] (λ i j d lt in_range. absurd (omega arith))
+numbers_distinct f m (suc n) le one = IsDistinct-cons eqb (f n) (numbers f n) (numbers_apart f m n (omega arith) one n (omega arith)) (numbers_distinct f m n (omega arith) one)
+
+at_most : (m n : ℕ) (f : ℕ → ℕ) → ((i : ℕ) → i < m → f i < n) → IsOneToOne f m → m ≤ n
+at_most m n f below one =
+    omega (arith, length-numbers f m, length-le_from_distinct_below (numbers f m) n (numbers_distinct f m m (omega arith) one) (λ q h. numbers_below f m n q below h))
+
+-- ---- texts and their residuals
 
 text_at : List (List ℕ) → ℕ → List ℕ
 text_at texts i = slice_index_or texts i []
@@ -54,7 +96,8 @@ module _ (entries : List (List ℕ)) (count limit : ℕ) (has : IsResidualCount 
       by (inr k) (inr r) = omega arith
 
   no_more : length above.texts ≤ count
-  no_more = pigeonhole (length above.texts) count number_at (λ i p. number_below i) one_place
+  unfolding IsOneToOne
+  no_more = at_most (length above.texts) count number_at (λ i p. number_below i) one_place
 
 pub excludes : ExcludesLaw
 excludes entries count limit has few above = omega (arith, no_more entries count limit has above, above.many)

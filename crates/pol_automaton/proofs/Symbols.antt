@@ -1,43 +1,42 @@
--- What a pattern holds is a text.
-use Rattle.std.proofs.Common.{◌≡◌, ℕ, Bool, true, false, ◌&&◌, IsTrue, List, [], ◌∷◌, ◌++◌, refl, sym, subst, append-nil}
+-- Patterns hold texts alone: a byte that is no symbol is in none of their classes.
+use Rattle.std.proofs.Common.{◌≡◌, ℕ, true, List, [], ◌∷◌, ◌++◌, inl, inr, refl, IsTrue}
+use Rattle.std.specs.List.{AllByRecursion, concat}
+use Rattle.std.proofs.lemmas.Bool.{and_parts}
 use Rattle.basics.specs.Symbol.{is_symbol, is_text}
-use Rattle.pol_pattern.specs.Flat.{Class, holds_symbol, Term, Terms}
-use Rattle.pol_pattern.specs.Sets.{InTerms}
+use Rattle.pol_pattern.specs.Flat.{Class, holds_symbol, Factor, class, group, star, Term, empty, put, Terms, none, alt}
+use Rattle.pol_pattern.specs.Sets.{InClass, InFactor, InTerm, InTerms}
 use Rattle.pol_pattern.specs.Spelling.{Holds}
-use Rattle.pol_deriv.specs.Derivative.{Derivative, of_class, of_group, of_star, behind_star, Residual, at_first, by_more}
-use Rattle.pol_deriv.proofs.Residuals.{residual_law}
 
-first_true : (a b : Bool) → IsTrue (a && b) → IsTrue a
-first_true true b h = refl
-first_true false b h = absurd cc
+text_append : (xs ys : List ℕ) → is_text xs ≡ true → is_text ys ≡ true → is_text (xs ++ ys) ≡ true
+text_append [] ys h k = k
+text_append (x ∷ xs) ys h k =
+    let parts = and_parts (is_symbol x) (is_text xs) h in
+    rw (parts.0, text_append xs ys parts.1 k) refl
 
-class_symbol : (c : Class) (symbol : ℕ) → IsTrue (holds_symbol c symbol) → IsTrue (is_symbol symbol)
+class_text : (c : Class) (text : List ℕ) → InClass c text → is_text text ≡ true
 unfolding holds_symbol
-class_symbol c symbol h = first_true _ _ h
+class_text c text (symbol, is, held) =
+    let here : is_symbol symbol ≡ true = (and_parts (is_symbol symbol) _ held).0 in
+    rw (is, here) refl
 
-derivative_symbol : (symbol : ℕ) (term next : Term) → Derivative symbol term next → IsTrue (is_symbol symbol)
-derivative_symbol symbol term next (of_class {c} h) = class_symbol c symbol h
-derivative_symbol symbol term next (of_group alternative among d) = derivative_symbol symbol _ _ d
-derivative_symbol symbol term next (of_star among d) = derivative_symbol symbol _ _ d
-derivative_symbol symbol term next (behind_star d) = derivative_symbol symbol _ _ d
+joins_text : (P : List ℕ → Type 0) → ((text : List ℕ) → P text → is_text text ≡ true) → (parts : List (List ℕ)) → AllByRecursion P parts → is_text (concat parts) ≡ true
+joins_text P texts [] all = refl
+joins_text P texts (part ∷ parts) all = text_append part (concat parts) (texts part all.0) (joins_text P texts parts all.1)
 
-is_text_push : (text : List ℕ) (symbol : ℕ) → IsTrue (is_text text) → IsTrue (is_symbol symbol) → IsTrue (is_text (text ++ symbol ∷ []))
-is_text_push [] symbol h k = one (is_symbol symbol) k
-  where
-    one : (a : Bool) → IsTrue a → IsTrue (a && true)
-    one true k = k
-    one false k = absurd cc
-is_text_push (first ∷ text) symbol h k = rest (is_symbol first) (is_text text) (is_text (text ++ symbol ∷ [])) h (λ t. is_text_push text symbol t k)
-  where
-    rest : (a b c : Bool) → IsTrue (a && b) → (IsTrue b → IsTrue c) → IsTrue (a && c)
-    rest true b c h f = f h
-    rest false b c h f = absurd cc
+mutual
+  factor_text : (factor : Factor) (text : List ℕ) → InFactor factor text → is_text text ≡ true
+  factor_text (class c) text h = class_text c text h
+  factor_text (group terms) text h = terms_text terms text h
+  factor_text (star terms) text (parts, all, is) = rw is (joins_text (InTerms terms) (terms_text terms) parts all)
 
-residual_text : (flat : Terms) (text : List ℕ) (term : Term) → Residual flat text term → IsTrue (is_text text)
-residual_text flat text term (at_first among) = refl
-residual_text flat text term (by_more {text = before} {symbol} {term = own} r d) = is_text_push before symbol (residual_text flat before own r) (derivative_symbol symbol own term d)
+  term_text : (term : Term) (text : List ℕ) → InTerm term text → is_text text ≡ true
+  term_text empty text h = rw h refl
+  term_text (put factor term) text (front, back, is, one, rest) = rw is (text_append front back (factor_text factor front one) (term_text term back rest))
+
+  terms_text : (terms : Terms) (text : List ℕ) → InTerms terms text → is_text text ≡ true
+  terms_text none text h = absurd h
+  terms_text (alt term terms) text (inl h) = term_text term text h
+  terms_text (alt term terms) text (inr h) = terms_text terms text h
 
 pub holds_text : (source text : List ℕ) → Holds source text → IsTrue (is_text text)
-holds_text source text h =
-    let w = (residual_law h.0 text []).0 (subst (λ (l : List ℕ). InTerms h.0 l) (sym (append-nil text)) h.2) in
-    residual_text h.0 text w.0 w.1
+holds_text source text h = terms_text h.0 text h.2

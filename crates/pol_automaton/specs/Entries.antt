@@ -2,12 +2,14 @@
 use Rattle.std.specs.Prelude.{◌≡◌, ◌↔◌, ◌<◌, ℕ, IsTrue, List, [], length, All, refl}
 use Rattle.std.specs.Coded.{Coded, code_by, coded×, coded_ℕ, coded_list}
 use Rattle.pol_pattern.specs.Flat.{Term, Terms}
-use Rattle.pol_pattern.specs.Spelling.{Spells}
+use Rattle.pol_pattern.specs.Sets.{InTerm}
+use Rattle.pol_pattern.specs.Spelling.{Spells, Holds}
 use Rattle.pol_deriv.specs.Derivative.{Residual}
 use Rattle.pol_deriv.specs.TermCode.{term_code}
 use Rattle.basics.specs.Symbol.{is_text}
 use Rattle.pol_scan.specs.Alphabet.{Alphabet, IsAlphabet, word_of, text_of}
 use Rattle.pol_automaton.specs.declared.entry_term.EntryTerm.{EntryTerm}
+use Rattle.pol_automaton.specs.Residuals.{InResidual}
 use Rattle.pol_automaton.specs.Decision.{entry_at}
 use Rattle.pol_automaton.specs.Scanning.{HasTerm, AreResiduals}
 
@@ -42,9 +44,14 @@ pub record AreWhole (collected : Entries) : Type 0 where
   pub right : AreResiduals collected.terms collected.start
   pub below : All (λ item. item.entry < collected.count) collected.start
 
+-- a text is held exactly if a term of the residual by it holds the empty text
+abbrev pub IsToldByResiduals : List ℕ → Type 0
+IsToldByResiduals source = (text : List ℕ) → Holds source text ↔ ((term : Term) × InResidual source text term × InTerm term [])
+
 -- they are collected of these sources, in order
 pub record AreEntries (collected : Entries) (entries : List (List ℕ)) : Type 0 where
   pub many : collected.count ≡ length entries
+  pub told : All IsToldByResiduals entries
   pub spelled : (entry : ℕ) → entry < length entries → (flat : Terms) × Spells (entry_at entries entry) flat
   pub first : (entry : ℕ) (flat : Terms) → entry < length entries → Spells (entry_at entries entry) flat
       → (term : Term) → HasTerm collected.terms collected.start entry term ↔ Residual flat [] term

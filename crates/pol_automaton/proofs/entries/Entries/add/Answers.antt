@@ -1,5 +1,5 @@
 use Rattle.pol_automaton.specs.Entries.{Entries}
-use Rattle.pol_automaton.proofs.Collecting.{on_err, whole_terms, grows_terms, entries_kept, AreFirst, whole_entry, entries_more}
+use Rattle.pol_automaton.proofs.Collecting.{on_err, whole_terms, grows_terms, entries_kept, told_by, AreFirst, whole_entry, entries_more}
 use Rattle.pol_automaton.proofs.entries.Entries.add.Goals as goal
 use Rattle.pol_automaton.proofs.entries.Entries.add.Goals.{After-push_all}
 
@@ -27,6 +27,7 @@ returns-in_err-push_all-clause-err c =
 first : (c : After-push_all) → AreFirst c.start.new.self c.args.pattern.now c.numbers.result.now
 first c = record {
   spelled = c.in_ok-set.ensures.spelled;
+  told = told_by c.start.ensures.holds c.args.pattern.now;
   sets = λ flat spells. rw c.numbers.ensures.numbers (c.in_ok-set.ensures.residual flat spells);
 }
 
