@@ -1,5 +1,5 @@
 -- Texts of which the decision changed, from pairs of states.
-use Rattle.std.proofs.Common.{◌≡◌, ◌≢◌, ◌<◌, ◌≤◌, ◌+◌, ◌*◌, ◌/◌, ◌↔◌, ℕ, Bool, true, false, IsTrue, List, [], Option, refl, sym, subst, ap, ◌∙◌, arith}
+use Rattle.std.proofs.Common.{◌≡◌, ◌<◌, ◌+◌, ◌*◌, ◌/◌, ◌↔◌, ℕ, IsTrue, List, refl, sym, subst, ap, ◌∙◌, arith}
 use Rattle.std.proofs.Math.Nat.{mul-le-mul_left}
 use Rattle.std.proofs.lemmas.Nat.{div-mul-add}
 use Rattle.basics.specs.Symbol.{is_text}
@@ -8,14 +8,14 @@ use Rattle.pol_names.specs.declared.decision.Verdict.{Verdict}
 use Rattle.pol_names.specs.declared.decision.Verdict.TheVariants.{Permit, Deny}
 use Rattle.pol_scan.specs.Alphabet.{Alphabet, IsAlphabet, IsTextThat, word_of, text_of}
 use Rattle.pol_scan.specs.Words.{IsWord, IsWordThat}
-use Rattle.pol_scan.specs.Table.{count, walk}
+use Rattle.pol_scan.specs.Table.{count}
 use Rattle.pol_scan.specs.Congruence.{HasNumbersBelow}
 use Rattle.pol_automaton.specs.declared.way.Way.{Way}
 use Rattle.pol_automaton.specs.declared.way.Way.TheVariants.{NowPermitted, NowDenied}
-use Rattle.pol_automaton.specs.Decision.{IsFirstMatch, verdict_by, IsDecided, verdict_before, verdict_after, ruling, IsChanged, IsLeastChange}
+use Rattle.pol_automaton.specs.Decision.{verdict_by, IsDecided, verdict_before, verdict_after, ruling, IsChanged, IsLeastChange}
 use Rattle.pol_automaton.specs.Automaton.{Automaton, state_of, first_of, IsWhole, IsDecider}
 use Rattle.pol_automaton.specs.Entries.{IsExact}
-use Rattle.pol_automaton.specs.Pairs.{pairs, is_change, Comparison, comparison_of, changes}
+use Rattle.pol_automaton.specs.Pairs.{pairs, is_change, comparison_of, changes}
 use Rattle.pol_automaton.proofs.Words.{is_word, spells_text}
 use Rattle.pol_automaton.proofs.Reaching.{first_one, least_same}
 

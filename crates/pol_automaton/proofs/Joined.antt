@@ -1,26 +1,24 @@
 -- The entries of one automaton, and those of another behind them.
-use Rattle.std.proofs.Common.{◌≡◌, ◌<◌, ◌≤◌, ◌+◌, ◌-◌, ◌↔◌, ◌⊎◌, inl, inr, ℕ, Bool, IsTrue, List, [], ◌∷◌, ◌++◌, map, Option, None, Some, length, refl, sym, subst, ap, ◌∙◌, arith}
-use Rattle.std.specs.Prelude.{All, Any, IfSome}
-use Rattle.std.specs.List.{AllZip, slice_index_or}
+use Rattle.std.proofs.Common.{◌≡◌, ◌<◌, ◌≤◌, ◌+◌, ◌-◌, ◌↔◌, ◌⊎◌, inl, inr, ℕ, IsTrue, List, [], ◌++◌, Option, None, Some, length, refl, sym, subst, ap, ◌∙◌, arith}
+use Rattle.std.specs.Prelude.{All, IfSome}
+use Rattle.std.specs.List.{AllZip}
 use Rattle.std.proofs.lemmas.Bool.{cases_lt}
-use Rattle.std.proofs.lemmas.List.{get_or_default, get_or-map, length-map, get_or_append_left, get_or-append-add, length-append}
+use Rattle.std.proofs.lemmas.List.{get_or_append_left, get_or-append-add, length-append}
 use Rattle.std.proofs.lemmas.List.Elements.{All-append}
 use Rattle.basics.specs.Symbol.{is_text}
-use Rattle.basics.specs.TextOrder.{IsLeast}
 use Rattle.pol_pattern.specs.Spelling.{Holds}
 use Rattle.pol_scan.specs.Alphabet.{Alphabet, IsAlphabet, word_of, text_of}
-use Rattle.pol_scan.specs.Words.{IsWord, IsWordThat, word_at}
-use Rattle.pol_scan.specs.Congruence.{AreDifferent, HasIndex, HasIndexAbove}
-use Rattle.pol_scan.specs.Table.{Table, count, walk, IsAutomatonOf}
+use Rattle.pol_scan.specs.Words.{IsWord}
+use Rattle.pol_scan.specs.Table.{Table, walk}
 use Rattle.pol_pattern.specs.Flat.{Term}
-use Rattle.pol_automaton.specs.Residuals.{InResidual, SameResiduals, IsResidualCount, HasMoreResiduals}
-use Rattle.pol_automaton.specs.Residuals.{AreDifferent as AreDifferentTexts}
+use Rattle.pol_automaton.specs.Residuals.{InResidual, SameResiduals}
 use Rattle.pol_automaton.specs.Decision.{entry_at, IsFirstMatch}
 use Rattle.pol_automaton.specs.Automaton.{Automaton, state_of, first_of, IsWhole, IsDecider}
 use Rattle.pol_automaton.specs.Entries.{IsExact}
 use Rattle.pol_automaton.specs.Pairs.{pairs, ArePair, first_of_both, joined_first}
 use Rattle.pol_automaton.proofs.Zips.{zip_length, zip_through}
-use Rattle.pol_automaton.proofs.Words.{is_word, spells_text}
+use Rattle.pol_automaton.proofs.Words.{spells_text}
+use Rattle.pol_automaton.proofs.Machines.{TellsResiduals, IsFound, automaton_of, is_whole, read, kept_word, is_decider}
 
 -- ---- lists joined
 
@@ -64,13 +62,12 @@ match_joined e f text None (Some j) p q = (
 pub record IsJoined (alphabet : Alphabet) (a b : Automaton) (table : Table) (states : List (ℕ × ℕ)) (firsts : List (Option ℕ)) : Type 0 where
   pub letters : IsAlphabet alphabet
   pub exact : IsExact alphabet
-  pub automaton : IsAutomatonOf (pairs alphabet a b) table
-  pub index : HasIndex (pairs alphabet a b) (count table)
+  pub found : IsFound (pairs alphabet a b) table
   pub led : AllZip (λ word s. ArePair alphabet a b word s.0 s.1) table.words states
   pub matched : AllZip (λ s found. found ≡ joined_first a b s.0 s.1) states firsts
 
 abbrev pub joined_of : Alphabet → Automaton → Automaton → Table → List (Option ℕ) → Automaton
-joined_of alphabet a b table firsts = record { alphabet = alphabet; table = table; firsts = firsts; entries = a.entries + b.entries }
+joined_of alphabet a b table firsts = automaton_of alphabet table firsts (a.entries + b.entries)
 
 below_both : (m n i : ℕ) (x y : Option ℕ) → ((j : ℕ) → x ≡ Some j → j < m) → ((j : ℕ) → y ≡ Some j → j < n) → first_of_both m x y ≡ Some i → i < m + n
 below_both m n i (Some j) y p q e = let same : j ≡ i = cc in omega (arith, p j refl)
@@ -79,19 +76,18 @@ below_both m n i None (Some j) p q e = let same : m + j ≡ i = cc in omega (ari
 
 pub whole_joined : (alphabet : Alphabet) (a b : Automaton) (table : Table) (states : List (ℕ × ℕ)) (firsts : List (Option ℕ)) → IsWhole a → IsWhole b → IsJoined alphabet a b table states firsts
     → IsWhole (joined_of alphabet a b table firsts)
-whole_joined alphabet a b table states firsts p q s = record {
-  letters = s.letters;
-  columns = s.automaton.columns;
-  firsts = sym (zip_length _ table.words states s.led ∙ zip_length _ states firsts s.matched);
-  within = λ word w. s.automaton.within word (subst (λ n. IsWord n word) s.automaton.columns w);
-  words = λ state lt. subst (λ n. IsWord n (word_at table.words state)) (sym s.automaton.columns) (s.automaton.least state lt).0.0;
-  below = λ state i lt is.
-      let there = zip_through _ _ table.words states firsts state [] None s.led s.matched lt in
-      below_both a.entries b.entries i (first_of a there.0.0) (first_of b there.0.1) (λ j. p.below there.0.0 j there.1.first_within) (λ j. q.below there.0.1 j there.1.second_within) (sym there.2 ∙ is);
-}
+whole_joined alphabet a b table states firsts p q s =
+    is_whole alphabet (pairs alphabet a b) table firsts (a.entries + b.entries) s.letters refl s.found.automaton
+    (sym (zip_length _ table.words states s.led ∙ zip_length _ states firsts s.matched))
+    (λ state i lt is.
+    let there = zip_through _ _ table.words states firsts state [] None s.led s.matched lt in
+    below_both a.entries b.entries i (first_of a there.0.0) (first_of b there.0.1)
+    (λ j. p.below there.0.0 j there.1.first_within) (λ j. q.below there.0.1 j there.1.second_within) (sym there.2 ∙ is))
 
-module _ (alphabet : Alphabet) (letters : IsAlphabet alphabet) (exact : IsExact alphabet) (a b : Automaton) (e f : List (List ℕ)) (d : IsDecider a e) (g : IsDecider b f) where
-  same_pairs : (u v : List ℕ) → IsWord alphabet.width u → IsWord alphabet.width v → (pairs alphabet a b).same u v ↔ SameResiduals (e ++ f) (text_of alphabet u) (text_of alphabet v)
+module _ (alphabet : Alphabet) (letters : IsAlphabet alphabet) (exact : IsExact alphabet) (a b : Automaton) (e f : List (List ℕ))
+    (d : IsDecider a e) (g : IsDecider b f) where
+  same_pairs : (u v : List ℕ) → IsWord alphabet.width u → IsWord alphabet.width v
+      → (pairs alphabet a b).same u v ↔ SameResiduals (e ++ f) (text_of alphabet u) (text_of alphabet v)
   same_pairs u v p q =
       let t = spells_text alphabet letters u p in
       let o = spells_text alphabet letters v q in
@@ -100,84 +96,32 @@ module _ (alphabet : Alphabet) (letters : IsAlphabet alphabet) (exact : IsExact 
       let both = same_joined e f (text_of alphabet u) (text_of alphabet v) in
       (λ s. both.1 (one.0 s.0, two.0 s.1), λ s. let w = both.0 s in (one.1 w.0, two.1 w.1))
 
-  different_joined : (words : List (List ℕ)) → AreDifferent (pairs alphabet a b) words → AreDifferentTexts (e ++ f) (map (text_of alphabet) words)
-  different_joined words x = record {
-    all_texts = λ k t lt.
-        let in_range : k < length words = omega (arith, length-map words (text_of alphabet)) in
-        subst (λ (l : List ℕ). IsTrue (is_text l)) (sym (get_or-map (text_of alphabet) words k [] t in_range)) (spells_text alphabet letters (word_at words k) (x.all_words k [] in_range));
-    different = λ i j t lt in_range same.
-        let below : j < length words = omega (arith, length-map words (text_of alphabet)) in
-        let at_i = get_or-map (text_of alphabet) words i [] t (omega arith) in
-        let at_j = get_or-map (text_of alphabet) words j [] t below in
-        x.different i j [] lt below
-        ((same_pairs (word_at words i) (word_at words j) (x.all_words i [] (omega arith)) (x.all_words j [] below)).1
-        (subst (λ (l : List ℕ). SameResiduals (e ++ f) l (text_of alphabet (word_at words j))) at_i (subst (SameResiduals (e ++ f) (slice_index_or (map (text_of alphabet) words) i t)) at_j same)));
-  }
-
-  pub more_joined : (limit : ℕ) → HasIndexAbove (pairs alphabet a b) limit → HasMoreResiduals (e ++ f) limit
-  more_joined limit above = record {
-    texts = map (text_of alphabet) above.words;
-    many = omega (arith, above.many, length-map above.words (text_of alphabet));
-    different = different_joined above.words above.different;
-  }
-
-  -- words that are the same, of which the first is a text's
-  same_half : (text word : List ℕ) → IsTrue (is_text text) → IsWord alphabet.width word → (pairs alphabet a b).same (word_of alphabet text) word ↔ SameResiduals (e ++ f) text (text_of alphabet word)
-  same_half text word h w =
-      let is = same_pairs (word_of alphabet text) word (is_word alphabet letters text h) w in (
-        λ s. subst (λ (l : List ℕ). SameResiduals (e ++ f) l (text_of alphabet word)) (exact text h) (is.0 s),
-        λ s. is.1 (subst (λ (l : List ℕ). SameResiduals (e ++ f) l (text_of alphabet word)) (sym (exact text h)) s),
-      )
-
-  count_joined : (index : ℕ) → HasIndex (pairs alphabet a b) index → IsResidualCount (e ++ f) index
-  count_joined index has = record {
-    texts = map (text_of alphabet) has.words;
-    many = length-map has.words (text_of alphabet) ∙ has.many;
-    different = different_joined has.words has.different;
-    complete = λ text h.
-        let c = has.complete (word_of alphabet text) (is_word alphabet letters text h) in
-        let word = subst (IsWord alphabet.width) c.3 (has.different.all_words c.0 c.1 c.2) in (
-          c.0,
-          text_of alphabet c.1,
-          omega (arith, c.2, length-map has.words (text_of alphabet)),
-          get_or-map (text_of alphabet) has.words c.0 c.1 (text_of alphabet c.1) c.2 ∙ ap (text_of alphabet) c.3,
-          (same_half text c.1 h word).0 c.4,
-        );
-  }
+  pub tells_joined : TellsResiduals alphabet (pairs alphabet a b) (e ++ f)
+  tells_joined = record { letters = letters; exact = exact; columns = refl; same = same_pairs }
 
   module _ (table : Table) (states : List (ℕ × ℕ)) (firsts : List (Option ℕ)) (s : IsJoined alphabet a b table states firsts) where
-    firsts_joined : (text : List ℕ) → IsTrue (is_text text) → IsFirstMatch (e ++ f) text (first_of (joined_of alphabet a b table firsts) (state_of (joined_of alphabet a b table firsts) text))
+    firsts_joined : (text : List ℕ) → IsTrue (is_text text)
+        → IsFirstMatch (e ++ f) text (first_of (joined_of alphabet a b table firsts) (state_of (joined_of alphabet a b table firsts) text))
     firsts_joined text h =
-        let word = word_of alphabet text in
-        let state = walk table word in
-        let lt = s.automaton.within word (is_word alphabet letters text h) in
-        let least = (s.automaton.least state lt).0 in
-        let found = word_at table.words state in
-        let same = (s.automaton.tells word found (is_word alphabet letters text h) least.0).0 (sym least.1) in
+        let machine = pairs alphabet a b in
+        let state = walk table (word_of alphabet text) in
+        let lt = s.found.automaton.within (word_of alphabet text) (read alphabet machine (e ++ f) tells_joined text h) in
+        let same = kept_word alphabet machine (e ++ f) tells_joined table s.found text h in
         let there = zip_through _ _ table.words states firsts state [] None s.led s.matched lt in
         let at_a : there.0.0 ≡ state_of a text = there.1.first_is ∙ sym same.0 ∙ ap (state_of a) (exact text h) in
         let at_b : there.0.1 ≡ state_of b text = there.1.second_is ∙ sym same.1 ∙ ap (state_of b) (exact text h) in
-        let is : first_of (joined_of alphabet a b table firsts) state ≡ first_of_both (length e) (first_of a (state_of a text)) (first_of b (state_of b text)) =
+        let is : first_of (joined_of alphabet a b table firsts) state
+        ≡ first_of_both (length e) (first_of a (state_of a text)) (first_of b (state_of b text)) =
         there.2 ∙ ap (λ n. first_of_both n (first_of a there.0.0) (first_of b there.0.1)) d.many
         ∙ ap (λ n. first_of_both (length e) (first_of a n) (first_of b there.0.1)) at_a
         ∙ ap (λ n. first_of_both (length e) (first_of a (state_of a text)) (first_of b n)) at_b in
-        subst (IsFirstMatch (e ++ f) text) (sym is) (match_joined e f text (first_of a (state_of a text)) (first_of b (state_of b text)) (d.firsts text h) (g.firsts text h))
+        subst (IsFirstMatch (e ++ f) text) (sym is)
+        (match_joined e f text (first_of a (state_of a text)) (first_of b (state_of b text)) (d.firsts text h) (g.firsts text h))
 
     pub is_joined : IsDecider (joined_of alphabet a b table firsts) (e ++ f)
-    is_joined = record {
-      many = omega (arith, length-append e f, d.many, g.many);
-      tells = λ text other h k.
-          let by_words = s.automaton.tells (word_of alphabet text) (word_of alphabet other) (is_word alphabet letters text h) (is_word alphabet letters other k) in
-          let by_texts = same_half text (word_of alphabet other) h (is_word alphabet letters other k) in (
-            λ at. subst (SameResiduals (e ++ f) text) (exact other k) (by_texts.0 (by_words.0 at)),
-            λ same. by_words.1 (by_texts.1 (subst (SameResiduals (e ++ f) text) (sym (exact other k)) same)),
-          );
-      index = count_joined (count table) s.index;
-      firsts = firsts_joined;
-      leasts = λ test state lt passes none.
-          subst (λ (n : ℕ). IsLeast (IsWordThat n (λ word. IsTrue (test (walk table word)))) (word_at table.words state)) (sym s.automaton.columns)
-          (s.automaton.firsts test state lt passes none);
-    }
+    is_joined =
+        is_decider alphabet (pairs alphabet a b) (e ++ f) tells_joined table s.found firsts (a.entries + b.entries)
+        (omega (arith, length-append e f, d.many, g.many)) firsts_joined
 
 pub if_some_from : (P : ℕ → Type 0) (o : Option ℕ) → ((i : ℕ) → o ≡ Some i → P i) → IfSome o P
 if_some_from P None each = tt

@@ -1,18 +1,17 @@
 -- The first entry that accepts, from items in order.
-use Rattle.std.proofs.Common.{◌≡◌, ◌<◌, ◌≤◌, ◌+◌, ◌↔◌, ◌⊎◌, inl, inr, ℕ, Bool, true, IsTrue, List, [], ◌∷◌, ◌++◌, Contains, Less, Greater, length, get_or, take, refl, sym, subst, ap, ◌∙◌, arith, rules}
-use Rattle.std.specs.Prelude.{All}
+use Rattle.std.proofs.Common.{◌≡◌, ◌<◌, ◌≤◌, ◌+◌, ◌⊎◌, inl, inr, ℕ, List, [], ◌∷◌, ◌++◌, Contains, Less, Greater, length, get_or, take, sym, subst, ap, ◌∙◌, arith, rules}
 use Rattle.std.specs.Ordering.{nat_cmp}
 use Rattle.std.proofs.lemmas.Bool.{cases_lt}
 use Rattle.std.proofs.lemmas.List.{take_more, take_all, get_or-take, get_or_default, length-take}
-use Rattle.std.proofs.lemmas.List.Elements.{All-contains, Contains-push_cases, Contains-get_or}
+use Rattle.std.proofs.lemmas.List.Elements.{Contains-push_cases}
 use Rattle.std.proofs.lemmas.Map.Keys.{Less-from_sorted}
 use Rattle.pol_pattern.specs.Flat.{Term}
 use Rattle.pol_pattern.specs.Sets.{InTerm}
 use Rattle.pol_deriv.specs.Table.{Means}
 use Rattle.pol_automaton.specs.declared.entry_term.EntryTerm.{EntryTerm}
-use Rattle.pol_automaton.specs.Scanning.{item_of, HasTerm, order, AreResiduals}
+use Rattle.pol_automaton.specs.Scanning.{item_of, order, AreResiduals}
 use Rattle.pol_automaton.specs.Matching.{Accepts}
-use Rattle.pol_automaton.specs.Having.{meant, means_one}
+use Rattle.pol_automaton.specs.Having.{meant}
 
 -- no item's term holds the empty text
 abbrev pub NoneAccepts : List Term → List EntryTerm → Type 0

@@ -1,15 +1,12 @@
 -- The least text that an entry decides.
-use Rattle.std.proofs.Common.{◌≡◌, ◌<◌, ◌≤◌, ◌↔◌, ◌⊎◌, inl, inr, ℕ, Bool, true, false, ◌==◌, IsTrue, List, [], Option, None, Some, length, refl, sym, subst, ap, ◌∙◌, arith}
-use Rattle.std.specs.Prelude.{All}
+use Rattle.std.proofs.Common.{◌≡◌, ◌<◌, ◌≤◌, ◌↔◌, ◌⊎◌, inl, inr, ℕ, Bool, false, ◌==◌, IsTrue, List, [], Option, None, Some, refl, sym, subst, ap, arith}
 use Rattle.std.proofs.lemmas.Bool.{cases_lt, eqb-true, eq-eqb}
-use Rattle.basics.specs.Symbol.{is_text}
 use Rattle.basics.specs.TextOrder.{IsLeast}
-use Rattle.pol_pattern.specs.Spelling.{Holds}
 use Rattle.pol_scan.specs.Alphabet.{IsTextThat, word_of}
 use Rattle.pol_scan.specs.Words.{IsWordThat, IsWord}
 use Rattle.pol_scan.specs.Table.{count, walk}
 use Rattle.pol_scan.specs.Table.{word_of as found_along}
-use Rattle.pol_automaton.specs.Decision.{entry_at, IsFirstMatch, Decides, IsReachText}
+use Rattle.pol_automaton.specs.Decision.{IsFirstMatch, Decides, IsReachText}
 use Rattle.pol_automaton.specs.Automaton.{Automaton, state_of, first_of, IsWhole, IsDecider}
 use Rattle.pol_automaton.proofs.Words.{is_word}
 use Rattle.pol_automaton.specs.Reaching.{IsFirstState, NoState}

@@ -1,7 +1,7 @@
 -- What stands behind a set of terms and a text: the derivatives of the terms by its symbols, one after another.
-use Rattle.std.specs.Prelude.{◌≡◌, ◌↔◌, ℕ, List, [], ◌∷◌, ◌++◌}
+use Rattle.std.specs.Prelude.{◌↔◌, ℕ, List, [], ◌∷◌, ◌++◌}
 use Rattle.pol_pattern.specs.Flat.{Term}
-use Rattle.pol_deriv.specs.Derivative.{Derivative, Derivatives}
+use Rattle.pol_deriv.specs.Derivative.{Derivatives}
 
 abbrev pub After : (Term → Type 0) → List ℕ → Term → Type 0
 After set [] = set

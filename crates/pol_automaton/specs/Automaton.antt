@@ -1,6 +1,6 @@
 -- A Decider as contracts see it: an automaton whose states are the residuals of entries, with the first match of each.
 -- It doesn't hold its entries: a relation says of which it is the Decider.
-use Rattle.std.specs.Prelude.{◌≡◌, ◌↔◌, ◌<◌, ◌≤◌, ℕ, Bool, IsTrue, List, length, Option, None, Some, slice_index_or}
+use Rattle.std.specs.Prelude.{◌≡◌, ◌↔◌, ◌<◌, ℕ, Bool, IsTrue, List, length, Option, None, Some, slice_index_or}
 use Rattle.basics.specs.Symbol.{is_text}
 use Rattle.basics.specs.TextOrder.{IsLeast}
 use Rattle.pol_scan.specs.Alphabet.{Alphabet, IsAlphabet, word_of}

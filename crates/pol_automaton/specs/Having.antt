@@ -1,14 +1,12 @@
 -- Which terms lists of numbers have, in tables that grow.
-use Rattle.std.proofs.Common.{◌≡◌, ◌<◌, ◌+◌, ◌↔◌, ◌⊎◌, inl, inr, ℕ, zero, suc, Some, List, [], ◌∷◌, ◌++◌, Contains, length, get_or, take, map, refl, sym, subst, ap, ◌∙◌, arith}
-use Rattle.std.specs.Prelude.{slice_get, All}
-use Rattle.std.specs.List.Sorted.{IsStrictlySortedBy}
+use Rattle.std.proofs.Common.{◌≡◌, ◌<◌, ◌+◌, ◌↔◌, ◌⊎◌, inl, inr, ℕ, zero, suc, List, [], ◌∷◌, ◌++◌, Contains, length, get_or, take, map, refl, sym, subst, ap, ◌∙◌, arith}
 use Rattle.std.proofs.lemmas.List.{take_more, get_or_default, get_or-map, length-map}
 use Rattle.std.proofs.lemmas.List.Elements.{All-append, All-map, All-contains, Contains-append_left, Contains-append_right, Contains-append_cases, Contains-push, Contains-push_cases}
 use Rattle.pol_pattern.specs.Flat.{Term}
 use Rattle.pol_deriv.specs.Derivative.{Derivative, Derivatives}
-use Rattle.pol_deriv.specs.Table.{Means, Keeps, Grows, IsSetOf, IsDistinct}
+use Rattle.pol_deriv.specs.Table.{Means, Keeps, Grows, IsSetOf}
 use Rattle.pol_automaton.specs.declared.entry_term.EntryTerm.{EntryTerm}
-use Rattle.pol_automaton.specs.Scanning.{item_of, HasTerm, order, AreResiduals}
+use Rattle.pol_automaton.specs.Scanning.{item_of, HasTerm}
 use Rattle.pol_automaton.specs.Stepping.{AreWithin, AreDerivatives, AddsDerivatives}
 
 -- ---- numbers

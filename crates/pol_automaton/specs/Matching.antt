@@ -1,5 +1,5 @@
 -- The first entry whose residual holds the empty text.
-use Rattle.std.specs.Prelude.{◌≡◌, ◌<◌, ℕ, List, [], Option, None, Some}
+use Rattle.std.specs.Prelude.{◌<◌, ℕ, List, [], Option, None, Some}
 use Rattle.pol_pattern.specs.Flat.{Term}
 use Rattle.pol_pattern.specs.Sets.{InTerm}
 use Rattle.pol_automaton.specs.declared.entry_term.EntryTerm.{EntryTerm}

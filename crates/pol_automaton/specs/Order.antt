@@ -1,5 +1,5 @@
 -- Lists of terms in order: what `==` and the order say of two terms, and that ordered lists of the same terms are the same.
-use Rattle.std.proofs.Common.{◌≡◌, ◌<◌, ◌↔◌, ◌⊎◌, inl, inr, ℕ, zero, suc, Bool, true, ◌&&◌, ◌==◌, List, [], ◌∷◌, ◌++◌, Contains, Less, refl, sym, ap, ◌∙◌, arith}
+use Rattle.std.proofs.Common.{◌≡◌, ◌<◌, ◌↔◌, ◌⊎◌, inl, inr, ℕ, zero, suc, Bool, true, ◌&&◌, ◌==◌, List, [], ◌∷◌, Contains, Less, refl, sym, ap, ◌∙◌, arith}
 use Rattle.std.specs.Prelude.{slice_index_or}
 use Rattle.std.specs.Cmp.{IsTotalOrder, IsEquivalence, unsigned_ties, tied_then}
 use Rattle.std.specs.Ordering.{eq_by_cmp, ordering_reverse, nat_cmp}

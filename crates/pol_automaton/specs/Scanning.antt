@@ -1,19 +1,17 @@
 -- The residuals of entries as the scan keeps them: the terms by their numbers, each with its entry.
-use Rattle.std.specs.Prelude.{◌≡◌, ◌↔◌, ◌<◌, ℕ, List, ◌∷◌, ◌++◌, [], length, All, Contains}
+use Rattle.std.specs.Prelude.{◌↔◌, ◌<◌, ℕ, List, ◌∷◌, [], length, All, Contains}
 use Rattle.std.specs.List.Sorted.{IsStrictlySortedBy}
 use Rattle.std.specs.Ordering.{nat_cmp, ordering_then}
 use Rattle.std.specs.declared.cmp.Ordering.{Ordering}
 use Rattle.std.proofs.Common.{subst, sym}
 use Rattle.std.proofs.lemmas.List.{map-append}
 use Rattle.pol_pattern.specs.Flat.{Term}
-use Rattle.pol_pattern.specs.Spelling.{Spells}
-use Rattle.pol_deriv.specs.Derivative.{Residual}
 use Rattle.pol_deriv.specs.Table.{Means, IsDistinct}
 use Rattle.pol_scan.specs.Alphabet.{Alphabet, text_of, least_of}
 use Rattle.pol_scan.specs.Words.{longer}
 use Rattle.pol_scan.specs.Congruence.{Congruence}
 use Rattle.pol_automaton.specs.declared.entry_term.EntryTerm.{EntryTerm}
-use Rattle.pol_automaton.specs.After.{After, after_more, after_push, derivatives_more}
+use Rattle.pol_automaton.specs.After.{After, after_push, derivatives_more}
 
 abbrev pub item_of : ℕ → ℕ → EntryTerm
 item_of entry number = record { entry = entry; term = number }

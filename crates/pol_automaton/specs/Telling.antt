@@ -1,6 +1,5 @@
 -- Entries as a machine: which words lead to one list of residuals, and what more terms leave as it is.
-use Rattle.std.proofs.Common.{◌≡◌, ◌==◌, ◌<◌, ◌↔◌, ℕ, Bool, true, List, [], ◌∷◌, ◌++◌, Contains, length, refl, sym, subst, ap, ◌∙◌}
-use Rattle.std.specs.Prelude.{All}
+use Rattle.std.proofs.Common.{◌≡◌, ◌==◌, ◌<◌, ◌↔◌, ℕ, true, List, [], ◌∷◌, ◌++◌, Contains, length, refl, sym, subst, ap, ◌∙◌}
 use Rattle.std.specs.Cmp.Lexicographic.{pointwise, pointwise_decides}
 use Rattle.std.specs.Bool.{Decides}
 use Rattle.std.specs.Global.{Vec}
@@ -8,17 +7,16 @@ use Rattle.std.proofs.lemmas.Bool.{and_from, eq-eqb}
 use Rattle.std.proofs.lemmas.List.{map-append}
 use Rattle.std.proofs.lemmas.List.Elements.{All-contains}
 use Rattle.pol_pattern.specs.Flat.{Term}
-use Rattle.pol_deriv.specs.Derivative.{Derivatives}
-use Rattle.pol_deriv.specs.Table.{Means, Grows}
+use Rattle.pol_deriv.specs.Table.{Grows}
 use Rattle.pol_scan.specs.Alphabet.{Alphabet, text_of, least_of}
 use Rattle.pol_scan.specs.Words.{longer}
 use Rattle.pol_scan.specs.Congruence.{Keeps}
 use Rattle.pol_automaton.specs.declared.entry_term.EntryTerm.{EntryTerm}
 use Rattle.pol_automaton.specs.After.{After, after_same, after_push, derivatives_more}
-use Rattle.pol_automaton.specs.Scanning.{item_of, HasTerm, order, AreResiduals, Behind, LeadsTo, SameBehind, residuals}
+use Rattle.pol_automaton.specs.Scanning.{item_of, HasTerm, AreResiduals, Behind, LeadsTo, SameBehind, residuals}
 use Rattle.pol_automaton.specs.Entries.{Entries, SameTerms, GrowsTo}
 use Rattle.pol_automaton.specs.Stepping.{AreDerivatives}
-use Rattle.pol_automaton.specs.Order.{same_item, same_is, same_equiv, order_total, same_sorted}
+use Rattle.pol_automaton.specs.Order.{same_item, same_is, order_total, same_sorted}
 use Rattle.pol_automaton.specs.Having.{meant, has_kept, has_back, within_kept}
 
 -- ---- equal lists

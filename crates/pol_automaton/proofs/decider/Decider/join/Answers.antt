@@ -1,7 +1,6 @@
-use Rattle.std.proofs.Common.{◌≡◌, ◌<◌, ◌+◌, Err, ap, List, ℕ, Option, arith}
+use Rattle.std.proofs.Common.{◌≡◌, ◌<◌, ◌+◌, ◌++◌, Err, ap, List, ℕ, arith}
 use Rattle.std.proofs.lemmas.Result.{err_from_is_err_and}
 use Rattle.pol_scan.specs.Table.{count}
-use Rattle.pol_scan.specs.declared.fault.ScanFault.{ScanFault}
 use Rattle.pol_scan.specs.declared.fault.ScanFault.TheVariants as scan
 use Rattle.pol_automaton.specs.declared.fault.DeciderFault.TheVariants.{TooManyStates}
 use Rattle.pol_automaton.specs.Faults.{fault_of, too_many_from}
@@ -10,7 +9,8 @@ use Rattle.pol_automaton.specs.Pairs.{ArePair, led_back}
 use Rattle.pol_automaton.proofs.Collecting.{exact_alphabet}
 use Rattle.pol_automaton.proofs.Counting.{excludes}
 use Rattle.pol_automaton.proofs.Zips.{zip_all}
-use Rattle.pol_automaton.proofs.Joined.{IsJoined, whole_joined, more_joined, is_joined}
+use Rattle.pol_automaton.proofs.Machines.{more_residuals}
+use Rattle.pol_automaton.proofs.Joined.{IsJoined, whole_joined, tells_joined, is_joined}
 use Rattle.pol_automaton.proofs.decider.Decider.join.Goals as goal
 use Rattle.pol_automaton.proofs.decider.Decider.join.Goals.{After-raise}
 
@@ -34,7 +34,8 @@ returns-in_err-table-clause-too_many c =
     rw (p.1, p.2) (λ own others d e h.
     let same : fault_of c.in_err-table.field-0.0 ≡ TooManyStates = cc in
     let is : c.in_err-table.field-0.0 ≡ scan.TooMany = too_many_from c.in_err-table.field-0.0 same in
-    more_joined letters.result letters.ensures.alphabet exact c.args.first.now c.args.rest.now own others d e c.args.limit (c.in_err-table.ensures.too_many (ap Err is)))
+    more_residuals _ _ _ (tells_joined letters.result letters.ensures.alphabet exact c.args.first.now c.args.rest.now own others d e) c.args.limit
+    (c.in_err-table.ensures.too_many (ap Err is)))
 
 pub firsts_of_pairs-requires-clause-within : goal.firsts_of_pairs-requires-clause-within
 firsts_of_pairs-requires-clause-within c =
@@ -47,8 +48,7 @@ joined : (c : After-raise) → IsJoined c.of_symbols-alphabet.result c.args.firs
 joined c = record {
   letters = c.of_symbols-alphabet.ensures.alphabet;
   exact = exact_alphabet c.of_symbols-alphabet.result c.of_symbols-alphabet.ensures.own c.of_symbols-alphabet.ensures.least;
-  automaton = c.in_ok-table.ensures.automaton;
-  index = c.in_ok-table.ensures.index;
+  found = record { automaton = c.in_ok-table.ensures.automaton; index = c.in_ok-table.ensures.index };
   led = led_back _ _ _ _ _ _ c.in_ok-table.ensures.grows.0 c.in_ok-table.ensures.grows.1 c.in_ok-table.ensures.grows.2 c.in_ok-table.field-0.table.words c.in_ok-table.field-0.states.keys c.in_ok-table.ensures.states;
   matched = rw c.as_slice.ensures.keys at c.in_ok-firsts.ensures;
 }

@@ -1,6 +1,7 @@
-use Rattle.std.proofs.Common.{◌≡◌, Err, ap}
+use Rattle.std.proofs.Common.{◌≡◌, Err, ap, arith}
 use Rattle.std.specs.Global.{Vec}
 use Rattle.std.proofs.lemmas.Result.{err_from_is_err_and}
+use Rattle.pol_scan.specs.Table.{count}
 use Rattle.pol_scan.specs.declared.fault.ScanFault.TheVariants as scan
 use Rattle.pol_automaton.specs.declared.entry_term.EntryTerm.{EntryTerm}
 use Rattle.pol_automaton.specs.declared.fault.DeciderFault.TheVariants.{TooManyStates}
@@ -8,7 +9,8 @@ use Rattle.pol_automaton.specs.Faults.{fault_of, too_many_from}
 use Rattle.pol_automaton.specs.Scanning.{AreResiduals}
 use Rattle.pol_automaton.proofs.Counting.{excludes}
 use Rattle.pol_automaton.proofs.Zips.{zip_all}
-use Rattle.pol_automaton.proofs.Deciding.{IsScanned, whole_decider, more_residuals, is_decider}
+use Rattle.pol_automaton.proofs.Machines.{more_residuals}
+use Rattle.pol_automaton.proofs.Deciding.{IsScanned, tells_residuals, whole_decider, is_scanned}
 use Rattle.pol_automaton.proofs.decider.Decider.of.Goals as goal
 use Rattle.pol_automaton.proofs.decider.Decider.of.Goals.{After-alphabet}
 
@@ -18,7 +20,7 @@ returns-in_err-table-clause-too_many c =
     rw (p.1, p.2) (λ sources are h.
     let same : fault_of c.in_err-table.field-0.0 ≡ TooManyStates = cc in
     let is : c.in_err-table.field-0.0 ≡ scan.TooMany = too_many_from c.in_err-table.field-0.0 same in
-    more_residuals c.args.entries sources c.count-count.ensures.whole are c.args.limit (c.in_err-table.ensures.too_many (ap Err is)))
+    more_residuals _ _ sources (tells_residuals c.args.entries sources c.count-count.ensures.whole are) c.args.limit (c.in_err-table.ensures.too_many (ap Err is)))
 
 pub returns-in_err-table-clause-excludes : goal.returns-in_err-table-clause-excludes
 returns-in_err-table-clause-excludes c = excludes
@@ -38,8 +40,7 @@ scanned : (c : After-alphabet) → IsScanned c.args.entries c.scan.new.machine c
 scanned c = record {
   whole = c.count-count.ensures.whole;
   grows = c.in_ok-table.ensures.grows;
-  automaton = c.in_ok-table.ensures.automaton;
-  index = c.in_ok-table.ensures.index;
+  found = record { automaton = c.in_ok-table.ensures.automaton; index = c.in_ok-table.ensures.index };
   led = c.in_ok-table.ensures.states;
   matched = rw c.as_slice.ensures.keys at c.in_ok-firsts.ensures;
 }
@@ -52,4 +53,4 @@ invariant_of-result c =
 pub returns-clause-decider : goal.returns-clause-decider
 returns-clause-decider c = λ sources are.
     rw (c.alphabet.ensures, c.in_ok-table.ensures.grows.alphabet, c.count-count.ensures.value)
-    (is_decider c.args.entries sources c.count-count.ensures.whole are c.scan.new.machine c.in_ok-table.field-0.table c.in_ok-table.field-0.states.keys c.in_ok-firsts.firsts.items (scanned (goal.at.returns-clause-decider c).After-alphabet))
+    (is_scanned c.args.entries sources c.count-count.ensures.whole are c.scan.new.machine c.in_ok-table.field-0.table c.in_ok-table.field-0.states.keys c.in_ok-firsts.firsts.items (scanned (goal.at.returns-clause-decider c).After-alphabet))
