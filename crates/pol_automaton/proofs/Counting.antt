@@ -101,3 +101,16 @@ module _ (entries : List (List ℕ)) (count limit : ℕ) (has : IsResidualCount 
 
 pub excludes : ExcludesLaw
 excludes entries count limit has few above = omega (arith, no_more entries count limit has above, above.many)
+
+-- so there is one count
+one_up : (entries : List (List ℕ)) (n m : ℕ) → IsResidualCount entries n → IsResidualCount entries m → ¬ (n < m)
+one_up entries n m p q h =
+    excludes entries n n p (omega arith) (record { texts = q.texts; many = omega (arith, q.many, h); different = q.different })
+
+pub one_count : (entries : List (List ℕ)) (n m : ℕ) → IsResidualCount entries n → IsResidualCount entries m → n ≡ m
+one_count entries n m p q = by (cases_lt n m) (cases_lt m n)
+  where
+    by : (n < m) ⊎ (m ≤ n) → (m < n) ⊎ (n ≤ m) → n ≡ m
+    by (inl h) r = absurd (one_up entries n m p q h)
+    by (inr h) (inl k) = absurd (one_up entries m n q p k)
+    by (inr h) (inr k) = omega arith

@@ -1,6 +1,6 @@
 //! Automata that decide by the first match.
 
-ghost use Rattle.std.specs.Prelude.{◌≡◌, ◌<◌, ◌≤◌, ◌+◌, ℕ, List, [], IsTrue, min, IfOk, IfSome, IfNone, OnErr, IsErrOf};
+ghost use Rattle.std.specs.Prelude.{◌≡◌, ◌<◌, ◌≤◌, ◌+◌, ℕ, List, [], IsTrue, min, IfOk, IfSome, IfNone, OnOk, OnErr, IsErrOf};
 ghost use Rattle.basics.specs.Symbol.{is_symbol};
 ghost use Rattle.pol_scan.specs.Table.{count};
 ghost use Rattle.pol_automaton.specs.Residuals.{HasMoreResiduals, ExcludesLaw, IsResidualCount};
@@ -63,9 +63,12 @@ impl Decider {
             → IsErrOf result DeciderFault.TooManyStates → HasMoreResiduals sources limit }
         ensures excludes { ExcludesLaw }
 
-        // The meter rises by the states that were made.
+        // The meter rises by the states that were made, which is by the number of residuals.
         ensures counted { IfOk result
             (λ d. meter.new ≡ min (meter.old + count d.table) u128.MAX) }
+        ensures exact { (sources : List (List ℕ)) (residuals : ℕ) → AreEntries entries sources
+            → IsResidualCount sources residuals
+            → OnOk result (meter.new ≡ min (meter.old + residuals) u128.MAX) }
         ensures not_counted { OnErr result (meter.new ≡ meter.old) }
     {
         let mut entries = entries;
@@ -95,6 +98,8 @@ impl Decider {
         ensures excludes { ExcludesLaw }
         ensures counted { IfOk result
             (λ d. meter.new ≡ min (meter.old + count d.table) u128.MAX) }
+        ensures exact { (residuals : ℕ) → IsResidualCount patterns.now residuals
+            → OnOk result (meter.new ≡ min (meter.old + residuals) u128.MAX) }
         ensures not_counted { OnErr result (meter.new ≡ meter.old) }
     {
         let mut entries = Entries::new(alloc);

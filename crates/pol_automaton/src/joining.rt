@@ -1,9 +1,9 @@
 //! The automaton of entries and others behind them.
 
-ghost use Rattle.std.specs.Prelude.{◌≡◌, ◌<◌, ◌≤◌, ◌+◌, ◌++◌, ℕ, List, All, min, IfOk, OnErr, IsErrOf};
+ghost use Rattle.std.specs.Prelude.{◌≡◌, ◌<◌, ◌≤◌, ◌+◌, ◌++◌, ℕ, List, All, min, IfOk, OnOk, OnErr, IsErrOf};
 ghost use Rattle.std.specs.List.{AllZip};
 ghost use Rattle.pol_scan.specs.Table.{count};
-ghost use Rattle.pol_automaton.specs.Residuals.{HasMoreResiduals, ExcludesLaw};
+ghost use Rattle.pol_automaton.specs.Residuals.{HasMoreResiduals, ExcludesLaw, IsResidualCount};
 ghost use Rattle.pol_automaton.specs.Pairs.{joined_first};
 
 use crate::decider::Decider;
@@ -70,6 +70,9 @@ impl Decider {
         ensures excludes { ExcludesLaw }
         ensures counted { IfOk result
             (λ d. meter.new ≡ min (meter.old + count d.table) u128.MAX) }
+        ensures exact { (own others : List (List ℕ)) (residuals : ℕ) → IsDecider first.now own
+            → IsDecider rest.now others → IsResidualCount (own ++ others) residuals
+            → OnOk result (meter.new ≡ min (meter.old + residuals) u128.MAX) }
         ensures not_counted { OnErr result (meter.new ≡ meter.old) }
     {
         // More entries than memory has places.

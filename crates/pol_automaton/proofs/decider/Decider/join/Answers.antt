@@ -7,9 +7,9 @@ use Rattle.pol_automaton.specs.Faults.{fault_of, too_many_from}
 use Rattle.pol_automaton.specs.Entries.{IsExact}
 use Rattle.pol_automaton.specs.Pairs.{ArePair, led_back}
 use Rattle.pol_automaton.proofs.Collecting.{exact_alphabet}
-use Rattle.pol_automaton.proofs.Counting.{excludes}
+use Rattle.pol_automaton.proofs.Counting.{excludes, one_count}
 use Rattle.pol_automaton.proofs.Zips.{zip_all}
-use Rattle.pol_automaton.proofs.Machines.{more_residuals}
+use Rattle.pol_automaton.proofs.Machines.{more_residuals, residual_count}
 use Rattle.pol_automaton.proofs.Joined.{IsJoined, whole_joined, tells_joined, is_joined}
 use Rattle.pol_automaton.proofs.decider.Decider.join.Goals as goal
 use Rattle.pol_automaton.proofs.decider.Decider.join.Goals.{After-raise}
@@ -68,3 +68,13 @@ returns-clause-decider c = λ own others d e.
     rw sum
     (is_joined letters.result letters.ensures.alphabet exact c.args.first.now c.args.rest.now own others d e c.in_ok-table.field-0.table c.in_ok-table.field-0.states.keys c.in_ok-firsts.firsts.items
     (joined (goal.at.returns-clause-decider c).After-raise))
+
+pub returns-clause-exact : goal.returns-clause-exact
+returns-clause-exact c = λ own others residuals d e has.
+    let made = c.in_ok-table.field-0.table in
+    let letters = c.of_symbols-alphabet in
+    let exact : IsExact letters.result = exact_alphabet letters.result letters.ensures.own letters.ensures.least in
+    let tells = tells_joined letters.result letters.ensures.alphabet exact c.args.first.now c.args.rest.now own others d e in
+    let is : residuals ≡ count made =
+    one_count (own ++ others) residuals (count made) has (residual_count _ _ (own ++ others) tells (count made) c.in_ok-table.ensures.index) in
+    omega (arith, is, c.raise.ensures, c.states-2.ensures.many)

@@ -7,9 +7,9 @@ use Rattle.pol_automaton.specs.declared.entry_term.EntryTerm.{EntryTerm}
 use Rattle.pol_automaton.specs.declared.fault.DeciderFault.TheVariants.{TooManyStates}
 use Rattle.pol_automaton.specs.Faults.{fault_of, too_many_from}
 use Rattle.pol_automaton.specs.Scanning.{AreResiduals}
-use Rattle.pol_automaton.proofs.Counting.{excludes}
+use Rattle.pol_automaton.proofs.Counting.{excludes, one_count}
 use Rattle.pol_automaton.proofs.Zips.{zip_all}
-use Rattle.pol_automaton.proofs.Machines.{more_residuals}
+use Rattle.pol_automaton.proofs.Machines.{more_residuals, residual_count}
 use Rattle.pol_automaton.proofs.Deciding.{IsScanned, tells_residuals, whole_decider, is_scanned}
 use Rattle.pol_automaton.proofs.decider.Decider.of.Goals as goal
 use Rattle.pol_automaton.proofs.decider.Decider.of.Goals.{After-alphabet}
@@ -54,3 +54,10 @@ pub returns-clause-decider : goal.returns-clause-decider
 returns-clause-decider c = λ sources are.
     rw (c.alphabet.ensures, c.in_ok-table.ensures.grows.alphabet, c.count-count.ensures.value)
     (is_scanned c.args.entries sources c.count-count.ensures.whole are c.scan.new.machine c.in_ok-table.field-0.table c.in_ok-table.field-0.states.keys c.in_ok-firsts.firsts.items (scanned (goal.at.returns-clause-decider c).After-alphabet))
+
+pub returns-clause-exact : goal.returns-clause-exact
+returns-clause-exact c = λ sources residuals are has.
+    let made = c.in_ok-table.field-0.table in
+    let tells = tells_residuals c.args.entries sources c.count-count.ensures.whole are in
+    let is : residuals ≡ count made = one_count sources residuals (count made) has (residual_count _ _ sources tells (count made) c.in_ok-table.ensures.index) in
+    omega (arith, is, c.raise.ensures, c.states-2.ensures.many)
