@@ -6,10 +6,12 @@ mod authorisation;
 mod desk;
 mod plain;
 mod query;
+mod state;
 mod tallies;
 mod thrice;
 
 pub use desk::Desk;
 pub use plain::PlainDesk;
 pub use query::{Query, QueryFault, Report};
+pub use state::State;
 pub use thrice::Thrice;

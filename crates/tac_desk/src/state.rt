@@ -1,0 +1,41 @@
+//! What a desk stands for, as a value of its own.
+
+ghost use Rattle.std.specs.Prelude.{◌≡◌, ◌↔◌, IsTrue};
+
+use basics::{Sequence, StructuralEq};
+use pol_text::Policy;
+use std::marker::Model;
+use tac_tally::Record;
+
+/// What a desk stands for, apart from the desk. A contract sees that meaning.
+#[derive(Drop)]
+pub struct State {
+    pub policy: Policy,
+    /// The accepted records, in the order in which they came.
+    pub records: Sequence<Record>,
+    /// The most records that are accepted.
+    pub record_limit: usize,
+}
+
+impl Model for State {
+    ghost use Rattle.tac_desk.specs.Meaning.{Meaning};
+
+    ghost Value = { Meaning };
+
+    ghost view = { λ state. record {
+      policy = state.policy;
+      records = state.records;
+      limit = state.record_limit;
+    } };
+}
+
+impl State {
+    /// Whether the two are the same.
+    pub fn same(&self, other: &State) -> bool
+        ensures { IsTrue result ↔ (self.now ≡ other.now) }
+    {
+        self.policy.same(&other.policy)
+            && self.records.same(&other.records)
+            && self.record_limit == other.record_limit
+    }
+}
