@@ -1,0 +1,63 @@
+-- The history of a hall: the calls that its desk took, one after another, each with its answer.
+use Rattle.std.specs.Prelude.{◌≡◌, List, [], ◌∷◌, ◌++◌, Bool, true, false, ◌||◌, Result, OnErr}
+use Rattle.pol_edit.specs.declared.edit.Edit.{Edit}
+use Rattle.pol_edit.specs.declared.fault.EditFault.{EditFault}
+use Rattle.pol_report.specs.declared.Changed.{Changed}
+use Rattle.tac_desk.specs.declared.query.Query.{Query}
+use Rattle.tac_desk.specs.declared.query.QueryFault.{QueryFault}
+use Rattle.tac_desk.specs.declared.query.Report.{Report}
+use Rattle.tac_desk.specs.Meaning.{Meaning}
+use Rattle.tac_desk.specs.Unless.{UnlessMemory}
+use Rattle.tac_desk.specs.Asking.{asked}
+use Rattle.tac_desk.specs.Editing as editing
+use Rattle.tac_desk.specs.Reporting as reporting
+use Rattle.tac_hall.specs.declared.call.Call.{Call}
+use Rattle.tac_hall.specs.declared.call.Call.TheVariants as calls
+use Rattle.tac_hall.specs.declared.call.CallAnswer.{CallAnswer}
+use Rattle.tac_hall.specs.declared.call.CallAnswer.TheVariants as answers
+use Rattle.tac_hall.specs.declared.entry.Entry.{Entry}
+
+-- ---- one call
+
+-- an edit was answered so; for want of memory it may be refused, which changes nothing
+abbrev pub AnswersEdit : Meaning → Edit → Result (List Changed) EditFault → Meaning → Type 0
+AnswersEdit was edit answer now = UnlessMemory editing.is_memory answer (editing.Edits was edit answer now) × OnErr answer (now ≡ was)
+
+-- a question was answered so, or memory ran out
+abbrev pub AnswersQuery : Meaning → Query → Result Report QueryFault → Meaning → Type 0
+AnswersQuery was query answer now = UnlessMemory reporting.is_memory answer (reporting.Reports was query answer) × (now ≡ was)
+
+-- a desk that stood for the one meaning answers the call so, and stands for the other from then on; an answer is of
+-- its call's kind
+abbrev pub Answers : Meaning → Call → CallAnswer → Meaning → Type 0
+Answers was (calls.Ask ask) (answers.Ask answer) now = (answer ≡ (asked was ask).answer) × (now ≡ (asked was ask).meaning)
+Answers was (calls.Edit edit) (answers.Edit answer) now = AnswersEdit was edit answer now
+Answers was (calls.Query query) (answers.Query answer) now = AnswersQuery was query answer now
+Answers was calls.Stop answers.Stopped now = now ≡ was
+Answers was call answer now = ⊥
+
+-- ---- one call after another
+
+abbrev pub is_stop : Call → Bool
+is_stop (calls.Ask ask) = false
+is_stop (calls.Edit edit) = false
+is_stop (calls.Query query) = false
+is_stop calls.Stop = true
+
+abbrev pub is_ask : Call → Bool
+is_ask (calls.Ask ask) = true
+is_ask (calls.Edit edit) = false
+is_ask (calls.Query query) = false
+is_ask calls.Stop = false
+
+-- whether there was a Stop
+abbrev pub is_closed : List Entry → Bool
+is_closed [] = false
+is_closed (entry ∷ entries) = is_stop entry.call || is_closed entries
+
+-- a desk that stood for the base took these calls, answered each by what it stood for then, and stands for this after
+-- the last of them; a Stop is the last
+pub data Legal (base : Meaning) : List Entry → Meaning → Type 0 where
+  at_first : Legal base [] base
+  and_then : {log : List Entry} {was now : Meaning} (entry : Entry) → Legal base log was → is_closed log ≡ false
+      → Answers was entry.call entry.answer now → Legal base (log ++ entry ∷ []) now

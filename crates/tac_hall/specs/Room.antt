@@ -1,0 +1,72 @@
+-- What lies under the lock of a hall, and what one step does to it.
+use Rattle.std.specs.Prelude.{◌≡◌, ◌<◌, ◌≤◌, ℕ, suc, List, [], ◌∷◌, ◌++◌, length, true, false, Result, Ok, Err}
+use Rattle.tac_desk.specs.Meaning.{Meaning}
+use Rattle.tac_hall.specs.declared.call.Call.{Call}
+use Rattle.tac_hall.specs.declared.entry.Entry.{Entry}
+use Rattle.tac_hall.specs.declared.fault.HallFault.{HallFault}
+use Rattle.tac_hall.specs.declared.fault.HallFault.TheVariants.{LogFull, Memory, Closed, NoSeat}
+use Rattle.tac_hall.specs.declared.laws.Called.{Called}
+use Rattle.tac_hall.specs.declared.laws.Step.{Step}
+use Rattle.tac_hall.specs.declared.laws.Step.TheVariants as steps
+use Rattle.tac_hall.specs.declared.laws.Done.{Done}
+use Rattle.tac_hall.specs.declared.laws.Done.TheVariants as done
+use Rattle.tac_hall.specs.History.{Answers, is_closed, Legal}
+
+-- what the desk stood for at first, the calls since then, what it stands for now, how many calls the log takes, and how
+-- many seats were made
+pub record Contents : Type 0 where
+  pub base : Meaning
+  pub log : List Entry
+  pub meaning : Meaning
+  pub limit : ℕ
+  pub seats : ℕ
+
+abbrev pub contents : Meaning → List Entry → Meaning → ℕ → ℕ → Contents
+contents base log meaning limit seats = record { base = base; log = log; meaning = meaning; limit = limit; seats = seats }
+
+-- no more seats are made
+abbrev pub most_seats : ℕ
+most_seats = 64
+
+-- the log is a legal history from the base to what the desk stands for
+pub record IsLawful (room : Contents) : Type 0 where
+  pub legal : Legal room.base room.log room.meaning
+  pub within : length room.log ≤ room.limit
+  pub seated : room.seats ≤ most_seats
+
+-- ---- a step
+
+-- a seat is made, under the next number, unless there are as many as there may be
+abbrev pub Sits : Contents → Result ℕ HallFault → Contents → Type 0
+Sits was (Ok number) now = (was.seats < most_seats) × (number ≡ was.seats) × (now ≡ record was { seats = suc was.seats })
+Sits was (Err NoSeat) now = (was.seats ≡ most_seats) × (now ≡ was)
+Sits was (Err fault) now = ⊥
+
+-- a call was answered: it is the last of the log, and nothing else has changed but what the desk stands for
+pub record IsCalled (was : Contents) (seat : ℕ) (call : Call) (done : Called) (now : Contents) : Type 0 where
+  pub goes_on : is_closed was.log ≡ false
+  pub room : length was.log < was.limit
+  pub place : done.place ≡ length was.log
+  pub same : done.kept ≡ done.given
+  pub answers : Answers was.meaning call done.given now.meaning
+  pub log : now.log ≡ was.log ++ record { seat = seat; call = call; answer = done.given } ∷ []
+  pub base : now.base ≡ was.base
+  pub limit : now.limit ≡ was.limit
+  pub seats : now.seats ≡ was.seats
+
+-- a call is refused after a Stop, else where the log is full, else perhaps for want of memory; that changes nothing
+abbrev pub Calls : Contents → ℕ → Call → Result Called HallFault → Contents → Type 0
+Calls was seat call (Ok done) now = IsCalled was seat call done now
+Calls was seat call (Err Closed) now = (is_closed was.log ≡ true) × (now ≡ was)
+Calls was seat call (Err LogFull) now = (is_closed was.log ≡ false) × (length was.log ≡ was.limit) × (now ≡ was)
+Calls was seat call (Err Memory) now = (is_closed was.log ≡ false) × (length was.log < was.limit) × (now ≡ was)
+Calls was seat call (Err NoSeat) now = ⊥
+
+-- what a step does, of either kind
+abbrev pub Does : Contents → Step → Result Done HallFault → Contents → Type 0
+Does was steps.Seat (Ok (done.Seated number)) now = Sits was (Ok number) now
+Does was steps.Seat (Ok (done.Called called)) now = ⊥
+Does was steps.Seat (Err fault) now = Sits was (Err fault) now
+Does was (steps.Call seat call) (Ok (done.Seated number)) now = ⊥
+Does was (steps.Call seat call) (Ok (done.Called called)) now = Calls was seat call (Ok called) now
+Does was (steps.Call seat call) (Err fault) now = Calls was seat call (Err fault) now

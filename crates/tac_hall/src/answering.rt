@@ -1,0 +1,137 @@
+//! The desk's answer to a call.
+
+ghost use Rattle.std.specs.Prelude.{◌≡◌, false, Err, IsOk, IfOk, OnErr};
+ghost use Rattle.tac_hall.specs.History.{Answers, is_ask};
+ghost use Rattle.tac_hall.specs.declared.call.CallAnswer.TheVariants as answers;
+
+use crate::call::{Call, CallAnswer};
+use crate::shared::Shared;
+use pol_edit::EditFault;
+use pol_report::Changes;
+use std::alloc::AllocError;
+use std::marker::Model;
+use tac_conn::Answer;
+use tac_desk::{Desk, QueryFault, Report, Thrice};
+
+/// One answer for the log, the view of a seat, and a receipt. A contract sees the answer.
+#[derive(Drop)]
+pub(crate) struct Told {
+    pub(crate) logged: CallAnswer,
+    pub(crate) kept: CallAnswer,
+    pub(crate) given: CallAnswer,
+}
+
+impl Model for Told {
+    ghost use Rattle.std.specs.Prelude.{◌≡◌};
+    ghost use Rattle.tac_hall.specs.declared.call.CallAnswer.{CallAnswer as CallAnswerValue};
+
+    ghost Value = { CallAnswerValue };
+
+    ghost view = { λ told. told.logged };
+
+    ghost invariant = { λ told. (told.kept ≡ told.logged) × (told.given ≡ told.logged) };
+}
+
+fn answer_to_ask(answer: &Answer) -> CallAnswer
+    ensures { result ≡ answers.Ask answer.now }
+{
+    CallAnswer::Ask(*answer)
+}
+
+fn told_of_ask(answer: &Answer) -> Told
+    ensures { result ≡ answers.Ask answer.now }
+{
+    Told {
+        logged: answer_to_ask(answer),
+        kept: answer_to_ask(answer),
+        given: answer_to_ask(answer),
+    }
+}
+
+fn refused_edit(fault: &EditFault) -> CallAnswer
+    ensures { result ≡ answers.Edit (Err fault.now) }
+{
+    CallAnswer::Edit(Err(*fault))
+}
+
+fn told_of_edit(answer: Result<Thrice<Changes>, EditFault>) -> Told
+    ensures { result ≡ answers.Edit answer }
+{
+    match answer {
+        Ok(changes) => {
+            let Thrice {
+                first,
+                second,
+                third,
+            } = changes;
+            Told {
+                logged: CallAnswer::Edit(Ok(Shared::from(first))),
+                kept: CallAnswer::Edit(Ok(Shared::from(second))),
+                given: CallAnswer::Edit(Ok(Shared::from(third))),
+            }
+        }
+        Err(fault) => Told {
+            logged: refused_edit(&fault),
+            kept: refused_edit(&fault),
+            given: refused_edit(&fault),
+        },
+    }
+}
+
+fn told_of_query(answer: Result<Thrice<Report>, QueryFault>) -> Told
+    ensures { result ≡ answers.Query answer }
+{
+    match answer {
+        Ok(report) => {
+            let Thrice {
+                first,
+                second,
+                third,
+            } = report;
+            Told {
+                logged: CallAnswer::Query(Ok(Shared::from(first))),
+                kept: CallAnswer::Query(Ok(Shared::from(second))),
+                given: CallAnswer::Query(Ok(Shared::from(third))),
+            }
+        }
+        Err(fault) => Told {
+            logged: CallAnswer::Query(Err(fault)),
+            kept: CallAnswer::Query(Err(fault)),
+            given: CallAnswer::Query(Err(fault)),
+        },
+    }
+}
+
+fn told_of_stop() -> Told
+    ensures { result ≡ answers.Stopped }
+{
+    Told {
+        logged: CallAnswer::Stopped,
+        kept: CallAnswer::Stopped,
+        given: CallAnswer::Stopped,
+    }
+}
+
+/// The desk's answer to a call. The error is want of memory for an ask, and changes nothing.
+pub(crate) fn answer<D: Desk>(desk: &mut D, call: &Call) -> Result<Told, AllocError>
+    ensures answers { IfOk result (λ told.
+        Answers (D.meaning desk.old) call.now told (D.meaning desk.new)) }
+    ensures sure { is_ask call.now ≡ false → IsOk result }
+    ensures err { OnErr result (D.meaning desk.new ≡ D.meaning desk.old) }
+{
+    match call {
+        Call::Ask(ask) => {
+            let answer = desk.ask(ask)?;
+            Ok(told_of_ask(&answer))
+        }
+        Call::Edit(edit) => {
+            let answer = desk.edit(edit);
+            Ok(told_of_edit(answer))
+        }
+        Call::Query(query) => {
+            let answer = desk.query(query);
+            Ok(told_of_query(answer))
+        }
+        Call::Stop => Ok(told_of_stop()),
+    }
+}

@@ -1,0 +1,54 @@
+//! Why a hall takes no call, or has no seat.
+
+ghost use Rattle.std.specs.Prelude.{◌≡◌, Some};
+ghost use Rattle.tac_hall.specs.declared.fault.HallFault.TheVariants.{Memory};
+ghost use Rattle.tac_hall.specs.FaultText.{fault_text};
+
+use std::alloc::{AllocError, AllocFailed};
+use std::error::Error;
+use std::fmt;
+
+/// Why a hall takes no call, or has no seat. Of a call Closed is judged first, then LogFull, then
+/// Memory.
+#[derive(Clone, Copy, Debug, PartialEq, Eq)]
+pub enum HallFault {
+    /// The log has as many calls as it may have.
+    LogFull,
+    /// Memory ran out.
+    Memory,
+    /// There was a Stop.
+    Closed,
+    /// All seats were made; or the seat that calls is none of this hall.
+    NoSeat,
+}
+
+impl fmt::Display for HallFault {
+    ghost output = { λ fault. Some (fault_text fault) };
+
+    fn fmt<W: fmt::Write>(&self, f: &mut fmt::Formatter<W>) -> fmt::Result {
+        match self {
+            HallFault::LogFull => write!(f, "1 LogFull"),
+            HallFault::Memory => write!(f, "2 Memory"),
+            HallFault::Closed => write!(f, "3 Closed"),
+            HallFault::NoSeat => write!(f, "4 NoSeat"),
+        }
+    }
+}
+
+impl Error for HallFault {}
+
+impl From<AllocError> for HallFault {
+    ghost from_gives = { λ _ fault. fault ≡ Memory };
+
+    fn from(_error: AllocError) -> HallFault {
+        HallFault::Memory
+    }
+}
+
+impl<T: Drop> From<AllocFailed<T>> for HallFault {
+    ghost from_gives = { λ _ fault. fault ≡ Memory };
+
+    fn from(_error: AllocFailed<T>) -> HallFault {
+        HallFault::Memory
+    }
+}

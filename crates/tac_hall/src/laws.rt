@@ -1,0 +1,154 @@
+//! What lies under the lock of a hall, and the one step that is done while the lock is held.
+
+ghost use Rattle.std.specs.Prelude.{◌≡◌, [], ◌↔◌, IsTrue, OnErr};
+ghost use Rattle.tac_desk.specs.Meaning.{Meaning};
+ghost use Rattle.tac_hall.specs.History as history;
+ghost use Rattle.tac_hall.specs.Room as rooms;
+
+use crate::answering::{Told, answer};
+use crate::call::{Call, CallAnswer};
+use crate::entry::Entry;
+use crate::fault::HallFault;
+use crate::shared::Shared;
+use std::alloc::Global;
+use std::marker::Model;
+use tac_desk::{Desk, State};
+
+/// The most seats of a hall.
+pub const MAX_SEATS: u32 = 64;
+
+/// A desk, and all calls that it took. A contract sees what it stood for at first, the calls, what
+/// it stands for now, and the limits; at all times the calls are a legal history between the two.
+#[derive(Drop)]
+pub struct Room<D: Desk> {
+    desk: D,
+    base: State,
+    log: Vec<Entry>,
+    limit: usize,
+    seats: u32,
+    // whether there was a Stop
+    closed: bool,
+}
+
+impl<D: Desk> Model for Room<D> {
+    ghost use Rattle.std.specs.Prelude.{◌≡◌};
+    ghost use Rattle.tac_hall.specs.History.{is_closed};
+    ghost use Rattle.tac_hall.specs.Room.{Contents, IsLawful, contents};
+
+    ghost Value = { Contents };
+
+    ghost view = { λ room. contents room.base room.log.items (D.meaning room.desk) room.limit room.seats };
+
+    ghost invariant = { λ room.
+        IsLawful (contents room.base room.log.items (D.meaning room.desk) room.limit room.seats)
+        × (room.closed ≡ is_closed room.log.items) };
+}
+
+/// One thing that is done while the lock is held.
+#[derive(Drop)]
+pub enum Step {
+    /// A seat is made.
+    Seat,
+    /// The seat of this number makes a call.
+    Call(u32, Shared<Call>),
+}
+
+/// What a step gives.
+#[derive(Drop)]
+pub enum Done {
+    /// The number of the new seat.
+    Seated(u32),
+    Called(Called),
+}
+
+/// A call that was answered: its place in the log, and the answer with two owners more.
+#[derive(Drop)]
+pub struct Called {
+    pub place: usize,
+    pub kept: CallAnswer,
+    pub given: CallAnswer,
+}
+
+impl<D: Desk> Room<D> {
+    /// A desk that no call was made at. The base is what it stands for.
+    pub(crate) fn new(alloc: Global, desk: D, base: State, limit: usize) -> Room<D>
+        requires { base ≡ D.meaning desk }
+        ensures { result ≡ rooms.contents (D.meaning desk) [] (D.meaning desk) limit 0 }
+    {
+        Room {
+            desk,
+            base,
+            log: Vec::new(alloc),
+            limit,
+            seats: 0,
+            closed: false,
+        }
+    }
+
+    /// The calls are a legal history from the base to what the desk stands for.
+    pub fn log(&self) -> &[Entry]
+        ensures log { result.now ≡ self.now.log }
+        ensures legal { history.Legal self.now.base self.now.log self.now.meaning }
+    {
+        self.log.as_slice()
+    }
+
+    /// Does one thing: a call gets the desk's answer, which stands behind the log from then on. A
+    /// refusal changes nothing; only a call may want memory.
+    pub fn step(&mut self, step: Step) -> Result<Done, HallFault>
+        ensures does { rooms.Does self.old step result self.new }
+        ensures legal { history.Legal self.new.base self.new.log self.new.meaning }
+    {
+        match step {
+            Step::Seat => {
+                let number = self.sit()?;
+                Ok(Done::Seated(number))
+            }
+            Step::Call(seat, call) => {
+                let called = self.call(seat, call)?;
+                Ok(Done::Called(called))
+            }
+        }
+    }
+
+    // Makes a seat.
+    fn sit(&mut self) -> Result<u32, HallFault>
+        ensures sits { rooms.Sits self.old result self.new }
+        ensures legal { history.Legal self.new.base self.new.log self.new.meaning }
+    {
+        if self.seats >= MAX_SEATS {
+            return Err(HallFault::NoSeat);
+        }
+        let number = self.seats;
+        self.seats = number + 1;
+        Ok(number)
+    }
+
+    // Makes a call.
+    fn call(&mut self, seat: u32, call: Shared<Call>) -> Result<Called, HallFault>
+        ensures calls { rooms.Calls self.old seat call result self.new }
+        ensures legal { history.Legal self.new.base self.new.log self.new.meaning }
+    {
+        if self.closed {
+            return Err(HallFault::Closed);
+        }
+        if self.log.len() >= self.limit {
+            return Err(HallFault::LogFull);
+        }
+        self.log.reserve(1)?;
+        let Told {
+            logged,
+            kept,
+            given,
+        } = answer(&mut self.desk, call.get())?;
+        let place = self.log.len();
+        self.closed = call.get().is_stop();
+        let entry = Entry {
+            seat,
+            call,
+            answer: logged,
+        };
+        self.log.push(entry).unwrap();
+        Ok(Called { place, kept, given })
+    }
+}

@@ -1,0 +1,14 @@
+//! The hall: one desk that many threads ask, and the history of all that they asked.
+#![tactic(auto)]
+
+mod answering;
+mod call;
+mod entry;
+mod fault;
+pub mod laws;
+mod shared;
+
+pub use call::{Call, CallAnswer};
+pub use entry::{Entry, Made, Receipt};
+pub use fault::HallFault;
+pub use shared::Shared;
