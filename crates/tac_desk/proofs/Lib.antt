@@ -1,5 +1,6 @@
 pub mod Asks
 pub mod Edits
+pub mod Opened
 pub mod Reports
 pub mod MarkFacts
 pub mod TallyFacts

@@ -1,17 +1,13 @@
--- What a desk that searches and counts each time stands for.
+-- What a desk that searches and counts each time keeps, and what that stands for.
 use Rattle.std.specs.Prelude.{List}
 use Rattle.pol_text.specs.declared.subject.Subject.{Subject}
 use Rattle.tac_tally.specs.Book.{Entry, Contents, items}
 use Rattle.tac_desk.specs.Meaning.{Meaning}
 use Rattle.tac_desk.specs.Reporting.{entries}
-use Rattle.tac_desk.specs.declared.plain.PlainDesk.{PlainDesk}
 
 -- the records count, and not their marks
 abbrev pub meaning_of : List Subject → Contents → Meaning
 meaning_of policy book = record { policy = policy; records = items book.entries; limit = book.limit }
-
-abbrev pub stands_for : PlainDesk → Meaning
-stands_for desk = meaning_of desk.policy desk.book
 
 -- the records of the book, with the marks that this policy gives
 abbrev pub entries_by : List Subject → Contents → List Entry

@@ -1,5 +1,6 @@
 pub mod Meaning
 pub mod Unless
+pub mod Opening
 pub mod Asking
 pub mod Editing
 pub mod Reporting

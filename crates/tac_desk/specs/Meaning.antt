@@ -12,3 +12,7 @@ pub record Meaning : Type 0 where
 -- a desk before anything was asked of it
 abbrev pub opening : List Subject → ℕ → Meaning
 opening policy limit = record { policy = policy; records = []; limit = limit }
+
+-- a desk whose policy was edited
+abbrev pub with_policy : List Subject → Meaning → Meaning
+with_policy policy meaning = record meaning { policy = policy }

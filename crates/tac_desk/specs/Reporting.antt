@@ -1,12 +1,17 @@
 -- What a question to the desk is answered.
 use Rattle.std.specs.Prelude.{◌≡◌, ℕ, List, Bool, true, false, is_some, Option, Some, None, Result, Ok, Err, if◌then◌else◌}
-use Rattle.pol_text.specs.Policy.{find_subject, decision, decide}
+use Rattle.pol_text.specs.Policy.{find_subject, Entry, decision, decide}
 use Rattle.pol_names.specs.declared.subject_id.Kind.{Kind}
 use Rattle.pol_names.specs.declared.subject_id.Kind.TheVariants.{Group, User}
+use Rattle.pol_names.specs.declared.subject_id.SubjectId.{SubjectId}
 use Rattle.pol_names.specs.declared.decision.Verdict.{Verdict}
 use Rattle.pol_names.specs.declared.decision.Verdict.TheVariants.{Permit, Deny}
 use Rattle.pol_text.specs.declared.subject.Subject.{Subject}
-use Rattle.tac_tally.specs.Book.{Entry}
+use Rattle.pol_live.specs.Along.{entries_of}
+use Rattle.pol_report.specs.Reach.{AreReached, Shadows}
+use Rattle.pol_report.specs.declared.Shadowed.{Shadowed}
+use Rattle.pol_report.specs.declared.Reached.{Reached}
+use Rattle.tac_tally.specs.Book as book
 use Rattle.tac_tally.specs.Recount.{marked}
 use Rattle.tac_tally.specs.Tally.{tally_of, group_tally_of}
 use Rattle.tac_tally.specs.declared.tally.Tally.{Tally}
@@ -34,7 +39,7 @@ abbrev pub denies : List Subject → List ℕ → List ℕ → Bool
 denies policy name line = denies_to policy line (user_named policy name)
 
 -- the records, and beside each whether the present policy denies its line
-abbrev pub entries : Meaning → List Entry
+abbrev pub entries : Meaning → List book.Entry
 entries meaning = marked (denies meaning.policy) meaning.records
 
 -- the user needn't be in the policy; a group must be
@@ -48,11 +53,35 @@ abbrev pub tally_report : Result Tally QueryFault → Result Report QueryFault
 tally_report (Ok tally) = Ok (reports.Tally tally)
 tally_report (Err fault) = Err fault
 
+-- ---- rules
+
+-- the rules that decide no line, for each subject of the policy
+pub record IsShadowReport (policy : List Subject) (answer : Result Report QueryFault) : Type 0 where
+  pub shadows : List Shadowed
+  pub are : Shadows policy shadows
+  pub is : answer ≡ Ok (reports.Shadow shadows)
+
+-- the rules along a chain, each with the least line that it decides
+pub record IsReachReport (along : List Entry) (answer : Result Report QueryFault) : Type 0 where
+  pub rows : List Reached
+  pub are : AreReached along rows
+  pub is : answer ≡ Ok (reports.Reach rows)
+
+-- along the chain of a subject, which must be there
+abbrev pub ReachIf : Option Subject → List Entry → Result Report QueryFault → Type 0
+ReachIf None along answer = answer ≡ Err NoSuch
+ReachIf (Some subject) along answer = IsReachReport along answer
+
+abbrev pub IsReachOf : List Subject → SubjectId → Result Report QueryFault → Type 0
+IsReachOf policy id answer = ReachIf (find_subject id policy) (entries_of policy id) answer
+
 -- ---- all questions
 
 -- the desk answers the question so
 abbrev pub Reports : Meaning → Query → Result Report QueryFault → Type 0
 Reports meaning queries.Policy answer = answer ≡ Ok (reports.Policy meaning.policy)
+Reports meaning queries.Shadow answer = IsShadowReport meaning.policy answer
+Reports meaning (queries.Reach subject) answer = IsReachOf meaning.policy subject answer
 Reports meaning (queries.Tally subject) answer = answer ≡ tally_report (tally_at meaning subject.kind subject.name)
 Reports meaning (queries.Why user line) answer = answer ≡ Ok (reports.Why (decide meaning.policy user line))
 Reports meaning queries.Records answer = answer ≡ Ok (reports.Records meaning.records)
@@ -64,6 +93,8 @@ IsOnly meaning query answer = (other : Result Report QueryFault) → Reports mea
 -- whether the report is one to this question
 abbrev pub is_report_to : Query → Report → Bool
 is_report_to queries.Policy (reports.Policy policy) = true
+is_report_to queries.Shadow (reports.Shadow shadows) = true
+is_report_to (queries.Reach subject) (reports.Reach rows) = true
 is_report_to (queries.Tally subject) (reports.Tally tally) = true
 is_report_to (queries.Why user line) (reports.Why decision) = true
 is_report_to queries.Records (reports.Records records) = true

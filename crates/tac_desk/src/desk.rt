@@ -2,6 +2,7 @@
 
 ghost use Rattle.std.specs.Prelude.{◌≡◌, ◌↔◌, false, Err, IsOk, IsTrue, IfOk, OnOk, OnErr};
 ghost use Rattle.tac_conn.specs.Ask.{kind_of_ask, kind_of_answer};
+ghost use Rattle.pol_live.specs.Live.{is_memory};
 ghost use Rattle.tac_desk.specs.Meaning.{Meaning};
 ghost use Rattle.tac_desk.specs.Unless.{UnlessMemory};
 ghost use Rattle.tac_desk.specs.Asking.{asked, stores, Passes};
@@ -38,12 +39,13 @@ pub trait Desk: Drop {
         ensures sure { stores (meaning self.old) ask.now ≡ false → IsOk result }
         ensures err { OnErr result (meaning self.new ≡ meaning self.old) };
 
-    /// Makes an edit, and answers what it changes for users. A refused edit changes nothing, also
-    /// where memory ran out.
+    /// Makes an edit, and answers what it changes for users. Refused as the edit is, and then where
+    /// a subject of the new policy is too large, with the first such subject in its order. A
+    /// refused edit changes nothing, also where memory ran out.
     fn edit(&mut self, edit: &Edit) -> Result<Thrice<Changes>, EditFault>
-        ensures found { UnlessMemory editing.is_memory result
+        ensures found { UnlessMemory is_memory result
             (editing.Edits (meaning self.old) edit.now result (meaning self.new)) }
-        ensures only { UnlessMemory editing.is_memory result
+        ensures only { UnlessMemory is_memory result
             (editing.IsOnly (meaning self.old) edit.now result (meaning self.new)) }
         ensures err { OnErr result (meaning self.new ≡ meaning self.old) };
 

@@ -4,8 +4,10 @@
 mod authentication;
 mod authorisation;
 mod desk;
+mod editing;
 mod plain;
 mod query;
+mod reaching;
 mod state;
 mod tallies;
 mod thrice;

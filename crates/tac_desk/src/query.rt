@@ -2,6 +2,7 @@
 
 use basics::{Bytes, Sequence};
 use pol_names::{Decision, Name, SubjectId};
+use pol_report::{Reached, Shadowed};
 use pol_text::Policy;
 use std::alloc::{AllocError, AllocFailed};
 use std::error::Error;
@@ -13,6 +14,10 @@ use tac_tally::{Record, Tally};
 pub enum Query {
     /// What the policy is.
     Policy,
+    /// Which rules decide no line, for each subject.
+    Shadow,
+    /// By which lines the rules along a subject's chain are reached.
+    Reach(SubjectId),
     /// What the records of a user, or those of a group's users, count up to.
     Tally(SubjectId),
     /// What the policy says of a user's command line, and by which rule.
@@ -25,6 +30,10 @@ pub enum Query {
 #[derive(Drop)]
 pub enum Report {
     Policy(Policy),
+    /// For each subject in the policy's order, in the order of the rules along its chain.
+    Shadow(Sequence<Shadowed>),
+    /// All rules along the chain, the subject's own first.
+    Reach(Sequence<Reached>),
     Tally(Tally),
     /// Nothing where the policy has no such user.
     Why(Option<Decision>),
@@ -35,7 +44,7 @@ pub enum Report {
 /// Why a question isn't answered.
 #[derive(Clone, Copy, Debug, PartialEq, Eq)]
 pub enum QueryFault {
-    /// The policy has no such group.
+    /// The policy has no such subject, or no such group.
     NoSuch,
     /// Memory ran out.
     Memory,

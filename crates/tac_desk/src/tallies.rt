@@ -65,8 +65,8 @@ pub(crate) fn tally(
 ) -> Result<Report, QueryFault>
     ensures found { UnlessMemory reporting.is_memory result
         (reporting.Reports (meaning_of policy.now book.old) (queries.Tally subject.now) result) }
-    ensures sure { reporting.Reports (meaning_of policy.now book.old) (queries.Tally subject.now) (Err NoSuch) →
-        result ≡ Err NoSuch }
+    ensures sure { reporting.Reports (meaning_of policy.now book.old) (queries.Tally subject.now)
+        (Err NoSuch) → result ≡ Err NoSuch }
     ensures kept { meaning_of policy.now book.new ≡ meaning_of policy.now book.old }
 {
     match subject.kind {

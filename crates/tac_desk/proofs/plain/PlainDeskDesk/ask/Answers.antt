@@ -1,7 +1,6 @@
 use Rattle.std.proofs.Common.{rules}
-use Rattle.tac_desk.specs.Kept.{stands_for}
 use Rattle.tac_desk.proofs.Asks.{passes_exactly}
 use Rattle.tac_desk.proofs.plain.PlainDeskDesk.ask.Goals as goal
 
 pub returns-in-Authenticate-clause-passes : goal.returns-in-Authenticate-clause-passes
-returns-in-Authenticate-clause-passes c = passes_exactly (stands_for c.args.self.now) c.args.ask.now c.authentication.result (search rules)
+returns-in-Authenticate-clause-passes c = passes_exactly c.args.self.now c.args.ask.now c.authentication.result (search rules)
