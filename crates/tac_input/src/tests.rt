@@ -1,0 +1,79 @@
+//! Inputs that come in parts, are interrupted, fail, or are too long.
+
+use crate::reading::{InputFault, read_whole};
+use std::io::{self, ErrorKind, Read};
+use std::process::Abort;
+
+/// Gives a part of its text a read, by one letter each: `i` is an interruption, `x` another error,
+/// and a digit a read of at most so many bytes. Behind the last letter nothing is left.
+#[derive(Drop)]
+struct Scripted<'a> {
+    letters: &'a [u8],
+    text: &'a [u8],
+}
+
+impl Read for Scripted<'_> {
+    fn read(&mut self, buf: &mut [u8]) -> io::Result<usize> {
+        let Some((letter, rest)) = self.letters.split_first() else {
+            return Ok(0);
+        };
+        self.letters = rest;
+        match *letter {
+            b'i' => Err(io::Error::from(ErrorKind::Interrupted)),
+            b'x' => Err(io::Error::from(ErrorKind::IsADirectory)),
+            letter => {
+                let n = usize::from(letter.wrapping_sub(b'0'))
+                    .min(self.text.len())
+                    .min(buf.len());
+                let (part, left) = self.text.split_at(n);
+                buf[..n].copy_from_slice(part);
+                self.text = left;
+                Ok(n)
+            }
+        }
+    }
+}
+
+// Reads a text of eight bytes up to a bound. Wanted are how many are read, or the fault.
+fn reads<R: Abort + AllocGlobal>(
+    rt: &R,
+    letters: &str,
+    bound: usize,
+    wanted: Result<usize, InputFault>,
+) {
+    let text = b"abcdefgh";
+    let mut reader = Scripted {
+        letters: letters.as_bytes(),
+        text,
+    };
+    match (read_whole(rt.alloc(), &mut reader, bound), wanted) {
+        (Ok(input), Ok(n)) => {
+            assert!(rt; input.as_slice() == &text[..n.min(8)], "by {letters:?}");
+        }
+        (Ok(_), Err(fault)) => assert!(rt; false, "by {letters:?}: not {fault}"),
+        (Err(fault), wanted) => assert_eq!(rt; Err(fault), wanted, "by {letters:?}"),
+    }
+}
+
+#[test]
+fn whole(rt: HostRuntime) {
+    reads(&rt, "8", 8, Ok(8));
+    reads(&rt, "3i1ii2i2", 8, Ok(8));
+    reads(&rt, "11111", 5, Ok(5));
+    reads(&rt, "ii", 0, Ok(0));
+    reads(&rt, "80x", 9, Ok(8));
+}
+
+#[test]
+fn too_long(rt: HostRuntime) {
+    reads(&rt, "8", 7, Err(InputFault::TooLong));
+    reads(&rt, "3i5x", 7, Err(InputFault::TooLong));
+    reads(&rt, "1", 0, Err(InputFault::TooLong));
+}
+
+#[test]
+fn failing(rt: HostRuntime) {
+    reads(&rt, "x", 8, Err(InputFault::Failed));
+    reads(&rt, "3x5", 8, Err(InputFault::Failed));
+    reads(&rt, "8ix", 8, Err(InputFault::Failed));
+}
