@@ -3,3 +3,5 @@ pub mod Spelling
 pub mod Percent
 pub mod Answers
 pub mod Apart
+pub mod Faults
+pub mod Reports

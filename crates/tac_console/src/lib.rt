@@ -4,11 +4,15 @@
 mod adding;
 mod asked;
 mod edit_answer;
+mod faults;
 mod percent;
 mod query_answer;
 mod reading;
+mod rules;
 
 pub use asked::Asked;
 pub use edit_answer::write_edit_answer;
+pub use faults::{write_build_fault, write_policy_fault};
 pub use query_answer::write_query_answer;
 pub use reading::read_console;
+pub use rules::write_shadows;
