@@ -1,0 +1,290 @@
+//! Policies that decide by automata: what they decide, edits of them, and sizes.
+
+use crate::support::{build, converses, name, prepare, push_decision};
+use pol_automaton::Meter;
+use pol_edit::EditFault;
+use pol_live::{Live, Prepared};
+use pol_names::{Name, SubjectId};
+use pol_text::Policy;
+use std::alloc::Global;
+use std::fmt::Write;
+use std::process::Abort;
+use std::test::Fail;
+
+/// Rules along a chain of three.
+const CHAIN: &str = "group all\npermit ping\ngroup ops in all\ndeny show clock\npermit show .*\n\
+                     user bob in ops\ndeny reload\nuser eve\n";
+
+#[test]
+fn decisions(rt: HostRuntime) -> Result<(), Fail> {
+    converses(
+        &rt,
+        CHAIN,
+        "
+        > why bob reload
+        deny by user bob rule 1
+        > why bob show clock
+        deny by group ops rule 1
+        > why bob show it
+        permit by group ops rule 2
+        > why bob ping
+        permit by group all rule 1
+        > why bob
+        deny by default
+        > why bob ping\u{7f}
+        deny by default
+        > why eve ping
+        deny by default
+        > why ops ping
+        unknown user
+        # Each edit counts at once, for what inherits too.
+        > insert group all 1 permit .*
+        ok
+        user bob now permits: 
+        > why bob reload
+        deny by user bob rule 1
+        > why bob ping
+        permit by group all rule 1
+        > move user bob in all
+        ok
+        user bob now permits: show clock
+        > why bob show clock
+        permit by group all rule 1
+        > move user eve in ops
+        ok
+        user eve now permits: 
+        > why eve show clock
+        deny by group ops rule 1
+        > drop group ops 1
+        ok
+        user eve now permits: show clock
+        > why eve show clock
+        permit by group ops rule 1
+        > move group ops out
+        ok
+        user eve now denies: 
+        > why eve show clock
+        permit by group ops rule 1
+        > why eve ping
+        deny by default
+        > remove user bob
+        ok
+        user bob now denies: 
+        > why bob ping
+        unknown user
+        ",
+    )
+}
+
+#[test]
+fn sizes(rt: HostRuntime) -> Result<(), Fail> {
+    converses(
+        &rt,
+        "group ops\npermit show .*\nuser bob in ops\nuser eve\n",
+        "
+        > states group ops
+        7
+        > states user bob
+        7
+        > states user eve
+        1
+        > states group bob
+        no subject
+        > insert user bob 1 permit ping
+        ok
+        user bob now permits: ping
+        > states user bob
+        11
+        > states group ops
+        7
+        ",
+    )
+}
+
+#[test]
+fn refusals(rt: HostRuntime) -> Result<(), Fail> {
+    converses(
+        &rt,
+        "group g\ngroup h in g\nuser u in h\n",
+        "
+        # 4,096 residuals are as many as there may be.
+        > insert group g 1 deny .*a...........
+        ok
+        > states user u
+        4096
+        > insert group g 1 deny .*a............
+        refused 11 TooManyStates group g
+        > insert group h 1 deny .*b
+        refused 11 TooManyStates group h
+        > states user u
+        4096
+        > insert user u 1 permit .*
+        ok
+        user u now permits: 
+        > states user u
+        4096
+        # The refusals of an edit come first.
+        > insert group none 1 deny .*a............
+        refused 2 NoSuch
+        > insert group g 3 deny .*a............
+        refused 7 BadIndex
+        > why u a
+        permit by user u rule 1
+        > policy
+        group g
+        deny .*a...........
+        group h in g
+        user u in h
+        permit .*
+        ",
+    )
+}
+
+// Why no automata are made of the policy of this text.
+fn refusal(alloc: Global, text: &str) -> Result<Option<EditFault>, Fail> {
+    let policy = Policy::read(alloc, text.as_bytes())?;
+    let mut meter = Meter::new();
+    Ok(Live::build(alloc, policy, &mut meter).err())
+}
+
+fn is_refused<R: Abort + AllocGlobal>(rt: &R, text: &str, subject: &str) -> Result<(), Fail> {
+    match refusal(rt.alloc(), text)? {
+        Some(EditFault::TooManyStates(id)) => {
+            let named = format!(in rt.alloc(); "{id}")?;
+            assert_eq!(rt; named.as_str(), subject);
+        }
+        _ => assert!(rt; false, "{text} is built"),
+    }
+    Ok(())
+}
+
+// The first subject is named that is too large with what it inherits.
+#[test]
+fn policies_that_are_too_large(rt: HostRuntime) -> Result<(), Fail> {
+    is_refused(&rt, "group g\ndeny .*a............\n", "group g")?;
+    is_refused(
+        &rt,
+        "group all\npermit .*b\nuser u in big\ngroup big in all\ndeny .*a...........\n",
+        "user u",
+    )
+}
+
+// ---- edits that are ready to be made
+
+// What the edit would decide of the user's line, in words.
+fn push_foretold(
+    live: &Live,
+    prepared: &Prepared,
+    user: &Name,
+    line: &str,
+    out: &mut String,
+) -> Result<(), Fail> {
+    if !prepared.fits(live) {
+        return Err(Fail::from("it doesn't fit"));
+    }
+    if let Some(decider) = prepared.decider(live, &SubjectId::user(*user)) {
+        write!(out, "of {} states ", decider.states())?;
+    }
+    push_decision(out, prepared.decide(live, user, line.as_bytes()))
+}
+
+fn is_foretold<R: Abort + AllocGlobal>(
+    rt: &R,
+    live: &Live,
+    prepared: &Prepared,
+    words: &str,
+    expected: &str,
+) -> Result<(), Fail> {
+    let (user, line) = words.split_once(' ').ok_or("no line")?;
+    let mut out = String::new(rt.alloc());
+    push_foretold(live, prepared, &name(user)?, line, &mut out)?;
+    assert_eq!(rt; out.as_str(), expected, "{words}");
+    Ok(())
+}
+
+fn foretells<R: Abort + AllocGlobal>(
+    rt: &R,
+    live: &Live,
+    edit: &str,
+    words: &str,
+    expected: &str,
+) -> Result<(), Fail> {
+    let prepared = prepare(rt.alloc(), live, edit)?;
+    is_foretold(rt, live, &prepared, words, expected)
+}
+
+fn foretells_each<R: Abort + AllocGlobal>(rt: &R, live: &Live) -> Result<(), Fail> {
+    for (edit, words, expected) in [
+        (
+            "insert user bob 1 permit reload",
+            "bob reload",
+            "of 23 states permit by user bob rule 1\n",
+        ),
+        (
+            "move user eve in ops",
+            "eve show x",
+            "of 17 states permit by group ops rule 2\n",
+        ),
+        (
+            "add user zed in all",
+            "zed ping",
+            "of 6 states permit by group all rule 1\n",
+        ),
+        ("remove user bob", "bob ping", "unknown user\n"),
+        // Nothing was made of those.
+        (
+            "login bob x",
+            "bob reload",
+            "of 23 states deny by user bob rule 1\n",
+        ),
+    ] {
+        foretells(rt, live, edit, words, expected)?;
+    }
+    Ok(())
+}
+
+#[test]
+fn edits_that_are_ready(rt: HostRuntime) -> Result<(), Fail> {
+    let live = build(rt.alloc(), CHAIN)?;
+    foretells_each(&rt, &live)
+}
+
+// Whether both fit, and the second no longer does once the first is made.
+fn is_stale(live: &mut Live, first: Prepared, second: &Prepared) -> bool {
+    if !first.fits(live) || !second.fits(live) {
+        return false;
+    }
+    live.commit(first);
+    !second.fits(live)
+}
+
+fn is_stale_behind(
+    alloc: Global,
+    live: &mut Live,
+    first: &str,
+    second: &Prepared,
+) -> Result<bool, Fail> {
+    let first = prepare(alloc, live, first)?;
+    Ok(is_stale(live, first, second))
+}
+
+fn becomes_stale(alloc: Global, live: &mut Live, first: &str, second: &str) -> Result<bool, Fail> {
+    let second = prepare(alloc, live, second)?;
+    is_stale_behind(alloc, live, first, &second)
+}
+
+fn fit_while_the_policy_stays<R: Abort + AllocGlobal>(rt: &R, live: &mut Live) -> Result<(), Fail> {
+    let alloc = rt.alloc();
+    assert!(rt; becomes_stale(alloc, live, "login bob x", "drop user bob 1")?);
+    assert!(rt; becomes_stale(alloc, live, "shift group ops 1 2", "login bob x")?);
+    // What leaves the policy as it is leaves the other edit ready.
+    assert!(rt; !becomes_stale(alloc, live, "clear enable bob", "drop user bob 1")?);
+    assert!(rt; !becomes_stale(alloc, live, "login bob x", "remove user eve")?);
+    Ok(())
+}
+
+#[test]
+fn edits_that_no_longer_fit(rt: HostRuntime) -> Result<(), Fail> {
+    let mut live = build(rt.alloc(), CHAIN)?;
+    fit_while_the_policy_stays(&rt, &mut live)
+}

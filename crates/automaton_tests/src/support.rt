@@ -1,0 +1,257 @@
+//! What the tests share: conversations with a policy that decides by automata.
+
+use basics::{Bytes, Sequence};
+use pol_automaton::Meter;
+use pol_edit::{Edit, read_edit};
+use pol_live::{Live, Prepared};
+use pol_names::{By, Decision, Name, SubjectId};
+use pol_report::{Changes, Reached, Shadowed, changes, reach, shadows};
+use pol_text::Policy;
+use std::alloc::Global;
+use std::fmt::Write;
+use std::process::Abort;
+use std::test::Fail;
+
+/// The name that the text is.
+pub(crate) fn name(text: &str) -> Result<Name, Fail> {
+    match Name::read(text.as_bytes()) {
+        Some(name) => Ok(name),
+        None => Err(Fail::from("no name")),
+    }
+}
+
+// `group NAME` or `user NAME`.
+fn subject(words: &str) -> Result<SubjectId, Fail> {
+    match words.split_once(' ') {
+        Some(("group", group)) => Ok(SubjectId::group(name(group)?)),
+        Some((_, user)) => Ok(SubjectId::user(name(user)?)),
+        None => Err(Fail::from("no subject")),
+    }
+}
+
+/// The policy of this text with its automata.
+pub(crate) fn build(alloc: Global, text: &str) -> Result<Live, Fail> {
+    let policy = Policy::read(alloc, text.as_bytes())?;
+    let mut meter = Meter::new();
+    Ok(Live::build(alloc, policy, &mut meter)?)
+}
+
+/// The edit of this line, made ready.
+pub(crate) fn prepare(alloc: Global, live: &Live, line: &str) -> Result<Prepared, Fail> {
+    let edit = read_edit(alloc, line.as_bytes())?;
+    let mut meter = Meter::new();
+    Ok(live.prepare(alloc, &edit, &mut meter)?)
+}
+
+// ---- what is printed
+
+/// A decision in words.
+pub(crate) fn push_decision(out: &mut String, decision: Option<Decision>) -> Result<(), Fail> {
+    let Some(Decision { verdict, by }) = decision else {
+        out.push_str("unknown user\n")?;
+        return Ok(());
+    };
+    out.push_str(verdict.keyword())?;
+    match by {
+        By::Rule(owner, number) => writeln!(out, "by {owner} rule {number}")?,
+        By::Default => out.push_str("by default\n")?,
+    }
+    Ok(())
+}
+
+fn push_change(out: &mut String, user: &Name, way: &str, line: &Option<Bytes>) -> Result<(), Fail> {
+    if let Some(line) = line {
+        let line = str::from_utf8(line.as_slice())?;
+        writeln!(out, "user {} now {way}: {line}", user.as_str())?;
+    }
+    Ok(())
+}
+
+fn push_changes(out: &mut String, changes: &Changes) -> Result<(), Fail> {
+    for changed in changes.as_slice() {
+        push_change(out, &changed.user, "permits", &changed.permits)?;
+        push_change(out, &changed.user, "denies", &changed.denies)?;
+    }
+    Ok(())
+}
+
+fn push_reached(out: &mut String, rows: &Sequence<Reached>) -> Result<(), Fail> {
+    for Reached {
+        owner,
+        number,
+        text,
+    } in rows.as_slice() {
+        match text {
+            Some(line) => {
+                let line = str::from_utf8(line.as_slice())?;
+                writeln!(out, "{owner} rule {number}: {line}")?;
+            }
+            None => writeln!(out, "{owner} rule {number} never")?,
+        }
+    }
+    Ok(())
+}
+
+fn push_shadows(out: &mut String, shadows: &Sequence<Shadowed>) -> Result<(), Fail> {
+    for Shadowed {
+        subject,
+        owner,
+        number,
+    } in shadows.as_slice() {
+        writeln!(out, "{subject}: {owner} rule {number}")?;
+    }
+    Ok(())
+}
+
+// ---- what is asked
+
+// `NAME LINE`: what is decided of the user's line.
+fn why(live: &Live, words: &str, out: &mut String) -> Result<(), Fail> {
+    let (user, line) = words.split_once(' ').unwrap_or((words, ""));
+    push_decision(out, live.decide(&name(user)?, line.as_bytes()))
+}
+
+// How many states the subject's automaton has.
+fn states(live: &Live, words: &str, out: &mut String) -> Result<(), Fail> {
+    match live.decider(&subject(words)?) {
+        Some(decider) => writeln!(out, "{}", decider.states())?,
+        None => out.push_str("no subject\n")?,
+    }
+    Ok(())
+}
+
+fn tell_reached(alloc: Global, live: &Live, words: &str, out: &mut String) -> Result<(), Fail> {
+    let rows = reach(alloc, live, &subject(words)?)?;
+    push_reached(out, &rows)
+}
+
+fn tell_shadows(alloc: Global, live: &Live, out: &mut String) -> Result<(), Fail> {
+    let rows = shadows(alloc, live)?;
+    push_shadows(out, &rows)
+}
+
+fn tell_policy(alloc: Global, live: &Live, out: &mut String) -> Result<(), Fail> {
+    let text = live.policy().print(alloc)?;
+    out.push_str(str::from_utf8(text.as_slice())?)?;
+    Ok(())
+}
+
+// ---- edits
+
+// What the edit changes, and makes it; nothing where it was prepared on another policy.
+fn made(alloc: Global, live: &mut Live, prepared: Prepared) -> Result<Option<Changes>, Fail> {
+    if !prepared.fits(live) {
+        return Ok(None);
+    }
+    let found = changes(alloc, live, &prepared)?;
+    live.commit(prepared);
+    Ok(Some(found))
+}
+
+fn make(alloc: Global, live: &mut Live, prepared: Prepared, out: &mut String) -> Result<(), Fail> {
+    match made(alloc, live, prepared)? {
+        Some(found) => {
+            out.push_str("ok\n")?;
+            push_changes(out, &found)
+        }
+        None => Err(Fail::from("it doesn't fit")),
+    }
+}
+
+// Makes the edit, or prints its refusal.
+fn apply(alloc: Global, live: &mut Live, edit: &Edit, out: &mut String) -> Result<(), Fail> {
+    let mut meter = Meter::new();
+    match live.prepare(alloc, edit, &mut meter) {
+        Ok(prepared) => make(alloc, live, prepared, out),
+        Err(fault) => Ok(writeln!(out, "refused {fault}")?),
+    }
+}
+
+fn edit(alloc: Global, live: &mut Live, line: &str, out: &mut String) -> Result<(), Fail> {
+    let edit = read_edit(alloc, line.as_bytes())?;
+    apply(alloc, live, &edit, out)
+}
+
+// ---- conversations
+
+// What was printed, against what is wanted.
+#[derive(Drop)]
+struct Conversation {
+    alloc: Global,
+    live: Live,
+    printed: String,
+    wanted: String,
+}
+
+impl Conversation {
+    fn new(alloc: Global, policy: &str) -> Result<Conversation, Fail> {
+        Ok(Conversation {
+            alloc,
+            live: build(alloc, policy)?,
+            printed: String::new(alloc),
+            wanted: String::new(alloc),
+        })
+    }
+
+    fn compare<R: Abort>(&self, rt: &R) {
+        let printed = self.printed.as_str();
+        let wanted = self.wanted.as_str();
+        assert!(rt; printed == wanted, "wanted\n{wanted}printed\n{printed}");
+    }
+
+    fn tell(&mut self, words: &str) -> Result<(), Fail> {
+        let alloc = self.alloc;
+        let out = &mut self.printed;
+        match words.split_once(' ').unwrap_or((words, "")) {
+            ("why", rest) => why(&self.live, rest, out),
+            ("states", rest) => states(&self.live, rest, out),
+            ("reach", rest) => tell_reached(alloc, &self.live, rest, out),
+            ("shadow", _) => tell_shadows(alloc, &self.live, out),
+            ("policy", _) => tell_policy(alloc, &self.live, out),
+            _ => edit(alloc, &mut self.live, words, out),
+        }
+    }
+
+    fn want(&mut self, line: &str) -> Result<(), Fail> {
+        self.wanted.push_str(line)?;
+        self.wanted.push_str("\n")?;
+        Ok(())
+    }
+
+    fn go_on<R: Abort>(&mut self, rt: &R, line: &str) -> Result<(), Fail> {
+        if line.is_empty() || line.starts_with('#') {
+            return Ok(());
+        }
+        match line.strip_prefix("> ") {
+            Some(words) => {
+                self.compare(rt);
+                self.tell(words)
+            }
+            None => self.want(line),
+        }
+    }
+}
+
+// The whole conversation, and what it ends with.
+fn holds<R: Abort>(rt: &R, conversation: &mut Conversation, lines: &str) -> Result<(), Fail> {
+    for line in lines.lines() {
+        conversation.go_on(rt, line.trim_start())?;
+    }
+    conversation.compare(rt);
+    Ok(())
+}
+
+/// Holds a conversation with the policy of this text.
+///
+/// Behind `> ` stands an edit, or a question: `why NAME LINE`, `states SUBJECT`, `reach SUBJECT`,
+/// `shadow` or `policy`. Behind each come the lines that are answered: to an edit `ok` and what it
+/// changes, or its refusal; to `reach` each rule with its least line; to `shadow` each subject with
+/// a rule that decides none of its lines. A line that begins with `#` is a comment.
+pub(crate) fn converses<R: Abort + AllocGlobal>(
+    rt: &R,
+    policy: &str,
+    lines: &str,
+) -> Result<(), Fail> {
+    let mut conversation = Conversation::new(rt.alloc(), policy)?;
+    holds(rt, &mut conversation, lines)
+}
