@@ -4,7 +4,7 @@ use Rattle.std.specs.Option.{option_map_or}
 use Rattle.pol_names.specs.declared.subject_id.SubjectId.{SubjectId}
 use Rattle.pol_text.specs.declared.subject.Rule.{Rule}
 use Rattle.pol_text.specs.declared.subject.Subject.{Subject}
-use Rattle.pol_text.specs.Policy.{id_of, parent_of, chain_within, Entry, numbered, own_entries, entries_along}
+use Rattle.pol_text.specs.Policy.{parent_of, chain_within, Entry, numbered, own_entries, entries_along}
 use Rattle.pol_live.specs.declared.along.ChainRule.{ChainRule}
 use Rattle.pol_live.specs.Along.{patterns_of, chain_rule}
 
@@ -32,29 +32,13 @@ entries_none policy subject i past = ap entries_along (chain_none policy subject
 
 -- ---- patterns
 
-patterns_append : (xs ys : List Entry) → patterns_of (xs ++ ys) ≡ patterns_of xs ++ patterns_of ys
+pub patterns_append : (xs ys : List Entry) → patterns_of (xs ++ ys) ≡ patterns_of xs ++ patterns_of ys
 patterns_append [] ys = refl
 patterns_append (x ∷ xs) ys = ap (λ (rest : List (List ℕ)). x.rule.pattern ∷ rest) (patterns_append xs ys)
 
-own_patterns : (owner : SubjectId) (n : ℕ) (rules : List Rule) → patterns_of (numbered owner n rules) ≡ map (λ rule. rule.pattern) rules
-own_patterns owner n [] = refl
-own_patterns owner n (rule ∷ rules) = ap (λ (rest : List (List ℕ)). rule.pattern ∷ rest) (own_patterns owner (suc n) rules)
-
--- the patterns found so far, and those of a subject
-pub patterns_step : (policy : List Subject) (subject : Subject) (i : ℕ) (parent : Option Subject) (found all : List (List ℕ)) → i < 8 → parent_of policy subject ≡ parent
-    → found ++ patterns_of (entries_along (chain_within (8 - i) policy subject)) ≡ all
-    → (found ++ map (λ rule. rule.pattern) subject.rules) ++ patterns_of (entries_along (option_map_or (chain_within (8 - (i + 1)) policy) parent [])) ≡ all
-patterns_step policy subject i parent found all lt e so_far =
-    let later = entries_along (option_map_or (chain_within (8 - (i + 1)) policy) parent []) in
-    append_assoc found (map (λ rule. rule.pattern) subject.rules) (patterns_of later)
-    ∙ ap (λ (back : List (List ℕ)). found ++ (back ++ patterns_of later)) (sym (own_patterns (id_of subject) 1 subject.rules))
-    ∙ ap (λ (back : List (List ℕ)). found ++ back) (sym (patterns_append (own_entries subject) later) ∙ ap patterns_of (sym (entries_step policy subject i parent lt e)))
-    ∙ so_far
-
-pub patterns_end : (policy : List Subject) (subject : Subject) (i : ℕ) (found all : List (List ℕ)) → 8 ≤ i
-    → found ++ patterns_of (entries_along (chain_within (8 - i) policy subject)) ≡ all → found ≡ all
-patterns_end policy subject i found all past so_far =
-    sym (append-nil found) ∙ ap (λ (back : List Entry). found ++ patterns_of back) (sym (entries_none policy subject i past)) ∙ so_far
+pub patterns_own : (owner : SubjectId) (n : ℕ) (rules : List Rule) → patterns_of (numbered owner n rules) ≡ map (λ rule. rule.pattern) rules
+patterns_own owner n [] = refl
+patterns_own owner n (rule ∷ rules) = ap (λ (rest : List (List ℕ)). rule.pattern ∷ rest) (patterns_own owner (suc n) rules)
 
 -- one more of a subject's own patterns
 pub more_patterns : (known : List (List ℕ)) (rules : List Rule) (i : ℕ) (rule : Rule) → i < length rules → get_or rules i rule ≡ rule

@@ -4,3 +4,5 @@ pub mod MatchFacts
 pub mod BuildFacts
 pub mod TextFacts
 pub mod OnlyFacts
+pub mod SlotFacts
+pub mod FillFacts

@@ -1,3 +1,4 @@
 pub mod Sizes
 pub mod Along
+pub mod Kept
 pub mod Live

@@ -1,7 +1,6 @@
 -- What is kept of a policy that decides, and of a change of it that is ready to be made.
 use Rattle.std.specs.Prelude.{◌≡◌, List, Result, Ok, Err, Bool, true, false, Option, Some, None}
 use Rattle.basics.specs.Memory.{Except}
-use Rattle.std.specs.List.{AllZip}
 use Rattle.pol_automaton.specs.Automaton.{Automaton, IsDecider}
 use Rattle.pol_text.specs.declared.subject.Subject.{Subject}
 use Rattle.pol_edit.specs.Applying.{applied}
@@ -36,10 +35,6 @@ IsOnlyBuilt policy answer = (other : Result (List Subject) EditFault) → Builds
 
 abbrev pub IsOnlyPrepared : List Subject → Edit → Result Step EditFault → Type 0
 IsOnlyPrepared before edit answer = (other : Result Step EditFault) → Prepares before edit other → answer ≡ other
-
--- each subject has the decider of the rules along its chain
-abbrev pub AreDeciders : List Subject → List Subject → List Automaton → Type 0
-AreDeciders policy subjects deciders = AllZip (λ subject decider. IsDecider decider (patterns_along policy subject)) subjects deciders
 
 -- the decider of the rules along a subject's chain, or nothing where there is no subject
 abbrev pub IsDeciderFor : List Subject → Option Subject → Option Automaton → Type 0

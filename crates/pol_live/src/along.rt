@@ -1,10 +1,11 @@
 //! The rules along the chain of a subject.
 
-ghost use Rattle.std.specs.Prelude.{◌≡◌, ◌≤◌, ◌++◌, ℕ, List, length, map, slice_get, IfOk, IfSome, OnOk};
+ghost use Rattle.std.specs.Prelude.{◌≡◌, ◌≤◌, ◌++◌, ℕ, List, length, map, slice_get, IfOk, IfSome};
+ghost use Rattle.std.specs.Prelude.{OnOk};
 ghost use Rattle.std.specs.Option.{option_map, option_copied};
 ghost use Rattle.pol_automaton.specs.Entries.{AreEntries};
 ghost use Rattle.pol_text.specs.Policy.{parent_of, own_entries, entries};
-ghost use Rattle.pol_live.specs.Along.{patterns_along as patterns, chain_rule as rule_of, entries_of, decision_by};
+ghost use Rattle.pol_live.specs.Along.{chain_rule as rule_of, entries_of, decision_by};
 
 use pol_automaton::Entries;
 use pol_names::{By, Decision, SubjectId, Verdict};
@@ -40,8 +41,8 @@ fn parent<'a>(policy: &'a Policy, subject: &Subject) -> Option<&'a Subject>
     policy.parent_of(subject)
 }
 
-// Adds the subject's own patterns.
-fn add_patterns(entries: &mut Entries, subject: &Subject) -> Result<(), AllocError>
+/// Adds the patterns of a subject's own rules.
+pub(crate) fn add_patterns(entries: &mut Entries, subject: &Subject) -> Result<(), AllocError>
     ensures { OnOk result ((known : List (List ℕ)) → AreEntries entries.old known
         → AreEntries entries.new (known ++ map (λ rule. rule.pattern) subject.now.rules)) }
 {
@@ -49,27 +50,6 @@ fn add_patterns(entries: &mut Entries, subject: &Subject) -> Result<(), AllocErr
         entries.add(&rule.pattern)?;
     }
     Ok(())
-}
-
-/// The patterns of the rules along the chain of a subject, the subject's own first, read where they
-/// lie in the policy.
-pub(crate) fn patterns_along(
-    alloc: Global,
-    policy: &Policy,
-    subject: &Subject,
-) -> Result<Entries, AllocError>
-    ensures { IfOk result (λ found. AreEntries found (patterns policy.now subject.now)) }
-{
-    let mut found = Entries::new(alloc);
-    let mut present = subject;
-    'chain: for _ in 0..Policy::MAX_CHAIN {
-        add_patterns(&mut found, present)?;
-        match parent(policy, present) {
-            Some(group) => present = group,
-            None => return Ok(found),
-        }
-    }
-    Ok(found)
 }
 
 // Adds the subject's own rules.

@@ -1,59 +1,72 @@
 //! Building the automata of a policy.
 
-ghost use Rattle.std.specs.Prelude.{◌≡◌, IfOk, IfErr};
+ghost use Rattle.std.specs.Prelude.{◌≡◌, ◌<◌, ℕ, length, slice_get, is_some, Some, None, IsTrue};
+ghost use Rattle.std.specs.Prelude.{IfOk, IfErr, OnOk};
 ghost use Rattle.basics.specs.Memory.{Except};
-ghost use Rattle.pol_automaton.specs.Automaton.{IsDecider};
-ghost use Rattle.pol_text.specs.Policy.{id_of};
+ghost use Rattle.pol_text.specs.Policy.{ends_within, id_of};
 ghost use Rattle.pol_edit.specs.declared.fault.EditFault.TheVariants.{TooManyStates};
-ghost use Rattle.pol_live.specs.Along.{patterns_along as patterns};
 ghost use Rattle.pol_live.specs.Sizes.{IsLarge, IsSmall, IsRefusedFor};
-ghost use Rattle.pol_live.specs.Live.{AreDeciders, is_memory};
+ghost use Rattle.pol_live.specs.Kept.{AreParts, AreAll, Grows, slot};
+ghost use Rattle.pol_live.specs.Live.{is_memory};
 
-use crate::along::patterns_along;
-use basics::Sequence;
-use pol_automaton::{Decider, DeciderFault, Meter};
+use crate::filling::fill;
+use crate::parts::{Parts, blank};
+use pol_automaton::{DeciderFault, Meter};
 use pol_edit::EditFault;
 use pol_text::{Policy, Subject};
-use std::alloc::Global;
+use std::alloc::{AllocError, Global};
 
-/// The most residuals that the rules along a subject's chain may have together.
-const MOST_STATES: u16 = 4096;
-
-// The decider of the rules along the chain of a subject.
-fn build_decider(
+// The automata of the subject at a place. A refusal names it.
+fn fill_subject(
     alloc: Global,
     policy: &Policy,
     subject: &Subject,
+    index: usize,
+    parts: &mut Parts,
     meter: &mut Meter,
-) -> Result<Decider, EditFault>
-    ensures ok { IfOk result (λ decider. IsDecider decider (patterns policy.now subject.now)) }
-    ensures small { IfOk result (λ _. ¬ (IsLarge policy.now subject.now)) }
+) -> Result<(), EditFault>
+    requires here { slice_get policy.now index ≡ Some subject.now }
+    requires right { AreParts policy.now parts.old }
+    ensures right { OnOk result (AreParts policy.now parts.new) }
+    ensures grows { OnOk result (Grows parts.old parts.new) }
+    ensures there { OnOk result (IsTrue (is_some (slot parts.new.wholes index))) }
     ensures err { IfErr result (λ fault. Except (is_memory fault)
         ((fault ≡ TooManyStates (id_of subject.now)) × IsLarge policy.now subject.now)) }
 {
-    let patterns = patterns_along(alloc, policy, subject)?;
-    match Decider::of(patterns, MOST_STATES, meter) {
-        Ok(decider) => Ok(decider),
+    // every policy is well formed: the call is for its clause
+    let _ = policy.subjects();
+    match fill(alloc, policy, index, Policy::MAX_CHAIN, parts, meter) {
+        Ok(()) => Ok(()),
         Err(DeciderFault::TooManyStates) => Err(EditFault::TooManyStates(subject.id())),
         Err(DeciderFault::Memory) => Err(EditFault::Memory),
     }
 }
 
-/// The decider of each subject, in the policy's order.
-pub(crate) fn build_deciders(
+/// Makes the automata that there aren't yet, in the policy's order.
+pub(crate) fn complete(
     alloc: Global,
     policy: &Policy,
+    parts: &mut Parts,
     meter: &mut Meter,
-) -> Result<Sequence<Decider>, EditFault>
-    ensures ok { IfOk result (λ deciders. AreDeciders policy.now policy.now deciders) }
-    ensures small { IfOk result (λ _. IsSmall policy.now) }
+) -> Result<(), EditFault>
+    requires { AreParts policy.now parts.old }
+    ensures right { OnOk result (AreParts policy.now parts.new) }
+    ensures all { OnOk result (AreAll policy.now parts.new) }
+    ensures small { OnOk result (IsSmall policy.now) }
     ensures err { IfErr result (λ fault. Except (is_memory fault)
         (IsRefusedFor policy.now fault)) }
 {
-    let mut deciders = Sequence::new(alloc);
-    for subject in policy.subjects() {
-        let decider = build_decider(alloc, policy, subject, meter)?;
-        deciders.push(decider)?;
+    for (index, subject) in policy.subjects().iter().enumerate() {
+        fill_subject(alloc, policy, subject, index, parts, meter)?;
     }
-    Ok(deciders)
+    Ok(())
+}
+
+/// No automata of the policy's subjects.
+pub(crate) fn no_parts(alloc: Global, policy: &Policy) -> Result<Parts, AllocError>
+    ensures { IfOk result (λ parts. AreParts policy.now parts) }
+{
+    let owns = blank(alloc, policy.len())?;
+    let wholes = blank(alloc, policy.len())?;
+    Ok(Parts { owns, wholes })
 }

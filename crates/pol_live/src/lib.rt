@@ -4,8 +4,11 @@
 mod along;
 mod building;
 mod deciding;
+mod filling;
 mod live;
+mod parts;
 mod prepared;
+mod shared;
 
 pub use along::{ChainRule, rules_along};
 pub use live::Live;

@@ -9,9 +9,9 @@ ghost use Rattle.pol_live.specs.Along.{patterns_along as patterns, MatchLaw};
 ghost use Rattle.pol_live.specs.Sizes.{IsSmall};
 ghost use Rattle.pol_live.specs.Live.{Builds, IsOnlyBuilt, IsDeciderFor, UnlessMemory, is_memory};
 
-use crate::building::build_deciders;
+use crate::building::{complete, no_parts};
 use crate::deciding::decided;
-use basics::Sequence;
+use crate::parts::{Parts, lookup};
 use pol_automaton::{Decider, Meter};
 use pol_edit::EditFault;
 use pol_names::{Decision, Name, SubjectId};
@@ -24,29 +24,30 @@ use std::marker::Model;
 #[derive(Drop)]
 pub struct Live {
     policy: Policy,
-    // one for each subject, in the policy's order
-    deciders: Sequence<Decider>,
+    parts: Parts,
 }
 
 impl Model for Live {
     ghost use Rattle.std.specs.Prelude.{List};
     ghost use Rattle.pol_text.specs.declared.subject.Subject.{Subject as SubjectValue};
-    ghost use Rattle.pol_live.specs.Live.{AreDeciders};
+    ghost use Rattle.pol_live.specs.Kept.{AreParts, AreAll};
     ghost use Rattle.pol_live.specs.Sizes.{IsSmall};
 
     ghost Value = { List SubjectValue };
 
     ghost view = { λ live. live.policy };
 
-    ghost invariant = { λ live. AreDeciders live.policy live.policy live.deciders × IsSmall live.policy };
+    ghost invariant = { λ live. AreParts live.policy live.parts × AreAll live.policy live.parts
+        × IsSmall live.policy };
 }
 
 impl Live {
     fn build_anew(alloc: Global, policy: Policy, meter: &mut Meter) -> Result<Live, EditFault>
         ensures { UnlessMemory is_memory result (Builds policy result) }
     {
-        let deciders = build_deciders(alloc, &policy, meter)?;
-        Ok(Live { policy, deciders })
+        let mut parts = no_parts(alloc, &policy)?;
+        complete(alloc, &policy, &mut parts, meter)?;
+        Ok(Live { policy, parts })
     }
 
     /// The policy with its automata, all built anew. Refused where a subject has too many
@@ -91,10 +92,10 @@ impl Live {
         let Some(subject) = self.policy.subjects().get(index) else {
             return None;
         };
-        let Some(decider) = self.deciders.as_slice().get(index) else {
+        let Some(whole) = lookup(&self.parts.wholes, index) else {
             return None;
         };
-        Some((subject, decider))
+        Some((subject, whole.decider()))
     }
 
     /// What the policy says of a user's line, as a search along the user's chain would. Nothing

@@ -5,7 +5,8 @@ ghost use Rattle.std.specs.Option.{option_copied};
 ghost use Rattle.pol_text.specs.Policy.{find_subject, decide};
 ghost use Rattle.pol_live.specs.Along.{MatchLaw};
 ghost use Rattle.pol_live.specs.Sizes.{IsSmall};
-ghost use Rattle.pol_live.specs.Live.{Prepares, IsOnlyPrepared, IsDeciderFor, UnlessMemory, is_memory};
+ghost use Rattle.pol_live.specs.Live.{Prepares, IsOnlyPrepared, IsDeciderFor, UnlessMemory};
+ghost use Rattle.pol_live.specs.Live.{is_memory};
 
 use crate::live::Live;
 use basics::StructuralEq;

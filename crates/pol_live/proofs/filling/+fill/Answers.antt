@@ -1,0 +1,44 @@
+use Rattle.std.proofs.Common.{◌≡◌, ◌<◌, ◌-◌, true, Err, sym, ap, subst, ◌∙◌, arith}
+use Rattle.std.proofs.lemmas.Option.{same_Some, slice_get-get_or}
+use Rattle.std.proofs.lemmas.Result.{err_from_is_err_and}
+use Rattle.pol_text.specs.declared.subject.Subject.{Subject}
+use Rattle.pol_text.specs.Policy.{ends_within}
+use Rattle.pol_live.specs.Sizes.{IsLarge}
+use Rattle.pol_live.proofs.FillFacts.{ends_above, large_above, contains_at}
+use Rattle.pol_live.proofs.filling.+fill.Goals as goal
+
+pub overflow_sub-most : goal.overflow_sub-most
+overflow_sub-most t c =
+    let policy = c.args.policy.now in
+    let subject = c.in-Some.subject.now in
+    let there = slice_get-get_or policy c.in-Some-parent.parent subject c.in-Some-parent.ensures.within in
+    (ends_above c.args.most policy subject _ (c.requires.ends subject (sym c.in-Some.ensures)) (c.in-Some-parent.ensures.found ∙ there)).0
+
+pub fill-requires : goal.fill-requires
+fill-requires t c =
+    let policy = c.args.policy.now in
+    let subject = c.in-Some.subject.now in
+    let there = slice_get-get_or policy c.in-Some-parent.parent subject c.in-Some-parent.ensures.within in
+    let ends = ends_above c.args.most policy subject _ (c.requires.ends subject (sym c.in-Some.ensures)) (c.in-Some-parent.ensures.found ∙ there) in
+    let some = ends.0 in
+    let less = c.decreases in
+    let shorter : c.args.most - 1 < t = omega arith in
+    (shorter, (c.in-Some-parent.ensures.within, (λ group its. subst (λ (g : Subject). ends_within (c.args.most - 1) policy g ≡ true) (same_Some _ group (sym there ∙ its)) ends.1, c.requires.right)))
+
+pub returns-in_err-fill-clause-too_many : goal.returns-in_err-fill-clause-too_many
+returns-in_err-fill-clause-too_many t c is subject here =
+    let policy = c.args.policy.now in
+    let p = err_from_is_err_and c.from_residual.result c.from_residual.ensures.1 in
+    let same : c.in-Some.subject.now ≡ subject = same_Some _ subject (c.in-Some.ensures ∙ here) in
+    let there = slice_get-get_or policy c.in-Some-parent.parent subject c.in-Some-parent.ensures.within in
+    let above = c.in_err-fill.ensures.too_many (ap Err (sym p.2) ∙ sym p.1 ∙ is) _ there in
+    let inherits = c.in-Some-parent.ensures.inherits (contains_at policy c.args.index c.in-Some.subject.now (sym c.in-Some.ensures)) in
+    subst (λ (s : Subject). IsLarge policy s) same (large_above policy c.in-Some.subject.now _ inherits (c.in-Some-parent.ensures.found ∙ there) above)
+
+pub fill_here-requires-clause-here : goal.fill_here-requires-clause-here
+fill_here-requires-clause-here t c = sym c.in-Some.ensures
+
+pub returns-clause-too_many : goal.returns-clause-too_many
+returns-clause-too_many t c is subject here =
+    let same : c.in-Some.subject.now ≡ subject = same_Some _ subject (c.in-Some.ensures ∙ here) in
+    subst (λ (s : Subject). IsLarge c.args.policy.now s) same (c.fill_here.ensures.too_many is)

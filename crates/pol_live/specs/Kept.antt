@@ -1,0 +1,61 @@
+-- What is kept of a policy: automata of the rules of single subjects, and of all rules along their chains. Subjects and
+-- policies may share one.
+use Rattle.std.specs.Prelude.{◌≡◌, ◌<◌, ℕ, Bool, not, ◌||◌, nat_lt, List, [], length, map, Option, Some, None, slice_get, slice_set, is_some, IsTrue}
+use Rattle.std.specs.Option.{option_and_then}
+use Rattle.pol_automaton.specs.Automaton.{Automaton, IsDecider}
+use Rattle.pol_automaton.specs.Residuals.{HasMoreResiduals}
+use Rattle.pol_text.specs.declared.subject.Subject.{Subject}
+use Rattle.pol_text.specs.Policy.{parent_of}
+use Rattle.pol_live.specs.declared.parts.Parts.{Parts}
+use Rattle.pol_live.specs.Along.{patterns_along}
+
+-- ---- keepers: the subjects that have automata of their own
+
+abbrev pub has_rules : Subject → Bool
+has_rules subject = nat_lt 0 (length subject.rules)
+
+-- a subject that has rules, or none to inherit them from
+abbrev pub is_keeper : List Subject → Subject → Bool
+is_keeper policy subject = has_rules subject || not (is_some (parent_of policy subject))
+
+-- ---- automata and what they are of
+
+abbrev pub own_patterns : Subject → List (List ℕ)
+own_patterns subject = map (λ rule. rule.pattern) subject.rules
+
+-- the automaton is the Decider of these entries, which haven't too many residuals
+abbrev pub IsFit : List (List ℕ) → Automaton → Type 0
+IsFit entries decider = IsDecider decider entries × (¬ (HasMoreResiduals entries 4096))
+
+-- the automaton at a place, if there is one
+abbrev pub slot : List (Option Automaton) → ℕ → Option Automaton
+slot slots k = option_and_then (λ found. found) (slice_get slots k)
+
+-- what there is of a policy's automata: of a subject's own rules, and of those along its chain
+pub record AreParts (policy : List Subject) (parts : Parts) : Type 0 where
+  pub many_owns : length parts.owns ≡ length policy
+  pub many_wholes : length parts.wholes ≡ length policy
+  pub owns : (k : ℕ) (subject : Subject) (decider : Automaton) → slice_get policy k ≡ Some subject → slot parts.owns k ≡ Some decider
+      → IsFit (own_patterns subject) decider
+  pub wholes : (k : ℕ) (subject : Subject) (decider : Automaton) → slice_get policy k ≡ Some subject → slot parts.wholes k ≡ Some decider
+      → IsFit (patterns_along policy subject) decider
+
+-- each automaton that there was stays
+abbrev pub Stays : List (Option Automaton) → List (Option Automaton) → Type 0
+Stays old new = (k : ℕ) (decider : Automaton) → slot old k ≡ Some decider → slot new k ≡ Some decider
+
+abbrev pub Grows : Parts → Parts → Type 0
+Grows old new = Stays old.owns new.owns × Stays old.wholes new.wholes
+
+-- what there is at a place is of these entries, and without an automaton there are none
+abbrev pub IsOf : List (List ℕ) → Option Automaton → Type 0
+IsOf entries None = entries ≡ []
+IsOf entries (Some decider) = IsFit entries decider
+
+-- the place has an automaton of these entries then, and all others are as they were
+abbrev pub IsPutAt : ℕ → List (List ℕ) → List (Option Automaton) → List (Option Automaton) → Type 0
+IsPutAt at entries old new = (decider : Automaton) × IsFit entries decider × (new ≡ slice_set old at (Some decider))
+
+-- each subject has the automaton of its chain
+abbrev pub AreAll : List Subject → Parts → Type 0
+AreAll policy parts = (k : ℕ) → k < length policy → IsTrue (is_some (slot parts.wholes k))
