@@ -6,7 +6,7 @@ use pol_edit::{Edit, EditFault};
 use pol_report::Changes;
 use std::alloc::AllocError;
 use tac_conn::{Answer, Ask};
-use tac_desk::{Desk, PlainDesk, Query, QueryFault, Report, Thrice};
+use tac_desk::{Desk, PlainDesk, Query, QueryFault, Report, State, Thrice};
 
 /// Another desk, and how often each of its calls was made.
 #[derive(Drop)]
@@ -33,5 +33,9 @@ impl Desk for Counting {
     fn query(&mut self, query: &Query) -> Result<Thrice<Report>, QueryFault> {
         self.queries = self.queries.saturating_add(1);
         self.inner.query(query)
+    }
+
+    fn state(&self) -> Result<State, AllocError> {
+        self.inner.state()
     }
 }

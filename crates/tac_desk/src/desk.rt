@@ -11,6 +11,7 @@ ghost use Rattle.tac_desk.specs.Reporting as reporting;
 ghost use Rattle.tac_desk.specs.declared.query.QueryFault.TheVariants.{NoSuch};
 
 use crate::query::{Query, QueryFault, Report};
+use crate::state::State;
 use crate::thrice::Thrice;
 use pol_edit::{Edit, EditFault};
 use pol_report::Changes;
@@ -61,4 +62,8 @@ pub trait Desk: Drop {
         ensures sure { reporting.Reports (meaning self.old) query.now (Err NoSuch) →
             result ≡ Err NoSuch }
         ensures after { meaning self.new ≡ meaning self.old };
+
+    /// What the desk stands for. The error is want of memory.
+    fn state(&self) -> Result<State, AllocError>
+        ensures { IfOk result (λ state. state ≡ meaning self.now) };
 }

@@ -14,6 +14,7 @@ use crate::desk::Desk;
 use crate::editing::change;
 use crate::query::{Query, QueryFault, Report};
 use crate::reaching::{live_policy, reach_report, shadow_report};
+use crate::state::State;
 use crate::tallies::tally;
 use crate::thrice::Thrice;
 use basics::Sequence;
@@ -157,5 +158,15 @@ impl Desk for PlainDesk {
         let report = self.report(query)?;
         let thrice = Thrice::new(self.alloc, report)?;
         Ok(thrice)
+    }
+
+    fn state(&self) -> Result<State, AllocError> {
+        let policy = self.policy.copy(self.alloc)?;
+        let records = copy_records(self.alloc, self.book.records())?;
+        Ok(State {
+            policy,
+            records,
+            record_limit: self.book.limit(),
+        })
     }
 }
