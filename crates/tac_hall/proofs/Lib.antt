@@ -1,1 +1,2 @@
 pub mod HistoryFacts
+pub mod SeatFacts

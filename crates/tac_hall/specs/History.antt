@@ -1,8 +1,9 @@
 -- The history of a hall: the calls that its desk took, one after another, each with its answer.
-use Rattle.std.specs.Prelude.{◌≡◌, List, [], ◌∷◌, ◌++◌, Bool, true, false, ◌||◌, Result, OnErr}
+use Rattle.std.specs.Prelude.{◌≡◌, List, [], ◌∷◌, ◌++◌, Bool, true, false, ◌||◌, Result, Ok, Err, OnErr, IsTrue}
 use Rattle.pol_edit.specs.declared.edit.Edit.{Edit}
 use Rattle.pol_edit.specs.declared.fault.EditFault.{EditFault}
 use Rattle.pol_report.specs.declared.Changed.{Changed}
+use Rattle.tac_conn.specs.Ask.{kind_of_ask, kind_of_answer}
 use Rattle.tac_desk.specs.declared.query.Query.{Query}
 use Rattle.tac_desk.specs.declared.query.QueryFault.{QueryFault}
 use Rattle.tac_desk.specs.declared.query.Report.{Report}
@@ -35,6 +36,18 @@ Answers was (calls.Edit edit) (answers.Edit answer) now = AnswersEdit was edit a
 Answers was (calls.Query query) (answers.Query answer) now = AnswersQuery was query answer now
 Answers was calls.Stop answers.Stopped now = now ≡ was
 Answers was call answer now = ⊥
+
+-- the answer is one to this call
+abbrev pub IsReportTo : Query → Result Report QueryFault → Type 0
+IsReportTo query (Ok report) = IsTrue (reporting.is_report_to query report)
+IsReportTo query (Err fault) = Unit {0}
+
+abbrev pub IsOfKind : Call → CallAnswer → Type 0
+IsOfKind (calls.Ask ask) (answers.Ask answer) = kind_of_answer answer ≡ kind_of_ask ask
+IsOfKind (calls.Edit edit) (answers.Edit answer) = Unit {0}
+IsOfKind (calls.Query query) (answers.Query answer) = IsReportTo query answer
+IsOfKind calls.Stop answers.Stopped = Unit {0}
+IsOfKind call answer = ⊥
 
 -- ---- one call after another
 

@@ -1,3 +1,4 @@
 pub mod FaultText
 pub mod History
 pub mod Room
+pub mod Seat

@@ -10,7 +10,7 @@ use Rattle.tac_hall.specs.declared.laws.Step.{Step}
 use Rattle.tac_hall.specs.declared.laws.Step.TheVariants as steps
 use Rattle.tac_hall.specs.declared.laws.Done.{Done}
 use Rattle.tac_hall.specs.declared.laws.Done.TheVariants as done
-use Rattle.tac_hall.specs.History.{Answers, is_closed, Legal}
+use Rattle.tac_hall.specs.History.{Answers, IsOfKind, is_closed, Legal}
 
 -- what the desk stood for at first, the calls since then, what it stands for now, how many calls the log takes, and how
 -- many seats were made
@@ -42,12 +42,20 @@ Sits was (Ok number) now = (was.seats < most_seats) × (number ≡ was.seats) ×
 Sits was (Err NoSeat) now = (was.seats ≡ most_seats) × (now ≡ was)
 Sits was (Err fault) now = ⊥
 
+-- whether a call may be made: not after a Stop, and then not where the log is full
+abbrev pub Judges : Contents → Result (Unit {0}) HallFault → Type 0
+Judges room (Ok _) = (is_closed room.log ≡ false) × (length room.log < room.limit)
+Judges room (Err Closed) = is_closed room.log ≡ true
+Judges room (Err LogFull) = (is_closed room.log ≡ false) × (length room.log ≡ room.limit)
+Judges room (Err fault) = ⊥
+
 -- a call was answered: it is the last of the log, and nothing else has changed but what the desk stands for
 pub record IsCalled (was : Contents) (seat : ℕ) (call : Call) (done : Called) (now : Contents) : Type 0 where
   pub goes_on : is_closed was.log ≡ false
   pub room : length was.log < was.limit
   pub place : done.place ≡ length was.log
   pub same : done.kept ≡ done.given
+  pub kind : IsOfKind call done.given
   pub answers : Answers was.meaning call done.given now.meaning
   pub log : now.log ≡ was.log ++ record { seat = seat; call = call; answer = done.given } ∷ []
   pub base : now.base ≡ was.base

@@ -1,7 +1,7 @@
 //! The desk's answer to a call.
 
 ghost use Rattle.std.specs.Prelude.{◌≡◌, false, Err, IsOk, IfOk, OnErr};
-ghost use Rattle.tac_hall.specs.History.{Answers, is_ask};
+ghost use Rattle.tac_hall.specs.History.{Answers, IsOfKind, is_ask};
 ghost use Rattle.tac_hall.specs.declared.call.CallAnswer.TheVariants as answers;
 
 use crate::call::{Call, CallAnswer};
@@ -116,6 +116,7 @@ fn told_of_stop() -> Told
 pub(crate) fn answer<D: Desk>(desk: &mut D, call: &Call) -> Result<Told, AllocError>
     ensures answers { IfOk result (λ told.
         Answers (D.meaning desk.old) call.now told (D.meaning desk.new)) }
+    ensures kind { IfOk result (IsOfKind call.now) }
     ensures sure { is_ask call.now ≡ false → IsOk result }
     ensures err { OnErr result (D.meaning desk.new ≡ D.meaning desk.old) }
 {

@@ -4,6 +4,7 @@ ghost use Rattle.std.specs.Prelude.{◌≡◌, [], ◌↔◌, IsTrue, OnErr};
 ghost use Rattle.tac_desk.specs.Meaning.{Meaning};
 ghost use Rattle.tac_hall.specs.History as history;
 ghost use Rattle.tac_hall.specs.Room as rooms;
+ghost use Rattle.tac_hall.specs.Seat as seats;
 
 use crate::answering::{Told, answer};
 use crate::call::{Call, CallAnswer};
@@ -93,6 +94,27 @@ impl<D: Desk> Room<D> {
         self.log.as_slice()
     }
 
+    /// Whether a call may be made.
+    pub(crate) fn judge(&self) -> Result<(), HallFault>
+        ensures { rooms.Judges self.now result }
+    {
+        if self.closed {
+            return Err(HallFault::Closed);
+        }
+        if self.log.len() >= self.limit {
+            return Err(HallFault::LogFull);
+        }
+        Ok(())
+    }
+
+    /// Whether a seat of this number was made, and a call stands in the log at each place below
+    /// the next one.
+    pub(crate) fn knows(&self, number: u32, next: usize) -> bool
+        ensures { IsTrue result ↔ seats.IsKnown self.now number next }
+    {
+        number < self.seats && next <= self.log.len()
+    }
+
     /// Does one thing: a call gets the desk's answer, which stands behind the log from then on. A
     /// refusal changes nothing; only a call may want memory.
     pub fn step(&mut self, step: Step) -> Result<Done, HallFault>
@@ -129,12 +151,7 @@ impl<D: Desk> Room<D> {
         ensures calls { rooms.Calls self.old seat call result self.new }
         ensures legal { history.Legal self.new.base self.new.log self.new.meaning }
     {
-        if self.closed {
-            return Err(HallFault::Closed);
-        }
-        if self.log.len() >= self.limit {
-            return Err(HallFault::LogFull);
-        }
+        self.judge()?;
         self.log.reserve(1)?;
         let Told {
             logged,

@@ -5,10 +5,14 @@ mod answering;
 mod call;
 mod entry;
 mod fault;
+mod hall;
 pub mod laws;
+mod seat;
 mod shared;
 
 pub use call::{Call, CallAnswer};
 pub use entry::{Entry, Made, Receipt};
 pub use fault::HallFault;
+pub use hall::Hall;
+pub use seat::Seat;
 pub use shared::Shared;
