@@ -6,19 +6,25 @@ mod changing;
 mod line;
 mod reaching;
 
-use basics::{Bytes, Sequence};
+use basics::{Bytes, Sequence, StructuralEq};
 pub use changing::changes;
 use pol_names::{Name, SubjectId};
 pub use reaching::{reach, shadows};
 
 /// A user for whom a change of the policy changes a decision.
-#[derive(Debug, Drop)]
+#[derive(Debug, Drop, PartialEq, Eq)]
 pub struct Changed {
     pub user: Name,
     /// The least line that is permitted now and was denied before, if there is one.
     pub permits: Option<Bytes>,
     /// The least line that is denied now and was permitted before, if there is one.
     pub denies: Option<Bytes>,
+}
+
+impl StructuralEq for Changed {
+    ghost use Rattle.std.proofs.Common.{rules};
+
+    ghost identical = { Prim.search rules };
 }
 
 /// The users for whom a change of the policy changes a decision: those of the new policy in its
@@ -34,12 +40,24 @@ pub struct Shadowed {
     pub number: u16,
 }
 
+impl StructuralEq for Shadowed {
+    ghost use Rattle.std.proofs.Common.{rules};
+
+    ghost identical = { Prim.search rules };
+}
+
 /// A rule along a subject's chain, and the least line of the subject that it decides.
-#[derive(Debug, Drop)]
+#[derive(Debug, Drop, PartialEq, Eq)]
 pub struct Reached {
     pub owner: SubjectId,
     /// The rule's number in its owner, from 1.
     pub number: u16,
     /// The least line, if the rule decides any.
     pub text: Option<Bytes>,
+}
+
+impl StructuralEq for Reached {
+    ghost use Rattle.std.proofs.Common.{rules};
+
+    ghost identical = { Prim.search rules };
 }
