@@ -1,5 +1,5 @@
-//! What every crate of the server shares: sequences and their equality, symbols, lines, numbers, and
-//! writing out.
+//! What every crate of the server shares: sequences and their equality, symbols, lines, numbers,
+//! and writing out.
 #![tactic(auto)]
 
 mod equality;

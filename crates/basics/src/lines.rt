@@ -2,7 +2,8 @@
 
 ghost use Rattle.std.specs.Prelude.{◌≡◌, ◌≢◌, ◌<◌, ◌+◌, ◌∷◌, [], length, IfNone, IfSome};
 ghost use Rattle.std.specs.Option.{option_map};
-ghost use Rattle.basics.specs.Lines.{split_at_first, lines_of, BeginsWith, TakesLine, without_leading_spaces as trimmed};
+ghost use Rattle.basics.specs.Lines.{split_at_first, lines_of, BeginsWith, TakesLine};
+ghost use Rattle.basics.specs.Lines.{without_leading_spaces as trimmed};
 
 use std::marker::Model;
 

@@ -17,7 +17,8 @@ pub struct SendFailed;
 /// error. Neither is tried a second time.
 pub fn send<W: Write>(writer: &mut W, bytes: &[u8]) -> (usize, Result<(), SendFailed>)
     ensures bound { result.0 ≤ length bytes.now }
-    ensures taken { Appends (W.contents writer.old) (W.contents writer.new) (take result.0 bytes.now) }
+    ensures taken { Appends (W.contents writer.old) (W.contents writer.new)
+        (take result.0 bytes.now) }
     ensures all { OnOk result.1 (result.0 ≡ length bytes.now) }
     ensures some_left { OnErr result.1 (result.0 < length bytes.now) }
 {

@@ -4,7 +4,8 @@
 //! two vectors of equal elements differ. A [`Sequence`] is its elements alone: a struct of
 //! sequences can be compared, and stated, as plain data.
 
-ghost use Rattle.std.specs.Prelude.{◌≡◌, ◌↔◌, ◌<◌, ◌≤◌, [], ◌∷◌, ◌++◌, length, insert, remove, slice_get, Some, IsTrue, IfOk, OnOk, OnErr};
+ghost use Rattle.std.specs.Prelude.{◌≡◌, ◌↔◌, ◌<◌, ◌≤◌, [], ◌∷◌, ◌++◌, length, insert, remove};
+ghost use Rattle.std.specs.Prelude.{slice_get, Some, IsTrue, IfOk, OnOk, OnErr};
 ghost use Rattle.std.specs.Borrow.{sem};
 ghost use Rattle.std.specs.Option.{option_map, option_map_or};
 ghost use Rattle.basics.specs.Lending.{lends_item};

@@ -6,7 +6,8 @@ ghost use Rattle.pol_pattern.specs.Flat as flat;
 ghost use Rattle.pol_pattern.specs.Sets.{InTerm, InTerms};
 ghost use Rattle.pol_pattern.specs.Spelling.{Spells};
 ghost use Rattle.pol_deriv.specs.Derivative.{Derivatives, Residual};
-ghost use Rattle.pol_deriv.specs.Derivative.{DerivativeLaw, ResidualLaw, FirstResidual, NextResidual};
+ghost use Rattle.pol_deriv.specs.Derivative.{DerivativeLaw, ResidualLaw, FirstResidual};
+ghost use Rattle.pol_deriv.specs.Derivative.{NextResidual};
 ghost use Rattle.pol_deriv.specs.Table.{Means, Grows, IsSetOf, HasTerm, AreNumbers};
 
 use crate::node::Number;

@@ -1,6 +1,7 @@
 //! Applying an edit to a policy: the refusals in their order, and then the one change.
 
-ghost use Rattle.std.specs.Prelude.{◌≡◌, ◌⊎◌, ◌&&◌, Ok, Err, false, nat_le, is_some, IsTrue, IfOk, IfErr, OnErr};
+ghost use Rattle.std.specs.Prelude.{◌≡◌, ◌⊎◌, ◌&&◌, Ok, Err, false, nat_le, is_some, IsTrue, IfOk};
+ghost use Rattle.std.specs.Prelude.{IfErr, OnErr};
 ghost use Rattle.std.specs.Result.{is_ok};
 ghost use Rattle.basics.specs.Memory.{GivesUnlessMemory};
 ghost use Rattle.pol_pattern.specs.Reading.{pattern_of};

@@ -6,8 +6,8 @@ use basics::{Bytes, StructuralEq};
 use pol_names::{Name, SubjectId, Verdict};
 use std::alloc::{AllocError, Global};
 
-/// An edit. Secrets and patterns are kept as they were written, and judged when the edit is applied;
-/// rules are counted from 1.
+/// An edit. Secrets and patterns are kept as they were written, and judged when the edit is
+/// applied; rules are counted from 1.
 #[derive(Debug, Drop, PartialEq, Eq)]
 pub enum Edit {
     /// A new group, last, without rules.

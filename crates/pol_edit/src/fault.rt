@@ -29,7 +29,8 @@ pub enum EditFault {
     BadIndex,
     /// The rule's pattern is none.
     BadPattern(PatternFault),
-    /// The secret is empty, has more than 128 symbols or a byte that is none, or the level is over 15.
+    /// The secret is empty, has more than 128 symbols or a byte that is none, or the level is over
+    /// 15.
     BadValue,
     /// There would be more than 1,024 subjects, or more than 256 rules of the subject.
     Limit,

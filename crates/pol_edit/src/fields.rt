@@ -2,7 +2,8 @@
 
 ghost use Rattle.std.specs.Prelude.{◌≡◌};
 ghost use Rattle.std.specs.Option.{option_map};
-ghost use Rattle.pol_edit.specs.EditText.{kind_of, verdict_of, count_of, subject_of, subject_before as subject_in_front, parent_of_text};
+ghost use Rattle.pol_edit.specs.EditText.{kind_of, verdict_of, count_of, subject_of};
+ghost use Rattle.pol_edit.specs.EditText.{subject_before as subject_in_front, parent_of_text};
 
 use basics::{read_number, split_once};
 use pol_names::{Kind, Name, SubjectId, Verdict};

@@ -6,7 +6,9 @@ ghost use Rattle.pol_edit.specs.declared.edit.Edit.{Edit as EditValue};
 ghost use Rattle.pol_edit.specs.declared.edit.Edit.TheVariants.{SetLogin, SetEnable, InsertRule};
 ghost use Rattle.pol_edit.specs.declared.fault.EditFault.TheVariants.{BadEdit, Memory};
 ghost use Rattle.pol_edit.specs.Spelling.{Spells};
-ghost use Rattle.pol_edit.specs.EditText.{parted, added as added_by, add_of, move_of, secret_for, clear_of, priv_of, insert_of, drop_of, shift_of, edit_by, edit_of};
+ghost use Rattle.pol_edit.specs.EditText.{parted, added as added_by, add_of, move_of, secret_for};
+ghost use Rattle.pol_edit.specs.EditText.{clear_of, priv_of, insert_of, drop_of, shift_of, edit_by};
+ghost use Rattle.pol_edit.specs.EditText.{edit_of};
 
 use crate::edit::Edit;
 use crate::fault::EditFault;

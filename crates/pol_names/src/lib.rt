@@ -1,4 +1,5 @@
-//! Whom a policy speaks of and what it decides: names, secrets, subjects' kinds and names, verdicts.
+//! Whom a policy speaks of and what it decides: names, secrets, subjects' kinds and names,
+//! verdicts.
 #![tactic(auto)]
 
 mod decision;

@@ -9,7 +9,8 @@ ghost use Rattle.std.specs.Hash.{same_Alike};
 ghost use Rattle.std.specs.List.{list_all};
 ghost use Rattle.std.specs.Str.{bytes_eq};
 ghost use Rattle.std.proofs.Common.{rules};
-ghost use Rattle.pol_names.specs.Name.{name_of, filled, is_name_byte as name_byte_test, is_name as name_test};
+ghost use Rattle.pol_names.specs.Name.{name_of, filled, is_name_byte as name_byte_test};
+ghost use Rattle.pol_names.specs.Name.{is_name as name_test};
 
 use std::hash::{Hash, Hasher};
 use std::marker::Model;

@@ -3,7 +3,10 @@
 ghost use Rattle.std.specs.Prelude.{◌≡◌, [], ◌∷◌, IfOk};
 ghost use Rattle.pol_pattern.specs.Flat.{empty, put, star, factor_value, term_value, terms_value};
 ghost use Rattle.pol_pattern.specs.Spelling.{repeat_factors, alternatives_of};
-ghost use Rattle.pol_pattern.specs.Reading.{fresh as fresh_level, with_atom as level_with_atom, with_repeat as level_with_repeat, with_bar as level_with_bar, finished as level_finished, build as build_terms};
+ghost use Rattle.pol_pattern.specs.Reading.{fresh as fresh_level, with_atom as level_with_atom};
+ghost use Rattle.pol_pattern.specs.Reading.{with_repeat as level_with_repeat};
+ghost use Rattle.pol_pattern.specs.Reading.{with_bar as level_with_bar, finished as level_finished};
+ghost use Rattle.pol_pattern.specs.Reading.{build as build_terms};
 ghost use Rattle.pol_pattern.specs.Levels.{level_value};
 
 use crate::copying::copy_term;

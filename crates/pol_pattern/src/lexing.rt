@@ -1,7 +1,10 @@
 //! Cutting the bytes of a pattern into tokens.
 
-ghost use Rattle.std.specs.Prelude.{◌≡◌, ◌+◌, ◌<◌, ◌≤◌, ◌==◌, slice_index, length, slice_get, IfOk, IfSome};
-ghost use Rattle.pol_pattern.specs.Reading.{class_symbol_at, item_at, class_at, token_at, tokens_from, outermost as outermost_context, context_after};
+ghost use Rattle.std.specs.Prelude.{◌≡◌, ◌+◌, ◌<◌, ◌≤◌, ◌==◌, slice_index, length, slice_get, IfOk};
+ghost use Rattle.std.specs.Prelude.{IfSome};
+ghost use Rattle.pol_pattern.specs.Reading.{class_symbol_at, item_at, class_at, token_at};
+ghost use Rattle.pol_pattern.specs.Reading.{tokens_from, outermost as outermost_context};
+ghost use Rattle.pol_pattern.specs.Reading.{context_after};
 ghost use Rattle.basics.specs.Memory.{GivesUnlessMemory};
 ghost use Rattle.pol_pattern.specs.Memory.{is_memory};
 

@@ -6,7 +6,9 @@
 
 ghost use Rattle.std.specs.Prelude.{◌≡◌, ◌≤◌, ◌++◌, length, take, drop, true};
 ghost use Rattle.pol_pattern.specs.Flat.{factor_value, term_value, terms_value};
-ghost use Rattle.pol_pattern.specs.Matching.{factor_positions, term_positions, terms_positions, factor_ends, term_ends, terms_end, factor_moved, term_moved, terms_moved, matches_terms};
+ghost use Rattle.pol_pattern.specs.Matching.{factor_positions, term_positions, terms_positions};
+ghost use Rattle.pol_pattern.specs.Matching.{factor_ends, term_ends, terms_end, factor_moved};
+ghost use Rattle.pol_pattern.specs.Matching.{term_moved, terms_moved, matches_terms};
 
 use crate::flat::{Factor, Term};
 

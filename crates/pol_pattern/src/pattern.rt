@@ -1,6 +1,7 @@
 //! A pattern: a set of texts, by the bytes that spell it.
 
-ghost use Rattle.std.specs.Prelude.{◌≡◌, ◌↔◌, ◌<◌, ◌≤◌, ℕ, List, length, position, nat_eq, IfOk, IfSome, Ok, Err, IsTrue};
+ghost use Rattle.std.specs.Prelude.{◌≡◌, ◌↔◌, ◌<◌, ◌≤◌, ℕ, List, length, position, nat_eq, IfOk};
+ghost use Rattle.std.specs.Prelude.{IfSome, Ok, Err, IsTrue};
 ghost use Rattle.std.specs.Cmp.Lexicographic.{pointwise};
 ghost use Rattle.std.specs.Cmp.Rules.{comparing};
 ghost use Rattle.std.proofs.Common.{rules};

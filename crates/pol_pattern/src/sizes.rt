@@ -2,7 +2,11 @@
 
 ghost use Rattle.std.specs.Prelude.{◌≡◌, ◌+◌, [], IfOk, min};
 ghost use Rattle.pol_pattern.specs.Flat.{Term as TermValue, terms_size, term_size};
-ghost use Rattle.pol_pattern.specs.Reading.{Level, fresh as fresh_level, with_atom as level_with_atom, with_repeat as level_with_repeat, with_bar as level_with_bar, finished as level_finished, build};
+ghost use Rattle.pol_pattern.specs.Reading.{Level, fresh as fresh_level};
+ghost use Rattle.pol_pattern.specs.Reading.{with_atom as level_with_atom};
+ghost use Rattle.pol_pattern.specs.Reading.{with_repeat as level_with_repeat};
+ghost use Rattle.pol_pattern.specs.Reading.{with_bar as level_with_bar, finished as level_finished};
+ghost use Rattle.pol_pattern.specs.Reading.{build};
 ghost use Rattle.pol_pattern.specs.Sizes.{size_of, is_one_group};
 
 use crate::token::{Repeat, Token};

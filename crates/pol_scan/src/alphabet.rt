@@ -1,10 +1,12 @@
 //! Which column each symbol has.
 
-ghost use Rattle.std.specs.Prelude.{◌≡◌, ◌<◌, ◌≤◌, ◌-◌, ℕ, Bool, List, length, map, slice_index, IsTrue};
+ghost use Rattle.std.specs.Prelude.{◌≡◌, ◌<◌, ◌≤◌, ◌-◌, ℕ, Bool, List, length, map, slice_index};
+ghost use Rattle.std.specs.Prelude.{IsTrue};
 ghost use Rattle.basics.specs.Symbol.{is_symbol, is_text};
 ghost use Rattle.basics.specs.TextOrder.{IsBefore, IsLeast};
 ghost use Rattle.pol_scan.specs.Words.{IsWord, IsWordThat};
-ghost use Rattle.pol_scan.specs.Alphabet.{column_of as column_at, least_of as least_at, word_of, text_of, IsTextThat, IsAlphabet};
+ghost use Rattle.pol_scan.specs.Alphabet.{column_of as column_at, least_of as least_at, word_of};
+ghost use Rattle.pol_scan.specs.Alphabet.{text_of, IsTextThat, IsAlphabet};
 
 use crate::machine::Column;
 use std::marker::Model;
@@ -106,7 +108,8 @@ impl Alphabet {
         ensures text { IsTrue (is_text result.items) }
         ensures word { word_of self.now result.items ≡ word.items }
 
-        // Texts stand in the order of the words that they are read as, and words in that of their texts.
+        // Texts stand in the order of the words that they are read as, and words in that of their
+        // texts.
         ensures order { (text : List ℕ) → IsTrue (is_text text) → IsBefore text result.items
             → IsBefore (word_of self.now text) word.items }
         ensures order_of_words { (other : List ℕ) → IsBefore other word.items

@@ -20,7 +20,8 @@ pub type StateNumber = u16;
 const MOST_STATES: usize = StateNumber::MAX as usize;
 
 /// The table of a deterministic automaton without accepting states: for each state its row, which
-/// has the state behind it for each column, and the word along which it was found. State 0 is the first.
+/// has the state behind it for each column, and the word along which it was found. State 0 is the
+/// first.
 ///
 /// A state takes its row of cells, and 16 bytes for its word.
 #[derive(Debug, Drop)]

@@ -7,7 +7,8 @@ ghost use Rattle.std.specs.Option.{option_copied, option_map};
 ghost use Rattle.basics.specs.Lending.{lends_item};
 ghost use Rattle.pol_names.specs.SubjectId.{same_id};
 ghost use Rattle.pol_text.specs.contracts.subject.Subject.{the_row as subject_row};
-ghost use Rattle.pol_text.specs.Policy.{id_of, find_subject, parent_of as parent_among, ends_within as chain_ends_within, chain_within};
+ghost use Rattle.pol_text.specs.Policy.{id_of, find_subject, parent_of as parent_among};
+ghost use Rattle.pol_text.specs.Policy.{ends_within as chain_ends_within, chain_within};
 
 use crate::subject::Subject;
 use basics::Sequence;

@@ -1,13 +1,17 @@
 //! Changes of a policy, each of which keeps it well formed.
 
-ghost use Rattle.std.specs.Prelude.{◌≡◌, List, ◌<◌, ◌≤◌, ◌∷◌, ◌++◌, ◌&&◌, [], length, map, position, slice_get, nat_lt, nat_le, false, is_some, IsTrue, Ok, Err, None, OnOk, OnErr};
+ghost use Rattle.std.specs.Prelude.{◌≡◌, List, ◌<◌, ◌≤◌, ◌∷◌, ◌++◌, ◌&&◌, [], length, map};
+ghost use Rattle.std.specs.Prelude.{position, slice_get, nat_lt, nat_le, false, is_some, IsTrue};
+ghost use Rattle.std.specs.Prelude.{Ok, Err, None, OnOk, OnErr};
 ghost use Rattle.std.specs.List.{list_all};
 ghost use Rattle.std.specs.Option.{option_map_or};
 ghost use Rattle.std.specs.Result.{result_err};
 ghost use Rattle.pol_names.specs.SubjectId.{same_id, group_id};
 ghost use Rattle.pol_text.specs.Policy.{id_of, find_subject, ends_within as ends_test, all_of};
 ghost use Rattle.pol_text.specs.Policy.{TellsEndless};
-ghost use Rattle.pol_text.specs.Change.{with_changed, without, is_parent, has_room_below, chain_fault, with_parent, with_secret, with_priv, with_rule_at, without_rule_at, with_rule_moved};
+ghost use Rattle.pol_text.specs.Change.{with_changed, without, is_parent, has_room_below};
+ghost use Rattle.pol_text.specs.Change.{chain_fault, with_parent, with_secret, with_priv};
+ghost use Rattle.pol_text.specs.Change.{with_rule_at, without_rule_at, with_rule_moved};
 ghost use Rattle.pol_text.specs.Places.{changed_at};
 ghost use Rattle.pol_text.specs.Text.{new_subject};
 ghost use Rattle.pol_names.specs.declared.subject_id.Kind.TheVariants.{Group, User};

@@ -1,11 +1,13 @@
 //! Whether the chains of a draft are right, and the policy that it then is.
 
-ghost use Rattle.std.specs.Prelude.{◌≡◌, ◌<◌, Ok, Err, length, map, slice_index, IfSome, MatchResult};
+ghost use Rattle.std.specs.Prelude.{◌≡◌, ◌<◌, Ok, Err, length, map, slice_index, IfSome};
+ghost use Rattle.std.specs.Prelude.{MatchResult};
 ghost use Rattle.std.specs.List.{zip};
 ghost use Rattle.std.specs.Option.{option_map_or};
 ghost use Rattle.pol_text.specs.Draft.{RightDraft, first_failing};
 ghost use Rattle.pol_text.specs.Policy.{id_of};
-ghost use Rattle.pol_text.specs.Policy.{has_parent as parent_test, ends_within as chain_ends_within};
+ghost use Rattle.pol_text.specs.Policy.{has_parent as parent_test};
+ghost use Rattle.pol_text.specs.Policy.{ends_within as chain_ends_within};
 ghost use Rattle.pol_text.specs.Text.{IsUnlessMemory, with_right_chains};
 ghost use Rattle.pol_text.specs.declared.fault.PolicyFault.TheVariants.{Refused};
 

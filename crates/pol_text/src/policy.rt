@@ -2,7 +2,8 @@
 
 ghost use Rattle.std.specs.Prelude.{◌≡◌, ◌↔◌, [], length, Contains, IsTrue, IfSome, IfOk};
 ghost use Rattle.std.specs.Option.{option_copied};
-ghost use Rattle.pol_text.specs.Policy.{WellFormed, is_right_subject, find_subject, chain_ids, decide};
+ghost use Rattle.pol_text.specs.Policy.{WellFormed, is_right_subject, find_subject, chain_ids};
+ghost use Rattle.pol_text.specs.Policy.{decide};
 ghost use Rattle.pol_text.specs.Policy.{FollowsParent, InheritsEntries};
 ghost use Rattle.pol_text.specs.Policy.{parent_of as parent_among, decision as decision_of};
 ghost use Rattle.pol_text.specs.declared.subject.Subject.{Subject as SubjectValue};

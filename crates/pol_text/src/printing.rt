@@ -2,7 +2,8 @@
 
 ghost use Rattle.std.specs.Prelude.{◌≡◌, Ok, ◌++◌, ◌∷◌, [], codes, map, IfOk, OnOk};
 ghost use Rattle.std.specs.Fmt.{decimal};
-ghost use Rattle.pol_text.specs.Text.{heading_line, line_for, rule_line, subject_lines, text_of_lines, text_of, policy_of};
+ghost use Rattle.pol_text.specs.Text.{heading_line, line_for, rule_line, subject_lines};
+ghost use Rattle.pol_text.specs.Text.{text_of_lines, text_of, policy_of};
 
 use crate::policy::Policy;
 use crate::subject::{Rule, Subject};

@@ -7,7 +7,8 @@ ghost use Rattle.pol_text.specs.Draft.{LineGives};
 ghost use Rattle.pol_names.specs.SubjectId.{same_kind};
 ghost use Rattle.pol_names.specs.Secret.{secret_of};
 ghost use Rattle.pol_text.specs.Setting.{changed_by, secret_given};
-ghost use Rattle.pol_text.specs.Text.{level_of, pattern_read, with_priv as priv_set, with_rule as rule_added};
+ghost use Rattle.pol_text.specs.Text.{level_of, pattern_read, with_priv as priv_set};
+ghost use Rattle.pol_text.specs.Text.{with_rule as rule_added};
 
 use crate::fault::{LineFault, PolicyRefusal};
 use crate::policy::Policy;

@@ -4,7 +4,8 @@ ghost use Rattle.std.specs.Prelude.{◌≡◌, ◌≤◌, length, is_some, IsTru
 ghost use Rattle.pol_names.specs.Secret.{is_secret};
 ghost use Rattle.pol_names.specs.SubjectId.{kind_word};
 ghost use Rattle.pol_names.specs.SubjectId.{group_id, user_id};
-ghost use Rattle.pol_text.specs.Policy.{id_of, all_of, is_right_rule, is_right_subject, first_match as first_of};
+ghost use Rattle.pol_text.specs.Policy.{id_of, all_of, is_right_rule, is_right_subject};
+ghost use Rattle.pol_text.specs.Policy.{first_match as first_of};
 ghost use Rattle.pol_text.specs.Change.{with_secret, with_rule_at};
 ghost use Rattle.pol_text.specs.Setting.{secret_for};
 ghost use Rattle.pol_text.specs.Text.{new_subject};

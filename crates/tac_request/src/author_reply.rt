@@ -1,9 +1,12 @@
 //! Bodies of authorisation replies.
 
-ghost use Rattle.std.specs.Prelude.{◌≡◌, ℕ, ◌+◌, ◌<◌, ◌≤◌, ◌++◌, length, sum, IfOk, IfSome, Ok, Some};
+ghost use Rattle.std.specs.Prelude.{◌≡◌, ℕ, ◌+◌, ◌<◌, ◌≤◌, ◌++◌, length, sum, IfOk, IfSome, Ok};
+ghost use Rattle.std.specs.Prelude.{Some};
 ghost use Rattle.std.specs.Fmt.{decimal};
 ghost use Rattle.arrayvec.specs.ArrayVec.{array_vec_len};
-ghost use Rattle.tac_request.specs.AuthorReply.{level_argument as argument_for, level_of as level_in, level_among as level_of_all, author_reply, author_reply_of};
+ghost use Rattle.tac_request.specs.AuthorReply.{level_argument as argument_for};
+ghost use Rattle.tac_request.specs.AuthorReply.{level_of as level_in, level_among as level_of_all};
+ghost use Rattle.tac_request.specs.AuthorReply.{author_reply, author_reply_of};
 ghost use Rattle.tac_wire.specs.Cut.{cut};
 
 use crate::author_request::total;

@@ -3,7 +3,8 @@
 ghost use Rattle.std.specs.Prelude.{◌≡◌, ◌++◌, IfOk, OnOk, OnErr, slice_get};
 ghost use Rattle.std.specs.Option.{option_copied};
 ghost use Rattle.std.specs.List.{flat_map, list_all};
-ghost use Rattle.tac_request.specs.Line.{has_sign, value_under as value_of, values_under, spaced, IsLine, line_of};
+ghost use Rattle.tac_request.specs.Line.{has_sign, value_under as value_of, values_under, spaced};
+ghost use Rattle.tac_request.specs.Line.{IsLine, line_of};
 
 use crate::argument::split_arg;
 use basics::Bytes;

@@ -4,7 +4,8 @@ ghost use Rattle.std.specs.Prelude.{◌≡◌, ◌<◌, ◌^◌, ℕ, IfOk, Some
 ghost use Rattle.std.specs.Fmt.{decimal};
 ghost use Rattle.std.specs.Char.{is_ascii_digit};
 ghost use Rattle.std.specs.List.{list_all};
-ghost use Rattle.tac_request.specs.Record.{kind_of, seconds_of, first_under, task_of, elapsed_of, text_line, record_of};
+ghost use Rattle.tac_request.specs.Record.{kind_of, seconds_of, first_under, task_of, elapsed_of};
+ghost use Rattle.tac_request.specs.Record.{text_line, record_of};
 ghost use Rattle.tac_request.specs.Line.{line_of};
 
 use crate::acct_request::AcctRequest;

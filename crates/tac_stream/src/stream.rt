@@ -1,6 +1,7 @@
 //! A connection and the bytes that came on it.
 
-ghost use Rattle.std.specs.Prelude.{◌≡◌, ◌<◌, ◌++◌, List, ℕ, [], length, true, false, not, None, Some, Ok, IfOk, OnOk, OnErr};
+ghost use Rattle.std.specs.Prelude.{◌≡◌, ◌<◌, ◌++◌, List, ℕ, [], length, true, false, not, None};
+ghost use Rattle.std.specs.Prelude.{Some, Ok, IfOk, OnOk, OnErr};
 ghost use Rattle.tac_wire.specs.Stream.{cut, continued};
 ghost use Rattle.tac_conn.specs.Ask.{kind_asked, kind_of_answer};
 ghost use Rattle.tac_conn.specs.Packet.{sent};
