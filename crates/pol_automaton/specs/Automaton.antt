@@ -30,8 +30,10 @@ pub record IsWhole (automaton : Automaton) : Type 0 where
   pub columns : automaton.table.width ≡ automaton.alphabet.width
   pub firsts : length automaton.firsts ≡ count automaton.table
   pub within : (word : List ℕ) → IsWord automaton.table.width word → walk automaton.table word < count automaton.table
-  pub words : (state : ℕ) → state < count automaton.table → IsWord automaton.table.width (found_along automaton.table state)
-  pub below : (state i : ℕ) → state < count automaton.table → first_of automaton state ≡ Some i → i < automaton.entries
+  pub words : (state : ℕ) → state < count automaton.table
+      → IsWord automaton.table.width (found_along automaton.table state)
+  pub below : (state i : ℕ) → state < count automaton.table → first_of automaton state ≡ Some i
+      → i < automaton.entries
 
 -- the automaton is the Decider of these entries
 pub record IsDecider (automaton : Automaton) (entries : List (List ℕ)) : Type 0 where
@@ -41,8 +43,11 @@ pub record IsDecider (automaton : Automaton) (entries : List (List ℕ)) : Type 
       → (state_of automaton text ≡ state_of automaton other) ↔ SameResiduals entries text other
   pub index : IsResidualCount entries (count automaton.table)
   -- a state knows the first match of the texts that lead there
-  pub firsts : (text : List ℕ) → IsTrue (is_text text) → IsFirstMatch entries text (first_of automaton (state_of automaton text))
+  pub firsts : (text : List ℕ) → IsTrue (is_text text)
+      → IsFirstMatch entries text (first_of automaton (state_of automaton text))
   -- states are numbered in the order of the least words that lead there: so the first state that passes a test has the
   -- least word of those that lead to such a state
-  pub leasts : (test : ℕ → Bool) (state : ℕ) → state < count automaton.table → IsTrue (test state) → ((k : ℕ) → k < state → ¬ (IsTrue (test k)))
-      → IsLeast (IsWordThat automaton.table.width (λ word. IsTrue (test (walk automaton.table word)))) (found_along automaton.table state)
+  pub leasts : (test : ℕ → Bool) (state : ℕ) → state < count automaton.table → IsTrue (test state)
+      → ((k : ℕ) → k < state → ¬ (IsTrue (test k)))
+      → IsLeast (IsWordThat automaton.table.width (λ word. IsTrue (test (walk automaton.table word))))
+      (found_along automaton.table state)

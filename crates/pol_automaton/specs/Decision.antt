@@ -1,5 +1,6 @@
 -- What is decided of a text: by the first entry whose set holds it. And the least texts of which something is decided.
-use Rattle.std.specs.Prelude.{◌≡◌, ◌<◌, ℕ, List, [], length, All, Option, None, Some, slice_get, slice_index_or, unwrap_or}
+use Rattle.std.specs.Prelude.{◌≡◌, ◌<◌, ℕ, List, [], length, All, Option, None, Some, slice_get, slice_index_or}
+use Rattle.std.specs.Prelude.{unwrap_or}
 use Rattle.basics.specs.TextOrder.{IsLeast}
 use Rattle.pol_pattern.specs.Spelling.{Holds}
 use Rattle.pol_names.specs.declared.decision.Verdict.{Verdict}
@@ -14,7 +15,8 @@ entry_at entries i = slice_index_or entries i []
 -- the first entry, counted from 0, whose set holds the text; none where no entry's set does
 abbrev pub IsFirstMatch : List (List ℕ) → List ℕ → Option ℕ → Type 0
 IsFirstMatch entries text None = All (λ source. ¬ (Holds source text)) entries
-IsFirstMatch entries text (Some i) = (i < length entries) × Holds (entry_at entries i) text × ((k : ℕ) → k < i → ¬ (Holds (entry_at entries k) text))
+IsFirstMatch entries text (Some i) = (i < length entries) × Holds (entry_at entries i) text
+    × ((k : ℕ) → k < i → ¬ (Holds (entry_at entries k) text))
 
 -- the texts that an entry decides, and the least of them
 abbrev pub Decides : List (List ℕ) → ℕ → List ℕ → Type 0
@@ -30,7 +32,8 @@ verdict_by verdicts None = Deny
 verdict_by verdicts (Some i) = unwrap_or (slice_get verdicts i) Deny
 
 abbrev pub IsDecided : List (List ℕ) → List Verdict → List ℕ → Verdict → Type 0
-IsDecided entries verdicts text verdict = (first : Option ℕ) × IsFirstMatch entries text first × (verdict_by verdicts first ≡ verdict)
+IsDecided entries verdicts text verdict = (first : Option ℕ) × IsFirstMatch entries text first
+    × (verdict_by verdicts first ≡ verdict)
 
 -- ---- changes
 
@@ -54,7 +57,8 @@ ruling entries verdicts = record { entries = entries; verdicts = verdicts }
 -- the texts of which the decision changed this way, and the least of them
 abbrev pub IsChanged : Ruling → Ruling → Way → List ℕ → Type 0
 IsChanged old new way =
-    IsTextThat (λ text. IsDecided old.entries old.verdicts text (verdict_before way) × IsDecided new.entries new.verdicts text (verdict_after way))
+    IsTextThat (λ text. IsDecided old.entries old.verdicts text (verdict_before way)
+    × IsDecided new.entries new.verdicts text (verdict_after way))
 
 abbrev pub IsLeastChange : Ruling → Ruling → Way → List ℕ → Type 0
 IsLeastChange old new way text = IsLeast (IsChanged old new way) text

@@ -22,16 +22,20 @@ pub record Entries : Type 0 where
 
 abbrev pub alphabet_code : Coded Alphabet
 alphabet_code =
-    code_by (ℕ × (List ℕ × List ℕ)) (coded× coded_ℕ (coded× (coded_list coded_ℕ) (coded_list coded_ℕ))) (λ a. (a.width, (a.columns, a.least)))
+    code_by (ℕ × (List ℕ × List ℕ)) (coded× coded_ℕ (coded× (coded_list coded_ℕ) (coded_list coded_ℕ)))
+    (λ a. (a.width, (a.columns, a.least)))
     (λ p. record { width = p.0; columns = p.1.0; least = p.1.1 }) (λ _. refl)
 
 abbrev pub entry_term_code : Coded EntryTerm
-entry_term_code = code_by (ℕ × ℕ) (coded× coded_ℕ coded_ℕ) (λ e. (e.entry, e.term)) (λ p. record { entry = p.0; term = p.1 }) (λ _. refl)
+entry_term_code = code_by (ℕ × ℕ) (coded× coded_ℕ coded_ℕ) (λ e. (e.entry, e.term))
+    (λ p. record { entry = p.0; term = p.1 }) (λ _. refl)
 
 abbrev pub entries_code : Coded Entries
 entries_code =
-    code_by (Alphabet × (List Term × (List EntryTerm × ℕ))) (coded× alphabet_code (coded× (coded_list term_code) (coded× (coded_list entry_term_code) coded_ℕ)))
-    (λ e. (e.alphabet, (e.terms, (e.start, e.count)))) (λ p. record { alphabet = p.0; terms = p.1.0; start = p.1.1.0; count = p.1.1.1 }) (λ _. refl)
+    code_by (Alphabet × (List Term × (List EntryTerm × ℕ)))
+    (coded× alphabet_code (coded× (coded_list term_code) (coded× (coded_list entry_term_code) coded_ℕ)))
+    (λ e. (e.alphabet, (e.terms, (e.start, e.count))))
+    (λ p. record { alphabet = p.0; terms = p.1.0; start = p.1.1.0; count = p.1.1.1 }) (λ _. refl)
 
 -- no two symbols have one column
 abbrev pub IsExact : Alphabet → Type 0
@@ -46,7 +50,8 @@ pub record AreWhole (collected : Entries) : Type 0 where
 
 -- a text is held exactly if a term of the residual by it holds the empty text
 abbrev pub IsToldByResiduals : List ℕ → Type 0
-IsToldByResiduals source = (text : List ℕ) → Holds source text ↔ ((term : Term) × InResidual source text term × InTerm term [])
+IsToldByResiduals source = (text : List ℕ) → Holds source text
+    ↔ ((term : Term) × InResidual source text term × InTerm term [])
 
 -- they are collected of these sources, in order
 pub record AreEntries (collected : Entries) (entries : List (List ℕ)) : Type 0 where
@@ -68,4 +73,5 @@ pub record GrowsTo (old new : Entries) : Type 0 where
   pub start : new.start ≡ old.start
   pub count : new.count ≡ old.count
   pub begins : SameTerms old.terms new.terms old.start
-  pub known : (items : List EntryTerm) → AreResiduals old.terms items → AreResiduals new.terms items × SameTerms old.terms new.terms items
+  pub known : (items : List EntryTerm) → AreResiduals old.terms items
+      → AreResiduals new.terms items × SameTerms old.terms new.terms items

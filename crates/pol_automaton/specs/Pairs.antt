@@ -1,5 +1,6 @@
 -- Two automata that read one text, side by side.
-use Rattle.std.specs.Prelude.{◌≡◌, ◌↔◌, ◌<◌, ◌&&◌, ◌==◌, ◌+◌, ℕ, Bool, true, false, IsTrue, Option, None, Some, List, refl}
+use Rattle.std.specs.Prelude.{◌≡◌, ◌↔◌, ◌<◌, ◌&&◌, ◌==◌, ◌+◌, ℕ, Bool, true, false, IsTrue, Option, None, Some, List}
+use Rattle.std.specs.Prelude.{refl}
 use Rattle.std.proofs.Common.{sym, ap, subst, ◌∙◌}
 use Rattle.std.proofs.lemmas.Bool.{and_parts, and_from, eqb-true, eq-eqb}
 use Rattle.std.specs.List.{AllZip}
@@ -21,23 +22,28 @@ abbrev pub behind : Automaton → ℕ → ℕ → ℕ
 behind a state symbol = next a.table state (column_of a.alphabet symbol)
 
 pub state_longer : (alphabet : Alphabet) (a : Automaton) (word : List ℕ) (column : ℕ)
-    → state_of a (text_of alphabet (longer word column)) ≡ behind a (state_of a (text_of alphabet word)) (least_of alphabet column)
+    → state_of a (text_of alphabet (longer word column))
+    ≡ behind a (state_of a (text_of alphabet word)) (least_of alphabet column)
 state_longer alphabet a word column =
     ap (λ text. walk a.table (word_of a.alphabet text)) (map_push (least_of alphabet) word column)
     ∙ ap (walk a.table) (map_push (column_of a.alphabet) (text_of alphabet word) (least_of alphabet column))
-    ∙ fold_push (next a.table) 0 (word_of a.alphabet (text_of alphabet word)) (column_of a.alphabet (least_of alphabet column))
+    ∙ fold_push (next a.table) 0 (word_of a.alphabet (text_of alphabet word))
+    (column_of a.alphabet (least_of alphabet column))
 
 -- words are the same if each automaton reads their texts into one state
 abbrev pub pairs : Alphabet → Automaton → Automaton → Congruence
 pairs alphabet a b = record {
   width = alphabet.width;
-  same = λ u v. (state_of a (text_of alphabet u) ≡ state_of a (text_of alphabet v)) × (state_of b (text_of alphabet u) ≡ state_of b (text_of alphabet v));
+  same = λ u v. (state_of a (text_of alphabet u) ≡ state_of a (text_of alphabet v))
+      × (state_of b (text_of alphabet u) ≡ state_of b (text_of alphabet v));
   reflexive = λ u. (refl, refl);
   symmetric = λ u v s. (sym s.0, sym s.1);
   transitive = λ u v w s t. (s.0 ∙ t.0, s.1 ∙ t.1);
   followed = λ u v column in_range s. (
-    state_longer alphabet a u column ∙ ap (λ n. behind a n (least_of alphabet column)) s.0 ∙ sym (state_longer alphabet a v column),
-    state_longer alphabet b u column ∙ ap (λ n. behind b n (least_of alphabet column)) s.1 ∙ sym (state_longer alphabet b v column),
+    state_longer alphabet a u column ∙ ap (λ n. behind a n (least_of alphabet column)) s.0
+        ∙ sym (state_longer alphabet a v column),
+    state_longer alphabet b u column ∙ ap (λ n. behind b n (least_of alphabet column)) s.1
+        ∙ sym (state_longer alphabet b v column),
   );
 }
 
@@ -48,14 +54,16 @@ pub record ArePair (alphabet : Alphabet) (a b : Automaton) (word : List ℕ) (fi
   pub first_within : first < count a.table
   pub second_within : second < count b.table
 
-pub told_pairs : (alphabet : Alphabet) (a b : Automaton) (u v : List ℕ) (s t : ℕ × ℕ) → ArePair alphabet a b u s.0 s.1 → ArePair alphabet a b v t.0 t.1
+pub told_pairs : (alphabet : Alphabet) (a b : Automaton) (u v : List ℕ) (s t : ℕ × ℕ)
+    → ArePair alphabet a b u s.0 s.1 → ArePair alphabet a b v t.0 t.1
     → (((s.0 == t.0) && (s.1 == t.1)) ≡ true) ↔ (pairs alphabet a b).same u v
 told_pairs alphabet a b u v s t p q = (
   λ e.
       let both = and_parts (s.0 == t.0) (s.1 == t.1) e in
       (sym p.first_is ∙ eqb-true s.0 t.0 both.0 ∙ q.first_is, sym p.second_is ∙ eqb-true s.1 t.1 both.1 ∙ q.second_is),
   λ same.
-      and_from (s.0 == t.0) (s.1 == t.1) (eq-eqb s.0 t.0 (p.first_is ∙ same.0 ∙ sym q.first_is)) (eq-eqb s.1 t.1 (p.second_is ∙ same.1 ∙ sym q.second_is)),
+      and_from (s.0 == t.0) (s.1 == t.1) (eq-eqb s.0 t.0 (p.first_is ∙ same.0 ∙ sym q.first_is))
+      (eq-eqb s.1 t.1 (p.second_is ∙ same.1 ∙ sym q.second_is)),
 )
 
 -- ---- joined entries
@@ -88,48 +96,62 @@ pub record Comparison : Type 0 where
   pub way : Way
 
 abbrev pub changes_at : Comparison → ℕ → ℕ → Bool
-changes_at c first second = is_change c.way (verdict_by c.old_verdicts (first_of c.old first)) (verdict_by c.new_verdicts (first_of c.new second))
+changes_at c first second = is_change c.way (verdict_by c.old_verdicts (first_of c.old first))
+    (verdict_by c.new_verdicts (first_of c.new second))
 
 unfoldable pub changes : Comparison → List ℕ → Bool
 changes c text = changes_at c (state_of c.old text) (state_of c.new text)
 
-pub changes_same : (c : Comparison) (text other : List ℕ) → state_of c.old text ≡ state_of c.old other → state_of c.new text ≡ state_of c.new other → IsTrue (changes c text) → IsTrue (changes c other)
+pub changes_same : (c : Comparison) (text other : List ℕ) → state_of c.old text ≡ state_of c.old other
+    → state_of c.new text ≡ state_of c.new other → IsTrue (changes c text) → IsTrue (changes c other)
 unfolding changes
-changes_same c text other p q h = subst (λ n. IsTrue (changes_at c n (state_of c.new other))) p (subst (λ n. IsTrue (changes_at c (state_of c.old text) n)) q h)
+changes_same c text other p q h = subst (λ n. IsTrue (changes_at c n (state_of c.new other))) p
+    (subst (λ n. IsTrue (changes_at c (state_of c.old text) n)) q h)
 
-pub changes_here : (alphabet : Alphabet) (c : Comparison) (word : List ℕ) (first second : ℕ) → ArePair alphabet c.old c.new word first second
+pub changes_here : (alphabet : Alphabet) (c : Comparison) (word : List ℕ) (first second : ℕ)
+    → ArePair alphabet c.old c.new word first second
     → changes_at c first second ≡ changes c (text_of alphabet word)
 unfolding changes
-changes_here alphabet c word first second p = ap (λ n. changes_at c n second) p.first_is ∙ ap (λ n. changes_at c (state_of c.old (text_of alphabet word)) n) p.second_is
+changes_here alphabet c word first second p = ap (λ n. changes_at c n second) p.first_is
+    ∙ ap (λ n. changes_at c (state_of c.old (text_of alphabet word)) n) p.second_is
 
 -- ---- what stays
 
 abbrev pub comparison_of : Automaton → List Verdict → Automaton → List Verdict → Way → Comparison
-comparison_of old old_verdicts new new_verdicts way = record { old = old; old_verdicts = old_verdicts; new = new; new_verdicts = new_verdicts; way = way }
+comparison_of old old_verdicts new new_verdicts way =
+    record { old = old; old_verdicts = old_verdicts; new = new; new_verdicts = new_verdicts; way = way }
 
 abbrev pub PairKeeps : Alphabet → Automaton → Automaton → Alphabet → Automaton → Automaton → Type 0
 PairKeeps al a b am c d =
-    Keeps {S = ℕ × ℕ} (pairs al a b) (λ word state. ArePair al a b word state.0 state.1) (pairs am c d) (λ word state. ArePair am c d word state.0 state.1)
+    Keeps {S = ℕ × ℕ} (pairs al a b) (λ word state. ArePair al a b word state.0 state.1) (pairs am c d)
+    (λ word state. ArePair am c d word state.0 state.1)
 
 pub pairs_kept : (al am : Alphabet) (a b c d : Automaton) → al ≡ am → a ≡ c → b ≡ d → PairKeeps al a b am c d
 pairs_kept al am a b c d p q r =
     subst (λ (x : Automaton). PairKeeps al a b am c x) r
     (subst (λ (x : Automaton). PairKeeps al a b am x b) q
-    (subst (λ (x : Alphabet). PairKeeps al a b x a b) p (keeps_itself (pairs al a b) (λ word state. ArePair al a b word state.0 state.1))))
+    (subst (λ (x : Alphabet). PairKeeps al a b x a b) p
+    (keeps_itself (pairs al a b) (λ word state. ArePair al a b word state.0 state.1))))
 
 -- what was led by the one is led by the other
-pub led_back : (al am : Alphabet) (a b c d : Automaton) → al ≡ am → a ≡ c → b ≡ d → (words : List (List ℕ)) (states : List (ℕ × ℕ))
-    → AllZip (λ word s. ArePair am c d word s.0 s.1) words states → AllZip (λ word s. ArePair al a b word s.0 s.1) words states
+pub led_back : (al am : Alphabet) (a b c d : Automaton) → al ≡ am → a ≡ c → b ≡ d
+    → (words : List (List ℕ)) (states : List (ℕ × ℕ))
+    → AllZip (λ word s. ArePair am c d word s.0 s.1) words states
+    → AllZip (λ word s. ArePair al a b word s.0 s.1) words states
 led_back al am a b c d p q r words states led =
     subst (λ (x : Alphabet). AllZip (λ word s. ArePair x a b word s.0 s.1) words states) (sym p)
     (subst (λ (x : Automaton). AllZip (λ word s. ArePair am x b word s.0 s.1) words states) (sym q)
     (subst (λ (x : Automaton). AllZip (λ word s. ArePair am c x word s.0 s.1) words states) (sym r) led))
 
 pub comparing_kept : (al am : Alphabet) (c d : Comparison) → al ≡ am → c ≡ d → PairKeeps al c.old c.new am d.old d.new
-comparing_kept al am c d p q = pairs_kept al am c.old c.new d.old d.new p (ap (λ (x : Comparison). x.old) q) (ap (λ (x : Comparison). x.new) q)
+comparing_kept al am c d p q = pairs_kept al am c.old c.new d.old d.new p (ap (λ (x : Comparison). x.old) q)
+    (ap (λ (x : Comparison). x.new) q)
 
-pub changes_stay : (al am : Alphabet) (c d : Comparison) → al ≡ am → c ≡ d → (word : List ℕ) → IsTrue (changes c (text_of al word)) ↔ IsTrue (changes d (text_of am word))
+pub changes_stay : (al am : Alphabet) (c d : Comparison) → al ≡ am → c ≡ d → (word : List ℕ)
+    → IsTrue (changes c (text_of al word)) ↔ IsTrue (changes d (text_of am word))
 changes_stay al am c d p q word = (
-  λ h. subst (λ (x : Comparison). IsTrue (changes x (text_of am word))) q (subst (λ (x : Alphabet). IsTrue (changes c (text_of x word))) p h),
-  λ h. subst (λ (x : Comparison). IsTrue (changes x (text_of al word))) (sym q) (subst (λ (x : Alphabet). IsTrue (changes d (text_of x word))) (sym p) h),
+  λ h. subst (λ (x : Comparison). IsTrue (changes x (text_of am word))) q
+      (subst (λ (x : Alphabet). IsTrue (changes c (text_of x word))) p h),
+  λ h. subst (λ (x : Comparison). IsTrue (changes x (text_of al word))) (sym q)
+      (subst (λ (x : Alphabet). IsTrue (changes d (text_of x word))) (sym p) h),
 )

@@ -35,22 +35,30 @@ abbrev pub Behind : Alphabet → List Term → List EntryTerm → List ℕ → �
 Behind alphabet table start word entry term = After (HasTerm table start entry) (text_of alphabet word) term
 
 -- the word leads to the residuals
-pub record LeadsTo (alphabet : Alphabet) (table : List Term) (start : List EntryTerm) (word : List ℕ) (items : List EntryTerm) : Type 0 where
+pub record LeadsTo (alphabet : Alphabet) (table : List Term) (start : List EntryTerm) (word : List ℕ)
+    (items : List EntryTerm) : Type 0 where
   pub right : AreResiduals table items
-  pub members : (entry : ℕ) (term : Term) → HasTerm table items entry term ↔ Behind alphabet table start word entry term
+  pub members : (entry : ℕ) (term : Term)
+      → HasTerm table items entry term ↔ Behind alphabet table start word entry term
 
 -- words are the same if the residuals behind them are
 abbrev pub SameBehind : Alphabet → List Term → List EntryTerm → List ℕ → List ℕ → Type 0
-SameBehind alphabet table start u v = (entry : ℕ) (term : Term) → Behind alphabet table start u entry term ↔ Behind alphabet table start v entry term
+SameBehind alphabet table start u v =
+    (entry : ℕ) (term : Term) → Behind alphabet table start u entry term ↔ Behind alphabet table start v entry term
 
 pub behind_longer : (alphabet : Alphabet) (table : List Term) (start : List EntryTerm) (u v : List ℕ) (column : ℕ)
-    → SameBehind alphabet table start u v → (entry : ℕ) (term : Term) → Behind alphabet table start (longer u column) entry term → Behind alphabet table start (longer v column) entry term
+    → SameBehind alphabet table start u v → (entry : ℕ) (term : Term)
+    → Behind alphabet table start (longer u column) entry term
+    → Behind alphabet table start (longer v column) entry term
 behind_longer alphabet table start u v column same entry term h =
     let set = HasTerm table start entry in
     let at : List ℕ → Type 0 = λ text. After set text term in
-    let stepped = (after_push set (text_of alphabet u) (least_of alphabet column) term).0 (subst at (map-append (least_of alphabet) u (column ∷ [])) h) in
-    let other = derivatives_more (After set (text_of alphabet u)) (After set (text_of alphabet v)) (least_of alphabet column) (λ t. (same entry t).0) term stepped in
-    subst at (sym (map-append (least_of alphabet) v (column ∷ []))) ((after_push set (text_of alphabet v) (least_of alphabet column) term).1 other)
+    let stepped = (after_push set (text_of alphabet u) (least_of alphabet column) term).0
+    (subst at (map-append (least_of alphabet) u (column ∷ [])) h) in
+    let other = derivatives_more (After set (text_of alphabet u)) (After set (text_of alphabet v))
+    (least_of alphabet column) (λ t. (same entry t).0) term stepped in
+    subst at (sym (map-append (least_of alphabet) v (column ∷ [])))
+    ((after_push set (text_of alphabet v) (least_of alphabet column) term).1 other)
 
 -- words are told apart by the residuals behind them
 abbrev pub residuals : Alphabet → List Term → List EntryTerm → Congruence
@@ -59,7 +67,8 @@ residuals alphabet table start = record {
   same = SameBehind alphabet table start;
   reflexive = λ u entry term. (λ h. h, λ h. h);
   symmetric = λ u v same entry term. ((same entry term).1, (same entry term).0);
-  transitive = λ u v w one two entry term. (λ h. (two entry term).0 ((one entry term).0 h), λ h. (one entry term).1 ((two entry term).1 h));
+  transitive = λ u v w one two entry term.
+      (λ h. (two entry term).0 ((one entry term).0 h), λ h. (one entry term).1 ((two entry term).1 h));
   followed = λ u v column in_range same entry term. (
     behind_longer alphabet table start u v column same entry term,
     behind_longer alphabet table start v u column (λ e t. ((same e t).1, (same e t).0)) entry term,

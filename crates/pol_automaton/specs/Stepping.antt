@@ -13,10 +13,13 @@ AreWithin table items = All (λ item. item.term < length table) items
 -- the items are the derivatives by the symbol of the items that another table has
 pub record AreDerivatives (old new : List Term) (symbol : ℕ) (items derived : List EntryTerm) : Type 0 where
   pub within : AreWithin new derived
-  pub members : (entry : ℕ) (term : Term) → HasTerm new derived entry term ↔ Derivatives symbol (HasTerm old items entry) term
+  pub members : (entry : ℕ) (term : Term)
+      → HasTerm new derived entry term ↔ Derivatives symbol (HasTerm old items entry) term
 
 -- the items of one more item's derivatives
-pub record AddsDerivatives (old new : List Term) (symbol : ℕ) (item : EntryTerm) (before after : List EntryTerm) : Type 0 where
+pub record AddsDerivatives (old new : List Term) (symbol : ℕ) (item : EntryTerm)
+    (before after : List EntryTerm) : Type 0 where
   pub within : AreWithin new after
   pub members : (own : Term) → Means old item.term own → (entry : ℕ) (term : Term)
-      → HasTerm new after entry term ↔ (HasTerm old before entry term ⊎ ((entry ≡ item.entry) × Derivative symbol own term))
+      → HasTerm new after entry term
+      ↔ (HasTerm old before entry term ⊎ ((entry ≡ item.entry) × Derivative symbol own term))
