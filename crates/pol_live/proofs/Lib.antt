@@ -6,3 +6,5 @@ pub mod TextFacts
 pub mod OnlyFacts
 pub mod SlotFacts
 pub mod FillFacts
+pub mod RenewFacts
+pub mod AlikeFacts

@@ -143,3 +143,32 @@ more_there old new i grows before here k lt = by (below_next k i lt)
     by : (k < i) ⊎ (k ≡ i) → IsTrue (is_some (slot new.wholes k))
     by (inl h) = stays_some old.wholes new.wholes k grows.1 (before k h)
     by (inr h) = subst (λ (j : ℕ). IsTrue (is_some (slot new.wholes j))) (sym h) here
+
+-- ---- a list of places, one after another
+
+push_front : (xs : List (Option Automaton)) (x : Option Automaton) (k : ℕ) → k < length xs → slot (xs ++ x ∷ []) k ≡ slot xs k
+push_front [] x k lt = absurd (omega arith)
+push_front (y ∷ xs) x zero lt = refl
+push_front (y ∷ xs) x (suc k) lt = push_front xs x k (omega arith)
+
+push_back : (xs : List (Option Automaton)) (x : Option Automaton) → slot (xs ++ x ∷ []) (length xs) ≡ x
+push_back [] x = refl
+push_back (y ∷ xs) x = push_back xs x
+
+-- what holds of each place, and of one more
+pub more_each : (P : Subject → Option Automaton → Type 0) (policy : List Subject) (xs : List (Option Automaton)) (x : Option Automaton) (i : ℕ) (subject : Subject) → length xs ≡ i
+    → slice_get policy i ≡ Some subject → P subject x → ((k : ℕ) (s : Subject) → k < i → slice_get policy k ≡ Some s → P s (slot xs k))
+    → (k : ℕ) (s : Subject) → k < suc i → slice_get policy k ≡ Some s → P s (slot (xs ++ x ∷ []) k)
+more_each P policy xs x i subject long here new before k s lt its = by (below_next k i lt)
+  where
+    by : (k < i) ⊎ (k ≡ i) → P s (slot (xs ++ x ∷ []) k)
+    by (inl h) =
+        let within : k < length xs = omega arith in
+        let Q : Option Automaton → Type 0 = λ o. P s o in
+        subst Q (sym (push_front xs x k within)) (before k s h its)
+    by (inr h) =
+        let same : subject ≡ s = same_Some subject s (sym here ∙ ap (slice_get policy) (sym h) ∙ its) in
+        let at : slot (xs ++ x ∷ []) k ≡ x = ap (slot (xs ++ x ∷ [])) (h ∙ sym long) ∙ push_back xs x in
+        let Q : Option Automaton → Type 0 = λ o. P s o in
+        let R : Subject → Type 0 = λ t. P t x in
+        subst Q (sym at) (subst R same new)

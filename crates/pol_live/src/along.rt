@@ -33,8 +33,8 @@ impl ChainRule {
     }
 }
 
-// The group that the subject belongs to.
-fn parent<'a>(policy: &'a Policy, subject: &Subject) -> Option<&'a Subject>
+/// The group that the subject belongs to.
+pub(crate) fn parent<'a>(policy: &'a Policy, subject: &Subject) -> Option<&'a Subject>
     ensures found { option_copied result ≡ parent_of policy.now subject.now }
     ensures few { IfSome result (λ group. length group.now.rules ≤ 256) }
 {

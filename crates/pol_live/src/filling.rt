@@ -25,8 +25,8 @@ use std::alloc::Global;
 /// The most residuals that the rules along a subject's chain may have together.
 const MOST_STATES: u16 = 4096;
 
-// Whether the subject has rules of its own.
-fn has_rules(subject: &Subject) -> bool
+/// Whether the subject has rules of its own.
+pub(crate) fn has_rules(subject: &Subject) -> bool
     ensures { result ≡ with_rules subject.now }
 {
     0 < subject.rules.len()

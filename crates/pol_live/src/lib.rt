@@ -8,6 +8,7 @@ mod filling;
 mod live;
 mod parts;
 mod prepared;
+mod reusing;
 mod shared;
 
 pub use along::{ChainRule, rules_along};

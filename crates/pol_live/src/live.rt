@@ -1,10 +1,11 @@
 //! A policy with its automata.
 
-ghost use Rattle.std.specs.Prelude.{◌≡◌, ◌≤◌, length, IfOk, IfErr, IfNone, IfSome, None, Some};
+ghost use Rattle.std.specs.Prelude.{◌≡◌, ◌≤◌, length, IfOk, IfErr, IfNone, IfSome, None, Some, Ok};
 ghost use Rattle.std.specs.Option.{option_copied};
 ghost use Rattle.pol_automaton.specs.Automaton.{IsDecider};
 ghost use Rattle.pol_text.specs.Policy.{WellFormed, find_subject, decide};
 ghost use Rattle.pol_edit.specs.declared.fault.EditFault.TheVariants.{Memory};
+ghost use Rattle.pol_edit.specs.Applying.{applied};
 ghost use Rattle.pol_live.specs.Along.{patterns_along as patterns, MatchLaw};
 ghost use Rattle.pol_live.specs.Sizes.{IsSmall};
 ghost use Rattle.pol_live.specs.Live.{Builds, IsOnlyBuilt, IsDeciderFor, UnlessMemory, is_memory};
@@ -12,8 +13,9 @@ ghost use Rattle.pol_live.specs.Live.{Builds, IsOnlyBuilt, IsDeciderFor, UnlessM
 use crate::building::{complete, no_parts};
 use crate::deciding::decided;
 use crate::parts::{Parts, lookup};
+use crate::reusing::kept_parts;
 use pol_automaton::{Decider, Meter};
-use pol_edit::EditFault;
+use pol_edit::{Edit, EditFault};
 use pol_names::{Decision, Name, SubjectId};
 use pol_text::{Policy, Subject};
 use std::alloc::Global;
@@ -46,6 +48,23 @@ impl Live {
         ensures { UnlessMemory is_memory result (Builds policy result) }
     {
         let mut parts = no_parts(alloc, &policy)?;
+        complete(alloc, &policy, &mut parts, meter)?;
+        Ok(Live { policy, parts })
+    }
+
+    /// The policy that an edit makes, with the automata that the edit leaves right, and the others
+    /// built anew.
+    pub(crate) fn renewed(
+        &self,
+        alloc: Global,
+        edit: &Edit,
+        policy: Policy,
+        meter: &mut Meter,
+    ) -> Result<Live, EditFault>
+        requires { applied self.now edit.now ≡ Ok policy }
+        ensures { UnlessMemory is_memory result (Builds policy result) }
+    {
+        let mut parts = kept_parts(alloc, &self.policy, &self.parts, edit, &policy)?;
         complete(alloc, &policy, &mut parts, meter)?;
         Ok(Live { policy, parts })
     }

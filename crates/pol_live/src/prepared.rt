@@ -35,7 +35,9 @@ impl Model for Prepared {
 
 impl Live {
     /// Makes an edit ready, and changes nothing. Refused as the edit is, and where a subject of the
-    /// new policy has too many residuals, with the first such subject in its order.
+    /// new policy has too many residuals, with the first such subject in its order. Automata that
+    /// the edit leaves right are shared with it: where it changes a subject's rules or group, those
+    /// along the chains with this subject are built, and its own.
     pub fn prepare(
         &self,
         alloc: Global,
@@ -45,10 +47,10 @@ impl Live {
         ensures found { UnlessMemory is_memory result (Prepares self.now edit.now result) }
         ensures only { UnlessMemory is_memory result (IsOnlyPrepared self.now edit.now result) }
     {
-        self.prepare_anew(alloc, edit, meter)
+        self.prepare_only(alloc, edit, meter)
     }
 
-    fn prepare_anew(
+    fn prepare_only(
         &self,
         alloc: Global,
         edit: &Edit,
@@ -59,7 +61,7 @@ impl Live {
         let before = self.policy().copy(alloc)?;
         let mut policy = self.policy().copy(alloc)?;
         apply(alloc, &mut policy, edit)?;
-        let after = Live::build(alloc, policy, meter)?;
+        let after = self.renewed(alloc, edit, policy, meter)?;
         Ok(Prepared { before, after })
     }
 

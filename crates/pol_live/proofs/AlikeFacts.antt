@@ -1,0 +1,266 @@
+-- What each kind of edit leaves as it was.
+use Rattle.std.proofs.Common.{◌≡◌, ℕ, ◌+◌, ◌-◌, Bool, true, false, true≢false, cond, not, ◌&&◌, List, [], ◌∷◌, ◌++◌, map, Option, None, Some, Result, Ok, Err, refl, sym, ap, ◌∙◌, nat_le, length, is_some, if◌then◌else◌}
+use Rattle.std.specs.Option.{option_map}
+use Rattle.std.proofs.lemmas.Option.{same_Some, none-some}
+use Rattle.pol_names.specs.declared.secret.Credential.{Credential}
+use Rattle.pol_names.specs.declared.secret.Credential.TheVariants.{Login, Enable}
+use Rattle.pol_names.specs.declared.subject_id.Kind.{Kind}
+use Rattle.pol_names.specs.declared.subject_id.Kind.TheVariants.{Group, User}
+use Rattle.pol_names.specs.declared.subject_id.SubjectId.{SubjectId}
+use Rattle.pol_names.specs.declared.decision.Verdict.{Verdict}
+use Rattle.pol_names.specs.SubjectId.{same_id, same_kind, user_id}
+use Rattle.pol_pattern.specs.Reading.{pattern_of}
+use Rattle.pol_text.specs.declared.subject.Subject.{Subject}
+use Rattle.pol_text.specs.declared.fault.ChainFault.{ChainFault}
+use Rattle.pol_text.specs.declared.fault.ChainFault.TheVariants as chains
+use Rattle.pol_text.specs.Policy.{id_of, find_subject, all_of}
+use Rattle.pol_text.specs.Text.{new_subject}
+use Rattle.pol_text.specs.Change.{with_changed, without, is_parent, has_room_below, chain_fault, with_parent, with_secret, with_priv, with_rule_at, without_rule_at, with_rule_moved}
+use Rattle.pol_edit.specs.Applying.{◌>>=◌, present, has_group, added_to, removed_from, unless_chain, moved_in, set_in, pattern_read, is_number, inserted_in, dropped_in, shifted_in, applied}
+use Rattle.pol_edit.specs.declared.edit.Edit.{Edit}
+use Rattle.pol_edit.specs.declared.edit.Edit.TheVariants.{AddGroup, AddUser, Remove, SetParent, SetLogin, SetEnable, SetPriv, InsertRule, RemoveRule, MoveRule}
+use Rattle.pol_edit.specs.declared.fault.EditFault.{EditFault}
+use Rattle.pol_live.specs.Renewing.{touched, is_touched, is_move, IsAlike}
+use Rattle.pol_live.proofs.RenewFacts.{same_id_is, same_id_self}
+
+-- ---- a change of one subject
+
+found_map : (g : Subject → Subject) → ((s : Subject) → id_of (g s) ≡ id_of s) → (id : SubjectId) (p : List Subject) → find_subject id (map g p) ≡ option_map g (find_subject id p)
+found_map g keeps id [] = refl
+found_map g keeps id (x ∷ p) = ap (λ t. if same_id id t then Some (g x) else find_subject id (map g p)) (keeps x) ∙ by (same_id id (id_of x)) (found_map g keeps id p)
+  where
+    by : (b : Bool) → find_subject id (map g p) ≡ option_map g (find_subject id p) → (if b then Some (g x) else find_subject id (map g p)) ≡ option_map g (if b then Some x else find_subject id p)
+    by true rest = refl
+    by false rest = rest
+
+module _ (at : SubjectId) (f : Subject → Subject) (keeps : (s : Subject) → id_of (f s) ≡ id_of s) (old : List Subject) where
+  abbrev changed : Subject → Subject
+  changed s = if same_id at (id_of s) then f s else s
+
+  changed_id : (s : Subject) → id_of (changed s) ≡ id_of s
+  changed_id s = by (same_id at (id_of s))
+    where
+      by : (b : Bool) → id_of (if b then f s else s) ≡ id_of s
+      by true = keeps s
+      by false = refl
+
+  -- who is found was there, and changed
+  was_found : (id : SubjectId) (s : Subject) → find_subject id (with_changed at f old) ≡ Some s → (o : Subject) × (find_subject id old ≡ Some o) × (changed o ≡ s)
+  was_found id s e = by (find_subject id old) refl (sym (found_map changed changed_id id old) ∙ e)
+    where
+      by : (o : Option Subject) → find_subject id old ≡ o → option_map changed o ≡ Some s → (o : Subject) × (find_subject id old ≡ Some o) × (changed o ≡ s)
+      by None at e = absurd cc
+      by (Some o) at e = (o, at, same_Some (changed o) s e)
+
+  -- the others are as they were
+  others : (id : SubjectId) (s : Subject) → find_subject id (with_changed at f old) ≡ Some s → same_id at (id_of s) ≡ false → find_subject id old ≡ Some s
+  others id s e other =
+      let was = was_found id s e in
+      let not_it : same_id at (id_of was.0) ≡ false = ap (λ (t : SubjectId). same_id at t) (sym (changed_id was.0) ∙ ap id_of was.2) ∙ other in
+      was.1 ∙ ap Some (sym (ap (λ (b : Bool). if b then f was.0 else was.0) not_it) ∙ was.2)
+
+  -- a change that leaves the rules
+  same_rules : ((s : Subject) → (f s).rules ≡ s.rules) → (id : SubjectId) (s : Subject) → find_subject id (with_changed at f old) ≡ Some s
+      → (o : Subject) × (find_subject id old ≡ Some o) × (o.rules ≡ s.rules)
+  same_rules rules id s e =
+      let was = was_found id s e in
+      (was.0, was.1, sym (by (same_id at (id_of was.0)) was.0) ∙ ap (λ (t : Subject). t.rules) was.2)
+    where
+      by : (b : Bool) (o : Subject) → (if b then f o else o).rules ≡ o.rules
+      by true o = rules o
+      by false o = refl
+
+  same_both : ((s : Subject) → (f s).rules ≡ s.rules) → ((s : Subject) → (f s).parent ≡ s.parent) → (id : SubjectId) (s : Subject) → find_subject id (with_changed at f old) ≡ Some s
+      → (o : Subject) × (find_subject id old ≡ Some o) × (o.rules ≡ s.rules) × (o.parent ≡ s.parent)
+  same_both rules parents id s e =
+      let was = was_found id s e in
+      (was.0, was.1, sym (by (same_id at (id_of was.0)) was.0) ∙ ap (λ (t : Subject). t.rules) was.2, sym (by2 (same_id at (id_of was.0)) was.0) ∙ ap (λ (t : Subject). t.parent) was.2)
+    where
+      by : (b : Bool) (o : Subject) → (if b then f o else o).rules ≡ o.rules
+      by true o = rules o
+      by false o = refl
+
+      by2 : (b : Bool) (o : Subject) → (if b then f o else o).parent ≡ o.parent
+      by2 true o = parents o
+      by2 false o = refl
+
+-- a change of the touched subject
+pub alike_changed : (edit : Edit) (at : SubjectId) (f : Subject → Subject) (old new : List Subject) → ((s : Subject) → id_of (f s) ≡ id_of s) → touched edit ≡ Some at → is_move edit ≡ false
+    → new ≡ with_changed at f old → IsAlike edit old new
+alike_changed edit at f old new keeps touches no_move is = record {
+  untouched = λ id s found other.
+      let there = others at f keeps old id s (ap (find_subject id) (sym is) ∙ found) (ap (λ (t : Option SubjectId). is_touched t s) (sym touches) ∙ other) in
+      (s, there, refl, refl);
+  moved = λ id s found move. absurd (true≢false (sym move ∙ no_move));
+}
+
+-- one of a subject's group
+pub alike_moved : (subject : SubjectId) (parent : Option (List ℕ)) (old new : List Subject) → new ≡ with_changed subject (with_parent parent) old → IsAlike (SetParent subject parent) old new
+alike_moved subject parent old new is = record {
+  untouched = λ id s found other. (s, others subject (with_parent parent) (λ _. refl) old id s (ap (find_subject id) (sym is) ∙ found) other, refl, refl);
+  moved = λ id s found move. same_rules subject (with_parent parent) (λ _. refl) old (λ _. refl) id s (ap (find_subject id) (sym is) ∙ found);
+}
+
+-- one of neither rules nor groups
+pub alike_set : (edit : Edit) (at : SubjectId) (f : Subject → Subject) (old new : List Subject) → ((s : Subject) → id_of (f s) ≡ id_of s) → ((s : Subject) → (f s).rules ≡ s.rules)
+    → ((s : Subject) → (f s).parent ≡ s.parent) → is_move edit ≡ false → new ≡ with_changed at f old → IsAlike edit old new
+alike_set edit at f old new keeps rules parents no_move is = record {
+  untouched = λ id s found other. same_both at f keeps old rules parents id s (ap (find_subject id) (sym is) ∙ found);
+  moved = λ id s found move. absurd (true≢false (sym move ∙ no_move));
+}
+
+-- ---- a subject that comes
+
+found_front : (old : List Subject) (x : Subject) (id : SubjectId) (s : Subject) → find_subject id (old ++ x ∷ []) ≡ Some s → same_id (id_of x) (id_of s) ≡ false → find_subject id old ≡ Some s
+found_front [] x id s e other = by (same_id id (id_of x)) e
+  where
+    by : (b : Bool) → cond b (Some x) None ≡ Some s → None ≡ Some s
+    by true h = absurd (true≢false (sym (ap (λ (t : Subject). same_id (id_of x) (id_of t)) (sym (same_Some x s h)) ∙ same_id_self (id_of x)) ∙ other))
+    by false h = h
+found_front (y ∷ old) x id s e other = by (same_id id (id_of y)) e (λ h. found_front old x id s h other)
+  where
+    by : (b : Bool) → cond b (Some y) (find_subject id (old ++ x ∷ [])) ≡ Some s → (find_subject id (old ++ x ∷ []) ≡ Some s → find_subject id old ≡ Some s)
+        → cond b (Some y) (find_subject id old) ≡ Some s
+    by true h later = h
+    by false h later = later h
+
+pub alike_added : (edit : Edit) (x : Subject) (old new : List Subject) → touched edit ≡ Some (id_of x) → is_move edit ≡ false → new ≡ old ++ x ∷ [] → IsAlike edit old new
+alike_added edit x old new touches no_move is = record {
+  untouched = λ id s found other.
+      let there = found_front old x id s (ap (find_subject id) (sym is) ∙ found) (ap (λ (t : Option SubjectId). is_touched t s) (sym touches) ∙ other) in
+      (s, there, refl, refl);
+  moved = λ id s found move. absurd (true≢false (sym move ∙ no_move));
+}
+
+-- ---- one that goes
+
+found_gone : (at : SubjectId) (old : List Subject) → find_subject at (without at old) ≡ None
+found_gone at [] = refl
+found_gone at (x ∷ old) = by (same_id at (id_of x)) refl (found_gone at old)
+  where
+    by : (b : Bool) → same_id at (id_of x) ≡ b → find_subject at (without at old) ≡ None → find_subject at (if b then without at old else x ∷ without at old) ≡ None
+    by true h later = later
+    by false h later = ap (λ (b : Bool). if b then Some x else find_subject at (without at old)) h ∙ later
+
+found_without : (at : SubjectId) (old : List Subject) (id : SubjectId) (s : Subject) → find_subject id (without at old) ≡ Some s → find_subject id old ≡ Some s
+found_without at [] id s e = e
+found_without at (x ∷ old) id s e = by (same_id at (id_of x)) (same_id id (id_of x)) refl refl e (found_without at old id s)
+  where
+    by : (gone it : Bool) → same_id at (id_of x) ≡ gone → same_id id (id_of x) ≡ it → find_subject id (if gone then without at old else x ∷ without at old) ≡ Some s
+        → (find_subject id (without at old) ≡ Some s → find_subject id old ≡ Some s) → cond it (Some x) (find_subject id old) ≡ Some s
+    by true true h k e later =
+        let same : id ≡ at = same_id_is id (id_of x) k ∙ sym (same_id_is at (id_of x) h) in
+        absurd (none-some s (sym (found_gone at old) ∙ ap (λ (t : SubjectId). find_subject t (without at old)) (sym same) ∙ e))
+    by true false h k e later = later e
+    by false true h k e later = ap (λ (b : Bool). if b then Some x else find_subject id (without at old)) (sym k) ∙ e
+    by false false h k e later = later (ap (λ (b : Bool). if b then Some x else find_subject id (without at old)) (sym k) ∙ e)
+
+pub alike_removed : (edit : Edit) (at : SubjectId) (old new : List Subject) → is_move edit ≡ false → new ≡ without at old → IsAlike edit old new
+alike_removed edit at old new no_move is = record {
+  untouched = λ id s found other. (s, found_without at old id s (ap (find_subject id) (sym is) ∙ found), refl, refl);
+  moved = λ id s found move. absurd (true≢false (sym move ∙ no_move));
+}
+
+-- ---- each edit
+
+-- what an answer was made of
+then_ok : {A B : Type 0} (r : Result A EditFault) (f : A → Result B EditFault) (b : B) → (r >>= f) ≡ Ok b → (a : A) × (f a ≡ Ok b)
+then_ok (Ok a) f b e = (a, e)
+then_ok (Err fault) f b e = absurd cc
+
+-- a refusal, or else the rest
+unless_ok : {B : Type 0} (refused : Bool) (fault : EditFault) (r : Result B EditFault) (b : B) → (if refused then Err fault else r) ≡ Ok b → r ≡ Ok b
+unless_ok true fault r b e = absurd cc
+unless_ok false fault r b e = e
+
+if_ok : {B : Type 0} (right : Bool) (fault : EditFault) (x b : B) → (if right then Ok x else Err fault) ≡ Ok b → b ≡ x
+if_ok true fault x b e = cc
+if_ok false fault x b e = absurd cc
+
+alike_add : (edit : Edit) (kind : Kind) (name : List ℕ) (parent : Option (List ℕ)) (old new : List Subject) → touched edit ≡ Some (record { kind = kind; name = name }) → is_move edit ≡ false
+    → added_to old kind name parent ≡ Ok new → IsAlike edit old new
+unfolding added_to
+alike_add edit kind name parent old new touches no_move made =
+    let a = unless_ok (not (has_group parent old)) _ _ new made in
+    let b = unless_ok (is_some (find_subject (record { kind = kind; name = name }) old)) _ _ new a in
+    let c = unless_ok (not (all_of (λ name. has_room_below name old) parent)) _ _ new b in
+    let d = unless_ok (nat_le 1024 (length old)) _ _ new c in
+    let is : new ≡ old ++ new_subject kind name parent ∷ [] = cc in
+    alike_added edit (new_subject kind name parent) old new touches no_move is
+
+alike_setting : (edit : Edit) (id : SubjectId) (right : Bool) (f : Subject → Subject) (old new : List Subject) → ((s : Subject) → id_of (f s) ≡ id_of s) → ((s : Subject) → (f s).rules ≡ s.rules)
+    → ((s : Subject) → (f s).parent ≡ s.parent) → is_move edit ≡ false → set_in old id right f ≡ Ok new → IsAlike edit old new
+unfolding set_in
+alike_setting edit id right f old new keeps rules parents no_move made =
+    let there = then_ok (present id old) _ new made in
+    alike_set edit id f old new keeps rules parents no_move (if_ok right _ (with_changed id f old) new there.1)
+
+secret_keeps : (which : Credential) (secret : Option (List ℕ)) (s : Subject) → id_of (with_secret which secret s) ≡ id_of s
+secret_keeps Login secret s = refl
+secret_keeps Enable secret s = refl
+
+secret_rules : (which : Credential) (secret : Option (List ℕ)) (s : Subject) → (with_secret which secret s).rules ≡ s.rules
+secret_rules Login secret s = refl
+secret_rules Enable secret s = refl
+
+secret_parent : (which : Credential) (secret : Option (List ℕ)) (s : Subject) → (with_secret which secret s).parent ≡ s.parent
+secret_parent Login secret s = refl
+secret_parent Enable secret s = refl
+
+chain_ok : (fault : Option ChainFault) (policy new : List Subject) → unless_chain fault policy ≡ Ok new → new ≡ policy
+chain_ok None policy new e = cc
+chain_ok (Some chains.Cycle) policy new e = absurd cc
+chain_ok (Some chains.TooDeep) policy new e = absurd cc
+
+alike_remove : (id : SubjectId) (old new : List Subject) → removed_from old id ≡ Ok new → IsAlike (Remove id) old new
+unfolding removed_from
+alike_remove id old new made =
+    let there = then_ok (present id old) _ new made in
+    let gone = unless_ok (same_kind id.kind Group && is_parent id.name old) _ _ new there.1 in
+    let is : new ≡ without id old = cc in
+    alike_removed (Remove id) id old new refl is
+
+alike_move : (id : SubjectId) (parent : Option (List ℕ)) (old new : List Subject) → moved_in old id parent ≡ Ok new → IsAlike (SetParent id parent) old new
+unfolding moved_in
+alike_move id parent old new made =
+    let there = then_ok (present id old) _ new made in
+    let grouped = unless_ok (not (has_group parent old)) _ _ new there.1 in
+    alike_moved id parent old new (chain_ok (chain_fault (with_changed id (with_parent parent) old)) _ new grouped)
+
+alike_insert : (id : SubjectId) (at : ℕ) (verdict : Verdict) (text : List ℕ) (old new : List Subject) → inserted_in old id at verdict text ≡ Ok new → IsAlike (InsertRule id at verdict text) old new
+unfolding inserted_in
+alike_insert id at verdict text old new made =
+    let there = then_ok (present id old) _ new made in
+    let placed = unless_ok (not (is_number at (length there.0.rules + 1))) _ _ new there.1 in
+    let read = then_ok (pattern_read (pattern_of text)) _ new placed in
+    let room = unless_ok (nat_le 256 (length there.0.rules)) _ _ new read.1 in
+    let is : new ≡ with_changed id (with_rule_at (at - 1) (record { verdict = verdict; pattern = read.0 })) old = cc in
+    alike_changed (InsertRule id at verdict text) id (with_rule_at (at - 1) (record { verdict = verdict; pattern = read.0 })) old new (λ _. refl) refl refl is
+
+alike_drop : (id : SubjectId) (at : ℕ) (old new : List Subject) → dropped_in old id at ≡ Ok new → IsAlike (RemoveRule id at) old new
+unfolding dropped_in
+alike_drop id at old new made =
+    let there = then_ok (present id old) _ new made in
+    alike_changed (RemoveRule id at) id (without_rule_at (at - 1)) old new (λ _. refl) refl refl (if_ok (is_number at (length there.0.rules)) _ (with_changed id (without_rule_at (at - 1)) old) new there.1)
+
+alike_shift : (id : SubjectId) (from to : ℕ) (old new : List Subject) → shifted_in old id from to ≡ Ok new → IsAlike (MoveRule id from to) old new
+unfolding shifted_in
+alike_shift id from to old new made =
+    let there = then_ok (present id old) _ new made in
+    alike_changed (MoveRule id from to) id (with_rule_moved (from - 1) (to - 1)) old new (λ _. refl) refl refl
+    (if_ok (is_number from (length there.0.rules) && is_number to (length there.0.rules)) _ (with_changed id (with_rule_moved (from - 1) (to - 1)) old) new there.1)
+
+pub alike : (old : List Subject) (edit : Edit) (new : List Subject) → applied old edit ≡ Ok new → IsAlike edit old new
+unfolding applied
+alike old (AddGroup name parent) new made = alike_add (AddGroup name parent) Group name parent old new refl refl made
+alike old (AddUser name parent) new made = alike_add (AddUser name parent) User name parent old new refl refl made
+alike old (Remove id) new made = alike_remove id old new made
+alike old (SetParent id parent) new made = alike_move id parent old new made
+alike old (SetLogin user secret) new made =
+    alike_setting (SetLogin user secret) (user_id user) _ (with_secret Login secret) old new (secret_keeps Login secret) (secret_rules Login secret) (secret_parent Login secret) refl made
+alike old (SetEnable user secret) new made =
+    alike_setting (SetEnable user secret) (user_id user) _ (with_secret Enable secret) old new (secret_keeps Enable secret) (secret_rules Enable secret) (secret_parent Enable secret) refl made
+alike old (SetPriv id level) new made = alike_setting (SetPriv id level) id _ (with_priv level) old new (λ _. refl) (λ _. refl) (λ _. refl) refl made
+alike old (InsertRule id at verdict text) new made = alike_insert id at verdict text old new made
+alike old (RemoveRule id at) new made = alike_drop id at old new made
+alike old (MoveRule id from to) new made = alike_shift id from to old new made
