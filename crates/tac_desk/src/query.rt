@@ -1,6 +1,6 @@
 //! Questions to a desk, and what they are answered.
 
-use basics::{Bytes, Sequence};
+use basics::{Bytes, Sequence, StructuralEq};
 use pol_names::{Decision, Name, SubjectId};
 use pol_report::{Reached, Shadowed};
 use pol_text::Policy;
@@ -10,7 +10,7 @@ use std::fmt;
 use tac_tally::{Record, Tally};
 
 /// A question to a desk.
-#[derive(Debug, Drop)]
+#[derive(Debug, Drop, PartialEq, Eq)]
 pub enum Query {
     /// What the policy is.
     Policy,
@@ -26,8 +26,14 @@ pub enum Query {
     Records,
 }
 
+impl StructuralEq for Query {
+    ghost use Rattle.std.proofs.Common.{rules};
+
+    ghost identical = { Prim.search rules };
+}
+
 /// What a question is answered.
-#[derive(Drop)]
+#[derive(Drop, PartialEq, Eq)]
 pub enum Report {
     Policy(Policy),
     /// For each subject in the policy's order, in the order of the rules along its chain.
@@ -39,6 +45,25 @@ pub enum Report {
     Why(Option<Decision>),
     /// In the order in which they came.
     Records(Sequence<Record>),
+}
+
+impl Report {
+    ghost use Rattle.std.specs.Prelude.{◌≡◌, ◌↔◌, IsTrue};
+
+    /// Whether the two are the same.
+    pub fn same(&self, other: &Report) -> bool
+        ensures { IsTrue result ↔ (self.now ≡ other.now) }
+    {
+        match (self, other) {
+            (Report::Policy(one), Report::Policy(two)) => one.same(two),
+            (Report::Shadow(one), Report::Shadow(two)) => one.same(two),
+            (Report::Reach(one), Report::Reach(two)) => one.same(two),
+            (Report::Tally(one), Report::Tally(two)) => one == two,
+            (Report::Why(one), Report::Why(two)) => one == two,
+            (Report::Records(one), Report::Records(two)) => one.same(two),
+            _ => false,
+        }
+    }
 }
 
 /// Why a question isn't answered.
