@@ -1,8 +1,9 @@
 -- Records, and beside each its mark.
-use Rattle.std.proofs.Common.{◌≡◌, ℕ, suc, ◌+◌, ◌<◌, Bool, false, List, [], ◌∷◌, ◌++◌, length, take, get_or, refl, sym, ap, ◌∙◌, arith}
-use Rattle.std.proofs.lemmas.List.{take_more, length-take-le}
+use Rattle.std.proofs.Common.{◌≡◌, ℕ, zero, suc, ◌<◌, Bool, List, [], ◌∷◌, ◌++◌, length, set, get_or, Some, refl, ap, arith}
+use Rattle.std.specs.Prelude.{slice_get}
 use Rattle.tac_request.specs.declared.record.Record.{Record}
 use Rattle.tac_tally.specs.Book.{items, beside}
+use Rattle.tac_tally.specs.Accounts.{with_mark_at}
 
 -- there are as many entries as records
 pub length-beside : (rs : List Record) (ms : List Bool) → length ms ≡ length rs → length (beside rs ms) ≡ length rs
@@ -24,10 +25,17 @@ beside-push [] (n ∷ ms) r m same = absurd (omega arith)
 beside-push (q ∷ rs) [] r m same = absurd (omega arith)
 beside-push (q ∷ rs) (n ∷ ms) r m same = ap (λ l. record { item = q; denied = n } ∷ l) (beside-push rs ms r m (omega arith))
 
--- the same of the first i, and the one behind them
-pub beside-more : (rs : List Record) (ms : List Bool) (i : ℕ) (r : Record) → i < length rs → length ms ≡ length rs → r ≡ get_or rs i r
-    → beside (take (i + 1) rs) (take (i + 1) ms) ≡ beside (take i rs) (take i ms) ++ record { item = r; denied = get_or ms i false } ∷ []
-beside-more rs ms i r lt same is =
-    let below : i < length ms = omega (arith, same) in
-    let fits = length-take-le i ms (omega (arith, same)) ∙ sym (length-take-le i rs (omega arith)) in
-    rw (take_more rs i r, take_more ms i false, ← is) (beside-push (take i rs) (take i ms) r (get_or ms i false) fits)
+-- another mark at a place
+pub beside-set : (rs : List Record) (ms : List Bool) (place : ℕ) (denied : Bool) → beside rs (set ms place denied) ≡ with_mark_at place denied (beside rs ms)
+beside-set [] ms place denied = refl
+beside-set (r ∷ rs) [] place denied = refl
+beside-set (r ∷ rs) (m ∷ ms) zero denied = refl
+beside-set (r ∷ rs) (m ∷ ms) (suc place) denied = ap (λ l. record { item = r; denied = m } ∷ l) (beside-set rs ms place denied)
+
+-- the entry at a place
+pub beside_at : (rs : List Record) (ms : List Bool) (place : ℕ) (r d : Record) (m c : Bool) → place < length rs → length ms ≡ length rs → r ≡ get_or rs place d → m ≡ get_or ms place c
+    → slice_get (beside rs ms) place ≡ Some (record { item = r; denied = m })
+beside_at [] ms place r d m c lt same is marks = absurd (omega arith)
+beside_at (q ∷ rs) [] place r d m c lt same is marks = absurd (omega arith)
+beside_at (q ∷ rs) (n ∷ ms) zero r d m c lt same is marks = rw (is, marks) refl
+beside_at (q ∷ rs) (n ∷ ms) (suc place) r d m c lt same is marks = beside_at rs ms place r d m c (omega arith) (omega arith) is marks

@@ -8,12 +8,8 @@ use Rattle.tac_request.specs.declared.record.AcctKind.TheVariants.{Begin, Stop, 
 use Rattle.tac_tally.specs.Book.{Entry}
 use Rattle.tac_tally.specs.Tally.{same_acct, is_of, drifts, elapsed_of, tally_of}
 use Rattle.tac_tally.specs.Counting.{counted}
-use Rattle.tac_tally.specs.declared.tally.Tally.{Tally}
+use Rattle.tac_tally.specs.Accounts.{but_open}
 use Rattle.tac_tally.proofs.OpenTasks.{one_if}
-
--- the tally without its open tasks
-abbrev pub but_open : Tally → Tally
-but_open tally = record tally { open_tasks = 0 }
 
 -- a count of the user's records of a kind, with an entry whose user is or isn't this one
 kinds-push : (user : List ℕ) (kind : AcctKind) (xs : List Entry) (e : Entry) (own : Bool) → bytes_eq e.item.user user ≡ own

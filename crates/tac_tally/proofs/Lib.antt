@@ -3,8 +3,9 @@ pub mod Texts
 pub mod OpenTasks
 pub mod OpenSet
 pub mod Counts
-pub mod Scan
+pub mod Places
+pub mod Standing
+pub mod Remarked
 pub mod Groups
 pub mod Marks
 pub mod Settled
-pub mod AllMarks

@@ -2,3 +2,4 @@ pub mod Book
 pub mod Tally
 pub mod Recount
 pub mod Counting
+pub mod Accounts

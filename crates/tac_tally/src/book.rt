@@ -1,10 +1,12 @@
 //! The book of records: storing them, and reading them.
 
-ghost use Rattle.std.specs.Prelude.{◌≡◌, ◌↔◌, ◌≤◌, [], length, IsTrue, Err, OnOk, OnErr};
+ghost use Rattle.std.specs.Prelude.{◌≡◌, ◌↔◌, ◌<◌, ◌≤◌, [], length, IsTrue, Err, OnOk, OnErr};
 ghost use Rattle.tac_tally.specs.declared.book.StoreFault.TheVariants.{Full, Memory};
 ghost use Rattle.tac_tally.specs.Book.{items, IsFull, with_entry};
+ghost use Rattle.tac_tally.specs.Accounts.{with_mark_at};
 
-use std::alloc::{AllocFailed, Global};
+use crate::accounts::Accounts;
+use std::alloc::{AllocError, Global};
 use std::marker::Model;
 use tac_request::Record;
 
@@ -17,27 +19,30 @@ pub enum StoreFault {
     Memory,
 }
 
-impl<T: Drop> From<AllocFailed<T>> for StoreFault {
+impl From<AllocError> for StoreFault {
     ghost from_gives = { λ _ fault. fault ≡ Memory };
 
-    fn from(_error: AllocFailed<T>) -> StoreFault {
+    fn from(_error: AllocError) -> StoreFault {
         StoreFault::Memory
     }
 }
 
 /// Accounting records in the order in which they came, at most so many. Beside each stands its
-/// mark: whether the present policy denies its line.
+/// mark: whether the present policy denies its line. What they count up to is kept for each user.
 #[derive(Drop)]
 pub struct Book {
     pub(crate) records: Vec<Record>,
     // the records' marks, in the same order
     pub(crate) marks: Vec<bool>,
+    // what is counted of each user
+    pub(crate) accounts: Accounts,
     limit: usize,
 }
 
 impl Model for Book {
     ghost use Rattle.std.specs.Prelude.{◌≡◌, ◌≤◌, length};
     ghost use Rattle.tac_tally.specs.Book.{Contents, beside};
+    ghost use Rattle.tac_tally.specs.Accounts.{Run};
 
     ghost Value = { Contents };
 
@@ -47,7 +52,8 @@ impl Model for Book {
     } };
 
     ghost invariant = { λ book. (length book.marks.items ≡ length book.records.items)
-        × (length book.records.items ≤ book.limit) };
+        × (length book.records.items ≤ book.limit)
+        × Run (beside book.records.items book.marks.items) book.accounts };
 }
 
 impl Book {
@@ -58,6 +64,7 @@ impl Book {
         Book {
             records: Vec::new(alloc),
             marks: Vec::new(alloc),
+            accounts: Accounts::new(alloc),
             limit,
         }
     }
@@ -101,7 +108,8 @@ impl Book {
     }
 
     /// Stores a record behind the others, with its mark: whether the present policy denies its
-    /// line, false where it has none. A repeat is another record. Amortised constant time.
+    /// line, false where it has none. A repeat is another record. A look-up of its user, and for
+    /// one that begins or ends a task a look-up among the user's open tasks.
     pub fn store(&mut self, record: Record, denied: bool) -> Result<(), StoreFault>
         ensures ok { OnOk result (self.new ≡ with_entry «record» denied self.old) }
 
@@ -114,11 +122,22 @@ impl Book {
         if self.is_full() {
             return Err(StoreFault::Full);
         }
-        self.marks.push(denied)?;
-        if self.records.push(record).is_err() {
-            self.marks.pop();
-            return Err(StoreFault::Memory);
-        }
+        self.records.reserve(1)?;
+        self.marks.reserve(1)?;
+        self.accounts.enter(&record, denied, self.records.len())?;
+        self.records.push_reserved(record);
+        self.marks.push_reserved(denied);
         Ok(())
+    }
+
+    // Gives the record at the place another mark.
+    pub(crate) fn put_mark(&mut self, place: usize, denied: bool)
+        requires { place < length self.old.entries }
+        ensures { self.new
+            ≡ record self.old { entries = with_mark_at place denied self.old.entries } }
+    {
+        let was = self.marks[place];
+        self.accounts.remark(&self.records[place], was, denied);
+        self.marks[place] = denied;
     }
 }

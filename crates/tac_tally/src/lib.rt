@@ -1,6 +1,8 @@
 //! The accounting records that the server keeps, and what they count up to (RFC 8907, section 7).
 #![tactic(auto)]
 
+mod account;
+mod accounts;
 mod book;
 mod counting;
 mod recount;

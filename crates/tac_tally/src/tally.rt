@@ -1,8 +1,8 @@
 //! A tally: the numbers that a user's records, or those of a group's users, count up to.
 
-ghost use Rattle.std.specs.Prelude.{◌≡◌, ◌+◌, ◌^◌, ℕ};
+ghost use Rattle.std.specs.Prelude.{◌≡◌, ◌+◌, ◌^◌, ◌≤◌, ◌<◌, ℕ};
 ghost use Rattle.tac_tally.specs.Tally.{IsBelow, plus};
-ghost use Rattle.tac_tally.specs.Counting.{counted};
+ghost use Rattle.tac_tally.specs.Counting.{counted, drift_of, recounted};
 
 use tac_request::{AcctKind, Record};
 
@@ -55,6 +55,20 @@ impl Tally {
             }
             AcctKind::Watch => tally.watchdogs += 1,
             AcctKind::Update => tally.updates += 1,
+        }
+        tally
+    }
+
+    // The tally where a record's mark was the one, and is the other.
+    pub(crate) fn with_mark(self, record: &Record, was: bool, denied: bool) -> Tally
+        requires below { self.drift < 2 ^ 127 }
+        requires counts { drift_of record.now was ≤ self.drift }
+        ensures { result ≡ recounted record.now was denied self }
+    {
+        let mut tally = self;
+        if record.kind == AcctKind::Stop && record.line.is_some() {
+            tally.drift += u128::from(denied);
+            tally.drift -= u128::from(was);
         }
         tally
     }

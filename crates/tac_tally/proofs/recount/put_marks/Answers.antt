@@ -1,13 +1,10 @@
-use Rattle.std.proofs.Common.{sym, ap, ◌∙◌, add-one, set}
-use Rattle.tac_tally.proofs.Settled.{marks_put-some, marks_put-none}
+use Rattle.std.proofs.Common.{◌<◌, length, false, ap, ◌∙◌, take}
+use Rattle.std.proofs.lemmas.List.Elements.{All-get_or}
+use Rattle.tac_tally.specs.declared.recount.Mark.{Mark}
+use Rattle.tac_tally.proofs.Settled.{length-with_marks}
 use Rattle.tac_tally.proofs.recount.put_marks.Goals as goal
 
-pub marks-preserved-in_default : goal.marks-preserved-in_default
-marks-preserved-in_default c =
-    let is = c.in_default.is in
-    c.marks.invariant ∙ sym (rw add-one (marks_put-none c.args.anew.now c.args.marks.now c.marks.at _ c.marks-test.true c.requires is))
-
-pub marks-preserved : goal.marks-preserved
-marks-preserved c =
-    let is = c.in-Some.is in
-    ap (λ l. set l c.marks.at c.in-Some.denied) c.marks.invariant ∙ sym (rw add-one (marks_put-some c.args.anew.now c.args.marks.now c.marks.at c.in-Some.denied _ c.marks-test.true c.requires is))
+pub put_mark-requires : goal.put_mark-requires
+put_mark-requires c =
+    let size = ap (λ b. length b.entries) c.marks.invariant ∙ length-with_marks (take c.marks.mark-index c.args.marks.now) c.args.book.now.entries in
+    rw size (All-get_or (λ (mark : Mark). mark.place < length c.args.book.now.entries) c.args.marks.now c.marks.mark-index (record { place = 0; denied = false }) c.marks-test.true c.requires)

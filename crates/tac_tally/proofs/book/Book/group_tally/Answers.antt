@@ -1,6 +1,6 @@
 use Rattle.std.proofs.Common.{sym, ◌∙◌}
 use Rattle.tac_tally.proofs.Groups.{sums-user}
-use Rattle.tac_tally.proofs.Scan.{seen-more}
+use Rattle.tac_tally.proofs.Places.{seen-more}
 use Rattle.tac_tally.proofs.book.Book.group_tally.Goals as goal
 
 pub subjects-preserved : goal.subjects-preserved

@@ -1,25 +1,50 @@
-use Rattle.std.proofs.Common.{◌≡◌, ◌≢◌, true, [], ◌∷◌, ◌++◌, length, sym, ap, ◌∙◌, arith, rules}
-use Rattle.std.specs.Result.{is_ok}
-use Rattle.std.proofs.lemmas.Bool.{cond-true, false≢true}
+use Rattle.std.proofs.Common.{◌≡◌, ◌≢◌, ◌≤◌, ◌+◌, [], ◌∷◌, ◌++◌, length, sym, ap, subst, ◌∙◌, arith}
+use Rattle.std.proofs.lemmas.Bool.{false≢true}
 use Rattle.std.proofs.lemmas.List.{length_push}
+use Rattle.tac_tally.specs.Book.{Entry, beside}
+use Rattle.tac_tally.specs.Accounts.{Run}
 use Rattle.tac_tally.proofs.Beside.{length-beside, beside-push}
 use Rattle.tac_tally.proofs.book.Book.store.Goals as goal
 
-pub invariant_of-self-else-is_err : goal.invariant_of-self-else-is_err
-invariant_of-self-else-is_err c =
+pub enter-requires : goal.enter-requires
+enter-requires c =
     let book = c.self.inside in
-    let ok : is_ok c.push-2.result ≡ true = search rules in
-    let stored : c.push-2.new.self.items ≡ book.records.items ++ c.args.record ∷ [] = c.push-2.ensures.items ∙ cond-true _ _ _ ok in
     let many = length-beside book.records.items book.marks.items c.self.invariant.0 in
-    let room : length book.records.items ≢ book.limit =
-    λ full. false≢true (sym c.if-is_full.false ∙ c.is_full.ensures.1 (rw (← c.self.view_is) (many ∙ full))) in
-    rw (stored, c.in_ok-push.ensures.items, length_push book.records.items c.args.record, length_push book.marks.items c.args.denied)
-    (omega (arith, c.self.invariant.0), omega (arith, c.self.invariant.1, room))
+    let len : c.len.result ≡ length book.records.items = omega (arith, c.len.ensures, c.in_ok-reserve.ensures.len, book.records.ok.0) in
+    (beside book.records.items book.marks.items, c.self.invariant.2, many ∙ sym len)
+
+pub invariant_of-self-in_err-enter : goal.invariant_of-self-in_err-enter
+invariant_of-self-in_err-enter c =
+    let book = c.self.inside in
+    let entries = beside book.records.items book.marks.items in
+    rw (c.in_ok-reserve.ensures.items, c.in_ok-reserve-2.ensures.items)
+    (c.self.invariant.0, c.self.invariant.1, c.in_err-enter.ensures.err entries c.self.invariant.2)
+
+pub invariant_of-self-2 : goal.invariant_of-self-2
+invariant_of-self-2 c =
+    let book = c.self.inside in
+    let rs = book.records.items in
+    let ms = book.marks.items in
+    let entries = beside rs ms in
+    let entry : Entry = record { item = c.args.record; denied = c.args.denied } in
+    let many = length-beside rs ms c.self.invariant.0 in
+    let room : length rs ≢ book.limit = λ full. false≢true (sym c.if-is_full.false ∙ c.is_full.ensures.1 (rw (← c.self.view_is) (many ∙ full))) in
+    let records : c.push_reserved.new.self.items ≡ rs ++ c.args.record ∷ [] = c.push_reserved.ensures.items ∙ ap (λ l. l ++ c.args.record ∷ []) c.in_ok-reserve.ensures.items in
+    let marks : c.push_reserved-2.new.self.items ≡ ms ++ c.args.denied ∷ [] = c.push_reserved-2.ensures.items ∙ ap (λ l. l ++ c.args.denied ∷ []) c.in_ok-reserve-2.ensures.items in
+    let len : c.len.result ≡ length rs = omega (arith, c.len.ensures, c.in_ok-reserve.ensures.len, book.records.ok.0) in
+    let runs : Run (entries ++ entry ∷ []) c.enter.new.self = c.in_ok-enter.ensures.ok entries (many ∙ sym len) c.self.invariant.2 in
+    let more : length rs + 1 ≤ book.limit = omega (arith, c.self.invariant.1, room) in
+    rw (records, marks) (
+      length_push ms c.args.denied ∙ ap (λ n. n + 1) c.self.invariant.0 ∙ sym (length_push rs c.args.record),
+      rw (length_push rs c.args.record) more,
+      subst (λ l. Run l c.enter.new.self) (sym (beside-push rs ms c.args.record c.args.denied c.self.invariant.0)) runs,
+    )
 
 pub returns-clause-ok : goal.returns-clause-ok
 returns-clause-ok c =
     let book = c.self.inside in
-    let ok : is_ok c.push-2.result ≡ true = search rules in
-    let stored : c.push-2.new.self.items ≡ book.records.items ++ c.args.record ∷ [] = c.push-2.ensures.items ∙ cond-true _ _ _ ok in
-    rw (stored, c.in_ok-push.ensures.items, ← c.self.view_is)
-    (ap (λ l. record { entries = l; limit = book.limit }) (beside-push book.records.items book.marks.items c.args.record c.args.denied c.self.invariant.0))
+    let rs = book.records.items in
+    let ms = book.marks.items in
+    let records : c.push_reserved.new.self.items ≡ rs ++ c.args.record ∷ [] = c.push_reserved.ensures.items ∙ ap (λ l. l ++ c.args.record ∷ []) c.in_ok-reserve.ensures.items in
+    let marks : c.push_reserved-2.new.self.items ≡ ms ++ c.args.denied ∷ [] = c.push_reserved-2.ensures.items ∙ ap (λ l. l ++ c.args.denied ∷ []) c.in_ok-reserve-2.ensures.items in
+    rw (← c.self.view_is, records, marks) (ap (λ l. record { entries = l; limit = book.limit }) (beside-push rs ms c.args.record c.args.denied c.self.invariant.0))
