@@ -10,6 +10,7 @@ use Rattle.tac_desk.specs.declared.query.Report.{Report}
 use Rattle.tac_desk.specs.Meaning.{Meaning}
 use Rattle.tac_desk.specs.Unless.{UnlessMemory}
 use Rattle.tac_desk.specs.Asking.{asked}
+use Rattle.pol_live.specs.Live.{is_memory}
 use Rattle.tac_desk.specs.Editing as editing
 use Rattle.tac_desk.specs.Reporting as reporting
 use Rattle.tac_hall.specs.declared.call.Call.{Call}
@@ -22,7 +23,7 @@ use Rattle.tac_hall.specs.declared.entry.Entry.{Entry}
 
 -- an edit was answered so; for want of memory it may be refused, which changes nothing
 abbrev pub AnswersEdit : Meaning → Edit → Result (List Changed) EditFault → Meaning → Type 0
-AnswersEdit was edit answer now = UnlessMemory editing.is_memory answer (editing.Edits was edit answer now) × OnErr answer (now ≡ was)
+AnswersEdit was edit answer now = UnlessMemory is_memory answer (editing.Edits was edit answer now) × OnErr answer (now ≡ was)
 
 -- a question was answered so, or memory ran out
 abbrev pub AnswersQuery : Meaning → Query → Result Report QueryFault → Meaning → Type 0
