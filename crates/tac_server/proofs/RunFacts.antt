@@ -1,25 +1,30 @@
 -- Doing the events of a script one after another.
-use Rattle.std.proofs.Common.{◌≡◌, ℕ, ◌+◌, List, [], ◌∷◌, ◌++◌, length, Bool, true, false, Option, None, Some, Ok, Err, refl, sym, ap, subst, ◌∙◌, append_assoc, append-nil}
+use Rattle.std.proofs.Common.{◌≡◌, ℕ, ◌+◌, List, [], ◌∷◌, ◌++◌, length, Bool, true, false, Option, None, Some, Result, Ok, Err, inl, inr, refl, sym, ap, subst, ◌∙◌, append_assoc, append-nil}
 use Rattle.std.specs.Prelude.{is_some, IsTrue, if◌then◌else◌}
 use Rattle.std.specs.List.{list_any}
+use Rattle.pol_names.specs.declared.subject_id.SubjectId.{SubjectId}
+use Rattle.pol_edit.specs.declared.fault.EditFault.{EditFault}
+use Rattle.pol_edit.specs.declared.fault.EditFault.TheVariants as edits
+use Rattle.pol_live.specs.Sizes.{IsSmall, IsFirstLarge, IsRefusedFor}
 use Rattle.pol_text.specs.declared.subject.Subject.{Subject}
 use Rattle.pol_text.specs.Text.{policy_of, text_of_lines}
 use Rattle.tac_desk.specs.Meaning.{Meaning}
+use Rattle.tac_desk.specs.Opening.{IsOnlyOpened}
 use Rattle.tac_server.specs.declared.server.Server.{Server}
 use Rattle.tac_server.specs.declared.server.ServerFault.{ServerFault}
 use Rattle.tac_server.specs.declared.server.ServerFault.TheVariants as faults
 use Rattle.tac_server.specs.declared.event.Event.{Event}
 use Rattle.tac_server.specs.declared.event.Event.TheVariants.{Open, Hand, Pieces, Lost, Console}
-use Rattle.tac_server.specs.declared.script_fault.ScriptFault.TheVariants.{BadKey, NoRun, BadPolicy, BadCommand, AlreadyOpen}
+use Rattle.tac_server.specs.declared.script_fault.ScriptFault.TheVariants.{BadKey, NoRun, BadPolicy, TooManyStates, BadCommand, AlreadyOpen}
 use Rattle.tac_server.specs.declared.script_fault.Located.{Located}
 use Rattle.tac_server.specs.declared.script_fault.Stop.{Stop}
 use Rattle.tac_server.specs.declared.script_fault.Stop.TheVariants as stops
 use Rattle.tac_server.specs.Serving.{Said, said_on}
-use Rattle.tac_server.specs.Server.{State, opened, lost, heard, with_meaning}
+use Rattle.tac_server.specs.Server.{State, opening, opened, lost, heard, with_meaning}
 use Rattle.tac_server.specs.Command.{event_of}
 use Rattle.tac_server.specs.Events.{Hears, shown}
 use Rattle.tac_server.specs.Kept.{Sends, HasState, IsOpened, IsHeardUnlessMemory, IsAnswered, IsOnlyAnswer, IsDone, IsDoneUnless, stop_of}
-use Rattle.tac_server.specs.Script.{Run, Runs, RunsOn, BodyRuns, LinesRun, ReadsPolicy, Ends, Prints, ended, stopped, behind_text, is_run, before_run, key_line}
+use Rattle.tac_server.specs.Script.{Run, Runs, RunsOn, BodyRuns, LinesRun, ReadsPolicy, Ends, Prints, DeskRuns, desk_of, ended, stopped_by, stopped, behind_text, is_run, before_run, key_line}
 
 -- ---- opening
 
@@ -171,10 +176,10 @@ module _ {D : Type 0} (meaning : D → Meaning) (old new : List ℕ) (server : S
 
   module _ (line : List ℕ) (rest : List (List ℕ)) (split : lines ≡ line ∷ rest) where
     -- the line is no command
-    pub run_refused : (at : ℕ) → at ≡ number → event_of p.state.key line ≡ None → Ends old new (Some (record { line = at; fault = BadCommand })) runs
+    pub run_refused : (at : ℕ) → at ≡ number → event_of p.state.key line ≡ None → Ends old new (Some (record { line = Some at; fault = BadCommand })) runs
     unfolding Runs
     run_refused at same none =
-        ends_with (stopped number BadCommand) (Some (record { line = at; fault = BadCommand })) (rw (split, none) refl) (λ other h. rw (split, none) at h) refl (rw same refl)
+        ends_with (stopped number BadCommand) (Some (record { line = Some at; fault = BadCommand })) (rw (split, none) refl) (λ other h. rw (split, none) at h) refl (rw same refl)
 
     -- the event was not done
     pub run_stopped : (event : Event) (at : ℕ) (now : List ℕ) (last : Server D) (stop : Stop) → at ≡ number → event_of p.state.key line ≡ Some event
@@ -183,7 +188,7 @@ module _ {D : Type 0} (meaning : D → Meaning) (old new : List ℕ) (server : S
     run_stopped event at now last stops.Memory same found h = tt
     run_stopped event at now last (stops.Fault fault) same found h =
         let end : Run = stopped number fault.fault in
-        let located : end.fault ≡ Some fault = ap (λ (n : ℕ). Some (record { line = n; fault = fault.fault })) (sym same ∙ sym h.0) in
+        let located : end.fault ≡ Some fault = ap (λ (n : Option ℕ). Some (record { line = n; fault = fault.fault })) (ap (λ (n : ℕ). Some n) (sym same) ∙ sym h.0) in
         rw h.2 (ends_with end (Some fault) (rw (split, found, h.1) refl) (λ other r. rw (split, found, h.1) at r) refl located)
 
     -- the event was done
@@ -219,15 +224,66 @@ module _ {D : Type 0} (meaning : D → Meaning) (old new : List ℕ) (server : S
 -- ---- what comes before the events
 
 -- nothing was printed, and this is the only run
-stops_at : (text : List ℕ) (at : Located) (runs : Run → Type 0) → runs (stopped at.line at.fault) → ((other : Run) → runs other → other ≡ stopped at.line at.fault) → Ends text text (Some at) runs
-stops_at text at runs is only = record { run = stopped at.line at.fault; is = is; only = only; printed = sym (append-nil text); fault_is = refl }
+stops_at : (text : List ℕ) (at : Located) (runs : Run → Type 0) → runs (stopped_by at) → ((other : Run) → runs other → other ≡ stopped_by at) → Ends text text (Some at) runs
+stops_at text at runs is only = record { run = stopped_by at; is = is; only = only; printed = sym (append-nil text); fault_is = refl }
 
 -- there is no `run`
 pub body_none : (text : List ℕ) (key : List ℕ) (lines : List (List ℕ)) (at : ℕ) → list_any is_run lines ≡ false → at ≡ length lines + 2
-    → Ends text text (Some (record { line = at; fault = NoRun })) (BodyRuns key lines)
+    → Ends text text (Some (record { line = Some at; fault = NoRun })) (BodyRuns key lines)
 unfolding BodyRuns
 body_none text key lines at none number =
-    stops_at text (record { line = at; fault = NoRun }) (BodyRuns key lines) (rw (none, number) refl) (λ other r. (let told : other ≡ stopped (length lines + 2) NoRun = rw none at r in rw number told))
+    stops_at text (record { line = Some at; fault = NoRun }) (BodyRuns key lines) (rw (none, number) refl) (λ other r. (let told : other ≡ stopped (length lines + 2) NoRun = rw none at r in rw number told))
+
+-- ---- a desk of the policy
+
+module _ (key : List ℕ) (policy : List Subject) (number : ℕ) (events : List (List ℕ)) (old new : List ℕ) where
+  -- no other run of a policy that may stand
+  small_back : (meaning : Meaning) → IsOnlyOpened policy 1000000 (Ok meaning) → (run : Run) → DeskRuns key policy number events run → Runs (opening key (desk_of policy)) number events run
+  unfolding DeskRuns
+  small_back meaning only run (inl small) = small.1
+  small_back meaning only run (inr large) =
+      let e : ◌≡◌ {A = Result Meaning EditFault} (Ok meaning) (Err (edits.TooManyStates large.0)) = only (Err (edits.TooManyStates large.0)) (large.0, refl, large.1) in absurd cc
+
+  module _ (meaning : Meaning) (is : meaning ≡ desk_of policy) (small : IsSmall policy) (only : IsOnlyOpened policy 1000000 (Ok meaning)) where
+    ends_at_desk : (fault : Option Located) → Ends old new fault (Runs (opening key (desk_of policy)) number events) → Ends old new fault (DeskRuns key policy number events)
+    unfolding DeskRuns
+    ends_at_desk fault h = record {
+      run = h.run;
+      is = inl (small, h.is);
+      only = λ other k. h.only other (small_back meaning only other k);
+      printed = h.printed;
+      fault_is = h.fault_is;
+    }
+
+    runs_so : (result : Result (Unit {0}) Stop) → Prints old new result (Runs (opening key (desk_of policy)) number events) → Prints old new result (DeskRuns key policy number events)
+    runs_so (Ok _) h = ends_at_desk None h
+    runs_so (Err stops.Memory) h = tt
+    runs_so (Err (stops.Fault at)) h = ends_at_desk (Some at) h
+
+    pub runs_at_desk : (result : Result (Unit {0}) Stop) → Prints old new result (Runs (opening key meaning) number events) → Prints old new result (DeskRuns key policy number events)
+    runs_at_desk result h = runs_so result (subst (λ (m : Meaning). Prints old new result (Runs (opening key m) number events)) is h)
+
+  -- a policy that may not stand
+  module _ (subject : SubjectId) (first : IsRefusedFor policy (edits.TooManyStates subject)) (only : IsOnlyOpened policy 1000000 (Err (edits.TooManyStates subject))) where
+    large : SubjectId → Located
+    large id = record { line = None; fault = TooManyStates id }
+
+    large_back : (run : Run) → DeskRuns key policy number events run → run ≡ stopped_by (large subject)
+    unfolding DeskRuns large
+    large_back run (inl small) =
+        let e : ◌≡◌ {A = Result Meaning EditFault} (Err (edits.TooManyStates subject)) (Ok (desk_of policy)) = only (Ok (desk_of policy)) (refl, small.0) in absurd cc
+    large_back run (inr other) =
+        let e : ◌≡◌ {A = Result Meaning EditFault} (Err (edits.TooManyStates subject)) (Err (edits.TooManyStates other.0)) = only (Err (edits.TooManyStates other.0)) (other.0, refl, other.1) in
+        let same : subject ≡ other.0 = cc in
+        other.2 ∙ ap (λ (id : SubjectId). stopped_by (record { line = None; fault = TooManyStates id })) (sym same)
+
+    pub stops_at_desk : Ends old old (Some (record { line = None; fault = TooManyStates subject })) (DeskRuns key policy number events)
+    unfolding DeskRuns large
+    stops_at_desk =
+        let e : edits.TooManyStates subject ≡ edits.TooManyStates first.0 = first.1 in
+        let same : subject ≡ first.0 = cc in
+        stops_at old (large subject) (DeskRuns key policy number events)
+        (inr (subject, subst (IsFirstLarge policy policy) (sym same) first.2, refl)) large_back
 
 -- the policy is refused
 pub body_refused : (text : List ℕ) (key : List ℕ) (lines : List (List ℕ)) (stop : Stop) → list_any is_run lines ≡ true
@@ -238,11 +294,11 @@ body_refused text key lines (stops.Fault at) there (line, refusal, e, f) =
     stops_at text at (BodyRuns key lines) (rw (there, e, f) refl) (λ other r. (let told : other ≡ stopped (line + 1) (BadPolicy refusal) = rw (there, e) at r in rw f told))
 
 -- line 1 is none
-pub lines_none : (text : List ℕ) (lines : List (List ℕ)) → lines ≡ [] → Ends text text (Some (record { line = 1; fault = BadKey })) (LinesRun lines)
+pub lines_none : (text : List ℕ) (lines : List (List ℕ)) → lines ≡ [] → Ends text text (Some (record { line = Some 1; fault = BadKey })) (LinesRun lines)
 unfolding LinesRun
-lines_none text lines e = stops_at text (record { line = 1; fault = BadKey }) (LinesRun lines) (rw e refl) (λ other r. rw e at r)
+lines_none text lines e = stops_at text (record { line = Some 1; fault = BadKey }) (LinesRun lines) (rw e refl) (λ other r. rw e at r)
 
 -- it has no key
-pub lines_bad : (text : List ℕ) (lines rest : List (List ℕ)) (line : List ℕ) → lines ≡ line ∷ rest → key_line line ≡ None → Ends text text (Some (record { line = 1; fault = BadKey })) (LinesRun lines)
+pub lines_bad : (text : List ℕ) (lines rest : List (List ℕ)) (line : List ℕ) → lines ≡ line ∷ rest → key_line line ≡ None → Ends text text (Some (record { line = Some 1; fault = BadKey })) (LinesRun lines)
 unfolding LinesRun
-lines_bad text lines rest line e none = stops_at text (record { line = 1; fault = BadKey }) (LinesRun lines) (rw (e, none) refl) (λ other r. rw (e, none) at r)
+lines_bad text lines rest line e none = stops_at text (record { line = Some 1; fault = BadKey }) (LinesRun lines) (rw (e, none) refl) (λ other r. rw (e, none) at r)

@@ -178,10 +178,10 @@ abbrev pub IsDoneUnless : {D : Type 0} → (D → Meaning) → ℕ → List ℕ 
 IsDoneUnless meaning line old new server state event (Ok _) = IsDone meaning old new server state event
 IsDoneUnless meaning line old new server state event (Err stops.Memory) = Unit {0}
 IsDoneUnless meaning line old new server state event (Err (stops.Fault at)) =
-    (at.line ≡ line) × (fault_in state.connections event ≡ Some at.fault) × (new ≡ old)
+    (at.line ≡ Some line) × (fault_in state.connections event ≡ Some at.fault) × (new ≡ old)
 
 -- what keeps the event of a line from being done
 abbrev pub stop_of : ℕ → ServerFault → Stop
-stop_of line faults.NoConnection = stops.Fault (record { line = line; fault = NoConnection })
-stop_of line faults.AlreadyOpen = stops.Fault (record { line = line; fault = AlreadyOpen })
+stop_of line faults.NoConnection = stops.Fault (record { line = Some line; fault = NoConnection })
+stop_of line faults.AlreadyOpen = stops.Fault (record { line = Some line; fault = AlreadyOpen })
 stop_of line (faults.Memory accepted) = stops.Memory

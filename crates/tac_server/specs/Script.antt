@@ -1,11 +1,13 @@
 -- What the replay of a script prints.
-use Rattle.std.specs.Prelude.{◌≡◌, ℕ, ◌+◌, List, [], ◌∷◌, ◌++◌, length, codes, Bool, true, false, Option, Some, None, Result, Ok, Err, if◌then◌else◌}
+use Rattle.std.specs.Prelude.{◌≡◌, ◌⊎◌, ℕ, ◌+◌, List, [], ◌∷◌, ◌++◌, length, codes, Bool, true, false, Option, Some, None, Result, Ok, Err, if◌then◌else◌}
 use Rattle.std.specs.Option.{option_and_then}
 use Rattle.std.specs.List.{list_any}
 use Rattle.std.specs.Str.{bytes_eq}
 use Rattle.tac_wire.specs.Key.{key_of}
 use Rattle.basics.specs.Lines.{split_at_first, lines_of}
 use Rattle.pol_text.specs.Text.{policy_of, text_of_lines}
+use Rattle.pol_names.specs.declared.subject_id.SubjectId.{SubjectId}
+use Rattle.pol_live.specs.Sizes.{IsSmall, IsFirstLarge}
 use Rattle.tac_server.specs.FaultText.{located_text}
 use Rattle.tac_server.specs.Command.{event_of}
 use Rattle.tac_desk.specs.Meaning.{Meaning}
@@ -16,7 +18,7 @@ use Rattle.tac_server.specs.declared.event.Event.{Event}
 use Rattle.pol_text.specs.declared.subject.Subject.{Subject}
 use Rattle.tac_server.specs.declared.script_fault.Located.{Located}
 use Rattle.tac_server.specs.declared.script_fault.ScriptFault.{ScriptFault}
-use Rattle.tac_server.specs.declared.script_fault.ScriptFault.TheVariants.{BadKey, NoRun, BadPolicy, BadCommand}
+use Rattle.tac_server.specs.declared.script_fault.ScriptFault.TheVariants.{BadKey, NoRun, BadPolicy, TooManyStates, BadCommand}
 use Rattle.pol_text.specs.declared.fault.PolicyFault.{PolicyFault}
 use Rattle.pol_text.specs.declared.fault.PolicyRefusal.{PolicyRefusal}
 use Rattle.pol_text.specs.declared.fault.PolicyFault.TheVariants as policies
@@ -33,8 +35,16 @@ pub record Run : Type 0 where
 abbrev pub ended : Run
 ended = record { text = []; fault = None }
 
+-- a run that a fault ends before anything is printed
+abbrev pub stopped_by : Located → Run
+stopped_by at = record { text = []; fault = Some at }
+
 abbrev pub stopped : ℕ → ScriptFault → Run
-stopped line fault = record { text = []; fault = Some (record { line = line; fault = fault }) }
+stopped line fault = stopped_by (record { line = Some line; fault = fault })
+
+-- that a policy is too large is a fault of no single line; the subject is named whose rules are
+abbrev pub too_large : SubjectId → Run
+too_large subject = stopped_by (record { line = None; fault = TooManyStates subject })
 
 -- a run that first prints this
 abbrev pub behind_text : List ℕ → Run → Run
@@ -87,10 +97,16 @@ desk_of policy = desks.opening policy 1000000
 unfoldable pub key_line : List ℕ → Option (List ℕ)
 key_line line = option_and_then (λ parts. if bytes_eq parts.0 (codes "key") then key_of parts.1 else None) (split_at_first 32 line)
 
+-- the events with a desk of the policy, if that may stand; else the first subject that is too large is named
+unfoldable pub DeskRuns : List ℕ → List Subject → ℕ → List (List ℕ) → Run → Type 0
+DeskRuns key policy number events run =
+    (IsSmall policy × Runs (opening key (desk_of policy)) number events run)
+    ⊎ ((subject : SubjectId) × IsFirstLarge policy policy subject × (run ≡ too_large subject))
+
 -- the events with the policy, of which the first has this number; the policy's first line is the second of
 -- the script. No text is refused for want of memory
 abbrev pub PolicyRuns : List ℕ → ℕ → List (List ℕ) → Result (List Subject) PolicyFault → Run → Type 0
-PolicyRuns key number events (Ok policy) run = Runs (opening key (desk_of policy)) number events run
+PolicyRuns key number events (Ok policy) run = DeskRuns key policy number events run
 PolicyRuns key number events (Err (policies.Refused line refusal)) run = run ≡ stopped (line + 1) (BadPolicy refusal)
 PolicyRuns key number events (Err policies.Memory) run = ⊥
 
@@ -133,7 +149,7 @@ pub record IsReplay (script output : List ℕ) (end : ReplayEnd) : Type 0 where
 abbrev pub ReadsPolicy : {T : Type 0} → Result T Stop → Result T PolicyFault → Type 0
 ReadsPolicy (Ok policy) wanted = wanted ≡ Ok policy
 ReadsPolicy (Err stops.Memory) wanted = Unit {0}
-ReadsPolicy (Err (stops.Fault at)) wanted = (line : ℕ) × (refusal : PolicyRefusal) × (wanted ≡ Err (policies.Refused line refusal)) × (at ≡ record { line = line + 1; fault = BadPolicy refusal })
+ReadsPolicy (Err (stops.Fault at)) wanted = (line : ℕ) × (refusal : PolicyRefusal) × (wanted ≡ Err (policies.Refused line refusal)) × (at ≡ record { line = Some (line + 1); fault = BadPolicy refusal })
 
 -- the text grew by what a run of this kind prints, up to the fault that ended it; no other run is one of this kind
 pub record Ends (old new : List ℕ) (fault : Option Located) (runs : Run → Type 0) : Type 0 where

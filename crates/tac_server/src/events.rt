@@ -30,11 +30,11 @@ fn stop_at(line: usize, fault: ServerFault) -> Stop
 {
     match fault {
         ServerFault::NoConnection => Stop::Fault(Located {
-            line,
+            line: Some(line),
             fault: ScriptFault::NoConnection,
         }),
         ServerFault::AlreadyOpen => Stop::Fault(Located {
-            line,
+            line: Some(line),
             fault: ScriptFault::AlreadyOpen,
         }),
         ServerFault::Memory { .. } => Stop::Memory,
@@ -184,7 +184,7 @@ pub(crate) fn run_events<D: Desk>(
     'events: while let Some((number, line)) = lines.take_line() {
         let Some(event) = read_event(alloc, driver.server.key(), line)? else {
             return Err(Stop::Fault(Located {
-                line: number,
+                line: Some(number),
                 fault: ScriptFault::BadCommand,
             }));
         };

@@ -1,16 +1,17 @@
 //! The run of a script: key, policy, and then the events.
 
-ghost use Rattle.std.specs.Prelude.{◌≡◌, ◌+◌, length, true, false, MatchOption};
+ghost use Rattle.std.specs.Prelude.{◌≡◌, ◌+◌, length, true, false, None, Some, MatchOption};
 ghost use Rattle.std.specs.List.{list_any};
 ghost use Rattle.basics.specs.Lines.{lines_of};
 ghost use Rattle.pol_text.specs.Text.{policy_of, text_of_lines};
-ghost use Rattle.tac_server.specs.Server.{opening};
-ghost use Rattle.tac_server.specs.Script.{ReadsPolicy, Prints, Runs, BodyRuns, LinesRun, desk_of, is_run as run_test, before_run, after_run, key_line as key_of_line};
+ghost use Rattle.tac_server.specs.Script.{ReadsPolicy, Prints, DeskRuns, BodyRuns, LinesRun, is_run as run_test, before_run, after_run, key_line as key_of_line};
 
 use crate::events::run_events;
 use crate::script_fault::{Located, ScriptFault, Stop};
 use crate::server::Server;
 use basics::{Lines, split_once};
+use pol_edit::EditFault;
+use pol_names::SubjectId;
 use pol_text::{Policy, PolicyFault};
 use std::alloc::Global;
 use tac_desk::PlainDesk;
@@ -53,7 +54,7 @@ fn read_policy(alloc: Global, text: &[u8]) -> Result<Policy, Stop>
         Ok(policy) => Ok(policy),
         Err(PolicyFault::Memory) => Err(Stop::Memory),
         Err(PolicyFault::Refused { line, refusal }) => Err(Stop::Fault(Located {
-            line: line + 1,
+            line: Some(line + 1),
             fault: ScriptFault::BadPolicy(refusal),
         })),
     }
@@ -71,7 +72,18 @@ fn read_key(line: &[u8]) -> Option<Key>
     Key::read(text)
 }
 
-// Runs the events with this policy.
+// What stops a script whose policy has a subject that is too large.
+fn too_large(subject: SubjectId) -> Stop
+    ensures { result ≡ Stop.Fault
+        (record { line = None; fault = ScriptFault.TooManyStates subject }) }
+{
+    Stop::Fault(Located {
+        line: None,
+        fault: ScriptFault::TooManyStates(subject),
+    })
+}
+
+// Runs the events with this policy, if it isn't too large.
 fn run_policy(
     alloc: Global,
     key: Key,
@@ -80,11 +92,14 @@ fn run_policy(
     out: &mut Vec<u8>,
 ) -> Result<(), Stop>
     ensures { Prints out.old.items out.new.items result
-        (Runs (opening key (desk_of policy)) lines.old.number lines.old.lines) }
+        (DeskRuns key policy lines.old.number lines.old.lines) }
 {
     match PlainDesk::new(alloc, policy, MAX_RECORDS) {
         Ok(desk) => run_events(alloc, Server::new(alloc, desk, key), lines, out),
-        Err(_) => Err(Stop::Memory),
+        Err(EditFault::TooManyStates(subject)) => Err(too_large(subject)),
+        Err(EditFault::Memory) => Err(Stop::Memory),
+        // a policy is refused for nothing else
+        Err(_) => unreachable!(),
     }
 }
 
@@ -96,7 +111,7 @@ fn run_body(alloc: Global, key: Key, lines: &mut Lines<'_>, out: &mut Vec<u8>) -
 {
     let Some(text) = text_before_run(lines) else {
         return Err(Stop::Fault(Located {
-            line: lines.number(),
+            line: Some(lines.number()),
             fault: ScriptFault::NoRun,
         }));
     };
@@ -106,10 +121,10 @@ fn run_body(alloc: Global, key: Key, lines: &mut Lines<'_>, out: &mut Vec<u8>) -
 
 // The key is judged before anything else.
 fn bad_key() -> Stop
-    ensures { result ≡ Stop.Fault (record { line = 1; fault = ScriptFault.BadKey }) }
+    ensures { result ≡ Stop.Fault (record { line = Some 1; fault = ScriptFault.BadKey }) }
 {
     Stop::Fault(Located {
-        line: 1,
+        line: Some(1),
         fault: ScriptFault::BadKey,
     })
 }

@@ -3,6 +3,7 @@
 ghost use Rattle.std.specs.Prelude.{◌≡◌};
 ghost use Rattle.tac_server.specs.declared.script_fault.Stop.TheVariants.{Memory};
 
+use pol_names::SubjectId;
 use pol_text::PolicyRefusal;
 use std::alloc::{AllocError, AllocFailed};
 use std::fmt;
@@ -12,15 +13,17 @@ pub(crate) enum ScriptFault {
     BadKey,
     NoRun,
     BadPolicy(PolicyRefusal),
+    TooManyStates(SubjectId),
     BadCommand,
     NoConnection,
     AlreadyOpen,
 }
 
-/// A fault with its line, counted from 1.
+/// A fault with its line, counted from 1. A policy that is too large is so as a whole: that has
+/// none.
 #[derive(Clone, Copy, Debug, PartialEq, Eq)]
 pub(crate) struct Located {
-    pub(crate) line: usize,
+    pub(crate) line: Option<usize>,
     pub(crate) fault: ScriptFault,
 }
 
@@ -42,6 +45,7 @@ impl fmt::Display for ScriptFault {
             ScriptFault::BadKey => write!(f, "BadKey"),
             ScriptFault::NoRun => write!(f, "NoRun"),
             ScriptFault::BadPolicy(refusal) => write!(f, "{refusal}"),
+            ScriptFault::TooManyStates(subject) => write!(f, "TooManyStates {subject}"),
             ScriptFault::BadCommand => write!(f, "BadCommand"),
             ScriptFault::NoConnection => write!(f, "NoConnection"),
             ScriptFault::AlreadyOpen => write!(f, "AlreadyOpen"),
@@ -56,9 +60,11 @@ impl fmt::Display for Located {
     ghost output = { λ at. Some (located_text at) };
 
     fn fmt<W: fmt::Write>(&self, f: &mut fmt::Formatter<W>) -> fmt::Result {
-        let line = self.line;
         let fault = self.fault;
-        write!(f, "fault line {line} {fault}")
+        match self.line {
+            Some(line) => write!(f, "fault line {line} {fault}"),
+            None => write!(f, "fault {fault}"),
+        }
     }
 }
 
