@@ -1,16 +1,71 @@
 //! The words that the program takes, and its help.
 
-use clap::Command;
+use clap::{Arg, Command};
 use std::alloc::{AllocError, Global};
 
-const ABOUT: &str = "Plays scripted TACACS+ traffic against a policy of users and command lines";
+/// The word that asks for a check, and the name of its file.
+pub(crate) const CHECK: &str = "check";
+
+pub(crate) const FILE: &str = "FILE";
+
+const ABOUT: &str =
+    "Checks a policy of users and command lines, and plays scripted TACACS+ traffic against one";
 
 const LONG_ABOUT: &str =
-    "Plays scripted TACACS+ traffic against a policy of users and command lines.
+    "Checks a policy of users and command lines, and plays scripted TACACS+ traffic against one.
 
 A network device that runs TACACS+ (RFC 8907) asks a server who may log in and which command lines a
-user may run, and has it record what was done. tacd takes what devices send from a script, together
-with the policy, and prints what the server answers. It opens no socket.";
+user may run, and has it record what was done. tacd checks the policy of such a server, and plays
+the server: it takes what devices send from a script, together with the policy, and prints what is
+answered. It opens no socket.";
+
+const CHECK_ABOUT: &str = "Reads a policy, and prints which of its rules decide nothing";
+
+pub(crate) const CHECK_LONG_ABOUT: &str =
+    "Reads a policy, and prints how much it has and which of its rules decide nothing.
+
+A rule decides nothing for a user or a group if each command line that it fits is decided by a rule
+before it, by one of them alone or by several together. Such a rule is mostly a mistake. A policy
+that is wrong is refused, and the first wrong line is named.";
+
+const FILE_HELP: &str = "The policy's text, at most 268435456 bytes";
+
+const CHECK_AFTER_HELP: &str = "Example:
+  tacd check campus.policy
+
+'tacd check --help' describes what is printed; 'tacd replay --help' the lines of a policy.";
+
+pub(crate) const CHECK_AFTER_LONG_HELP: &str =
+    "'tacd replay --help' describes the lines of a policy.
+
+What is printed of a policy that may stand, with the last line where no rule is shadowed:
+  policy ok: S subjects, R rules
+  shadowed in SUBJECT: OWNER rule N
+                       rule N of OWNER decides no line of the user or group SUBJECT
+  none
+
+What is printed of one that is refused:
+  fault line L FAULT   line L of the file is wrong; of several, the first is named
+  fault TooManyStates SUBJECT
+                       the rules along SUBJECT and its groups are too large together
+
+Example:
+  $ cat desk.policy
+  group desk
+  permit clear (counters|arp)( .*)?
+  deny clear arp
+  user eve in desk
+  $ tacd check desk.policy
+  policy ok: 2 subjects, 2 rules
+  shadowed in group desk: group desk rule 2
+  shadowed in user eve: group desk rule 2
+
+Exit status:
+  0  the policy may stand, whether rules are shadowed or not
+  1  the policy is refused, and why was printed
+  2  the command line is wrong
+  3  memory ran out
+  4  the file could not be read, or the output could not be written";
 
 const REPLAY_ABOUT: &str = "Reads a script on standard input and prints the server's replies";
 
@@ -79,23 +134,39 @@ Exit status:
   3  memory ran out
   4  the script could not be read, or the output could not be written";
 
-const AFTER_LONG_HELP: &str = "Example:
+const AFTER_LONG_HELP: &str = "Examples:
+  tacd check campus.policy
   tacd replay < session.script
 
-'tacd replay --help' describes the lines of a script, what is printed, and the exit status.";
+'tacd check --help' and 'tacd replay --help' describe what is read, what is printed, and the exit
+status.";
 
-/// What the program's command line may be.
-pub(crate) fn command<'a>(alloc: Global) -> Result<Command<'a>, AllocError> {
-    let replay = Command::new(alloc, "replay")
+fn check<'a>(alloc: Global) -> Result<Command<'a>, AllocError> {
+    let file = Arg::new(alloc, FILE).required(true).help(FILE_HELP);
+    Command::new(alloc, CHECK)
+        .about(CHECK_ABOUT)
+        .long_about(CHECK_LONG_ABOUT)
+        .after_help(CHECK_AFTER_HELP)
+        .after_long_help(CHECK_AFTER_LONG_HELP)
+        .arg(file)
+}
+
+fn replay<'a>(alloc: Global) -> Command<'a> {
+    Command::new(alloc, "replay")
         .about(REPLAY_ABOUT)
         .long_about(REPLAY_LONG_ABOUT)
         .after_help(REPLAY_AFTER_HELP)
-        .after_long_help(REPLAY_AFTER_LONG_HELP);
+        .after_long_help(REPLAY_AFTER_LONG_HELP)
+}
+
+/// What the program's command line may be.
+pub(crate) fn command<'a>(alloc: Global) -> Result<Command<'a>, AllocError> {
     Command::new(alloc, "tacd")
         .about(ABOUT)
         .long_about(LONG_ABOUT)
         .after_long_help(AFTER_LONG_HELP)
         .version("0.1.0")
         .subcommand_required(true)
-        .subcommand(replay)
+        .subcommand(check(alloc)?)?
+        .subcommand(replay(alloc))
 }

@@ -1,7 +1,9 @@
-//! `tacd`: a TACACS+ server (RFC 8907) that is played from scripts.
+//! `tacd`: the check of a TACACS+ server's policy, and the server (RFC 8907), played from scripts.
 #![tactic(auto)]
 
 mod command_line;
+#[cfg(test)]
+mod fake;
 mod program;
 mod status;
 #[cfg(test)]

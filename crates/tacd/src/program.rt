@@ -3,14 +3,15 @@
 ghost use Rattle.std.specs.Prelude.{◌≡◌, ◌≢◌, ◌⊎◌};
 ghost use Rattle.clap.specs.Values.{kind_of};
 
-use crate::command_line::command;
+use crate::command_line::{CHECK, FILE, command};
 use crate::status::Status;
 use clap::error::ErrorKind;
 use clap::{ArgMatches, Error};
 use std::alloc::Global;
 use std::process::ExitCode;
-use std::rt::Env;
-use std::{env, io};
+use std::rt::{Env, Files};
+use std::{env, fs, io};
+use tac_check::{CheckFault, check};
 use tac_server::replay;
 
 // The script comes from standard input, and what is replied goes to standard output.
@@ -21,6 +22,31 @@ fn replay_script<R: Input + Print + Eprint + AllocGlobal>(rt: &R) -> Status {
         let _ = eprintln!(rt; "tacd: {fault}");
     }
     Status::of_replay(outcome)
+}
+
+// Says why a check came to no end. The status tells it too, so it doesn't matter whether this could
+// be written.
+fn complain<R: Eprint>(rt: &R, path: &str, fault: CheckFault) {
+    let _ = match fault {
+        CheckFault::ReadFault | CheckFault::TooLong => eprintln!(rt; "tacd: {path}: {fault}"),
+        CheckFault::WriteFault | CheckFault::Memory => eprintln!(rt; "tacd: {fault}"),
+    };
+}
+
+// The policy comes from a file, and what is found goes to standard output.
+fn check_policy<R: Files + Print + Eprint + AllocGlobal>(rt: &R, path: &str) -> Status {
+    let mut file = match fs::open(rt, path) {
+        Ok(file) => file,
+        Err(error) => {
+            let _ = eprintln!(rt; "tacd: {path}: {error}");
+            return Status::of_unopened(error.kind());
+        }
+    };
+    let outcome = check(rt.alloc(), &mut file, &mut io::writer(rt));
+    if let Err(fault) = outcome {
+        complain(rt, path, fault);
+    }
+    Status::of_check(outcome)
 }
 
 // Prints help to standard output, and what is wrong with the words to standard error.
@@ -43,10 +69,23 @@ fn parse<'a>(alloc: Global, words: &'a [String]) -> Result<ArgMatches<'a>, Error
     command(alloc)?.try_get_matches_from(words)
 }
 
-fn obey<R: Input + Print + Eprint + AllocGlobal>(rt: &R, words: &[String]) -> Status {
+// A parse that succeeds has met a subcommand: `check`, which has its file then, or `replay`.
+fn carry_out<R: Files + Input + Print + Eprint + AllocGlobal>(
+    rt: &R,
+    matches: &ArgMatches<'_>,
+) -> Status {
+    let file = matches
+        .subcommand_matches(CHECK)
+        .and_then(|check| check.get_str(FILE));
+    match file {
+        Some(path) => check_policy(rt, path),
+        None => replay_script(rt),
+    }
+}
+
+fn obey<R: Files + Input + Print + Eprint + AllocGlobal>(rt: &R, words: &[String]) -> Status {
     match parse(rt.alloc(), words) {
-        // A parse that succeeds has met a subcommand, and there is only `replay`.
-        Ok(_) => replay_script(rt),
+        Ok(matches) => carry_out(rt, &matches),
         Err(error) => explain(rt, &error),
     }
 }
@@ -56,7 +95,7 @@ fn words_of<R: Env + AllocGlobal>(rt: &R) -> io::Result<Vec<String>> {
 }
 
 /// Does what the command line asks for. The result is the status to end with.
-pub(crate) fn run<R: Env + Input + Print + Eprint + AllocGlobal>(rt: &R) -> ExitCode {
+pub(crate) fn run<R: Env + Files + Input + Print + Eprint + AllocGlobal>(rt: &R) -> ExitCode {
     let status = match words_of(rt) {
         Ok(words) => obey(rt, words.as_slice()),
         Err(error) => {

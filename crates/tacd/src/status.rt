@@ -4,6 +4,7 @@ ghost use Rattle.std.specs.Prelude.{◌≡◌, ◌≢◌, ◌⊎◌};
 
 use clap::error::ErrorKind;
 use std::io::ErrorKind as IoErrorKind;
+use tac_check::{CheckEnd, CheckFault};
 use tac_server::{ReplayEnd, ReplayFault};
 
 /// How a run of the program ended, with the number that its caller sees.
@@ -11,7 +12,7 @@ use tac_server::{ReplayEnd, ReplayFault};
 pub(crate) enum Status {
     /// All was done; help counts as that.
     Done = 0,
-    /// The script has a fault, which was printed.
+    /// The script or the policy has a fault, which was printed.
     Refused = 1,
     /// The command line is not one of this program's.
     BadCommandLine = 2,
@@ -34,6 +35,36 @@ impl Status {
             Ok(ReplayEnd::Refused) => Status::Refused,
             Err(ReplayFault::Memory) => Status::OutOfMemory,
             Err(ReplayFault::ReadFault | ReplayFault::WriteFault) => Status::Failed,
+        }
+    }
+
+    /// The status of a check.
+    pub(crate) fn of_check(outcome: Result<CheckEnd, CheckFault>) -> Status
+        ensures sound { outcome ≡ Ok CheckEnd.Sound → result ≡ Status.Done }
+        ensures refused { outcome ≡ Ok CheckEnd.Refused → result ≡ Status.Refused }
+        ensures memory { outcome ≡ Err CheckFault.Memory → result ≡ Status.OutOfMemory }
+        ensures read { outcome ≡ Err CheckFault.ReadFault → result ≡ Status.Failed }
+        ensures too_long { outcome ≡ Err CheckFault.TooLong → result ≡ Status.Failed }
+        ensures write { outcome ≡ Err CheckFault.WriteFault → result ≡ Status.Failed }
+    {
+        match outcome {
+            Ok(CheckEnd::Sound) => Status::Done,
+            Ok(CheckEnd::Refused) => Status::Refused,
+            Err(CheckFault::Memory) => Status::OutOfMemory,
+            Err(CheckFault::ReadFault | CheckFault::TooLong | CheckFault::WriteFault) => {
+                Status::Failed
+            }
+        }
+    }
+
+    /// The status where a file could not be opened.
+    pub(crate) fn of_unopened(kind: IoErrorKind) -> Status
+        ensures memory { kind ≡ IoErrorKind.OutOfMemory → result ≡ Status.OutOfMemory }
+        ensures failed { kind ≢ IoErrorKind.OutOfMemory → result ≡ Status.Failed }
+    {
+        match kind {
+            IoErrorKind::OutOfMemory => Status::OutOfMemory,
+            _ => Status::Failed,
         }
     }
 

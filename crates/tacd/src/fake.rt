@@ -1,0 +1,229 @@
+//! A runtime whose words, files and streams are those of a test.
+
+use std::alloc::{Allocator, Global};
+use std::cell::RefCell;
+use std::env::FillError;
+use std::fmt::Display;
+use std::fs::{FileTimes, Metadata, OpenFile, OpenOptions};
+use std::io;
+use std::io::{BufRead, ErrorKind, Lines, Read, Seek, SeekFrom, Write};
+use std::rt::{Env, Files};
+
+/// What was written to a stream that is open.
+#[derive(Drop)]
+pub(crate) struct Stream {
+    is_open: bool,
+    written: RefCell<Vec<u8>>,
+}
+
+impl Stream {
+    pub(crate) fn new(alloc: Global, is_open: bool) -> Stream {
+        Stream {
+            is_open,
+            written: RefCell::new(Vec::new(alloc)),
+        }
+    }
+
+    fn add<D: Display + Drop>(&self, value: D, end: &[u8]) -> io::Result<()> {
+        if !self.is_open {
+            return Err(io::Error::from(io::ErrorKind::BrokenPipe));
+        }
+        let Ok(mut written) = self.written.try_borrow_mut() else {
+            return Err(io::Error::from(io::ErrorKind::Other));
+        };
+        write!(&mut *written, "{value}")?;
+        written.extend_from_slice(end)?;
+        Ok(())
+    }
+
+    /// Whether exactly this was written.
+    pub(crate) fn holds(&self, text: &str) -> bool {
+        match self.written.try_borrow() {
+            Ok(written) => written.as_slice() == text.as_bytes(),
+            Err(_) => false,
+        }
+    }
+}
+
+/// A runtime with these words, one blank between them, and this input, which is also what the file
+/// `policy` has. There is a folder `folder`, and no other file.
+#[derive(Drop)]
+pub(crate) struct Fake {
+    pub(crate) alloc: Global,
+    pub(crate) words: &'static str,
+    pub(crate) input: &'static str,
+    pub(crate) output: Stream,
+    pub(crate) complaints: Stream,
+}
+
+impl Alloc for Fake {
+    type A = Global;
+
+    fn alloc(&self) -> Global {
+        self.alloc
+    }
+}
+
+impl Env for Fake {
+    fn arg(&self, i: usize, buf: &mut [u8]) -> Result<usize, FillError> {
+        let Some(word) = self.words.split(' ').nth(i) else {
+            return Err(FillError::NotPresent);
+        };
+        let bytes = word.as_bytes();
+        if bytes.len() > buf.len() {
+            return Err(FillError::TooLong);
+        }
+        buf[..bytes.len()].copy_from_slice(bytes);
+        Ok(bytes.len())
+    }
+
+    fn var(&self, _name: &str, _buf: &mut [u8]) -> Result<usize, FillError> {
+        Err(FillError::NotPresent)
+    }
+
+    fn var_at(&self, _i: usize, _buf: &mut [u8]) -> Result<usize, FillError> {
+        Err(FillError::NotPresent)
+    }
+}
+
+impl Input for Fake {
+    type Reader = &'static [u8];
+
+    fn read_line<A: Allocator + Clone>(&self, buf: &mut String<A>) -> io::Result<usize> {
+        self.reader().read_line(buf)
+    }
+
+    fn lines<A: Allocator>(&self, alloc: A) -> Lines<&'static [u8], A> {
+        self.reader().lines(alloc)
+    }
+
+    fn reader(&self) -> &'static [u8] {
+        self.input.as_bytes()
+    }
+}
+
+impl Print for Fake {
+    fn print<D: Display + Drop>(&self, value: D) -> io::Result<()> {
+        self.output.add(value, b"")
+    }
+
+    fn println<D: Display + Drop>(&self, value: D) -> io::Result<()> {
+        self.output.add(value, b"\n")
+    }
+
+    fn write_all(&self, bytes: &[u8]) -> io::Result<()> {
+        self.output.add("", bytes)
+    }
+}
+
+impl Eprint for Fake {
+    fn eprint<D: Display + Drop>(&self, value: D) -> io::Result<()> {
+        self.complaints.add(value, b"")
+    }
+
+    fn eprintln<D: Display + Drop>(&self, value: D) -> io::Result<()> {
+        self.complaints.add(value, b"\n")
+    }
+}
+
+/// A file that is read alone, or a folder, which can be opened and not read.
+#[derive(Drop)]
+pub(crate) struct FakeFile {
+    is_folder: bool,
+    rest: &'static [u8],
+}
+
+impl Read for FakeFile {
+    fn read(&mut self, buf: &mut [u8]) -> io::Result<usize> {
+        if self.is_folder {
+            return Err(io::Error::from(ErrorKind::IsADirectory));
+        }
+        self.rest.read(buf)
+    }
+}
+
+impl Write for FakeFile {
+    fn write(&mut self, _buf: &[u8]) -> io::Result<usize> {
+        Err(io::Error::from(ErrorKind::Unsupported))
+    }
+
+    fn flush(&mut self) -> io::Result<()> {
+        Ok(())
+    }
+}
+
+impl Seek for FakeFile {
+    fn seek(&mut self, _to: SeekFrom) -> io::Result<u64> {
+        Err(io::Error::from(ErrorKind::Unsupported))
+    }
+}
+
+impl OpenFile for FakeFile {
+    fn metadata(&self) -> io::Result<Metadata> {
+        Err(io::Error::from(ErrorKind::Unsupported))
+    }
+
+    fn set_len(&self, _size: u64) -> io::Result<()> {
+        Err(io::Error::from(ErrorKind::Unsupported))
+    }
+
+    fn sync_all(&self) -> io::Result<()> {
+        Err(io::Error::from(ErrorKind::Unsupported))
+    }
+
+    fn sync_data(&self) -> io::Result<()> {
+        Err(io::Error::from(ErrorKind::Unsupported))
+    }
+}
+
+impl Files for Fake {
+    type File = FakeFile;
+
+    type Dir = &'static [u8];
+
+    fn open_file(&self, _how: &OpenOptions, path: &str) -> io::Result<FakeFile> {
+        if path != "policy" && path != "folder" {
+            return Err(io::Error::from(ErrorKind::NotFound));
+        }
+        Ok(FakeFile {
+            is_folder: path == "folder",
+            rest: self.input.as_bytes(),
+        })
+    }
+
+    fn open_dir(&self, _path: &str) -> io::Result<&'static [u8]> {
+        Err(io::Error::from(ErrorKind::Unsupported))
+    }
+
+    fn metadata(&self, _path: &str) -> io::Result<Metadata> {
+        Err(io::Error::from(ErrorKind::Unsupported))
+    }
+
+    fn symlink_metadata(&self, _path: &str) -> io::Result<Metadata> {
+        Err(io::Error::from(ErrorKind::Unsupported))
+    }
+
+    fn copy(&self, _from: &str, _to: &str) -> io::Result<u64> {
+        Err(io::Error::from(ErrorKind::Unsupported))
+    }
+
+    fn rename(&self, _from: &str, _to: &str) -> io::Result<()> {
+        Err(io::Error::from(ErrorKind::Unsupported))
+    }
+
+    fn remove_file(&self, _path: &str) -> io::Result<()> {
+        Err(io::Error::from(ErrorKind::Unsupported))
+    }
+
+    fn create_dir(&self, _path: &str) -> io::Result<()> {
+        Err(io::Error::from(ErrorKind::Unsupported))
+    }
+
+    fn remove_dir(&self, _path: &str) -> io::Result<()> {
+        Err(io::Error::from(ErrorKind::Unsupported))
+    }
+
+    fn remove_dir_all<B: Allocator>(&self, _alloc: B, _path: &str) -> io::Result<()> {
+        Err(io::Error::from(ErrorKind::Unsupported))
+    }
+}
