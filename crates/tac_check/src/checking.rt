@@ -1,6 +1,7 @@
 //! The check of a policy's text, from bytes to bytes.
 
-ghost use Rattle.std.specs.Prelude.{◌≡◌, [], ◌∷◌, ◌++◌, codes, ◌≤◌, ◌<◌, ℕ, List, length, take, ◌≢◌, IfOk, IfErr, OnOk, IfSome, IsErrOf};
+ghost use Rattle.std.specs.Prelude.{◌≡◌, ◌≢◌, [], ◌∷◌, ◌++◌, codes, ◌≤◌, ◌<◌, ℕ, List, length};
+ghost use Rattle.std.specs.Prelude.{take, IfOk, IfErr, OnOk, IfSome, IsErrOf};
 ghost use Rattle.std.specs.Io.KnownBytes.{Appends, IsAtEnd, Keeps};
 ghost use Rattle.tac_check.specs.Check.{IsWorkedOut};
 ghost use Rattle.tac_check.specs.Input.{fault_by};
@@ -90,7 +91,8 @@ pub fn check<R: Read, W: Write>(
 ) -> Result<CheckEnd, CheckFault>
     // The whole input was read, and it is no longer than a text may be.
     ensures read { OnOk result (IsAtEnd (R.remaining reader.new)) }
-    ensures bound { OnOk result (IfSome (R.remaining reader.old) (λ text. length text ≤ 268435456)) }
+    ensures bound { OnOk result
+        (IfSome (R.remaining reader.old) (λ text. length text ≤ 268435456)) }
 
     // What was written is exactly the check's output, the end is the check's, and no others are.
     ensures output { IfOk result (λ end. IfSome (R.remaining reader.old) (λ text.
