@@ -1,2 +1,3 @@
 pub mod HistoryFacts
 pub mod SeatFacts
+pub mod ClosingFacts

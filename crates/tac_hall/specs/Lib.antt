@@ -2,3 +2,4 @@ pub mod FaultText
 pub mod History
 pub mod Room
 pub mod Seat
+pub mod Closing

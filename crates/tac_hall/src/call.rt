@@ -1,6 +1,9 @@
 //! What is called at a hall, and what it is answered.
 
+ghost use Rattle.std.specs.Prelude.{◌≡◌, ◌↔◌, IsTrue};
+
 use crate::shared::Shared;
+use basics::StructuralEq;
 use pol_edit::{Edit, EditFault};
 use pol_report::Changes;
 use tac_conn::{Answer, Ask};
@@ -20,7 +23,7 @@ pub enum Call {
 }
 
 impl Call {
-    ghost use Rattle.std.specs.Prelude.{◌≡◌};
+    ghost use Rattle.std.specs.Prelude.{◌≡◌, ◌↔◌, IsTrue};
     ghost use Rattle.tac_hall.specs.History.{is_stop};
 
     /// Whether no further call is taken.
@@ -28,6 +31,19 @@ impl Call {
         ensures { result ≡ is_stop self.now }
     {
         matches!(self, Call::Stop)
+    }
+
+    /// Whether the two are the same.
+    pub fn same(&self, other: &Call) -> bool
+        ensures { IsTrue result ↔ (self.now ≡ other.now) }
+    {
+        match (self, other) {
+            (Call::Ask(one), Call::Ask(two)) => one.same(two),
+            (Call::Edit(one), Call::Edit(two)) => one.same(two),
+            (Call::Query(one), Call::Query(two)) => one.same(two),
+            (Call::Stop, Call::Stop) => true,
+            _ => false,
+        }
     }
 }
 
@@ -40,4 +56,47 @@ pub enum CallAnswer {
     /// The report, or why there is none, for want of memory too.
     Query(Result<Shared<Report>, QueryFault>),
     Stopped,
+}
+
+fn same_changes(
+    one: &Result<Shared<Changes>, EditFault>,
+    two: &Result<Shared<Changes>, EditFault>,
+) -> bool
+    ensures { IsTrue result ↔ (one.now ≡ two.now) }
+{
+    match (one, two) {
+        (Ok(one), Ok(two)) => one.get().same(two.get()),
+        (Err(one), Err(two)) => one == two,
+        _ => false,
+    }
+}
+
+fn same_report(
+    one: &Result<Shared<Report>, QueryFault>,
+    two: &Result<Shared<Report>, QueryFault>,
+) -> bool
+    ensures { IsTrue result ↔ (one.now ≡ two.now) }
+{
+    match (one, two) {
+        (Ok(one), Ok(two)) => one.get().same(two.get()),
+        (Err(one), Err(two)) => one == two,
+        _ => false,
+    }
+}
+
+impl CallAnswer {
+    ghost use Rattle.std.specs.Prelude.{◌≡◌, ◌↔◌, IsTrue};
+
+    /// Whether the two are the same.
+    pub fn same(&self, other: &CallAnswer) -> bool
+        ensures { IsTrue result ↔ (self.now ≡ other.now) }
+    {
+        match (self, other) {
+            (CallAnswer::Ask(one), CallAnswer::Ask(two)) => one == two,
+            (CallAnswer::Edit(one), CallAnswer::Edit(two)) => same_changes(one, two),
+            (CallAnswer::Query(one), CallAnswer::Query(two)) => same_report(one, two),
+            (CallAnswer::Stopped, CallAnswer::Stopped) => true,
+            _ => false,
+        }
+    }
 }

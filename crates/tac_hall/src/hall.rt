@@ -1,10 +1,13 @@
 //! A desk that many threads ask.
 
-ghost use Rattle.std.specs.Prelude.{◌≡◌, [], IfOk, IfErr, OnErr};
-ghost use Rattle.tac_hall.specs.Seat as seats;
+ghost use Rattle.std.specs.Prelude.{◌≡◌, [], true, IfOk, IfErr, OnErr};
+ghost use Rattle.tac_hall.specs.Closing.{AreViews, are_theirs};
+ghost use Rattle.tac_hall.specs.History.{Legal};
+ghost use Rattle.tac_hall.specs.Seat as sitting;
 ghost use Rattle.tac_hall.specs.declared.fault.HallFault.TheVariants.{NoSeat};
 
 use crate::call::Call;
+use crate::closing::Settled;
 use crate::entry::Receipt;
 use crate::fault::HallFault;
 use crate::laws::Room;
@@ -64,10 +67,42 @@ impl<D: Desk> Hall<D> {
     /// Makes a call. It stands in the log behind all that the seat made before, and in the seat's
     /// view; the receipt says where, and has the answer. A refused call is made nowhere.
     pub fn call<R: Wait>(&self, rt: &R, seat: &mut Seat, call: Call) -> Result<Receipt, HallFault>
-        ensures made { IfOk result (λ receipt. seats.IsMade seat.old call receipt seat.new) }
+        ensures made { IfOk result (λ receipt. sitting.IsMade seat.old call receipt seat.new) }
         ensures err { OnErr result (seat.new ≡ seat.old) }
     {
         let mut room = self.room.lock(rt);
         seat.call_in(&mut room, call)
+    }
+
+    /// Ends the hall, and shows what it kept: the base is what the desk stood for when the hall was
+    /// made, the log is a legal history from there to what the desk stands for now, and it has of
+    /// each seat exactly the seat's view, and nothing else.
+    ///
+    /// Refused where one of the hall's seats is missing, or one is handed in that isn't the hall's;
+    /// then the hall and the seats come back. Linear in the log, for each seat.
+    pub fn close(self, seats: Vec<Seat>) -> Result<Settled<D>, (Hall<D>, Vec<Seat>)>
+        ensures base { IfOk result (λ settled. settled.base ≡ self) }
+        ensures legal { IfOk result (λ settled.
+            Legal self settled.log.items (D.meaning settled.desk)) }
+        ensures views { IfOk result (λ settled. AreViews settled.log.items seats.items) }
+        ensures theirs { IfOk result (λ settled.
+            are_theirs settled.log.items seats.items ≡ true) }
+        ensures back { IfErr result (λ back. (back.0 ≡ self) × (back.1 ≡ seats)) }
+    {
+        let Hall {
+            alloc,
+            opening,
+            room,
+        } = self;
+        let room = room.into_inner();
+        if room.settles(&opening, seats.as_slice()) {
+            return Ok(room.settled());
+        }
+        let hall = Hall {
+            alloc,
+            opening,
+            room: Mutex::new(room),
+        };
+        Err((hall, seats))
     }
 }

@@ -1,15 +1,18 @@
 //! What lies under the lock of a hall, and the one step that is done while the lock is held.
 
-ghost use Rattle.std.specs.Prelude.{◌≡◌, [], ◌↔◌, IsTrue, OnErr};
+ghost use Rattle.std.specs.Prelude.{◌≡◌, [], ◌↔◌, true, IsTrue};
 ghost use Rattle.tac_desk.specs.Meaning.{Meaning};
 ghost use Rattle.tac_hall.specs.History as history;
+ghost use Rattle.tac_hall.specs.Closing as closing;
 ghost use Rattle.tac_hall.specs.Room as rooms;
 ghost use Rattle.tac_hall.specs.Seat as seats;
 
 use crate::answering::{Told, answer};
 use crate::call::{Call, CallAnswer};
+use crate::closing::{Settled, are_theirs, are_there, are_views};
 use crate::entry::Entry;
 use crate::fault::HallFault;
+use crate::seat::Seat;
 use crate::shared::Shared;
 use std::alloc::Global;
 use std::marker::Model;
@@ -113,6 +116,38 @@ impl<D: Desk> Room<D> {
         ensures { IsTrue result ↔ seats.IsKnown self.now number next }
     {
         number < self.seats && next <= self.log.len()
+    }
+
+    /// Whether the room began at this, and these are its seats, with what the log has of each.
+    pub(crate) fn settles(&self, opening: &State, seats: &[Seat]) -> bool
+        ensures base { IsTrue result → self.now.base ≡ opening.now }
+        ensures views { IsTrue result → closing.AreViews self.now.log seats.now }
+        ensures theirs { IsTrue result → closing.are_theirs self.now.log seats.now ≡ true }
+        ensures there { IsTrue result → closing.are_there self.now.seats seats.now ≡ true }
+    {
+        let log = self.log.as_slice();
+        self.base.same(opening)
+            && seats.len() == self.seats as usize
+            && are_there(self.seats, seats)
+            && are_theirs(log, seats)
+            && are_views(log, seats)
+    }
+
+    /// Gives up all that lies in the room.
+    pub(crate) fn settled(self) -> Settled<D>
+        ensures base { result.base ≡ self.base }
+        ensures legal { history.Legal self.base result.log.items (D.meaning result.desk) }
+        ensures log { result.log.items ≡ self.log }
+    {
+        let Room {
+            desk,
+            base,
+            log,
+            limit: _,
+            seats: _,
+            closed: _,
+        } = self;
+        Settled { base, log, desk }
     }
 
     /// Does one thing: a call gets the desk's answer, which stands behind the log from then on. A

@@ -3,6 +3,7 @@
 
 mod answering;
 mod call;
+mod closing;
 mod entry;
 mod fault;
 mod hall;
@@ -11,6 +12,7 @@ mod seat;
 mod shared;
 
 pub use call::{Call, CallAnswer};
+pub use closing::Settled;
 pub use entry::{Entry, Made, Receipt};
 pub use fault::HallFault;
 pub use hall::Hall;
