@@ -7,7 +7,7 @@ use Rattle.pol_edit.specs.declared.edit.Edit.TheVariants.{AddGroup, AddUser, Rem
 use Rattle.pol_edit.specs.declared.fault.EditFault.{EditFault}
 use Rattle.pol_edit.specs.declared.fault.EditFault.TheVariants.{BadEdit, Memory}
 use Rattle.tac_desk.specs.declared.query.Query.{Query}
-use Rattle.tac_desk.specs.declared.query.Query.TheVariants.{Policy, Tally, Why, Records}
+use Rattle.tac_desk.specs.declared.query.Query.TheVariants.{Policy, Shadow, Reach, Tally, Why, Records}
 use Rattle.tac_console.specs.ConsoleText.{query_of}
 use Rattle.tac_console.specs.Spelling.{SpellsWords, SpellsQuery, Spells}
 use Rattle.tac_console.specs.declared.asked.Asked.{Asked}
@@ -38,6 +38,8 @@ edits_begin line (MoveRule subject from to) h = rw h.2 refl
 
 queries_begin : (line : List ℕ) (query : Query) → SpellsWords line query → begins_edit line ≡ false
 queries_begin line Policy h = rw h refl
+queries_begin line Shadow h = rw h refl
+queries_begin line (Reach subject) h = rw h.0 refl
 queries_begin line (Tally subject) h = rw h.0 refl
 queries_begin line (Why user text) h = elim h.0 [ inl spaced ↦ rw spaced refl | inr alone ↦ rw alone.0 refl ]
 queries_begin line Records h = rw h refl

@@ -8,7 +8,7 @@ use Rattle.pol_edit.specs.EditText.{parted, subject_of}
 use Rattle.pol_names.specs.SubjectId.{subject_text}
 use Rattle.pol_edit.specs.Spelling.{IsName}
 use Rattle.tac_desk.specs.declared.query.Query.{Query}
-use Rattle.tac_desk.specs.declared.query.Query.TheVariants.{Policy, Tally, Why, Records}
+use Rattle.tac_desk.specs.declared.query.Query.TheVariants.{Policy, Shadow, Reach, Tally, Why, Records}
 use Rattle.tac_console.specs.ConsoleText.{query_in, query_of}
 use Rattle.tac_console.specs.Spelling.{SpellsWords, SpellsQuery}
 use Rattle.tac_console.proofs.Spaces.{split_whole, split_front, name_spaceless}
@@ -39,6 +39,8 @@ why_alone user right = rw (name_whole user right, named user right) refl
 
 words_back : (line : List ℕ) (query : Query) → SpellsWords line query → query_in line ≡ Some query
 words_back line Policy h = rw h refl
+words_back line Shadow h = rw h refl
+words_back line (Reach subject) h = rw h.0 (ap (option_map Reach) (subject_back subject.kind subject.name h.1))
 words_back line (Tally subject) h = rw h.0 (ap (option_map Tally) (subject_back subject.kind subject.name h.1))
 words_back line (Why user text) h = elim h.0 [
   | inl spaced ↦ ap query_in (spaced ∙ joined user text) ∙ why_back user text h.1

@@ -13,7 +13,7 @@ use Rattle.pol_edit.specs.EditText.{◌>>=◌, parted, kind_of, subject_of}
 use Rattle.pol_names.specs.SubjectId.{subject_text}
 use Rattle.pol_edit.specs.Spelling.{IsName}
 use Rattle.tac_desk.specs.declared.query.Query.{Query}
-use Rattle.tac_desk.specs.declared.query.Query.TheVariants.{Policy, Tally, Why, Records}
+use Rattle.tac_desk.specs.declared.query.Query.TheVariants.{Policy, Shadow, Reach, Tally, Why, Records}
 use Rattle.tac_console.specs.ConsoleText.{why, query_by, by_word, query_in, query_of}
 use Rattle.tac_console.specs.Spelling.{SpellsWords, SpellsQuery}
 use Rattle.tac_console.proofs.Spaces.{parts_joined}
@@ -101,9 +101,15 @@ by_found word rest query e =
     let named = subject_found rest subject.0 subject.1 in
     respelled _ (codes "tally " ++ subject_text subject.0) query (Tally subject.0)
     (ap (λ (w : List ℕ). w ++ 32 ∷ rest) (word_is word (codes "tally") is) ∙ ap (λ (t : List ℕ). codes "tally " ++ t) named.0) subject.2 (refl, named.1))
+    (λ other. choice _ (bytes_eq word (codes "reach")) (option_map Reach (subject_of rest)) _ (done query) other
+    (λ is made.
+    let subject = mapped (subject_of rest) Reach query made in
+    let named = subject_found rest subject.0 subject.1 in
+    respelled _ (codes "reach " ++ subject_text subject.0) query (Reach subject.0)
+    (ap (λ (w : List ℕ). w ++ 32 ∷ rest) (word_is word (codes "reach") is) ∙ ap (λ (t : List ℕ). codes "reach " ++ t) named.0) subject.2 (refl, named.1))
     (λ other. choice _ (bytes_eq word (codes "why")) (why rest (parted rest)) None (done query) other
     (λ is made. subst (λ (w : List ℕ). SpellsWords (w ++ 32 ∷ rest) query) (sym (word_is word (codes "why") is)) (why_found rest (parted rest) query refl made))
-    (λ none. absurd cc))
+    (λ none. absurd cc)))
 
 word_found : (line : List ℕ) (parts : Option (List ℕ × List ℕ)) (query : Query) → parted line ≡ parts → by_word parts ≡ Some query → SpellsWords line query
 word_found line None query split e = absurd cc
@@ -114,9 +120,11 @@ words_found : (line : List ℕ) (query : Query) → query_in line ≡ Some query
 words_found line query e =
     choice _ (bytes_eq line (codes "policy")) (done Policy) _ (done query) e
     (λ is made. respelled line (codes "policy") query Policy (word_is line (codes "policy") is) (done_is Policy query made) refl)
+    (λ other. choice _ (bytes_eq line (codes "shadow")) (done Shadow) _ (done query) other
+    (λ is made. respelled line (codes "shadow") query Shadow (word_is line (codes "shadow") is) (done_is Shadow query made) refl)
     (λ other. choice _ (bytes_eq line (codes "records")) (done Records) _ (done query) other
     (λ is made. respelled line (codes "records") query Records (word_is line (codes "records") is) (done_is Records query made) refl)
-    (word_found line (parted line) query refl))
+    (word_found line (parted line) query refl)))
 
 pub query_found : (line : List ℕ) (query : Query) → query_of line ≡ Some query → SpellsQuery line query
 unfolding query_of

@@ -26,6 +26,7 @@ use Rattle.tac_desk.specs.declared.query.Report.{Report}
 use Rattle.tac_desk.specs.declared.query.Report.TheVariants as reports
 use Rattle.tac_desk.specs.declared.query.QueryFault.{QueryFault}
 use Rattle.tac_console.specs.Percent.{percent_form}
+use Rattle.tac_console.specs.Reports.{shadows_text, reach_text}
 
 -- an answer whose value is lent
 abbrev pub answer_lent : {A E : Type 0} → Result (Bor A) E → Result A E
@@ -107,6 +108,8 @@ records_text (item ∷ rest) = record_lines 1 (item ∷ rest)
 
 abbrev pub report_text : Query → Report → List ℕ
 report_text query (reports.Policy policy) = text_of policy
+report_text query (reports.Shadow rows) = shadows_text rows
+report_text query (reports.Reach rows) = reach_text rows
 report_text query (reports.Tally tally) = tally_text query tally
 report_text query (reports.Why decision) = why_line decision
 report_text query (reports.Records records) = records_text records

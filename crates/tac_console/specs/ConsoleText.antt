@@ -6,7 +6,7 @@ use Rattle.pol_names.specs.Name.{name_of}
 use Rattle.pol_edit.specs.EditText.{parted, subject_of, edit_of}
 use Rattle.pol_edit.specs.declared.edit.Edit.{Edit}
 use Rattle.tac_desk.specs.declared.query.Query.{Query}
-use Rattle.tac_desk.specs.declared.query.Query.TheVariants.{Policy, Tally, Why, Records}
+use Rattle.tac_desk.specs.declared.query.Query.TheVariants.{Policy, Shadow, Reach, Tally, Why, Records}
 use Rattle.tac_console.specs.declared.asked.Asked.{Asked}
 use Rattle.tac_console.specs.declared.asked.Asked.TheVariants as asks
 
@@ -19,6 +19,7 @@ why text (Some parts) = option_map (λ user. Why user parts.1) (name_of parts.0)
 abbrev pub query_by : List ℕ → List ℕ → Option Query
 query_by word rest =
     if bytes_eq word (codes "tally") then option_map Tally (subject_of rest)
+    else if bytes_eq word (codes "reach") then option_map Reach (subject_of rest)
     else if bytes_eq word (codes "why") then why rest (parted rest)
     else None
 
@@ -30,6 +31,7 @@ by_word (Some parts) = query_by parts.0 parts.1
 abbrev pub query_in : List ℕ → Option Query
 query_in line =
     if bytes_eq line (codes "policy") then Some Policy
+    else if bytes_eq line (codes "shadow") then Some Shadow
     else if bytes_eq line (codes "records") then Some Records
     else by_word (parted line)
 
@@ -50,6 +52,8 @@ asked_by line = asked_of (query_of line) (edit_of line)
 abbrev pub may_take_memory : Option Query → Bool
 may_take_memory None = true
 may_take_memory (Some Policy) = false
+may_take_memory (Some Shadow) = false
+may_take_memory (Some (Reach subject)) = false
 may_take_memory (Some (Tally subject)) = false
 may_take_memory (Some (Why user line)) = true
 may_take_memory (Some Records) = false

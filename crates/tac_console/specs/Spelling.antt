@@ -1,20 +1,22 @@
 -- Which line of a console spells what, by cases (docs/CONSOLE.md).
 --
 --   line    = edit | query
---   query   = "policy" | "tally " subject | "why " name [ " " text ] | "records"
+--   query   = "policy" | "shadow" | "reach " subject | "tally " subject | "why " name [ " " text ] | "records"
 use Rattle.std.specs.Prelude.{◌≡◌, ◌⊎◌, ℕ, List, [], ◌++◌, codes, IsTrue}
 use Rattle.basics.specs.Symbol.{is_text}
 use Rattle.pol_names.specs.SubjectId.{subject_text}
 use Rattle.pol_edit.specs.Spelling.{IsName, Spells as SpellsEdit}
 use Rattle.pol_edit.specs.declared.edit.Edit.{Edit}
 use Rattle.tac_desk.specs.declared.query.Query.{Query}
-use Rattle.tac_desk.specs.declared.query.Query.TheVariants.{Policy, Tally, Why, Records}
+use Rattle.tac_desk.specs.declared.query.Query.TheVariants.{Policy, Shadow, Reach, Tally, Why, Records}
 use Rattle.tac_console.specs.declared.asked.Asked.{Asked}
 use Rattle.tac_console.specs.declared.asked.Asked.TheVariants as asks
 
 -- the words of each question
 abbrev pub SpellsWords : List ℕ → Query → Type 0
 SpellsWords line Policy = line ≡ codes "policy"
+SpellsWords line Shadow = line ≡ codes "shadow"
+SpellsWords line (Reach subject) = (line ≡ codes "reach " ++ subject_text subject) × IsName subject.name
 SpellsWords line (Tally subject) = (line ≡ codes "tally " ++ subject_text subject) × IsName subject.name
 SpellsWords line (Why user text) =
     ((line ≡ codes "why " ++ user ++ codes " " ++ text) ⊎ ((line ≡ codes "why " ++ user) × (text ≡ []))) × IsName user

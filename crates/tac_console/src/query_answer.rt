@@ -10,6 +10,7 @@ ghost use Rattle.tac_console.specs.Apart.{HasNoBlank, AreApart};
 
 use crate::adding::add;
 use crate::percent::write_percent;
+use crate::rules::{write_reach, write_rows};
 use basics::Bytes;
 use pol_names::{By, Decision, SubjectId, Verdict};
 use std::alloc::{AllocError, Global};
@@ -124,6 +125,8 @@ fn report_text(alloc: Global, query: &Query, report: &Report) -> io::Result<Vec<
     let mut text = Vec::new(alloc);
     match (report, query) {
         (Report::Policy(policy), _) => return Ok(policy.print(alloc)?.into_vec()),
+        (Report::Shadow(rows), _) => write_rows(&mut text, rows.as_slice())?,
+        (Report::Reach(rows), _) => write_reach(&mut text, rows.as_slice())?,
         (Report::Tally(tally), Query::Tally(subject)) => write_tally(&mut text, subject, tally)?,
         (Report::Tally(_), _) => unreachable!(),
         (Report::Why(decision), _) => write_why(&mut text, *decision)?,

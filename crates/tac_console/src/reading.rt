@@ -63,6 +63,9 @@ fn worded(alloc: Global, word: &[u8], rest: &[u8]) -> Result<Option<Query>, Allo
     if word == b"tally".as_slice() {
         return Ok(subject(rest).map(Query::Tally));
     }
+    if word == b"reach".as_slice() {
+        return Ok(subject(rest).map(Query::Reach));
+    }
     if word == b"why".as_slice() {
         return why(alloc, rest);
     }
@@ -81,6 +84,9 @@ fn query(alloc: Global, line: &[u8]) -> Result<Option<Query>, AllocError>
     if line == b"policy".as_slice() {
         return Ok(Some(Query::Policy));
     }
+    if line == b"shadow".as_slice() {
+        return Ok(Some(Query::Shadow));
+    }
     if line == b"records".as_slice() {
         return Ok(Some(Query::Records));
     }
@@ -98,8 +104,7 @@ pub fn read_console(alloc: Global, line: &[u8]) -> Result<Asked, AllocError>
     // What is read is spelled so.
     ensures found { IfOk result (Spells line.now) }
 
-    // What is spelled so is read, unless memory runs out: reading `policy`, a tally or `records`
-    // takes none.
+    // What is spelled so is read, unless memory runs out: only an edit and `why` take any.
     ensures memory { OnErr result (IsTrue (text.may_take_memory (text.query_of line.now))) }
     ensures only { (asked : AskedValue) → Spells line.now asked →
         IfOk result (λ read. read ≡ asked) }

@@ -5,7 +5,8 @@ ghost use Rattle.std.specs.List.{flat_map};
 ghost use Rattle.tac_console.specs.Reports as reports;
 
 use crate::adding::add;
-use pol_report::Shadowed;
+use basics::Bytes;
+use pol_report::{Reached, Shadowed};
 use std::alloc::{AllocError, Global};
 use std::io;
 use std::io::Write;
@@ -42,6 +43,45 @@ fn shadows_text(alloc: Global, rows: &[Shadowed]) -> io::Result<Vec<u8>>
     let mut text = Vec::new(alloc);
     write_rows(&mut text, rows)?;
     Ok(text)
+}
+
+fn write_reach_end(out: &mut Vec<u8>, text: &Option<Bytes>) -> io::Result<()>
+    ensures { OnOk result (out.new.items ≡ out.old.items ++ reports.reach_end text.now) }
+{
+    let Some(text) = text else {
+        write!(out, " never reached")?;
+        return Ok(());
+    };
+    write!(out, " first reached by: ")?;
+    out.extend_from_slice(text.as_slice())?;
+    Ok(())
+}
+
+fn write_reached(out: &mut Vec<u8>, row: &Reached) -> io::Result<()>
+    ensures { OnOk result (out.new.items ≡ out.old.items ++ reports.reached_line row.now) }
+{
+    let Reached {
+        owner,
+        number,
+        text,
+    } = row;
+    write!(out, "{owner} rule {number}")?;
+    write_reach_end(out, text)?;
+    out.push(b'\n')?;
+    Ok(())
+}
+
+/// Adds the rules along a chain, a line each, or `none`.
+pub(crate) fn write_reach(out: &mut Vec<u8>, rows: &[Reached]) -> io::Result<()>
+    ensures { OnOk result (out.new.items ≡ out.old.items ++ reports.reach_text rows.now) }
+{
+    if rows.is_empty() {
+        return writeln!(out, "none");
+    }
+    'rows: for row in rows {
+        write_reached(out, row)?;
+    }
+    Ok(())
 }
 
 /// Adds the rules that decide nothing, a line each, or `none`. The error is want of memory, and
