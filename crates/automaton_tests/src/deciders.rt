@@ -1,6 +1,7 @@
 //! Automata: their sizes, what they decide, and the least text of each entry.
 
 use crate::lists::{entries, own, push_patterns};
+use crate::support::{Judge, judges};
 use pol_automaton::{Decider, DeciderFault, Meter};
 use pol_pattern::Pattern;
 use std::alloc::Global;
@@ -65,50 +66,47 @@ fn collects(alloc: Global, list: &str, said: &[u8]) -> Result<bool, Fail> {
     is_so(alloc, &decider, said)
 }
 
-// It is so of the patterns' automaton, and of that of any part of them joined with the rest.
-fn are_so<R: Abort + AllocGlobal>(
-    rt: &R,
-    patterns: &[Pattern],
-    list: &str,
-    said: &str,
-) -> Result<(), Fail> {
-    let alloc = rt.alloc();
-    assert!(rt; owns(alloc, patterns, said.as_bytes())?, "{said} of {list}");
-    assert!(rt;
-        collects(alloc, list, said.as_bytes())?,
-        "{said} of {list}, collected"
-    );
+// Whether it is so of the patterns' automaton, and of any first part's joined with the rest's.
+fn are_so(alloc: Global, patterns: &[Pattern], list: &str, said: &[u8]) -> Result<bool, Fail> {
+    if !owns(alloc, patterns, said)? || !collects(alloc, list, said)? {
+        return Ok(false);
+    }
     for cut in 0..=patterns.len() {
         let (first, rest) = patterns.split_at(cut);
-        let is_so = joins(alloc, first, rest, said.as_bytes())?;
-        assert!(rt; is_so, "{said} of {list}, joined at {cut}");
+        if !joins(alloc, first, rest, said)? {
+            return Ok(false);
+        }
     }
-    Ok(())
+    Ok(true)
 }
 
-fn reads<R: Abort + AllocGlobal>(
-    rt: &R,
+fn read_are_so(
+    alloc: Global,
     patterns: &mut Vec<Pattern>,
     list: &str,
-    said: &str,
-) -> Result<(), Fail> {
-    push_patterns(rt.alloc(), patterns, list)?;
-    are_so(rt, patterns, list, said)
+    said: &[u8],
+) -> Result<bool, Fail> {
+    push_patterns(alloc, patterns, list)?;
+    are_so(alloc, patterns, list, said)
+}
+
+fn list_is_so(alloc: Global, list: &str, said: &[u8]) -> Result<bool, Fail> {
+    let mut patterns = Vec::new(alloc);
+    read_are_so(alloc, &mut patterns, list, said)
 }
 
 // Judges the lines: behind a `/` a list of patterns, and then what is so of it. A line that begins
 // with `#` is a comment.
-fn judges<R: Abort + AllocGlobal>(rt: &R, lines: &str) -> Result<(), Fail> {
+fn judges_lists<R: Abort + AllocGlobal>(rt: &R, lines: &str) -> Result<(), Fail> {
     let mut list = "";
     for line in lines.lines() {
         let line = line.trim_start();
-        match line.strip_prefix("/") {
-            Some(patterns) => list = patterns,
-            None => {
-                if !line.is_empty() && !line.starts_with('#') {
-                    let mut patterns = Vec::new(rt.alloc());
-                    reads(rt, &mut patterns, list, line)?;
-                }
+        match line.as_bytes() {
+            [b'/', ..] => list = line.strip_prefix("/").unwrap_or(""),
+            [] | [b'#', ..] => {}
+            said => {
+                let is_so = list_is_so(rt.alloc(), list, said)?;
+                assert!(rt; is_so, "{line} of {list}");
             }
         }
     }
@@ -118,7 +116,7 @@ fn judges<R: Abort + AllocGlobal>(rt: &R, lines: &str) -> Result<(), Fail> {
 // A state for each list of residuals that differs from the others, dead ones too.
 #[test]
 fn sizes(rt: HostRuntime) -> Result<(), Fail> {
-    judges(
+    judges_lists(
         &rt,
         "
         /[]
@@ -157,7 +155,7 @@ fn sizes(rt: HostRuntime) -> Result<(), Fail> {
 
 #[test]
 fn decisions(rt: HostRuntime) -> Result<(), Fail> {
-    judges(
+    judges_lists(
         &rt,
         "
         /[]
@@ -232,124 +230,126 @@ fn states(made: Result<Decider, DeciderFault>) -> Result<Option<u16>, Fail> {
     }
 }
 
-// The meter counts what was made of the list within the limit.
-fn made(alloc: Global, list: &str, limit: u16, meter: &mut Meter) -> Result<Option<u16>, Fail> {
-    states(Decider::of(entries(alloc, list)?, limit, meter))
+// Whether so many states were made as expected, or none, and the meter counts them.
+fn is_counted(before: u128, meter: &Meter, found: Option<u16>, expected: Option<u16>) -> bool {
+    let states = u128::from(expected.unwrap_or(0));
+    found == expected && meter.total() == before.saturating_add(states)
 }
 
-fn makes<R: Abort + AllocGlobal>(
-    rt: &R,
+fn makes(
+    alloc: Global,
     list: &str,
     limit: u16,
+    meter: &mut Meter,
     expected: Option<u16>,
-) -> Result<(), Fail> {
-    let mut meter = Meter::new();
-    let found = made(rt.alloc(), list, limit, &mut meter)?;
-    assert_eq!(rt; found, expected, "{list} within {limit}");
-    assert_eq!(rt;
-        meter.total(),
-        u128::from(expected.unwrap_or(0)),
-        "{list} within {limit}"
-    );
-    Ok(())
+) -> Result<bool, Fail> {
+    let before = meter.total();
+    let found = states(Decider::of(entries(alloc, list)?, limit, meter))?;
+    Ok(is_counted(before, meter, found, expected))
+}
+
+/// `STATES: LIST`: as a limit so many are enough, and one less is not. `none: LIST`: 4,096 are not.
+#[derive(Drop)]
+struct LimitCases {
+    // goes on counting
+    meter: Meter,
+}
+
+impl Judge for LimitCases {
+    fn is_so(&mut self, alloc: Global, line: &str) -> Result<bool, Fail> {
+        let (states, list) = line.split_once(": ").ok_or("no list")?;
+        if states == "none" {
+            return makes(alloc, list, 4096, &mut self.meter, None);
+        }
+        let states = states.parse::<u16>()?;
+        let less = states.saturating_sub(1);
+        if !makes(alloc, list, less, &mut self.meter, None)? {
+            return Ok(false);
+        }
+        makes(alloc, list, states, &mut self.meter, Some(states))
+    }
 }
 
 #[test]
 fn limits(rt: HostRuntime) -> Result<(), Fail> {
-    for (list, states) in [
-        ("[]", 1),
-        ("", 2),
-        ("show .*", 7),
-        ("ping;show .*", 11),
-        (".*a..........", 2048),
-        (".*a..........;.*b", 3072),
-        (".*a...........", 4096),
-    ] {
-        makes(&rt, list, states, Some(states))?;
-        makes(&rt, list, states - 1, None)?;
-    }
-    makes(&rt, ".*a............", 4096, None)?;
-    makes(&rt, ".*a...........;.*b", 4096, None)
+    let mut cases = LimitCases {
+        meter: Meter::new(),
+    };
+    judges(
+        &rt,
+        &mut cases,
+        "
+        1: []
+        2: 
+        7: show .*
+        11: ping;show .*
+        2048: .*a..........
+        3072: .*a..........;.*b
+        4096: .*a...........
+        none: .*a............
+        none: .*a...........;.*b
+        ",
+    )
 }
 
-fn joins_within<R: Abort + AllocGlobal>(
-    rt: &R,
+fn joins_within(
+    alloc: Global,
     first: &Decider,
     rest: &Decider,
     limit: u16,
+    meter: &mut Meter,
     expected: Option<u16>,
-) -> Result<(), Fail> {
-    let mut meter = Meter::new();
-    let found = states(Decider::join(rt.alloc(), first, rest, limit, &mut meter))?;
-    assert_eq!(rt; found, expected, "joined within {limit}");
-    assert_eq!(rt;
-        meter.total(),
-        u128::from(expected.unwrap_or(0)),
-        "joined within {limit}"
-    );
-    Ok(())
+) -> Result<bool, Fail> {
+    let before = meter.total();
+    let found = states(Decider::join(alloc, first, rest, limit, meter))?;
+    Ok(is_counted(before, meter, found, expected))
 }
 
-// The automata have so many states when they are joined.
-fn are_joined<R: Abort + AllocGlobal>(
-    rt: &R,
-    first: &Decider,
-    rest: &Decider,
-    states: u16,
-) -> Result<(), Fail> {
-    joins_within(rt, first, rest, states, Some(states))?;
-    joins_within(rt, first, rest, states.saturating_sub(1), None)
+// Whether the automata have so many states when they are joined.
+fn are_joined(alloc: Global, first: &Decider, rest: &Decider, states: u16) -> Result<bool, Fail> {
+    let mut meter = Meter::new();
+    let less = states.saturating_sub(1);
+    if !joins_within(alloc, first, rest, less, &mut meter, None)? {
+        return Ok(false);
+    }
+    joins_within(alloc, first, rest, states, &mut meter, Some(states))
 }
 
-fn joins_to<R: Abort + AllocGlobal>(
-    rt: &R,
-    first: &Decider,
-    rest: &str,
-    states: u16,
-) -> Result<(), Fail> {
+fn joins_to(alloc: Global, first: &Decider, rest: &str, states: u16) -> Result<bool, Fail> {
     let mut meter = Meter::new();
-    let rest = Decider::of(entries(rt.alloc(), rest)?, 4096, &mut meter)?;
-    are_joined(rt, first, &rest, states)
+    let rest = Decider::of(entries(alloc, rest)?, 4096, &mut meter)?;
+    are_joined(alloc, first, &rest, states)
 }
 
-fn lists_join_to<R: Abort + AllocGlobal>(
-    rt: &R,
-    first: &str,
-    rest: &str,
-    states: u16,
-) -> Result<(), Fail> {
+fn lists_join_to(alloc: Global, first: &str, rest: &str, states: u16) -> Result<bool, Fail> {
     let mut meter = Meter::new();
-    let first = Decider::of(entries(rt.alloc(), first)?, 4096, &mut meter)?;
-    joins_to(rt, &first, rest, states)
+    let first = Decider::of(entries(alloc, first)?, 4096, &mut meter)?;
+    joins_to(alloc, &first, rest, states)
+}
+
+/// `STATES: LIST and LIST`: as a limit so many are enough to join them, and one less is not.
+#[derive(Drop)]
+struct JoinCases;
+
+impl Judge for JoinCases {
+    fn is_so(&mut self, alloc: Global, line: &str) -> Result<bool, Fail> {
+        let (states, lists) = line.split_once(": ").ok_or("no lists")?;
+        let (first, rest) = lists.split_once(" and ").ok_or("one list")?;
+        lists_join_to(alloc, first, rest, states.parse::<u16>()?)
+    }
 }
 
 #[test]
 fn limits_of_joined_automata(rt: HostRuntime) -> Result<(), Fail> {
-    for (first, rest, states) in [
-        ("[]", "[]", 1),
-        ("ping", "show .*", 11),
-        ("[]", ".*a...........", 4096),
-        (".*a..........", ".*b", 3072),
-        (".*a...........", ".*b", 6144),
-    ] {
-        lists_join_to(&rt, first, rest, states)?;
-    }
-    Ok(())
-}
-
-// One meter goes on counting, and a refusal leaves it.
-#[test]
-fn meters(rt: HostRuntime) -> Result<(), Fail> {
-    let mut meter = Meter::new();
-    for (list, limit, total) in [
-        ("show .*", 7, 7),
-        ("ping;show .*", 10, 7),
-        ("ping;show .*", 11, 18),
-        ("[]", 0, 18),
-        ("[]", 4096, 19),
-    ] {
-        made(rt.alloc(), list, limit, &mut meter)?;
-        assert_eq!(rt; meter.total(), total, "{list} within {limit}");
-    }
-    Ok(())
+    judges(
+        &rt,
+        &mut JoinCases,
+        "
+        1: [] and []
+        11: ping and show .*
+        4096: [] and .*a...........
+        3072: .*a.......... and .*b
+        6144: .*a........... and .*b
+        ",
+    )
 }

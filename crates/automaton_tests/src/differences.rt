@@ -4,10 +4,10 @@
 //! is denied.
 
 use crate::lists::{NONE, add};
+use crate::support::{Judge, judges};
 use pol_automaton::{Decider, Entries, Meter, Way};
 use pol_names::Verdict;
 use std::alloc::Global;
-use std::process::Abort;
 use std::test::Fail;
 
 // Adds a rule's pattern and its verdict.
@@ -89,57 +89,76 @@ fn least(alloc: Global, change: Change) -> Result<Option<Vec<u8>>, Fail> {
     with_verdicts(alloc, change, &mut old_verdicts, &mut new_verdicts)
 }
 
-// The least text that changes this way is this one.
-fn is_least<R: Abort + AllocGlobal>(
-    rt: &R,
-    change: Change,
-    expected: Option<&str>,
-) -> Result<(), Fail> {
-    let Change { before, after, .. } = change;
-    match (least(rt.alloc(), change)?, expected) {
-        (None, None) => {}
-        (Some(text), Some(expected)) => {
-            let text = str::from_utf8(text.as_slice())?;
-            assert_eq!(rt; text, expected, "{before} to {after}");
-        }
-        (_, _) => assert!(rt; false, "{before} to {after}"),
+// Whether the least text that changes this way is this one; `!` stands for none.
+fn is_least(alloc: Global, change: Change, expected: &[u8]) -> Result<bool, Fail> {
+    match least(alloc, change)? {
+        Some(text) => Ok(text.as_slice() == expected),
+        None => Ok(expected == b"!".as_slice()),
     }
-    Ok(())
+}
+
+/// `+TEXT: RULES => RULES`: the least text that is permitted by the second and denied by the first,
+/// or behind a `-` the other way; `!` where there is none.
+#[derive(Drop)]
+struct ChangeCases;
+
+impl Judge for ChangeCases {
+    fn is_so(&mut self, alloc: Global, line: &str) -> Result<bool, Fail> {
+        let (said, rules) = line.split_once(": ").ok_or("no rules")?;
+        let (before, after) = rules.split_once(" => ").ok_or("no change")?;
+        match said.as_bytes() {
+            [b'+', text @ ..] => {
+                let way = Way::NowPermitted;
+                is_least(alloc, Change { before, after, way }, text)
+            }
+            [b'-', text @ ..] => {
+                let way = Way::NowDenied;
+                is_least(alloc, Change { before, after, way }, text)
+            }
+            _ => Ok(false),
+        }
+    }
 }
 
 #[test]
 fn least_changes(rt: HostRuntime) -> Result<(), Fail> {
-    for (before, after, gained, lost) in [
-        ("+show .*", "+show .*", None, None),
-        ("[]", "+show .*", Some("show "), None),
-        ("+show .*", "-show .*;+show .*", None, Some("show ")),
-        ("+a.*", "+b.*", Some("b"), Some("a")),
-        // The shorter text comes first, then the lower symbol.
-        ("+.*", "-aaa;-~|}};+.*", None, Some("~")),
-        ("+.*", "-[a-m].*;-[A-Z].*;+.*", None, Some("A")),
-        // The first rule that matches decides.
-        ("+a;-a", "-a;+a", None, Some("a")),
-        ("-a;+a", "+a;-a", Some("a"), None),
-        ("+a|b", "+a;-.*;+b", None, Some("b")),
-        // What no rule decides is denied, as by a rule.
-        ("-.*", "[]", None, None),
-        ("+.*c", "+.*c;-.*", None, None),
-        // The empty text, too.
-        ("[]", "+()", Some(""), None),
-        ("+a*", "-(aa)*;+a*", None, Some("")),
-        ("+a*", "-a(aa)*;+a*", None, Some("a")),
-        // Many pairs of states.
-        (
-            "+.*a........",
-            "+.*b........",
-            Some("b        "),
-            Some("a        "),
-        ),
-    ] {
-        let way = Way::NowPermitted;
-        is_least(&rt, Change { before, after, way }, gained)?;
-        let way = Way::NowDenied;
-        is_least(&rt, Change { before, after, way }, lost)?;
-    }
-    Ok(())
+    judges(
+        &rt,
+        &mut ChangeCases,
+        "
+        +!: +show .* => +show .*
+        -!: +show .* => +show .*
+        +show : [] => +show .*
+        -!: [] => +show .*
+        +!: +show .* => -show .*;+show .*
+        -show : +show .* => -show .*;+show .*
+        +b: +a.* => +b.*
+        -a: +a.* => +b.*
+
+        # The shorter text comes first, then the lower symbol.
+        -~: +.* => -aaa;-~|}};+.*
+        -A: +.* => -[a-m].*;-[A-Z].*;+.*
+        -  : +.* => -[ -m][^!].*;-[!-Z].;+.*
+
+        # The first rule that matches decides.
+        -a: +a;-a => -a;+a
+        +a: -a;+a => +a;-a
+        -b: +a|b => +a;-.*;+b
+
+        # What no rule decides is denied, as by a rule.
+        +!: -.* => []
+        -!: -.* => []
+        +!: +.*c => +.*c;-.*
+        -!: +.*c => +.*c;-.*
+
+        # The empty text, too.
+        +: [] => +()
+        -: +a* => -(aa)*;+a*
+        -a: +a* => -a(aa)*;+a*
+
+        # Many pairs of states.
+        +b        : +.*a........ => +.*b........
+        -a        : +.*a........ => +.*b........
+        ",
+    )
 }

@@ -1,6 +1,6 @@
 //! Policies that decide by automata: what they decide, edits of them, and sizes.
 
-use crate::support::{build, converses, name, prepare, push_decision};
+use crate::support::{Judge, build, converses, judges, name, prepare, push_decision, subject};
 use pol_automaton::Meter;
 use pol_edit::EditFault;
 use pol_live::{Live, Prepared};
@@ -8,7 +8,6 @@ use pol_names::{Name, SubjectId};
 use pol_text::Policy;
 use std::alloc::Global;
 use std::fmt::Write;
-use std::process::Abort;
 use std::test::Fail;
 
 /// Rules along a chain of three.
@@ -140,33 +139,24 @@ fn refusals(rt: HostRuntime) -> Result<(), Fail> {
     )
 }
 
-// Why no automata are made of the policy of this text.
-fn refusal(alloc: Global, text: &str) -> Result<Option<EditFault>, Fail> {
+// Whether no automata are made of the policy of this text, since this subject is too large.
+fn is_too_large(alloc: Global, text: &str, expected: &str) -> Result<bool, Fail> {
     let policy = Policy::read(alloc, text.as_bytes())?;
     let mut meter = Meter::new();
-    Ok(Live::build(alloc, policy, &mut meter).err())
-}
-
-fn is_refused<R: Abort + AllocGlobal>(rt: &R, text: &str, subject: &str) -> Result<(), Fail> {
-    match refusal(rt.alloc(), text)? {
-        Some(EditFault::TooManyStates(id)) => {
-            let named = format!(in rt.alloc(); "{id}")?;
-            assert_eq!(rt; named.as_str(), subject);
-        }
-        _ => assert!(rt; false, "{text} is built"),
+    match Live::build(alloc, policy, &mut meter).err() {
+        Some(EditFault::TooManyStates(id)) => Ok(id == subject(expected)?),
+        _ => Ok(false),
     }
-    Ok(())
 }
 
 // The first subject is named that is too large with what it inherits.
 #[test]
 fn policies_that_are_too_large(rt: HostRuntime) -> Result<(), Fail> {
-    is_refused(&rt, "group g\ndeny .*a............\n", "group g")?;
-    is_refused(
-        &rt,
-        "group all\npermit .*b\nuser u in big\ngroup big in all\ndeny .*a...........\n",
-        "user u",
-    )
+    let alloc = rt.alloc();
+    assert!(rt; is_too_large(alloc, "group g\ndeny .*a............\n", "group g")?);
+    let text = "group all\npermit .*b\nuser u in big\ngroup big in all\ndeny .*a...........\n";
+    assert!(rt; is_too_large(alloc, text, "user u")?);
+    Ok(())
 }
 
 // ---- edits that are ready to be made
@@ -183,70 +173,55 @@ fn push_foretold(
         return Err(Fail::from("it doesn't fit"));
     }
     if let Some(decider) = prepared.decider(live, &SubjectId::user(*user)) {
-        write!(out, "of {} states ", decider.states())?;
+        write!(out, "{} states ", decider.states())?;
     }
     push_decision(out, prepared.decide(live, user, line.as_bytes()))
 }
 
-fn is_foretold<R: Abort + AllocGlobal>(
-    rt: &R,
+fn is_foretold(
+    alloc: Global,
     live: &Live,
     prepared: &Prepared,
     words: &str,
     expected: &str,
-) -> Result<(), Fail> {
+) -> Result<bool, Fail> {
     let (user, line) = words.split_once(' ').ok_or("no line")?;
-    let mut out = String::new(rt.alloc());
+    let mut out = String::new(alloc);
     push_foretold(live, prepared, &name(user)?, line, &mut out)?;
-    assert_eq!(rt; out.as_str(), expected, "{words}");
-    Ok(())
+    Ok(out.as_str().trim_end() == expected)
 }
 
-fn foretells<R: Abort + AllocGlobal>(
-    rt: &R,
-    live: &Live,
-    edit: &str,
-    words: &str,
-    expected: &str,
-) -> Result<(), Fail> {
-    let prepared = prepare(rt.alloc(), live, edit)?;
-    is_foretold(rt, live, &prepared, words, expected)
+/// `EDIT => NAME LINE => WORDS`: with the edit so many states would decide so of the user's line.
+/// Nothing is made of the edit.
+#[derive(Drop)]
+struct Foretelling {
+    live: Live,
 }
 
-fn foretells_each<R: Abort + AllocGlobal>(rt: &R, live: &Live) -> Result<(), Fail> {
-    for (edit, words, expected) in [
-        (
-            "insert user bob 1 permit reload",
-            "bob reload",
-            "of 23 states permit by user bob rule 1\n",
-        ),
-        (
-            "move user eve in ops",
-            "eve show x",
-            "of 17 states permit by group ops rule 2\n",
-        ),
-        (
-            "add user zed in all",
-            "zed ping",
-            "of 6 states permit by group all rule 1\n",
-        ),
-        ("remove user bob", "bob ping", "unknown user\n"),
-        // Nothing was made of those.
-        (
-            "login bob x",
-            "bob reload",
-            "of 23 states deny by user bob rule 1\n",
-        ),
-    ] {
-        foretells(rt, live, edit, words, expected)?;
+impl Judge for Foretelling {
+    fn is_so(&mut self, alloc: Global, line: &str) -> Result<bool, Fail> {
+        let (edit, rest) = line.split_once(" => ").ok_or("no line")?;
+        let (words, expected) = rest.split_once(" => ").ok_or("no words")?;
+        let prepared = prepare(alloc, &self.live, edit)?;
+        is_foretold(alloc, &self.live, &prepared, words, expected)
     }
-    Ok(())
 }
 
 #[test]
 fn edits_that_are_ready(rt: HostRuntime) -> Result<(), Fail> {
     let live = build(rt.alloc(), CHAIN)?;
-    foretells_each(&rt, &live)
+    let mut foretelling = Foretelling { live };
+    judges(
+        &rt,
+        &mut foretelling,
+        "
+        insert user bob 1 permit reload => bob reload => 23 states permit by user bob rule 1
+        move user eve in ops => eve show x => 17 states permit by group ops rule 2
+        add user zed in all => zed ping => 6 states permit by group all rule 1
+        remove user bob => bob ping => unknown user
+        login bob x => bob reload => 23 states deny by user bob rule 1
+        ",
+    )
 }
 
 // Whether both fit, and the second no longer does once the first is made.
@@ -273,18 +248,33 @@ fn becomes_stale(alloc: Global, live: &mut Live, first: &str, second: &str) -> R
     is_stale_behind(alloc, live, first, &second)
 }
 
-fn fit_while_the_policy_stays<R: Abort + AllocGlobal>(rt: &R, live: &mut Live) -> Result<(), Fail> {
-    let alloc = rt.alloc();
-    assert!(rt; becomes_stale(alloc, live, "login bob x", "drop user bob 1")?);
-    assert!(rt; becomes_stale(alloc, live, "shift group ops 1 2", "login bob x")?);
-    // What leaves the policy as it is leaves the other edit ready.
-    assert!(rt; !becomes_stale(alloc, live, "clear enable bob", "drop user bob 1")?);
-    assert!(rt; !becomes_stale(alloc, live, "login bob x", "remove user eve")?);
-    Ok(())
+/// `stale: EDIT => EDIT` where making the first leaves the second behind, else `fits: ..`.
+#[derive(Drop)]
+struct Fitting {
+    live: Live,
+}
+
+impl Judge for Fitting {
+    fn is_so(&mut self, alloc: Global, line: &str) -> Result<bool, Fail> {
+        let (said, edits) = line.split_once(": ").ok_or("no edits")?;
+        let (first, second) = edits.split_once(" => ").ok_or("one edit")?;
+        Ok(becomes_stale(alloc, &mut self.live, first, second)? == (said == "stale"))
+    }
 }
 
 #[test]
 fn edits_that_no_longer_fit(rt: HostRuntime) -> Result<(), Fail> {
-    let mut live = build(rt.alloc(), CHAIN)?;
-    fit_while_the_policy_stays(&rt, &mut live)
+    let live = build(rt.alloc(), CHAIN)?;
+    let mut fitting = Fitting { live };
+    judges(
+        &rt,
+        &mut fitting,
+        "
+        stale: login bob x => drop user bob 1
+        stale: shift group ops 1 2 => login bob x
+        # What leaves the policy as it is leaves the other edit ready.
+        fits: clear enable bob => drop user bob 1
+        fits: login bob x => remove user eve
+        ",
+    )
 }

@@ -1,4 +1,4 @@
-//! What the tests share: conversations with a policy that decides by automata.
+//! What the tests share: cases a line, and conversations with a policy that decides by automata.
 
 use basics::{Bytes, Sequence};
 use pol_automaton::Meter;
@@ -12,6 +12,27 @@ use std::fmt::Write;
 use std::process::Abort;
 use std::test::Fail;
 
+/// What tells of a line whether it is so.
+pub(crate) trait Judge {
+    fn is_so(&mut self, alloc: Global, line: &str) -> Result<bool, Fail>;
+}
+
+/// Each line is so. A line that begins with `#` is a comment.
+pub(crate) fn judges<R: Abort + AllocGlobal, J: Judge>(
+    rt: &R,
+    judge: &mut J,
+    lines: &str,
+) -> Result<(), Fail> {
+    for line in lines.lines() {
+        let line = line.trim_start();
+        if !line.is_empty() && !line.starts_with('#') {
+            let is_so = judge.is_so(rt.alloc(), line)?;
+            assert!(rt; is_so, "{line}");
+        }
+    }
+    Ok(())
+}
+
 /// The name that the text is.
 pub(crate) fn name(text: &str) -> Result<Name, Fail> {
     match Name::read(text.as_bytes()) {
@@ -20,8 +41,8 @@ pub(crate) fn name(text: &str) -> Result<Name, Fail> {
     }
 }
 
-// `group NAME` or `user NAME`.
-fn subject(words: &str) -> Result<SubjectId, Fail> {
+/// `group NAME` or `user NAME`.
+pub(crate) fn subject(words: &str) -> Result<SubjectId, Fail> {
     match words.split_once(' ') {
         Some(("group", group)) => Ok(SubjectId::group(name(group)?)),
         Some((_, user)) => Ok(SubjectId::user(name(user)?)),

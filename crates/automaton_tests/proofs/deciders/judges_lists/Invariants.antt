@@ -1,6 +1,6 @@
 use denote.Text.{Utf8}
 use denote.Shadow.{shadow}
-use Rattle.automaton_tests.proofs.deciders.judges.Given as goal
+use Rattle.automaton_tests.proofs.deciders.judges_lists.Given as goal
 
 -- the list is text
 abbrev pub invariant-loop-line : goal.invariant-loop-line
