@@ -149,7 +149,18 @@ fn is_answered<R: Abort>(rt: &R, bench: &mut Bench, line: &str) -> Result<(), Fa
 }
 
 // Works with a book line by line. `store` puts in a record, and `mark` one whose line is denied. A
-// tally is starts, stops, watchdogs, updates, open tasks, seconds and drift. Comments begin with `#`.
+// tally is starts, stops, watchdogs, updates, open tasks, seconds and drift; `#` begins a comment.
+fn answers<R: Abort>(rt: &R, bench: &mut Bench, text: &str) -> Result<(), Fail> {
+    for line in text.lines() {
+        let line = line.trim_start();
+        if !line.is_empty() && !line.starts_with('#') {
+            is_answered(rt, bench, line)?;
+        }
+    }
+    Ok(())
+}
+
+// The same, of a new book.
 fn works<R: Abort + AllocGlobal>(
     rt: &R,
     policy: &str,
@@ -157,13 +168,7 @@ fn works<R: Abort + AllocGlobal>(
     text: &str,
 ) -> Result<(), Fail> {
     let mut bench = Bench::new(rt.alloc(), policy, limit)?;
-    for line in text.lines() {
-        let line = line.trim_start();
-        if !line.is_empty() && !line.starts_with('#') {
-            is_answered(rt, &mut bench, line)?;
-        }
-    }
-    Ok(())
+    answers(rt, &mut bench, text)
 }
 
 #[test]
@@ -287,4 +292,83 @@ fn books_of_many_sizes(rt: HostRuntime) -> Result<(), Fail> {
     }
     assert_eq!(rt; bench.book.limit(), 300);
     is_answered(&rt, &mut bench, "store bob start 1 0 = full")
+}
+
+// Stores a record of each of so many users, and asks for each tally at once.
+fn stores_of_each<R: Abort + AllocGlobal>(
+    rt: &R,
+    bench: &mut Bench,
+    users: usize,
+) -> Result<(), Fail> {
+    for number in 0..users {
+        let lines = format!(in rt.alloc();
+            "mark u{number} stop 1 2 reload = stored
+            tally u{number} = 0 1 0 0 0 2 1"
+        )?;
+        answers(rt, bench, lines.as_str())?;
+    }
+    Ok(())
+}
+
+// Stores so many records of one user, each of a task of its own, and asks for the tally each time.
+fn stores_of_one<R: Abort + AllocGlobal>(
+    rt: &R,
+    bench: &mut Bench,
+    tasks: usize,
+) -> Result<(), Fail> {
+    for number in 1..=tasks {
+        let lines = format!(in rt.alloc();
+            "store bob start {number} 0 = stored
+            tally bob = {number} 0 0 0 {number} 0 0"
+        )?;
+        answers(rt, bench, lines.as_str())?;
+    }
+    Ok(())
+}
+
+// Each record is counted as it comes, so asking each time costs no pass over the others.
+#[test]
+fn many_users(rt: HostRuntime) -> Result<(), Fail> {
+    let mut bench = Bench::new(
+        rt.alloc(),
+        "user u7\npermit .*\nuser u9\npermit show\n",
+        20_001,
+    )?;
+    stores_of_each(&rt, &mut bench, 20_000)?;
+    answers(
+        &rt,
+        &mut bench,
+        "
+        store u7 stop 1 3 show = stored
+        recount u7 u9 = settled
+        tally u7 = 0 2 0 0 0 5 0
+        tally u8 = 0 1 0 0 0 2 1
+        tally u9 = 0 1 0 0 0 2 1
+        recount u7 = settled
+        tally u19999 = 0 1 0 0 0 2 1
+        store u7 stop 1 3 show = full
+        ",
+    )
+}
+
+#[test]
+fn many_records_of_a_user(rt: HostRuntime) -> Result<(), Fail> {
+    let mut bench = Bench::new(rt.alloc(), "group all\nuser bob in all\n", 20_005)?;
+    stores_of_one(&rt, &mut bench, 20_000)?;
+    answers(
+        &rt,
+        &mut bench,
+        "
+        store bob stop 17 5 show = stored
+        store bob stop 17 5 show = stored
+        store bob stop none 1 = stored
+        store eve start 18 0 = stored
+        store bob watchdog 19 0 = stored
+        tally bob = 20000 3 1 0 19999 11 0
+        recount bob = settled
+        tally bob = 20000 3 1 0 19999 11 2
+        group all = 20000 3 1 0 19999 11 2
+        tally eve = 1 0 0 0 1 0 0
+        ",
+    )
 }
