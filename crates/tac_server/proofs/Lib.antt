@@ -6,3 +6,4 @@ pub mod ServerFacts
 pub mod RunFacts
 pub mod EventFacts
 pub mod ShownFacts
+pub mod CourseFacts

@@ -8,3 +8,4 @@ pub mod Command
 pub mod Events
 pub mod FaultText
 pub mod Script
+pub mod Course

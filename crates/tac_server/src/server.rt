@@ -1,11 +1,13 @@
 //! A server over a desk: its connections, by number.
 
-ghost use Rattle.std.specs.Prelude.{◌≡◌, ◌++◌, List, ℕ, false, IfOk, OnOk};
+ghost use Rattle.std.specs.Prelude.{◌≡◌, ◌++◌, [], ◌∷◌, List, ℕ, false, IfOk, OnOk};
 ghost use Rattle.tac_desk.specs.Meaning.{Meaning as MeaningValue};
 ghost use Rattle.tac_server.specs.Serving.{said_on, unless_closed};
 ghost use Rattle.tac_server.specs.Server as servers;
 ghost use Rattle.tac_server.specs.Console as consoles;
 ghost use Rattle.tac_server.specs.Kept as kept;
+ghost use Rattle.tac_server.specs.Course as course;
+ghost use Rattle.tac_server.specs.Course.{Happening};
 ghost use Rattle.tac_server.specs.declared.server.ServerFault.TheVariants.{Memory};
 
 use crate::turning::serve_piece;
@@ -58,8 +60,13 @@ pub struct Server<D> {
 
 impl<D: Desk> Server<D> {
     /// A server over this desk, before anyone has connected. Takes no memory.
+    #[tactic(auto, using(crate::proofs::CourseFacts::run_none))]
     pub fn new(alloc: Global, desk: D, key: Key) -> Server<D>
-        ensures { kept.HasState D.meaning result (servers.opening key (D.meaning desk)) }
+        ensures state { kept.HasState D.meaning result (servers.opening key (D.meaning desk)) }
+
+        // Nothing has happened yet.
+        ensures course { course.HasRun D.meaning result
+            (servers.opening key (D.meaning desk)) [] [] }
     {
         Server {
             alloc,
@@ -77,8 +84,13 @@ impl<D: Desk> Server<D> {
 
     /// Opens a connection of this number. After want of memory nothing has changed.
     pub fn open(&mut self, conn: u32) -> Result<(), ServerFault>
-        ensures { (state : servers.State) → kept.HasState D.meaning self.old state →
+        ensures step { (state : servers.State) → kept.HasState D.meaning self.old state →
             kept.IsOpened D.meaning self.new conn state result }
+
+        // Behind all that happened before.
+        ensures course { (start : servers.State) (events : List Happening) (outs : List (List ℕ))
+            → course.HasRun D.meaning self.old start events outs → OnOk result (course.HasRun
+            D.meaning self.new start (course.Opens conn ∷ events) ([] ∷ outs)) }
     {
         if self.connections.contains_key(&conn) {
             return Err(ServerFault::AlreadyOpen);
@@ -96,7 +108,14 @@ impl<D: Desk> Server<D> {
     /// are added; the others had no effect, and the connection is lost.
     pub fn feed(&mut self, conn: u32, piece: &[u8], out: &mut Vec<u8>) -> Result<bool, ServerFault>
         ensures heard { (state : servers.State) → kept.HasState D.meaning self.old state →
-            kept.IsHeard D.meaning out.old.items out.new.items self.new conn piece.now state result }
+            kept.IsHeard D.meaning out.old.items out.new.items self.new conn piece.now state
+            result }
+
+        // Behind all that happened before.
+        ensures course { (start : servers.State) (events : List Happening) (outs : List (List ℕ))
+            → course.HasRun D.meaning self.old start events outs → OnOk result (course.RunsOn
+            D.meaning out.old.items out.new.items self.new start
+            (course.Brings conn piece.now) events outs) }
 
         // However bytes are cut into pieces, the same is said.
         ensures pieces { OnOk result ((meaning : MeaningValue) (before first second : List ℕ) →
@@ -122,8 +141,13 @@ impl<D: Desk> Server<D> {
 
     /// The connection of this number is lost, if there is one. Takes no memory.
     pub fn lost(&mut self, conn: u32)
-        ensures { (state : servers.State) → kept.HasState D.meaning self.old state →
+        ensures step { (state : servers.State) → kept.HasState D.meaning self.old state →
             kept.HasState D.meaning self.new (servers.lost conn state) }
+
+        // Behind all that happened before.
+        ensures course { (start : servers.State) (events : List Happening) (outs : List (List ℕ))
+            → course.HasRun D.meaning self.old start events outs
+            → course.HasRun D.meaning self.new start (course.Loses conn ∷ events) ([] ∷ outs) }
     {
         let _ = self.connections.remove(&conn);
     }
@@ -173,6 +197,7 @@ impl<D: Desk> Server<D> {
     ///
     /// After want of memory nothing was added, and the fault says whether the line's edit was
     /// accepted; if it wasn't, nothing has changed.
+    #[tactic(auto, using(crate::proofs::CourseFacts::run_told))]
     pub fn console(&mut self, line: &[u8], out: &mut Vec<u8>) -> Result<(), ServerFault>
         ensures answered { (state : servers.State) → kept.HasState D.meaning self.old state →
             kept.IsAnswered D.meaning out.old.items out.new.items self.new line.now state result }
@@ -181,6 +206,12 @@ impl<D: Desk> Server<D> {
         ensures only { (state : servers.State) → kept.HasState D.meaning self.old state →
             OnOk result (kept.IsOnlyAnswer D.meaning out.old.items out.new.items self.new
             line.now state) }
+
+        // Behind all that happened before.
+        ensures course { (start : servers.State) (events : List Happening) (outs : List (List ℕ))
+            → course.HasRun D.meaning self.old start events outs → OnOk result (course.RunsOn
+            D.meaning out.old.items out.new.items self.new start (course.Types line.now)
+            events outs) }
     {
         match read_console(self.alloc, line)? {
             Asked::Edit(edit) => self.answer_edit(&edit, out),

@@ -17,7 +17,7 @@ returns-in-Pieces g c = λ state has. rw c.in-Pieces.is (keeps_line g.D.Desk.mea
 
 pub returns-in-Lost : goal.returns-in-Lost
 returns-in-Lost g c = λ state has. rw c.in-Lost.is
-    (loses_line g.D.Desk.meaning c.args.line c.in-Lost.number c.lost.new.self state c.args.out.now.items (rw c.from.ensures at (c.lost.ensures state has)))
+    (loses_line g.D.Desk.meaning c.args.line c.in-Lost.number c.lost.new.self state c.args.out.now.items (rw c.from.ensures at (c.lost.ensures.step state has)))
 
 pub returns-in-Console : goal.returns-in-Console
 returns-in-Console g c = λ state has. rw c.in-Console.is

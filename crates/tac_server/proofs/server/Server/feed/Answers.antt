@@ -1,5 +1,6 @@
-use Rattle.std.proofs.Common.{Some, refl, sym}
+use Rattle.std.proofs.Common.{Some, Ok, true, false, refl, sym}
 use Rattle.tac_server.proofs.ServerFacts.{heard_open, heard_closing, removed, some_found}
+use Rattle.tac_server.proofs.CourseFacts.{run_heard}
 use Rattle.tac_server.proofs.server.Server.feed.Goals as goal
 
 pub returns-in-Ok-false-clause-heard : goal.returns-in-Ok-false-clause-heard
@@ -16,3 +17,11 @@ returns-in-Ok-true-clause-heard g c = λ state has.
     (λ before serves. rw c.in-Ok-true.field-0-test at (c.in-Ok-true.ensures.said before serves))
     (removed c.args.self.now.connections (c.get_mut.follows.lender c.serve_piece.new.stream) c.remove.new.self c.args.conn (Some c.serve_piece.new.stream)
     ((c.get_mut.follows.holds c.serve_piece.new.stream).3 (some_found _ c.in-Some.stream.now c.in-Some.ensures.value)).0 c.remove.ensures.updates.0)
+
+pub returns-in-Ok-false-clause-course : goal.returns-in-Ok-false-clause-course
+returns-in-Ok-false-clause-course g c =
+    run_heard g.D.Desk.meaning c.args.self.now _ c.args.out.now.items c.serve_piece.new.out.items c.args.conn c.args.piece.now (Ok false) (returns-in-Ok-false-clause-heard g c)
+
+pub returns-in-Ok-true-clause-course : goal.returns-in-Ok-true-clause-course
+returns-in-Ok-true-clause-course g c =
+    run_heard g.D.Desk.meaning c.args.self.now _ c.args.out.now.items c.serve_piece.new.out.items c.args.conn c.args.piece.now (Ok true) (returns-in-Ok-true-clause-heard g c)
