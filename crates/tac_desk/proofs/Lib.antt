@@ -4,3 +4,5 @@ pub mod Opened
 pub mod Reports
 pub mod MarkFacts
 pub mod TallyFacts
+pub mod Unchanged
+pub mod Settling

@@ -6,3 +6,4 @@ pub mod Editing
 pub mod Reporting
 pub mod FaultText
 pub mod Kept
+pub mod Metered

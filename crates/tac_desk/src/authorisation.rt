@@ -19,7 +19,8 @@ fn level_for(policy: &Policy, user: &Name, line: &[u8]) -> Option<u8>
     }
 }
 
-fn decided(policy: &Policy, user: &Name, line: &[u8], decision: Decision) -> Answer
+/// What is answered where the policy decides so of the user's line.
+pub(crate) fn decided(policy: &Policy, user: &Name, line: &[u8], decision: Decision) -> Answer
     ensures { result ≡ asking.decided policy.now user.now line.now decision }
 {
     match decision.verdict {

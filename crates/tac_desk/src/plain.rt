@@ -52,7 +52,11 @@ impl Model for PlainDesk {
     ghost invariant = { λ desk. IsSmall desk.policy };
 }
 
-fn copy_records(alloc: Global, records: &[Record]) -> Result<Sequence<Record>, AllocError>
+/// Copies of the records, in order.
+pub(crate) fn copy_records(
+    alloc: Global,
+    records: &[Record],
+) -> Result<Sequence<Record>, AllocError>
     ensures { IfOk result (λ copy. copy ≡ records.now) }
 {
     let mut copies = Sequence::new(alloc);
