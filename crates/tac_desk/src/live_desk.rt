@@ -19,6 +19,7 @@ use crate::live_editing::change_kept;
 use crate::live_reports::{reach_report_of, shadow_report_of, tally_by_marks};
 use crate::plain::copy_records;
 use crate::query::{Query, QueryFault, Report};
+use crate::state::State;
 use crate::thrice::Thrice;
 use pol_automaton::Meter;
 use pol_edit::{Edit, EditFault};
@@ -189,5 +190,15 @@ impl Desk for LiveDesk {
         let report = self.report(query)?;
         let thrice = Thrice::new(self.alloc, report)?;
         Ok(thrice)
+    }
+
+    fn state(&self) -> Result<State, AllocError> {
+        let policy = self.live.policy().copy(self.alloc)?;
+        let records = copy_records(self.alloc, self.book.records())?;
+        Ok(State {
+            policy,
+            records,
+            record_limit: self.book.limit(),
+        })
     }
 }
