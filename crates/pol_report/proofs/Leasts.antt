@@ -2,21 +2,41 @@
 use Rattle.std.proofs.Common.{◌≡◌, ◌⊎◌, ◌<◌, ◌≤◌, ℕ, zero, suc, Bool, true, false, cond, map, filter, take, get_or, List, [], ◌∷◌, ◌++◌, length, Option, Some, None, refl, sym, ap, subst, inl, inr, arith, slice_get}
 use Rattle.std.specs.Prelude.{IfSome, IfNone}
 use Rattle.std.specs.Option.{option_map}
-use Rattle.basics.specs.TextOrder.{IsBefore, IsLeast}
-use Rattle.basics.proofs.OrderFacts.{before_total}
+use Rattle.std.proofs.lemmas.Bool.{cases_lt}
+use Rattle.basics.specs.TextOrder.{IsLower, IsBefore, IsLeast}
 use Rattle.pol_report.specs.Reach.{IsLeastIfAny}
 
 -- what holds of the same lines has the same least line
 pub least_same : (P Q : List ℕ → Type 0) → ((line : List ℕ) → P line → Q line) → ((line : List ℕ) → Q line → P line) → (line : List ℕ) → IsLeast P line → IsLeast Q line
 least_same P Q there back line h = (there line h.0, λ other q. h.1 other (back other q))
 
-least_unique : (P : List ℕ → Type 0) (a b : List ℕ) → IsLeast P a → IsLeast P b → a ≡ b
-least_unique P a b h k = by (before_total a b)
+-- texts of which neither comes before the other are the same
+lower_neither : (t u : List ℕ) → length t ≡ length u → ¬ (IsLower t u) → ¬ (IsLower u t) → t ≡ u
+lower_neither [] [] e p q = refl
+lower_neither [] (y ∷ u) e p q = absurd (omega arith)
+lower_neither (x ∷ t) [] e p q = absurd (omega arith)
+lower_neither (x ∷ t) (y ∷ u) e p q = by (lower_neither t u (omega arith)) (cases_lt x y) (cases_lt y x)
   where
-    by : IsBefore a b ⊎ (a ≡ b) ⊎ IsBefore b a → a ≡ b
-    by (inl first) = absurd (k.1 a h.0 first)
-    by (inr (inl same)) = same
-    by (inr (inr first)) = absurd (h.1 b k.0 first)
+    by : (¬ (IsLower t u) → ¬ (IsLower u t) → t ≡ u) → (x < y) ⊎ (y ≤ x) → (y < x) ⊎ (x ≤ y) → x ∷ t ≡ y ∷ u
+    by later (inl h) r = absurd (p (inl h))
+    by later (inr h) (inl k) = absurd (q (inl k))
+    by later (inr h) (inr k) =
+        let same : x ≡ y = omega arith in
+        let rest : t ≡ u = later (λ l. p (inr (same, l))) (λ l. q (inr (sym same, l))) in
+        cc
+
+before_neither : (t u : List ℕ) → ¬ (IsBefore t u) → ¬ (IsBefore u t) → t ≡ u
+before_neither t u p q = by (cases_lt (length t) (length u)) (cases_lt (length u) (length t))
+  where
+    by : (length t < length u) ⊎ (length u ≤ length t) → (length u < length t) ⊎ (length t ≤ length u) → t ≡ u
+    by (inl h) r = absurd (p (inl h))
+    by (inr h) (inl k) = absurd (q (inl k))
+    by (inr h) (inr k) =
+        let same : length t ≡ length u = omega arith in
+        lower_neither t u same (λ l. p (inr (same, l))) (λ l. q (inr (sym same, l)))
+
+least_unique : (P : List ℕ → Type 0) (a b : List ℕ) → IsLeast P a → IsLeast P b → a ≡ b
+least_unique P a b h k = before_neither a b (k.1 a h.0) (h.1 b k.0)
 
 pub if_any_unique : (P : List ℕ → Type 0) (a b : Option (List ℕ)) → IsLeastIfAny P a → IsLeastIfAny P b → a ≡ b
 if_any_unique P None None h k = refl
