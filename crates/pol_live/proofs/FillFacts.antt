@@ -1,21 +1,23 @@
 -- The automaton of a subject's own rules, and that of those it inherits, make that of its chain.
-use Rattle.std.proofs.Common.{◌≡◌, ℕ, zero, suc, ◌-◌, ◌<◌, ◌≤◌, Bool, true, false, true≢false, ◌||◌, not, nat_lt, List, [], ◌∷◌, ◌++◌, length, map, Option, None, Some, Result, Ok, Err, OnOk, refl, sym, ap, subst, ◌∙◌, arith, slice_get, is_some, IsTrue, IfSome, Contains}
+use Rattle.std.proofs.Common.{◌≡◌, ℕ, zero, suc, ◌-◌, ◌<◌, ◌≤◌, Bool, true, false, true≢false, ◌||◌, ◌&&◌, not, nat_lt, List, [], ◌∷◌, ◌++◌, length, map, Option, None, Some, Result, Ok, Err, OnOk, refl, sym, ap, subst, ◌∙◌, arith, slice_get, is_some, IsTrue, IfSome, Contains}
 use Rattle.std.specs.List.{list_all}
 use Rattle.std.specs.Option.{option_map_or, option_and_then, option_copied}
 use Rattle.std.specs.Borrow.{Bor}
 use Rattle.std.proofs.lemmas.Bool.{and_parts}
 use Rattle.std.proofs.lemmas.Bool.Decides.{nat_tests}
 use Rattle.std.proofs.lemmas.List.{length-append, get_or_append_left}
-use Rattle.std.proofs.lemmas.Option.{slice_get-get_or, slice_get_within, get_or_from_slice_get}
+use Rattle.std.proofs.lemmas.Option.{slice_get-get_or, slice_get_within, slice_get_read, get_or_from_slice_get}
 use Rattle.pol_automaton.specs.Automaton.{Automaton}
+use Rattle.pol_names.specs.SubjectId.{group_id}
 use Rattle.pol_automaton.specs.Residuals.{SameResiduals, HasMoreResiduals}
 use Rattle.pol_text.specs.declared.subject.Rule.{Rule}
 use Rattle.pol_text.specs.declared.subject.Subject.{Subject}
-use Rattle.pol_text.specs.Policy.{id_of, parent_of, ends_within, own_entries, entries, InheritsEntries}
+use Rattle.pol_text.specs.Policy.{id_of, find_subject, has_parent, all_of, parent_of, ends_within, own_entries, entries, InheritsEntries}
 use Rattle.pol_live.specs.declared.parts.Parts.{Parts}
 use Rattle.pol_live.specs.Along.{patterns_of, patterns_along}
 use Rattle.pol_live.specs.Sizes.{IsLarge}
-use Rattle.pol_live.specs.Kept.{IsFit, IsOf, IsPutAt, AreParts, Grows, slot, own_patterns, has_rules}
+use Rattle.pol_live.specs.Kept.{IsFit, IsOf, IsPutAt, AreParts, Grows, slot, own_patterns, has_rules, is_keeper}
+use Rattle.pol_live.specs.Rise.{is_joined}
 use Rattle.pol_live.proofs.AlongFacts.{patterns_append, patterns_own}
 use Rattle.pol_live.proofs.SlotFacts.{whole_put, put_there}
 
@@ -81,7 +83,7 @@ module _ (policy : List Subject) (parts : Parts) (right : AreParts policy parts)
           empty : (b : Bool) → (IsTrue (b || alone) → IsTrue (is_some {T = Automaton} None)) → b ≡ false
           empty false h = refl
           empty true h = absurd (true≢false (sym (h refl)))
-      by (Some d) e h = right.owns k subject d here e
+      by (Some d) e h = (right.owns k subject d here e).0
 
   -- what there is of those that it inherits
   pub above_is : (subject : Subject) (parent : Option ℕ) → parent_of policy subject ≡ option_and_then (slice_get policy) parent → IfSome parent (λ at. at < length policy)
@@ -197,3 +199,37 @@ pub all_at : (test : Subject → Bool) (p : List Subject) (i : ℕ) (s : Subject
 all_at test [] i s all e = cc
 all_at test (x ∷ p) zero s all e = let same : x ≡ s = cc in subst (λ t. test t ≡ true) same ((and_parts (test x) (list_all test p) all).0)
 all_at test (x ∷ p) (suc i) s all e = all_at test p i s ((and_parts (test x) (list_all test p) all).1) e
+
+-- whether two automata are joined for a subject
+pub joined_is : (policy : List Subject) (parts : Parts) (at : ℕ) (subject : Subject) (parent : Option ℕ) → AreParts policy parts → slice_get policy at ≡ Some subject
+    → (is_keeper subject ≡ true → IsTrue (is_some (slot parts.owns at))) → is_some parent ≡ is_some subject.parent
+    → IfSome parent (λ at. IsTrue (is_some (slot parts.wholes at)))
+    → (is_some (slot parts.owns at) && is_some (option_and_then (slot parts.wholes) parent)) ≡ is_joined subject
+joined_is policy parts at subject None right here own grouped above =
+    nothing (is_some (slot parts.owns at)) ∙ sym (nothing (has_rules subject)) ∙ ap (λ (b : Bool). has_rules subject && b) grouped
+  where
+    nothing : (b : Bool) → (b && false) ≡ false
+    nothing true = refl
+    nothing false = refl
+joined_is policy parts at subject (Some group) right here own grouped above =
+    ap (λ (b : Bool). is_some (slot parts.owns at) && b) above ∙ ap (λ (b : Bool). b && true) (by (slot parts.owns at) (has_rules subject) refl refl own)
+    ∙ ap (λ (b : Bool). has_rules subject && b) grouped
+  where
+    by : (o : Option Automaton) (rules : Bool) → slot parts.owns at ≡ o → has_rules subject ≡ rules → (is_keeper subject ≡ true → IsTrue (is_some o)) → is_some o ≡ rules
+    by None true e h there = there (ap (λ (b : Bool). b || not (is_some subject.parent)) h)
+    by None false e h there = refl
+    by (Some d) true e h there = refl
+    by (Some d) false e h there =
+        let keeper = (right.owns at subject d here e).1 in
+        absurd (true≢false (sym keeper ∙ ap (λ (b : Bool). b || not (is_some subject.parent)) h ∙ ap not (sym grouped)))
+
+pub some_index : (policy : List Subject) (r : Option ℕ) (o : Option Subject) → o ≡ option_and_then (slice_get policy) r → is_some o ≡ true → is_some r ≡ true
+some_index policy None o e h = absurd (true≢false (sym h ∙ ap is_some e))
+some_index policy (Some at) o e h = refl
+
+-- a subject of a well-formed policy that names a group has it
+pub group_there : (policy : List Subject) (subject : Subject) (name : List ℕ) → list_all (has_parent policy) policy ≡ true → Contains policy subject → subject.parent ≡ Some name
+    → is_some (find_subject (group_id name) policy) ≡ true
+group_there policy subject name parents (k, lt, at) named =
+    ap (all_of (λ n. is_some (find_subject (group_id n) policy))) (sym named)
+    ∙ all_at (has_parent policy) policy k subject parents (slice_get_read policy (length policy) k subject refl lt (sym at))

@@ -8,3 +8,4 @@ pub mod SlotFacts
 pub mod FillFacts
 pub mod RenewFacts
 pub mod AlikeFacts
+pub mod MeterFacts

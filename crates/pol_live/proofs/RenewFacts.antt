@@ -1,9 +1,9 @@
 -- What an edit leaves as it was: rules and groups of all subjects but one, and so the rules along most chains.
-use Rattle.std.proofs.Common.{◌≡◌, ℕ, zero, suc, ◌+◌, ◌-◌, ◌<◌, ◌≤◌, Bool, true, false, true≢false, cond, not, ◌&&◌, ◌||◌, List, [], ◌∷◌, ◌++◌, map, Option, None, Some, refl, sym, ap, subst, ◌∙◌, is_some, slice_get, if◌then◌else◌}
+use Rattle.std.proofs.Common.{◌≡◌, ℕ, zero, suc, ◌+◌, ◌-◌, ◌<◌, ◌≤◌, Bool, true, false, true≢false, cond, not, ◌&&◌, ◌||◌, List, [], ◌∷◌, ◌++◌, map, Option, None, Some, refl, sym, ap, subst, ◌∙◌, is_some, slice_get, nat_lt, length, IsTrue, if◌then◌else◌}
 use Rattle.std.specs.Option.{option_map_or, option_and_then}
 use Rattle.std.specs.List.{list_any, list_all}
 use Rattle.std.proofs.lemmas.Bool.{and_parts, or_parts, or_right}
-use Rattle.std.proofs.lemmas.Option.{same_Some, none-some}
+use Rattle.std.proofs.lemmas.Option.{same_Some, none-some, slice_get_within}
 use Rattle.pol_names.specs.declared.subject_id.SubjectId.{SubjectId}
 use Rattle.pol_names.specs.SubjectId.{same_id, same_id-Decides, group_id}
 use Rattle.pol_automaton.specs.Automaton.{Automaton}
@@ -13,7 +13,7 @@ use Rattle.pol_text.specs.Policy.{id_of, find_subject, parent_of, has_parent, al
 use Rattle.pol_edit.specs.declared.edit.Edit.{Edit}
 use Rattle.pol_live.specs.Along.{patterns_of, patterns_along}
 use Rattle.pol_live.specs.declared.parts.Parts.{Parts}
-use Rattle.pol_live.specs.Kept.{IsFit, AreParts, slot, own_patterns, has_rules}
+use Rattle.pol_live.specs.Kept.{IsFit, AreParts, AreAll, HaveKeepers, slot, own_patterns, has_rules, is_keeper}
 use Rattle.pol_live.specs.Renewing.{touched, is_touched, is_move, renews_own, renews_chain, IsAlike, IsKept, AreKept}
 use Rattle.pol_live.proofs.AlongFacts.{chain_step, chain_none}
 
@@ -134,23 +134,32 @@ kept_cases true old slots s kept d h e = absurd (none-some d (sym h ∙ e))
 kept_cases false old slots s kept d h e = (refl, h)
 
 module _ (edit : Edit) (old new : List Subject) (alike : IsAlike edit old new) (well : WellFormed new) (parts : Parts) (right : AreParts old parts) where
-  -- whose own automaton isn't made anew had these rules
-  had_rules : (s : Subject) → find_subject (id_of s) new ≡ Some s → renews_own edit s ≡ false → (o : Subject) × (find_subject (id_of s) old ≡ Some o) × (o.rules ≡ s.rules)
-  had_rules s found keeps = by (is_touched (touched edit) s) (is_move edit) refl refl keeps
+  -- whose own automaton isn't made anew had these rules, and is a keeper where it was one
+  had_rules : (s : Subject) → find_subject (id_of s) new ≡ Some s → renews_own edit s ≡ false
+      → (o : Subject) × (find_subject (id_of s) old ≡ Some o) × (o.rules ≡ s.rules) × (is_keeper o ≡ is_keeper s)
+  had_rules s found keeps = by (is_touched (touched edit) s) (is_move edit) (has_rules s) refl refl refl keeps
     where
-      by : (t m : Bool) → is_touched (touched edit) s ≡ t → is_move edit ≡ m → (t && not (m && has_rules s)) ≡ false → (o : Subject) × (find_subject (id_of s) old ≡ Some o) × (o.rules ≡ s.rules)
-      by false m h k e = let was = alike.untouched (id_of s) s found h in (was.0, was.1, was.2)
-      by true true h k e = alike.moved (id_of s) s found k
-      by true false h k e = absurd (true≢false e)
+      by : (t m r : Bool) → is_touched (touched edit) s ≡ t → is_move edit ≡ m → has_rules s ≡ r → (t && not (m && r)) ≡ false
+          → (o : Subject) × (find_subject (id_of s) old ≡ Some o) × (o.rules ≡ s.rules) × (is_keeper o ≡ is_keeper s)
+      by false m r h k l e =
+          let was = alike.untouched (id_of s) s found h in
+          (was.0, was.1, was.2, λ i. nat_lt 0 (length (was.2 i)) || not (is_some (was.3 i)))
+      by true true true h k l e =
+          let was = alike.moved (id_of s) s found k in
+          let its : has_rules was.0 ≡ true = ap (λ (rules : List Rule). nat_lt 0 (length rules)) was.2 ∙ l in
+          (was.0, was.1, was.2, ap (λ (b : Bool). b || not (is_some was.0.parent)) its ∙ sym (ap (λ (b : Bool). b || not (is_some s.parent)) l))
+      by true true false h k l e = absurd (true≢false e)
+      by true false r h k l e = absurd (true≢false e)
 
   pub owns_right : (kept : List (Option Automaton)) → AreKept (renews_own edit) old parts.owns new kept → (k : ℕ) (s : Subject) (d : Automaton) → slice_get new k ≡ Some s
-      → slot kept k ≡ Some d → IsFit (own_patterns s) d
+      → slot kept k ≡ Some d → IsFit (own_patterns s) d × (is_keeper s ≡ true)
   owns_right kept all k s d here there =
       let found = find_at new k s well.distinct here in
       let keeps = kept_cases (renews_own edit s) old parts.owns s (slot kept k) d (all.1 k s here) there in
       let had = had_rules s found keeps.0 in
       let was = kept_was old parts.owns s had.0 (slot kept k) d keeps.1 there had.1 in
-      subst (λ (rules : List Rule). IsFit (map (λ rule. rule.pattern) rules) d) had.2 (right.owns was.0 had.0 d was.1 was.2)
+      let right_there = right.owns was.0 had.0 d was.1 was.2 in
+      (subst (λ (rules : List Rule). IsFit (map (λ rule. rule.pattern) rules) d) had.2 right_there.0, sym had.3 ∙ right_there.1)
 
   pub wholes_right : (kept : List (Option Automaton)) → AreKept (renews_chain edit new) old parts.wholes new kept → (k : ℕ) (s : Subject) (d : Automaton) → slice_get new k ≡ Some s
       → slot kept k ≡ Some d → IsFit (patterns_along new s) d
@@ -162,3 +171,37 @@ module _ (edit : Edit) (old new : List Subject) (alike : IsAlike edit old new) (
       let was = kept_was old parts.wholes s had.0 (slot kept k) d keeps.1 there had.1 in
       let same = same_entries edit old new alike well.parents 8 (id_of s) s had.0 found (sym (found_id (id_of s) old had.0 had.1)) had.2 had.3 keeps.0 in
       subst (λ (es : List Entry). IsFit (patterns_of es) d) same (right.wholes was.0 had.0 d was.1 was.2)
+
+  -- what is kept for a subject that was at a place, and had an automaton there
+  still_some : (b : Bool) (slots : List (Option Automaton)) (s o : Subject) (kept : Option Automaton) → b ≡ false → IsKept b old slots s kept → find_subject (id_of s) old ≡ Some o
+      → ((j : ℕ) → slice_get old j ≡ Some o → IsTrue (is_some (slot slots j))) → IsTrue (is_some kept)
+  still_some true slots s o kept e h was there = absurd (true≢false e)
+  still_some false slots s o kept e (None, found, is) was there = absurd (none-some o (sym found ∙ was))
+  still_some false slots s o kept e (Some j, found, is) was there = ap is_some is ∙ there j (sym found ∙ was)
+
+  pub owns_kept : (kept : List (Option Automaton)) → HaveKeepers old parts → AreKept (renews_own edit) old parts.owns new kept → (k : ℕ) (s : Subject) → slice_get new k ≡ Some s
+      → (renews_own edit s ≡ true → slot kept k ≡ None) × (renews_own edit s ≡ false → is_keeper s ≡ true → IsTrue (is_some (slot kept k)))
+  owns_kept kept keepers all k s here = (
+    λ renewed. none (renews_own edit s) renewed (all.1 k s here),
+    λ keeps keeper.
+        let had = had_rules s (find_at new k s well.distinct here) keeps in
+        still_some (renews_own edit s) parts.owns s had.0 (slot kept k) keeps (all.1 k s here) had.1 (λ j at. keepers j had.0 at (had.3 ∙ keeper)),
+  )
+    where
+      none : (b : Bool) → b ≡ true → IsKept b old parts.owns s (slot kept k) → slot kept k ≡ None
+      none true e h = h
+      none false e h = absurd (true≢false (sym e))
+
+  pub wholes_kept : (kept : List (Option Automaton)) → AreAll old parts → AreKept (renews_chain edit new) old parts.wholes new kept → (k : ℕ) (s : Subject) → slice_get new k ≡ Some s
+      → (renews_chain edit new s ≡ true → slot kept k ≡ None) × (renews_chain edit new s ≡ false → IsTrue (is_some (slot kept k)))
+  unfolding chain_within
+  wholes_kept kept each all k s here = (
+    λ renewed. none (renews_chain edit new s) renewed (all.1 k s here),
+    λ keeps.
+        let had = alike.untouched (id_of s) s (find_at new k s well.distinct here) (or_parts (is_touched (touched edit) s) _ keeps).0 in
+        still_some (renews_chain edit new s) parts.wholes s had.0 (slot kept k) keeps (all.1 k s here) had.1 (λ j at. each j (slice_get_within old j had.0 at)),
+  )
+    where
+      none : (b : Bool) → b ≡ true → IsKept b old parts.wholes s (slot kept k) → slot kept k ≡ None
+      none true e h = h
+      none false e h = absurd (true≢false (sym e))

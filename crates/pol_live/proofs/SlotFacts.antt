@@ -6,7 +6,7 @@ use Rattle.pol_automaton.specs.Automaton.{Automaton}
 use Rattle.pol_text.specs.declared.subject.Subject.{Subject}
 use Rattle.pol_live.specs.declared.parts.Parts.{Parts}
 use Rattle.pol_live.specs.Along.{patterns_along}
-use Rattle.pol_live.specs.Kept.{IsFit, IsPutAt, AreParts, AreAll, Stays, Grows, slot, own_patterns}
+use Rattle.pol_live.specs.Kept.{IsFit, IsPutAt, AreParts, AreAll, Stays, Grows, slot, own_patterns, is_keeper}
 
 -- ---- one place
 
@@ -75,10 +75,8 @@ pub stays_some : (xs ys : List (Option Automaton)) (k : ℕ) → Stays xs ys →
 stays_some xs ys k stays h = some_stays xs ys k stays h
 
 module _ (policy : List Subject) (at : ℕ) (subject : Subject) (here : slice_get policy at ≡ Some subject) where
-  pub own_put : (old new : Parts) → AreParts policy old → new.wholes ≡ old.wholes
-      → (new.owns ≡ old.owns) ⊎ ((slot old.owns at ≡ None) × IsPutAt at (own_patterns subject) old.owns new.owns)
-      → AreParts policy new × Grows old new
-  own_put old new right wholes (inl owns) = (
+  own_same : (old new : Parts) → AreParts policy old → new.wholes ≡ old.wholes → new.owns ≡ old.owns → AreParts policy new × Grows old new
+  own_same old new right wholes owns = (
     record {
       many_owns = ap (λ (xs : List (Option Automaton)). length xs) owns ∙ right.many_owns;
       many_wholes = ap (λ (xs : List (Option Automaton)). length xs) wholes ∙ right.many_wholes;
@@ -87,12 +85,19 @@ module _ (policy : List Subject) (at : ℕ) (subject : Subject) (here : slice_ge
     },
     (λ k d e. ap (λ (xs : List (Option Automaton)). slot xs k) owns ∙ e, λ k d e. ap (λ (xs : List (Option Automaton)). slot xs k) wholes ∙ e),
   )
-  own_put old new right wholes (inr (none, (d, fit, owns))) = (
+
+  pub own_put : (old new : Parts) → AreParts policy old → new.wholes ≡ old.wholes
+      → (new.owns ≡ old.owns) ⊎ ((slot old.owns at ≡ None) × IsPutAt at (own_patterns subject) old.owns new.owns)
+      → (new.owns ≡ old.owns) ⊎ (is_keeper subject ≡ true) → AreParts policy new × Grows old new
+  own_put old new right wholes (inl owns) keeper = own_same old new right wholes owns
+  own_put old new right wholes (inr put) (inl owns) = own_same old new right wholes owns
+  own_put old new right wholes (inr (none, (d, fit, owns))) (inr keeper) = (
     record {
       many_owns = ap (λ (xs : List (Option Automaton)). length xs) owns ∙ length-set old.owns at (Some d) ∙ right.many_owns;
       many_wholes = ap (λ (xs : List (Option Automaton)). length xs) wholes ∙ right.many_wholes;
       owns = λ k s a its e.
-          put_holds (λ t b. IsFit (own_patterns t) b) policy old.owns at subject d right.owns here fit k s a its (ap (λ (xs : List (Option Automaton)). slot xs k) (sym owns) ∙ e);
+          put_holds (λ t b. IsFit (own_patterns t) b × (is_keeper t ≡ true)) policy old.owns at subject d right.owns here (fit, keeper) k s a its
+          (ap (λ (xs : List (Option Automaton)). slot xs k) (sym owns) ∙ e);
       wholes = λ k s a its e. right.wholes k s a its (ap (λ (xs : List (Option Automaton)). slot xs k) (sym wholes) ∙ e);
     },
     (
@@ -143,6 +148,18 @@ more_there old new i grows before here k lt = by (below_next k i lt)
     by : (k < i) ⊎ (k ≡ i) → IsTrue (is_some (slot new.wholes k))
     by (inl h) = stays_some old.wholes new.wholes k grows.1 (before k h)
     by (inr h) = subst (λ (j : ℕ). IsTrue (is_some (slot new.wholes j))) (sym h) here
+
+pub more_keepers : (policy : List Subject) (old new : Parts) (i : ℕ) (subject : Subject) → Grows old new → slice_get policy i ≡ Some subject
+    → ((k : ℕ) (s : Subject) → k < i → slice_get policy k ≡ Some s → is_keeper s ≡ true → IsTrue (is_some (slot old.owns k)))
+    → (is_keeper subject ≡ true → IsTrue (is_some (slot new.owns i)))
+    → (k : ℕ) (s : Subject) → k < suc i → slice_get policy k ≡ Some s → is_keeper s ≡ true → IsTrue (is_some (slot new.owns k))
+more_keepers policy old new i subject grows at before here k s lt its keeper = by (below_next k i lt)
+  where
+    by : (k < i) ⊎ (k ≡ i) → IsTrue (is_some (slot new.owns k))
+    by (inl h) = stays_some old.owns new.owns k grows.0 (before k s h its keeper)
+    by (inr h) =
+        let same : s ≡ subject = same_Some s subject (sym its ∙ ap (slice_get policy) h ∙ at) in
+        subst (λ (j : ℕ). IsTrue (is_some (slot new.owns j))) (sym h) (here (ap is_keeper (sym same) ∙ keeper))
 
 -- ---- a list of places, one after another
 

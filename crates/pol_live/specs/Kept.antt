@@ -1,11 +1,10 @@
--- What is kept of a policy: automata of the rules of single subjects, and of all rules along their chains. Subjects and
--- policies may share one.
-use Rattle.std.specs.Prelude.{◌≡◌, ◌<◌, ℕ, Bool, not, ◌||◌, nat_lt, List, [], length, map, Option, Some, None, slice_get, slice_set, is_some, IsTrue}
+-- What is kept of a policy: automata of the rules of single subjects, and of all rules along their chains. Subjects
+-- and policies may share one.
+use Rattle.std.specs.Prelude.{◌≡◌, ◌<◌, ℕ, Bool, true, not, ◌||◌, nat_lt, List, [], length, map, Option, Some, None, slice_get, slice_set, is_some, IsTrue}
 use Rattle.std.specs.Option.{option_and_then}
 use Rattle.pol_automaton.specs.Automaton.{Automaton, IsDecider}
 use Rattle.pol_automaton.specs.Residuals.{HasMoreResiduals}
 use Rattle.pol_text.specs.declared.subject.Subject.{Subject}
-use Rattle.pol_text.specs.Policy.{parent_of}
 use Rattle.pol_live.specs.declared.parts.Parts.{Parts}
 use Rattle.pol_live.specs.Along.{patterns_along}
 
@@ -14,9 +13,9 @@ use Rattle.pol_live.specs.Along.{patterns_along}
 abbrev pub has_rules : Subject → Bool
 has_rules subject = nat_lt 0 (length subject.rules)
 
--- a subject that has rules, or none to inherit them from
-abbrev pub is_keeper : List Subject → Subject → Bool
-is_keeper policy subject = has_rules subject || not (is_some (parent_of policy subject))
+-- a subject that has rules, or no group to inherit them from
+abbrev pub is_keeper : Subject → Bool
+is_keeper subject = has_rules subject || not (is_some subject.parent)
 
 -- ---- automata and what they are of
 
@@ -35,9 +34,11 @@ slot slots k = option_and_then (λ found. found) (slice_get slots k)
 pub record AreParts (policy : List Subject) (parts : Parts) : Type 0 where
   pub many_owns : length parts.owns ≡ length policy
   pub many_wholes : length parts.wholes ≡ length policy
-  pub owns : (k : ℕ) (subject : Subject) (decider : Automaton) → slice_get policy k ≡ Some subject → slot parts.owns k ≡ Some decider
-      → IsFit (own_patterns subject) decider
-  pub wholes : (k : ℕ) (subject : Subject) (decider : Automaton) → slice_get policy k ≡ Some subject → slot parts.wholes k ≡ Some decider
+  pub owns : (k : ℕ) (subject : Subject) (decider : Automaton) → slice_get policy k ≡ Some subject
+      → slot parts.owns k ≡ Some decider
+      → IsFit (own_patterns subject) decider × (is_keeper subject ≡ true)
+  pub wholes : (k : ℕ) (subject : Subject) (decider : Automaton) → slice_get policy k ≡ Some subject
+      → slot parts.wholes k ≡ Some decider
       → IsFit (patterns_along policy subject) decider
 
 -- each automaton that there was stays
@@ -52,10 +53,15 @@ abbrev pub IsOf : List (List ℕ) → Option Automaton → Type 0
 IsOf entries None = entries ≡ []
 IsOf entries (Some decider) = IsFit entries decider
 
--- the place has an automaton of these entries then, and all others are as they were
+-- the place then has an automaton of these entries, and all others are as they were
 abbrev pub IsPutAt : ℕ → List (List ℕ) → List (Option Automaton) → List (Option Automaton) → Type 0
-IsPutAt at entries old new = (decider : Automaton) × IsFit entries decider × (new ≡ slice_set old at (Some decider))
+IsPutAt at entries old new =
+    (decider : Automaton) × IsFit entries decider × (new ≡ slice_set old at (Some decider))
 
--- each subject has the automaton of its chain
+-- each subject has the automaton of its chain, and each keeper its own
 abbrev pub AreAll : List Subject → Parts → Type 0
 AreAll policy parts = (k : ℕ) → k < length policy → IsTrue (is_some (slot parts.wholes k))
+
+abbrev pub HaveKeepers : List Subject → Parts → Type 0
+HaveKeepers policy parts = (k : ℕ) (subject : Subject) → slice_get policy k ≡ Some subject → is_keeper subject ≡ true
+    → IsTrue (is_some (slot parts.owns k))

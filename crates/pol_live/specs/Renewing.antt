@@ -11,8 +11,8 @@ use Rattle.pol_edit.specs.declared.edit.Edit.{Edit}
 use Rattle.pol_edit.specs.declared.edit.Edit.TheVariants.{AddGroup, AddUser, SetParent, InsertRule, RemoveRule, MoveRule}
 use Rattle.pol_live.specs.Kept.{has_rules, slot}
 
--- the subject whose rules or whose group an edit may change: also one that it adds. Secrets and levels change no automaton,
--- and whom an edit takes out is nobody's group
+-- the subject whose rules or whose group an edit may change, also one that it adds. Secrets and levels change no
+-- automaton, and whom an edit takes out is nobody's group
 abbrev pub touched : Edit → Option SubjectId
 touched (AddGroup name parent) = Some (group_id name)
 touched (AddUser name parent) = Some (user_id name)
@@ -41,20 +41,26 @@ renews_chain edit policy subject = list_any (is_touched (touched edit)) (chain p
 
 -- ---- what stays
 
--- a subject of the new policy that the edit doesn't touch was there, with these rules and in this group; one that it moves
--- was there with these rules
+-- a subject of the new policy that the edit doesn't touch was there, with these rules and in this group; one that it
+-- moves was there with these rules
 pub record IsAlike (edit : Edit) (old new : List Subject) : Type 0 where
-  pub untouched : (id : SubjectId) (subject : Subject) → find_subject id new ≡ Some subject → is_touched (touched edit) subject ≡ false
-      → (before : Subject) × (find_subject id old ≡ Some before) × (before.rules ≡ subject.rules) × (before.parent ≡ subject.parent)
+  pub untouched : (id : SubjectId) (subject : Subject) → find_subject id new ≡ Some subject
+      → is_touched (touched edit) subject ≡ false
+      → (before : Subject) × (find_subject id old ≡ Some before)
+      × (before.rules ≡ subject.rules) × (before.parent ≡ subject.parent)
   pub moved : (id : SubjectId) (subject : Subject) → find_subject id new ≡ Some subject → is_move edit ≡ true
       → (before : Subject) × (find_subject id old ≡ Some before) × (before.rules ≡ subject.rules)
 
--- what is kept for a subject of the automata before: none where it is made anew, else that of the subject of its kind and name
+-- what is kept for a subject of the automata before: none where it is made anew, else that of the subject of its kind
+-- and name
 abbrev pub IsKept : Bool → List Subject → List (Option Automaton) → Subject → Option Automaton → Type 0
 IsKept true before slots subject kept = kept ≡ None
-IsKept false before slots subject kept = (at : Option ℕ) × (find_subject (id_of subject) before ≡ option_and_then (slice_get before) at)
+IsKept false before slots subject kept = (at : Option ℕ)
+    × (find_subject (id_of subject) before ≡ option_and_then (slice_get before) at)
     × (kept ≡ option_and_then (slot slots) at)
 
-abbrev pub AreKept : (Subject → Bool) → List Subject → List (Option Automaton) → List Subject → List (Option Automaton) → Type 0
-AreKept renewed before slots after kept =
-    (length kept ≡ length after) × ((k : ℕ) (subject : Subject) → slice_get after k ≡ Some subject → IsKept (renewed subject) before slots subject (slot kept k))
+abbrev pub AreKept : (Subject → Bool) → List Subject → List (Option Automaton) → List Subject
+    → List (Option Automaton) → Type 0
+AreKept renewed before slots after kept = (length kept ≡ length after)
+    × ((k : ℕ) (subject : Subject) → slice_get after k ≡ Some subject
+    → IsKept (renewed subject) before slots subject (slot kept k))

@@ -1,12 +1,13 @@
 //! Building the automata of a policy.
 
 ghost use Rattle.std.specs.Prelude.{◌≡◌, ◌<◌, ℕ, length, slice_get, is_some, Some, None, IsTrue};
-ghost use Rattle.std.specs.Prelude.{IfOk, IfErr, OnOk};
+ghost use Rattle.std.specs.Prelude.{IfOk, IfErr, OnOk, OnErr, true};
 ghost use Rattle.basics.specs.Memory.{Except};
 ghost use Rattle.pol_text.specs.Policy.{ends_within, id_of};
 ghost use Rattle.pol_edit.specs.declared.fault.EditFault.TheVariants.{TooManyStates};
 ghost use Rattle.pol_live.specs.Sizes.{IsLarge, IsSmall, IsRefusedFor};
-ghost use Rattle.pol_live.specs.Kept.{AreParts, AreAll, Grows, slot};
+ghost use Rattle.pol_live.specs.Kept.{AreParts, AreAll, HaveKeepers, Grows, is_keeper, slot};
+ghost use Rattle.pol_live.specs.Counting.{Counts, NotLowered, states_of};
 ghost use Rattle.pol_live.specs.Live.{is_memory};
 
 use crate::filling::fill;
@@ -30,8 +31,13 @@ fn fill_subject(
     ensures right { OnOk result (AreParts policy.now parts.new) }
     ensures grows { OnOk result (Grows parts.old parts.new) }
     ensures there { OnOk result (IsTrue (is_some (slot parts.new.wholes index))) }
+    ensures keeper { OnOk result (is_keeper subject.now ≡ true
+        → IsTrue (is_some (slot parts.new.owns index))) }
     ensures err { IfErr result (λ fault. Except (is_memory fault)
         ((fault ≡ TooManyStates (id_of subject.now)) × IsLarge policy.now subject.now)) }
+    ensures counts { OnOk result (Counts meter.old meter.new
+        (states_of policy.now parts.old) (states_of policy.now parts.new)) }
+    ensures kept { OnErr result (NotLowered meter.old meter.new) }
 {
     // every policy is well formed: the call is for its clause
     let _ = policy.subjects();
@@ -51,10 +57,15 @@ pub(crate) fn complete(
 ) -> Result<(), EditFault>
     requires { AreParts policy.now parts.old }
     ensures right { OnOk result (AreParts policy.now parts.new) }
+    ensures grows { OnOk result (Grows parts.old parts.new) }
     ensures all { OnOk result (AreAll policy.now parts.new) }
+    ensures keepers { OnOk result (HaveKeepers policy.now parts.new) }
     ensures small { OnOk result (IsSmall policy.now) }
     ensures err { IfErr result (λ fault. Except (is_memory fault)
         (IsRefusedFor policy.now fault)) }
+    ensures counts { OnOk result (Counts meter.old meter.new
+        (states_of policy.now parts.old) (states_of policy.now parts.new)) }
+    ensures kept { OnErr result (NotLowered meter.old meter.new) }
 {
     for (index, subject) in policy.subjects().iter().enumerate() {
         fill_subject(alloc, policy, subject, index, parts, meter)?;
@@ -64,7 +75,9 @@ pub(crate) fn complete(
 
 /// No automata of the policy's subjects.
 pub(crate) fn no_parts(alloc: Global, policy: &Policy) -> Result<Parts, AllocError>
-    ensures { IfOk result (λ parts. AreParts policy.now parts) }
+    ensures right { IfOk result (λ parts. AreParts policy.now parts) }
+    ensures none { IfOk result (λ parts. ((k : ℕ) → slot parts.owns k ≡ None)
+        × ((k : ℕ) → slot parts.wholes k ≡ None)) }
 {
     let owns = blank(alloc, policy.len())?;
     let wholes = blank(alloc, policy.len())?;

@@ -1,18 +1,19 @@
 //! Making the automata of a policy: each subject's own, and those along its chain, each from the
 //! own one and that of the group that it inherits from.
 
-ghost use Rattle.std.specs.Prelude.{◌≡◌, ◌<◌, ◌||◌, ◌++◌, ◌⊎◌, ℕ, List, length, slice_get, is_some};
-ghost use Rattle.std.specs.Prelude.{true, Some, None, IsTrue};
-ghost use Rattle.std.specs.Prelude.{IfOk, IfSome, OnOk, IsErrOf, Contains};
+ghost use Rattle.std.specs.Prelude.{◌≡◌, ◌<◌, ◌||◌, ◌&&◌, ◌++◌, ◌⊎◌, ℕ, List, length, slice_get};
+ghost use Rattle.std.specs.Prelude.{slice_set, is_some, true, Some, None, IsTrue, if◌then◌else◌};
+ghost use Rattle.std.specs.Prelude.{IfOk, IfSome, OnOk, OnErr, IsErrOf, Contains};
 ghost use Rattle.std.specs.Option.{option_and_then, option_copied};
-ghost use Rattle.pol_automaton.specs.Automaton.{IsDecider};
+ghost use Rattle.pol_scan.specs.Table.{count};
+ghost use Rattle.pol_automaton.specs.Automaton.{Automaton, IsDecider};
 ghost use Rattle.pol_automaton.specs.Residuals.{HasMoreResiduals};
 ghost use Rattle.pol_text.specs.declared.subject.Subject.{Subject as SubjectValue};
 ghost use Rattle.pol_text.specs.Policy.{parent_of, ends_within, InheritsEntries};
-ghost use Rattle.pol_live.specs.Along.{patterns_along as patterns};
 ghost use Rattle.pol_live.specs.Sizes.{IsLarge};
 ghost use Rattle.pol_live.specs.Kept.{IsFit, IsOf, IsPutAt, AreParts, Grows, slot, own_patterns};
-ghost use Rattle.pol_live.specs.Kept.{has_rules as with_rules};
+ghost use Rattle.pol_live.specs.Kept.{has_rules as with_rules, is_keeper as keeps};
+ghost use Rattle.pol_live.specs.Counting.{Raised, NotLowered, Counts, weight, states_of};
 
 use crate::along::add_patterns;
 use crate::parts::{Parts, Slots, lookup, put};
@@ -32,6 +33,13 @@ pub(crate) fn has_rules(subject: &Subject) -> bool
     0 < subject.rules.len()
 }
 
+// Whether the subject has an automaton of its own.
+fn is_keeper(subject: &Subject) -> bool
+    ensures { result ≡ keeps subject.now }
+{
+    has_rules(subject) || subject.parent.is_none()
+}
+
 // The subject at a place.
 fn subject_at(policy: &Policy, index: usize) -> Option<&Subject>
     ensures { option_copied result ≡ slice_get policy.now index }
@@ -46,8 +54,11 @@ fn parent_index(policy: &Policy, subject: &Subject) -> Option<usize>
     ensures within { IfSome result (λ at. at < length policy.now) }
     ensures inherits { Contains policy.now subject.now
         → InheritsEntries policy.now subject.now }
+    ensures grouped { Contains policy.now subject.now
+        → is_some result ≡ is_some subject.now.parent }
 {
-    // the call is for its clause on entries
+    // these calls are for their clauses, on groups and on entries
+    let _ = policy.subjects();
     let _ = policy.parent_of(subject);
     let Some(parent) = subject.parent else {
         return None;
@@ -60,6 +71,8 @@ fn build_own(alloc: Global, subject: &Subject, meter: &mut Meter) -> Result<Shar
     ensures right { IfOk result (λ own. IsFit (own_patterns subject.now) own) }
     ensures too_many { IsErrOf result DeciderFault.TooManyStates
         → HasMoreResiduals (own_patterns subject.now) 4096 }
+    ensures raised { IfOk result (λ own. Raised meter.old meter.new (count own.table)) }
+    ensures kept { OnErr result (NotLowered meter.old meter.new) }
 {
     let mut entries = Entries::new(alloc);
     add_patterns(&mut entries, subject)?;
@@ -80,6 +93,8 @@ fn build_joined(
     ensures too_many { (first rest : List (List ℕ)) → IsDecider own.now first
         → IsDecider above.now rest → IsErrOf result DeciderFault.TooManyStates
         → HasMoreResiduals (first ++ rest) 4096 }
+    ensures raised { IfOk result (λ whole. Raised meter.old meter.new (count whole.table)) }
+    ensures kept { OnErr result (NotLowered meter.old meter.new) }
 {
     let decider = Decider::join(alloc, own, above, MOST_STATES, meter)?;
     let whole = Shared::new(alloc, decider)?;
@@ -91,7 +106,6 @@ fn fill_own(
     alloc: Global,
     subject: &Subject,
     index: usize,
-    alone: bool,
     parts: &mut Parts,
     meter: &mut Meter,
 ) -> Result<(), DeciderFault>
@@ -100,13 +114,18 @@ fn fill_own(
     ensures owns { OnOk result ((parts.new.owns ≡ parts.old.owns)
         ⊎ ((slot parts.old.owns index ≡ None)
         × IsPutAt index (own_patterns subject.now) parts.old.owns parts.new.owns)) }
-    ensures there { OnOk result (IsTrue (with_rules subject.now || alone)
+    ensures there { OnOk result (keeps subject.now ≡ true
         → IsTrue (is_some (slot parts.new.owns index))) }
+    ensures keeper { OnOk result ((parts.new.owns ≡ parts.old.owns)
+        ⊎ (keeps subject.now ≡ true)) }
     ensures too_many { IsErrOf result DeciderFault.TooManyStates
         → HasMoreResiduals (own_patterns subject.now) 4096 }
+    ensures counts { (policy : List SubjectValue) → slice_get policy index ≡ Some subject.now
+        → OnOk result (Counts meter.old meter.new (weight (λ _. true) policy parts.old.owns)
+        (weight (λ _. true) policy parts.new.owns)) }
+    ensures kept { OnErr result (NotLowered meter.old meter.new) }
 {
-    let is_keeper = has_rules(subject) || alone;
-    if !is_keeper || lookup(&parts.owns, index).is_some() {
+    if !is_keeper(subject) || lookup(&parts.owns, index).is_some() {
         return Ok(());
     }
     let own = build_own(alloc, subject, meter)?;
@@ -128,6 +147,9 @@ fn combine(
     ensures too_many { (first rest : List (List ℕ)) → IsOf first (option_copied own.entry)
         → IsOf rest (option_copied above.entry) → IsErrOf result DeciderFault.TooManyStates
         → HasMoreResiduals (first ++ rest) 4096 }
+    ensures raised { IfOk result (λ whole. Raised meter.old meter.new
+        (if is_some own.entry && is_some above.entry then count whole.table else 0)) }
+    ensures kept { OnErr result (NotLowered meter.old meter.new) }
 {
     match (own, above) {
         (Some(own), Some(above)) => build_joined(alloc, own.decider(), above.decider(), meter),
@@ -165,6 +187,11 @@ fn fill_whole(
     ensures too_many { (first rest : List (List ℕ)) → IsOf first (slot parts.old.owns index)
         → IsOf rest (option_and_then (slot parts.old.wholes) parent)
         → IsErrOf result DeciderFault.TooManyStates → HasMoreResiduals (first ++ rest) 4096 }
+    ensures raised { OnOk result ((whole : Automaton)
+        × (parts.new.wholes ≡ slice_set parts.old.wholes index (Some whole))
+        × Raised meter.old meter.new (if is_some (slot parts.old.owns index)
+        && is_some (option_and_then (slot parts.old.wholes) parent) then count whole.table else 0)) }
+    ensures kept { OnErr result (NotLowered meter.old meter.new) }
 {
     let own = lookup(&parts.owns, index);
     let above = lookup_above(&parts.wholes, parent);
@@ -189,15 +216,21 @@ fn fill_here(
         ≡ option_and_then (slice_get policy.now) parent }
     requires within { IfSome parent (λ at. at < length policy.now) }
     requires inherits { InheritsEntries policy.now subject.now }
+    requires grouped { is_some parent ≡ is_some subject.now.parent }
     requires above { IfSome parent (λ at. IsTrue (is_some (slot parts.old.wholes at))) }
     requires right { AreParts policy.now parts.old }
     ensures right { OnOk result (AreParts policy.now parts.new) }
     ensures grows { OnOk result (Grows parts.old parts.new) }
     ensures there { OnOk result (IsTrue (is_some (slot parts.new.wholes index))) }
+    ensures keeper { OnOk result (keeps subject.now ≡ true
+        → IsTrue (is_some (slot parts.new.owns index))) }
     ensures too_many { IsErrOf result DeciderFault.TooManyStates
         → IsLarge policy.now subject.now }
+    ensures counts { OnOk result (Counts meter.old meter.new
+        (states_of policy.now parts.old) (states_of policy.now parts.new)) }
+    ensures kept { OnErr result (NotLowered meter.old meter.new) }
 {
-    fill_own(alloc, subject, index, parent.is_none(), parts, meter)?;
+    fill_own(alloc, subject, index, parts, meter)?;
     if lookup(&parts.wholes, index).is_some() {
         return Ok(());
     }
@@ -223,6 +256,12 @@ pub(crate) fn fill(
     ensures there { OnOk result (IsTrue (is_some (slot parts.new.wholes index))) }
     ensures too_many { IsErrOf result DeciderFault.TooManyStates → (subject : SubjectValue)
         → slice_get policy.now index ≡ Some subject → IsLarge policy.now subject }
+    ensures keeper { OnOk result ((subject : SubjectValue)
+        → slice_get policy.now index ≡ Some subject → keeps subject ≡ true
+        → IsTrue (is_some (slot parts.new.owns index))) }
+    ensures counts { OnOk result (Counts meter.old meter.new
+        (states_of policy.now parts.old) (states_of policy.now parts.new)) }
+    ensures kept { OnErr result (NotLowered meter.old meter.new) }
 {
     let Some(subject) = subject_at(policy, index) else {
         return Ok(());

@@ -1,6 +1,7 @@
 //! A policy with its automata.
 
-ghost use Rattle.std.specs.Prelude.{◌≡◌, ◌≤◌, length, IfOk, IfErr, IfNone, IfSome, None, Some, Ok};
+ghost use Rattle.std.specs.Prelude.{◌≡◌, ◌≤◌, length, IfOk, IfErr, IfNone, IfSome, OnOk, OnErr};
+ghost use Rattle.std.specs.Prelude.{None, Some, Ok};
 ghost use Rattle.std.specs.Option.{option_copied};
 ghost use Rattle.pol_automaton.specs.Automaton.{IsDecider};
 ghost use Rattle.pol_text.specs.Policy.{WellFormed, find_subject, decide};
@@ -8,6 +9,7 @@ ghost use Rattle.pol_edit.specs.declared.fault.EditFault.TheVariants.{Memory};
 ghost use Rattle.pol_edit.specs.Applying.{applied};
 ghost use Rattle.pol_live.specs.Along.{patterns_along as patterns, MatchLaw};
 ghost use Rattle.pol_live.specs.Sizes.{IsSmall};
+ghost use Rattle.pol_live.specs.Rise.{IsBuildRise, IsEditRise, Rises};
 ghost use Rattle.pol_live.specs.Live.{Builds, IsOnlyBuilt, IsDeciderFor, UnlessMemory, is_memory};
 
 use crate::building::{complete, no_parts};
@@ -32,7 +34,7 @@ pub struct Live {
 impl Model for Live {
     ghost use Rattle.std.specs.Prelude.{List};
     ghost use Rattle.pol_text.specs.declared.subject.Subject.{Subject as SubjectValue};
-    ghost use Rattle.pol_live.specs.Kept.{AreParts, AreAll};
+    ghost use Rattle.pol_live.specs.Kept.{AreParts, AreAll, HaveKeepers};
     ghost use Rattle.pol_live.specs.Sizes.{IsSmall};
 
     ghost Value = { List SubjectValue };
@@ -40,13 +42,17 @@ impl Model for Live {
     ghost view = { λ live. live.policy };
 
     ghost invariant = { λ live. AreParts live.policy live.parts × AreAll live.policy live.parts
-        × IsSmall live.policy };
+        × HaveKeepers live.policy live.parts × IsSmall live.policy };
 }
 
 impl Live {
     fn build_anew(alloc: Global, policy: Policy, meter: &mut Meter) -> Result<Live, EditFault>
-        ensures { UnlessMemory is_memory result (Builds policy result) }
+        ensures found { UnlessMemory is_memory result (Builds policy result) }
+        ensures rises { OnOk result (Rises (IsBuildRise policy) meter.old meter.new) }
+        ensures kept { OnErr result (meter.old ≤ meter.new) }
     {
+        // the call is for its clause: the meter is a number of its type
+        let _ = meter.total();
         let mut parts = no_parts(alloc, &policy)?;
         complete(alloc, &policy, &mut parts, meter)?;
         Ok(Live { policy, parts })
@@ -62,8 +68,11 @@ impl Live {
         meter: &mut Meter,
     ) -> Result<Live, EditFault>
         requires { applied self.now edit.now ≡ Ok policy }
-        ensures { UnlessMemory is_memory result (Builds policy result) }
+        ensures found { UnlessMemory is_memory result (Builds policy result) }
+        ensures rises { OnOk result (Rises (IsEditRise edit.now policy) meter.old meter.new) }
+        ensures kept { OnErr result (meter.old ≤ meter.new) }
     {
+        let _ = meter.total();
         let mut parts = kept_parts(alloc, &self.policy, &self.parts, edit, &policy)?;
         complete(alloc, &policy, &mut parts, meter)?;
         Ok(Live { policy, parts })
@@ -77,6 +86,10 @@ impl Live {
 
         // A policy that may stand is refused for want of memory alone.
         ensures small { IsSmall policy → IfErr result (λ fault. fault ≡ Memory) }
+
+        // The meter rises by the residuals of each automaton that is made.
+        ensures rises { OnOk result (Rises (IsBuildRise policy) meter.old meter.new) }
+        ensures kept { OnErr result (meter.old ≤ meter.new) }
     {
         Live::build_anew(alloc, policy, meter)
     }

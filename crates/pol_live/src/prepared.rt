@@ -1,10 +1,11 @@
 //! Changes of a policy that are ready to be made.
 
-ghost use Rattle.std.specs.Prelude.{◌≡◌, ◌↔◌, IsTrue};
+ghost use Rattle.std.specs.Prelude.{◌≡◌, ◌≤◌, ◌↔◌, IsTrue, IfOk, OnErr};
 ghost use Rattle.std.specs.Option.{option_copied};
 ghost use Rattle.pol_text.specs.Policy.{find_subject, decide};
 ghost use Rattle.pol_live.specs.Along.{MatchLaw};
 ghost use Rattle.pol_live.specs.Sizes.{IsSmall};
+ghost use Rattle.pol_live.specs.Rise.{IsEditRise, Rises};
 ghost use Rattle.pol_live.specs.Live.{Prepares, IsOnlyPrepared, IsDeciderFor, UnlessMemory};
 ghost use Rattle.pol_live.specs.Live.{is_memory};
 
@@ -46,6 +47,11 @@ impl Live {
     ) -> Result<Prepared, EditFault>
         ensures found { UnlessMemory is_memory result (Prepares self.now edit.now result) }
         ensures only { UnlessMemory is_memory result (IsOnlyPrepared self.now edit.now result) }
+
+        // The meter rises by the residuals of each automaton that the edit makes anew.
+        ensures rises { IfOk result (λ prepared.
+            Rises (IsEditRise edit.now prepared.after) meter.old meter.new) }
+        ensures kept { OnErr result (meter.old ≤ meter.new) }
     {
         self.prepare_only(alloc, edit, meter)
     }
@@ -56,7 +62,10 @@ impl Live {
         edit: &Edit,
         meter: &mut Meter,
     ) -> Result<Prepared, EditFault>
-        ensures { UnlessMemory is_memory result (Prepares self.now edit.now result) }
+        ensures found { UnlessMemory is_memory result (Prepares self.now edit.now result) }
+        ensures rises { IfOk result (λ prepared.
+            Rises (IsEditRise edit.now prepared.after) meter.old meter.new) }
+        ensures kept { OnErr result (meter.old ≤ meter.new) }
     {
         let before = self.policy().copy(alloc)?;
         let mut policy = self.policy().copy(alloc)?;

@@ -3,7 +3,7 @@
 ghost use Rattle.std.specs.Prelude.{◌≡◌, Ok, IfOk};
 ghost use Rattle.std.specs.List.{list_any};
 ghost use Rattle.std.specs.Option.{option_and_then};
-ghost use Rattle.pol_text.specs.Policy.{chain};
+ghost use Rattle.pol_text.specs.Policy.{WellFormed, chain};
 ghost use Rattle.pol_edit.specs.Applying.{applied};
 ghost use Rattle.pol_live.specs.Kept.{AreParts, slot};
 ghost use Rattle.pol_live.specs.Renewing.{AreKept, IsKept, renews_own as own_renewed};
@@ -163,6 +163,7 @@ pub(crate) fn kept_parts(
         AreKept (own_renewed edit.now) before.now parts.now.owns after.now kept.owns) }
     ensures wholes { IfOk result (λ kept. AreKept (chain_renewed edit.now after.now)
         before.now parts.now.wholes after.now kept.wholes) }
+    ensures well_formed { WellFormed after.now }
 {
     // every policy is well formed: the call is for its clause
     let _ = after.subjects();

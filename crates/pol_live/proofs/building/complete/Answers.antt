@@ -5,7 +5,8 @@ use Rattle.pol_text.specs.Policy.{id_of}
 use Rattle.pol_live.specs.Live.{is_memory}
 use Rattle.pol_live.proofs.BuildFacts.{first_large, more_small, except_so}
 use Rattle.pol_live.proofs.FillFacts.{small_there}
-use Rattle.pol_live.proofs.SlotFacts.{more_there}
+use Rattle.pol_live.proofs.SlotFacts.{grows_on, more_there, more_keepers}
+use Rattle.pol_live.proofs.MeterFacts.{counts_on}
 use Rattle.pol_live.proofs.building.complete.Goals as goal
 
 pub returns-in_err-fill_subject-clause-err : goal.returns-in_err-fill_subject-clause-err
@@ -30,6 +31,9 @@ loop-index-preserved c =
     let told = c.in_ok-fill_subject.ensures in
     record {
       right = told.right;
+      grows = grows_on c.args.parts.now c.loop-index.parts c.fill_subject.new.parts c.loop-index.invariant.grows told.grows;
+      keepers = rw add-one (more_keepers policy c.loop-index.parts c.fill_subject.new.parts i subject told.grows here c.loop-index.invariant.keepers told.keeper);
+      counts = counts_on _ _ _ _ _ _ c.loop-index.invariant.counts told.counts;
       there = rw add-one (more_there c.loop-index.parts c.fill_subject.new.parts i told.grows c.loop-index.invariant.there told.there);
       small = rw add-one (more_small policy policy i subject lt at c.loop-index.invariant.small (small_there policy c.fill_subject.new.parts i subject told.right here told.there));
     }

@@ -4,8 +4,13 @@ use Rattle.std.proofs.lemmas.Result.{err_from_is_err_and}
 use Rattle.pol_text.specs.declared.subject.Subject.{Subject}
 use Rattle.pol_text.specs.Policy.{ends_within}
 use Rattle.pol_live.specs.Sizes.{IsLarge}
-use Rattle.pol_live.proofs.FillFacts.{ends_above, large_above, contains_at}
+use Rattle.pol_live.proofs.FillFacts.{ends_above, large_above, contains_at, ok_so}
+use Rattle.pol_live.specs.Kept.{Grows}
+use Rattle.pol_live.specs.Counting.{Counts, states_of}
+use Rattle.pol_live.proofs.SlotFacts.{grows_itself, grows_on}
+use Rattle.pol_live.proofs.MeterFacts.{counts_none, counts_on}
 use Rattle.pol_live.proofs.filling.+fill.Goals as goal
+use Rattle.pol_live.proofs.filling.+fill.Goals.{in-Some-parent+in_ok-fill, in_default-parent}
 
 pub overflow_sub-most : goal.overflow_sub-most
 overflow_sub-most t c =
@@ -42,3 +47,16 @@ pub returns-clause-too_many : goal.returns-clause-too_many
 returns-clause-too_many t c is subject here =
     let same : c.in-Some.subject.now ≡ subject = same_Some _ subject (c.in-Some.ensures ∙ here) in
     subst (λ (s : Subject). IsLarge c.args.policy.now s) same (c.fill_here.ensures.too_many is)
+
+pub returns-clause-grows : goal.returns-clause-grows
+returns-clause-grows t c =
+    let first : Grows c.args.parts.now c.match-parent.parts =
+    elim c.match-parent.branch [ in-Some-parent+in_ok-fill w ↦ rw w.parts-is w.in_ok-fill.ensures.grows | in_default-parent w ↦ rw w.parts-is (grows_itself c.args.parts.now) ] in
+    ok_so c.fill_here.result (λ h. grows_on c.args.parts.now c.match-parent.parts c.fill_here.new.parts first h) c.fill_here.ensures.grows
+
+pub returns-clause-counts : goal.returns-clause-counts
+returns-clause-counts t c =
+    let policy = c.args.policy.now in
+    let first : Counts c.args.meter.now c.match-parent.meter (states_of policy c.args.parts.now) (states_of policy c.match-parent.parts) =
+    elim c.match-parent.branch [ in-Some-parent+in_ok-fill w ↦ rw (w.parts-is, w.meter-is) w.in_ok-fill.ensures.counts | in_default-parent w ↦ rw (w.parts-is, w.meter-is) (counts_none c.args.meter.now (states_of policy c.args.parts.now)) ] in
+    ok_so c.fill_here.result (λ h. counts_on _ _ _ _ _ _ first h) c.fill_here.ensures.counts

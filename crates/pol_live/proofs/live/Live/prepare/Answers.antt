@@ -4,4 +4,4 @@ use Rattle.pol_live.proofs.live.Live.prepare.Goals as goal
 
 pub returns-clause-only : goal.returns-clause-only
 returns-clause-only c =
-    unless_so is_memory c.prepare_only.result (λ h other k. only_prepared c.args.self.now c.args.edit.now c.prepare_only.result other h k) c.prepare_only.ensures
+    unless_so is_memory c.prepare_only.result (λ h other k. only_prepared c.args.self.now c.args.edit.now c.prepare_only.result other h k) c.prepare_only.ensures.found
