@@ -1,5 +1,6 @@
 -- What the code keeps of a server, and what it stands for.
-use Rattle.std.specs.Prelude.{◌≡◌, ℕ, ◌+◌, List, [], ◌∷◌, ◌++◌, length, take, Bool, true, false, IsTrue, is_some, Option, Some, None, Result, Ok, Err}
+use Rattle.std.specs.Prelude.{◌≡◌, ℕ, ◌+◌, List, [], ◌∷◌, ◌++◌, length, take, Bool, true, false}
+use Rattle.std.specs.Prelude.{IsTrue, is_some, Option, Some, None, Result, Ok, Err}
 use Rattle.std.specs.BTreeMap.{BTreeMap, get}
 use Rattle.std.specs.Ordering.{nat_cmp}
 use Rattle.tac_wire.specs.Header.{header_of}
@@ -18,7 +19,8 @@ use Rattle.tac_server.specs.Server.{Connections, State, opened, lost, heard, wit
 use Rattle.tac_server.specs.Console.{AnswersEdit, AnswersQuery, Answers, Accepts}
 use Rattle.tac_server.specs.Events.{fault_in, Does}
 use Rattle.tac_server.specs.declared.event.Event.{Event}
-use Rattle.tac_server.specs.declared.script_fault.ScriptFault.TheVariants.{NoConnection, AlreadyOpen}
+use Rattle.tac_server.specs.declared.script_fault.ScriptFault.TheVariants.{NoConnection}
+use Rattle.tac_server.specs.declared.script_fault.ScriptFault.TheVariants.{AlreadyOpen}
 use Rattle.tac_server.specs.declared.script_fault.Stop.{Stop}
 use Rattle.tac_server.specs.declared.script_fault.Stop.TheVariants as stops
 use Rattle.tac_server.specs.declared.server.Server.{Server}
@@ -41,7 +43,8 @@ Sends key old new packets = (new ≡ old ++ sent_bytes key packets) × AreWhole 
 
 -- ---- connections
 
--- what is kept stands for an open connection on which these bytes came: all their whole packets were taken
+-- what is kept stands for an open connection on which these bytes came: all their whole packets
+-- were taken
 pub record Serves (key : List ℕ) (stream : Stream) (bytes : List ℕ) : Type 0 where
   pub rest : List ℕ
   pub tail : (cut bytes).tail ≡ open_end rest
@@ -65,13 +68,15 @@ abbrev pub stands_for : {D : Type 0} → (D → Meaning) → Server D → Meanin
 stands_for meaning server = meaning server.desk
 
 -- the server has this key, its desk stands for this, and these connections are open
-pub record HasState {D : Type 0} (meaning : D → Meaning) (server : Server D) (state : State) : Type 0 where
+pub record HasState {D : Type 0} (meaning : D → Meaning) (server : Server D) (state : State)
+    : Type 0 where
   pub key : server.key ≡ state.key
   pub desk : stands_for meaning server ≡ state.meaning
   pub connections : Has server.key server.connections state.connections
 
 -- a connection was opened at a number
-abbrev pub IsOpened : {D : Type 0} → (D → Meaning) → Server D → ℕ → State → Result (Unit {0}) ServerFault → Type 0
+abbrev pub IsOpened : {D : Type 0} → (D → Meaning) → Server D → ℕ → State
+    → Result (Unit {0}) ServerFault → Type 0
 IsOpened meaning server number state (Ok _) =
     (state.connections number ≡ None) × HasState meaning server (opened number state)
 IsOpened meaning server number state (Err faults.NoConnection) = ⊥
@@ -80,26 +85,31 @@ IsOpened meaning server number state (Err faults.AlreadyOpen) =
 IsOpened meaning server number state (Err (faults.Memory accepted)) =
     (accepted ≡ false) × (state.connections number ≡ None) × HasState meaning server state
 
--- this was said to more bytes, after which these bytes came: it was sent, and the server is the one after it
-pub record IsSaid {D : Type 0} (meaning : D → Meaning) (old new : List ℕ) (closes : Bool) (server : Server D) (number : ℕ) (bytes : List ℕ) (state : State) (said : Said) : Type 0 where
+-- this was said to more bytes, after which these bytes came: it was sent, and the server is the
+-- one after it
+pub record IsSaid {D : Type 0} (meaning : D → Meaning) (old new : List ℕ) (closes : Bool)
+    (server : Server D) (number : ℕ) (bytes : List ℕ) (state : State) (said : Said) : Type 0 where
   pub closing : closes ≡ said.closes
   pub sends : Sends state.key old new said.sent
   pub has : HasState meaning server (heard number bytes said state)
 
--- memory ran out while more bytes were heard: some of the packets that they complete, from the first on, were said
--- what is said to them, and the connection is lost
-pub record IsCutShort {D : Type 0} (meaning : D → Meaning) (old new : List ℕ) (server : Server D) (number : ℕ) (before more : List ℕ) (state : State) : Type 0 where
+-- memory ran out while more bytes were heard: some of the packets that they complete, from the
+-- first on, were said what is said to them, and the connection is lost
+pub record IsCutShort {D : Type 0} (meaning : D → Meaning) (old new : List ℕ) (server : Server D)
+    (number : ℕ) (before more : List ℕ) (state : State) : Type 0 where
   pub count : ℕ
   pub stays : (said_first state.key state.meaning before more count).closes ≡ false
   pub sends : Sends state.key old new (said_first state.key state.meaning before more count).sent
-  pub has : HasState meaning server
-      (lost number (with_meaning (said_first state.key state.meaning before more count).meaning state))
+  pub has : HasState meaning server (lost number
+      (with_meaning (said_first state.key state.meaning before more count).meaning state))
 
 -- bytes were handed in at a number
-abbrev pub IsHeard : {D : Type 0} → (D → Meaning) → List ℕ → List ℕ → Server D → ℕ → List ℕ → State → Result Bool ServerFault → Type 0
+abbrev pub IsHeard : {D : Type 0} → (D → Meaning) → List ℕ → List ℕ → Server D → ℕ → List ℕ → State
+    → Result Bool ServerFault → Type 0
 IsHeard meaning old new server number more state (Ok closes) =
     (before : List ℕ) × (state.connections number ≡ Some before)
-    × IsSaid meaning old new closes server number (before ++ more) state (said_on state.key state.meaning before more)
+    × IsSaid meaning old new closes server number (before ++ more) state
+    (said_on state.key state.meaning before more)
 IsHeard meaning old new server number more state (Err faults.NoConnection) =
     (state.connections number ≡ None) × (new ≡ old) × HasState meaning server state
 IsHeard meaning old new server number more state (Err faults.AlreadyOpen) = ⊥
@@ -108,22 +118,27 @@ IsHeard meaning old new server number more state (Err (faults.Memory accepted)) 
     × IsCutShort meaning old new server number before more state)
 
 -- the same, but nothing is said of what stands after want of memory
-abbrev pub IsHeardUnlessMemory : {D : Type 0} → (D → Meaning) → List ℕ → List ℕ → Server D → ℕ → List ℕ → State → Result Bool ServerFault → Type 0
+abbrev pub IsHeardUnlessMemory : {D : Type 0} → (D → Meaning) → List ℕ → List ℕ → Server D → ℕ
+    → List ℕ → State → Result Bool ServerFault → Type 0
 IsHeardUnlessMemory meaning old new server number more state (Ok closes) =
     IsHeard meaning old new server number more state (Ok closes)
 IsHeardUnlessMemory meaning old new server number more state (Err faults.NoConnection) =
     IsHeard meaning old new server number more state (Err faults.NoConnection)
 IsHeardUnlessMemory meaning old new server number more state (Err faults.AlreadyOpen) = ⊥
-IsHeardUnlessMemory meaning old new server number more state (Err (faults.Memory accepted)) = Unit {0}
+IsHeardUnlessMemory meaning old new server number more state (Err (faults.Memory accepted)) =
+    Unit {0}
 
--- memory ran out at a line of the console: nothing was printed; where the line's edit was accepted, it stands
+-- memory ran out at a line of the console: nothing was printed; where the line's edit was
+-- accepted, it stands
 abbrev pub IsUnprinted : {D : Type 0} → (D → Meaning) → Server D → List ℕ → State → Bool → Type 0
 IsUnprinted meaning server line state true =
-    (after : Meaning) × Accepts state.meaning line after × HasState meaning server (with_meaning after state)
+    (after : Meaning) × Accepts state.meaning line after
+    × HasState meaning server (with_meaning after state)
 IsUnprinted meaning server line state false = HasState meaning server state
 
 -- a line of the console was answered
-abbrev pub IsAnswered : {D : Type 0} → (D → Meaning) → List ℕ → List ℕ → Server D → List ℕ → State → Result (Unit {0}) ServerFault → Type 0
+abbrev pub IsAnswered : {D : Type 0} → (D → Meaning) → List ℕ → List ℕ → Server D → List ℕ → State
+    → Result (Unit {0}) ServerFault → Type 0
 IsAnswered meaning old new server line state (Ok _) =
     (text : List ℕ) × (after : Meaning) × Answers state.meaning line text after
     × (new ≡ old ++ text) × HasState meaning server (with_meaning after state)
@@ -133,7 +148,8 @@ IsAnswered meaning old new server line state (Err (faults.Memory accepted)) =
     (new ≡ old) × IsUnprinted meaning server line state accepted
 
 -- no other answer is right, and it leaves nothing else
-abbrev pub IsOnlyAnswer : {D : Type 0} → (D → Meaning) → List ℕ → List ℕ → Server D → List ℕ → State → Type 0
+abbrev pub IsOnlyAnswer : {D : Type 0} → (D → Meaning) → List ℕ → List ℕ → Server D → List ℕ
+    → State → Type 0
 IsOnlyAnswer meaning old new server line state =
     (other : List ℕ) (later : Meaning) → Answers state.meaning line other later
     → (new ≡ old ++ other) × (stands_for meaning server ≡ later)
@@ -141,13 +157,16 @@ IsOnlyAnswer meaning old new server line state =
 -- ---- an edit or a question at the console
 
 -- this text was added, and no other is right
-pub record Adds (old new : List ℕ) (now : Meaning) (answers : List ℕ → Meaning → Type 0) : Type 0 where
+pub record Adds (old new : List ℕ) (now : Meaning) (answers : List ℕ → Meaning → Type 0)
+    : Type 0 where
   pub text : List ℕ
   pub is : answers text now
-  pub only : (other : List ℕ) (later : Meaning) → answers other later → (other ≡ text) × (later ≡ now)
+  pub only : (other : List ℕ) (later : Meaning) → answers other later
+      → (other ≡ text) × (later ≡ now)
   pub added : new ≡ old ++ text
 
-abbrev pub EditAnswered : Meaning → Meaning → Edit → List ℕ → List ℕ → Result (Unit {0}) ServerFault → Type 0
+abbrev pub EditAnswered : Meaning → Meaning → Edit → List ℕ → List ℕ
+    → Result (Unit {0}) ServerFault → Type 0
 EditAnswered was now edit old new (Ok _) = Adds old new now (AnswersEdit was edit)
 EditAnswered was now edit old new (Err faults.NoConnection) = ⊥
 EditAnswered was now edit old new (Err faults.AlreadyOpen) = ⊥
@@ -155,27 +174,33 @@ EditAnswered was now edit old new (Err (faults.Memory true)) =
     (new ≡ old) × ((changes : List Changed) × Edits was edit (Ok changes) now)
 EditAnswered was now edit old new (Err (faults.Memory false)) = (new ≡ old) × (now ≡ was)
 
-abbrev pub QueryAnswered : Meaning → Meaning → Query → List ℕ → List ℕ → Result (Unit {0}) ServerFault → Type 0
+abbrev pub QueryAnswered : Meaning → Meaning → Query → List ℕ → List ℕ
+    → Result (Unit {0}) ServerFault → Type 0
 QueryAnswered was now query old new (Ok _) = Adds old new now (AnswersQuery was query)
 QueryAnswered was now query old new (Err faults.NoConnection) = ⊥
 QueryAnswered was now query old new (Err faults.AlreadyOpen) = ⊥
-QueryAnswered was now query old new (Err (faults.Memory accepted)) = (accepted ≡ false) × (new ≡ old) × (now ≡ was)
+QueryAnswered was now query old new (Err (faults.Memory accepted)) =
+    (accepted ≡ false) × (new ≡ old) × (now ≡ was)
 
 -- ---- events of a script
 
 -- the event was done: what it prints was added, and the server is the one after it
-pub record IsDone {D : Type 0} (meaning : D → Meaning) (old new : List ℕ) (server : Server D) (state : State) (event : Event) : Type 0 where
+pub record IsDone {D : Type 0} (meaning : D → Meaning) (old new : List ℕ) (server : Server D)
+    (state : State) (event : Event) : Type 0 where
   pub text : List ℕ
   pub next : State
   pub free : fault_in state.connections event ≡ None
   pub does : Does state event text next
-  pub only : (other : List ℕ) (later : State) → Does state event other later → (other ≡ text) × (later ≡ next)
+  pub only : (other : List ℕ) (later : State) → Does state event other later
+      → (other ≡ text) × (later ≡ next)
   pub added : new ≡ old ++ text
   pub has : HasState meaning server next
 
 -- the event of a line was done, or the fault that kept it from being done stopped the run
-abbrev pub IsDoneUnless : {D : Type 0} → (D → Meaning) → ℕ → List ℕ → List ℕ → Server D → State → Event → Result (Unit {0}) Stop → Type 0
-IsDoneUnless meaning line old new server state event (Ok _) = IsDone meaning old new server state event
+abbrev pub IsDoneUnless : {D : Type 0} → (D → Meaning) → ℕ → List ℕ → List ℕ → Server D → State
+    → Event → Result (Unit {0}) Stop → Type 0
+IsDoneUnless meaning line old new server state event (Ok _) =
+    IsDone meaning old new server state event
 IsDoneUnless meaning line old new server state event (Err stops.Memory) = Unit {0}
 IsDoneUnless meaning line old new server state event (Err (stops.Fault at)) =
     (at.line ≡ Some line) × (fault_in state.connections event ≡ Some at.fault) × (new ≡ old)

@@ -2,7 +2,9 @@
 
 ghost use Rattle.std.specs.Prelude.{◌≡◌, ◌∷◌, [], ◌<◌, length, IfOk, IfSome};
 ghost use Rattle.std.specs.Option.{option_map, option_map_or, option_and_then};
-ghost use Rattle.tac_server.specs.Command.{bytes_of, wire_packet as packet_of, wire_packets as packets_of, fields_of, numbered as numbered_text, hand_of, piece_size_of, event_by, event_of};
+ghost use Rattle.tac_server.specs.Command.{bytes_of, fields_of, hand_of, piece_size_of};
+ghost use Rattle.tac_server.specs.Command.{wire_packet as packet_of, wire_packets as packets_of};
+ghost use Rattle.tac_server.specs.Command.{numbered as numbered_text, event_by, event_of};
 
 use crate::number::connection_number;
 use basics::{Bytes, read_number, split_once};
@@ -53,7 +55,8 @@ fn wire_packet(key: &Key, bytes: Bytes) -> Option<Bytes>
 
 // The packet that a field spells, as a client sends it.
 fn spelled_packet(alloc: Global, key: &Key, field: &[u8]) -> Result<Option<Bytes>, AllocError>
-    ensures { IfOk result (λ packet. packet ≡ option_and_then (packet_of key.now) (bytes_of field.now)) }
+    ensures { IfOk result (λ packet.
+        packet ≡ option_and_then (packet_of key.now) (bytes_of field.now)) }
 {
     let Some(bytes) = hexadecimal(alloc, field)? else {
         return Ok(None);
@@ -63,7 +66,8 @@ fn spelled_packet(alloc: Global, key: &Key, field: &[u8]) -> Result<Option<Bytes
 
 // The first field of a text, and the text behind the space that ends it, if one does.
 fn first_field(text: &[u8]) -> (&[u8], Option<&[u8]>)
-    ensures fields { fields_of text.now ≡ result.0.now ∷ option_map_or (λ rest. fields_of rest.now) result.1 [] }
+    ensures fields { fields_of text.now
+        ≡ result.0.now ∷ option_map_or (λ rest. fields_of rest.now) result.1 [] }
     ensures shorter { IfSome result.1 (λ rest. length rest.now < length text.now) }
 {
     match split_once(text, b' ') {
@@ -100,7 +104,8 @@ fn numbered(text: &[u8]) -> Option<(u16, &[u8])>
 
 // `packet N HEX HEX ..`, behind its first word.
 fn hand_packets(alloc: Global, key: &Key, rest: &[u8]) -> Result<Option<Event>, AllocError>
-    ensures { IfOk result (λ event. event ≡ hand_of (λ text. packets_of key.now (fields_of text)) rest.now) }
+    ensures { IfOk result (λ event.
+        event ≡ hand_of (λ text. packets_of key.now (fields_of text)) rest.now) }
 {
     let Some((number, text)) = numbered(rest) else {
         return Ok(None);

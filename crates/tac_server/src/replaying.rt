@@ -1,6 +1,7 @@
 //! The replay of a script, from bytes to bytes.
 
-ghost use Rattle.std.specs.Prelude.{◌≡◌, ◌≢◌, [], ◌∷◌, ◌++◌, codes, ◌≤◌, ◌<◌, ℕ, List, length, take, IfOk, IfErr, OnOk, IfSome, IsErrOf, MatchOption, vec_len};
+ghost use Rattle.std.specs.Prelude.{◌≡◌, ◌≢◌, [], ◌∷◌, ◌++◌, codes, ◌≤◌, ◌<◌, ℕ, List, length};
+ghost use Rattle.std.specs.Prelude.{take, IfOk, IfErr, OnOk, IfSome, IsErrOf, MatchOption, vec_len};
 ghost use Rattle.std.specs.Io.KnownBytes.{Appends, Consumes, IsAtEnd, Keeps};
 ghost use Rattle.tac_server.specs.Script.{IsWorkedOut};
 ghost use Rattle.tac_server.specs.declared.replaying.ReplayEnd.{ReplayEnd as ReplayEndValue};
@@ -62,8 +63,10 @@ impl<T: Drop> From<AllocFailed<T>> for ReplayFault {
 fn read_piece<R: Read>(reader: &mut R, chunk: &mut [u8]) -> Result<Option<usize>, ReplayFault>
     requires { 0 < length chunk.old }
     ensures bound { IfOk result (λ piece. IfSome piece (λ n. n ≤ length chunk.new)) }
-    ensures bytes { IfOk result (λ piece. MatchOption piece (Keeps (R.remaining reader.old) (R.remaining reader.new))
-        (λ n. Consumes (R.remaining reader.old) (R.remaining reader.new) (take n chunk.new) × (n ≡ 0 → IsAtEnd (R.remaining reader.new)))) }
+    ensures bytes { IfOk result (λ piece. MatchOption piece
+        (Keeps (R.remaining reader.old) (R.remaining reader.new))
+        (λ n. Consumes (R.remaining reader.old) (R.remaining reader.new) (take n chunk.new)
+        × (n ≡ 0 → IsAtEnd (R.remaining reader.new)))) }
     ensures fault { IfErr result (λ fault. fault ≡ ReplayFault.ReadFault) }
 {
     match reader.read(chunk) {
@@ -79,7 +82,8 @@ fn read_piece<R: Read>(reader: &mut R, chunk: &mut [u8]) -> Result<Option<usize>
 
 // The whole script.
 fn read_script<R: Read>(alloc: Global, reader: &mut R) -> Result<Vec<u8>, ReplayFault>
-    ensures bytes { IfOk result (λ script. Consumes (R.remaining reader.old) (R.remaining reader.new) script.items) }
+    ensures bytes { IfOk result (λ script.
+        Consumes (R.remaining reader.old) (R.remaining reader.new) script.items) }
     ensures end { OnOk result (IsAtEnd (R.remaining reader.new)) }
     ensures bound { IfOk result (λ script. vec_len script ≤ 268435456) }
     ensures fault { IfErr result (λ fault. fault ≢ ReplayFault.WriteFault) }
@@ -142,7 +146,8 @@ pub fn replay<R: Read, W: Write>(
 ) -> Result<ReplayEnd, ReplayFault>
     // The whole input was read, and it is no longer than a script may be.
     ensures read { OnOk result (IsAtEnd (R.remaining reader.new)) }
-    ensures bound { OnOk result (IfSome (R.remaining reader.old) (λ script. length script ≤ 268435456)) }
+    ensures bound { OnOk result
+        (IfSome (R.remaining reader.old) (λ script. length script ≤ 268435456)) }
 
     // What was written is exactly the script's output, the end is the script's, and no others are.
     ensures output { IfOk result (λ end. IfSome (R.remaining reader.old) (λ script.

@@ -4,7 +4,9 @@ ghost use Rattle.std.specs.Prelude.{◌≡◌, ◌+◌, length, true, false, Non
 ghost use Rattle.std.specs.List.{list_any};
 ghost use Rattle.basics.specs.Lines.{lines_of};
 ghost use Rattle.pol_text.specs.Text.{policy_of, text_of_lines};
-ghost use Rattle.tac_server.specs.Script.{ReadsPolicy, Prints, DeskRuns, BodyRuns, LinesRun, is_run as run_test, before_run, after_run, key_line as key_of_line};
+ghost use Rattle.tac_server.specs.Script.{ReadsPolicy, Prints, DeskRuns, BodyRuns, LinesRun};
+ghost use Rattle.tac_server.specs.Script.{is_run as run_test, before_run, after_run};
+ghost use Rattle.tac_server.specs.Script.{key_line as key_of_line};
 
 use crate::events::run_events;
 use crate::script_fault::{Located, ScriptFault, Stop};
@@ -26,14 +28,17 @@ fn is_run(line: &[u8]) -> bool
     line == b"run".as_slice()
 }
 
-/// Takes the lines up to `run`, and `run` too, and answers the text before it. Where there is no `run`,
-/// all lines are taken.
+/// Takes the lines up to `run`, and `run` too, and answers the text before it. Where there is no
+/// `run`, all lines are taken.
 fn text_before_run<'a>(lines: &mut Lines<'a>) -> Option<&'a [u8]>
     ensures text { MatchOption result
         (list_any run_test lines.old.lines ≡ false)
-        (λ text. (list_any run_test lines.old.lines ≡ true) × (text.now ≡ text_of_lines (before_run lines.old.lines))
-        × (lines.new.lines ≡ after_run lines.old.lines) × (lines.new.number ≡ lines.old.number + length (before_run lines.old.lines) + 1)) }
-    ensures none { MatchOption result (lines.new.number ≡ lines.old.number + length lines.old.lines) (λ text. Unit {0}) }
+        (λ text. (list_any run_test lines.old.lines ≡ true)
+        × (text.now ≡ text_of_lines (before_run lines.old.lines))
+        × (lines.new.lines ≡ after_run lines.old.lines)
+        × (lines.new.number ≡ lines.old.number + length (before_run lines.old.lines) + 1)) }
+    ensures none { MatchOption result
+        (lines.new.number ≡ lines.old.number + length lines.old.lines) (λ text. Unit {0}) }
 {
     let text = lines.rest();
     let mut rest = text;

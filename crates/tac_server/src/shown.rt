@@ -1,6 +1,7 @@
 //! How what is sent is shown: packets with the pad taken off, in hexadecimal digits.
 
-ghost use Rattle.std.specs.Prelude.{◌≡◌, ◌<◌, ◌++◌, ℕ, List, [], length, MatchOption, IfOk, IfSome, OnOk};
+ghost use Rattle.std.specs.Prelude.{◌≡◌, ◌<◌, ◌++◌, ℕ, List, [], length};
+ghost use Rattle.std.specs.Prelude.{MatchOption, IfOk, IfSome, OnOk};
 ghost use Rattle.tac_conn.specs.declared.packet.Packet.{Packet};
 ghost use Rattle.tac_server.specs.Serving.{Said};
 ghost use Rattle.tac_server.specs.Kept.{IsWhole, Sends};

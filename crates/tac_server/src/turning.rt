@@ -1,6 +1,7 @@
 //! Serving a piece of bytes, one turn of its connection after another.
 
-ghost use Rattle.std.specs.Prelude.{◌≡◌, ◌+◌, ◌≤◌, ◌++◌, List, ℕ, length, false, not, Some, None, IfOk, OnOk, OnErr, vec_len, vec_capacity};
+ghost use Rattle.std.specs.Prelude.{◌≡◌, ◌+◌, ◌≤◌, ◌++◌, List, ℕ, length, false, not};
+ghost use Rattle.std.specs.Prelude.{Some, None, IfOk, OnOk, OnErr, vec_len, vec_capacity};
 ghost use Rattle.tac_conn.specs.Ask.{kind_asked, kind_of_ask};
 ghost use Rattle.tac_conn.specs.Packet.{sent};
 ghost use Rattle.tac_conn.specs.Reply.{packet_of, answer_body};
@@ -86,7 +87,8 @@ fn take_turn<D: Desk>(
 ) -> Result<Went, AllocError>
     ensures goes { (bytes : List ℕ) (taken : ℕ) → IsReady stream.old →
         Stands key.now stream.old bytes taken → IfOk result (λ went. turning.Goes went key.now
-        (D.meaning desk.old) (D.meaning desk.new) out.old.items out.new.items stream.new bytes taken) }
+        (D.meaning desk.old) (D.meaning desk.new) out.old.items out.new.items stream.new
+        bytes taken) }
     ensures shorter { IfOk result (λ went. turning.Shortens went stream.old stream.new) }
     ensures desk { OnErr result (D.meaning desk.new ≡ D.meaning desk.old) }
     ensures out { OnErr result (out.new.items ≡ out.old.items) }
