@@ -1,7 +1,7 @@
 //! The replay of a script, from bytes to bytes.
 
 ghost use Rattle.std.specs.Prelude.{◌≡◌, ◌≢◌, [], ◌∷◌, ◌++◌, codes, ◌≤◌, ◌<◌, ℕ, List, length};
-ghost use Rattle.std.specs.Prelude.{take, IfOk, IfErr, OnOk, IfSome, IsErrOf, MatchOption, vec_len};
+ghost use Rattle.std.specs.Prelude.{take, IfOk, IfErr, OnOk, IfSome, IsErrOf, vec_len};
 ghost use Rattle.std.specs.Io.KnownBytes.{Appends, Consumes, IsAtEnd, Keeps};
 ghost use Rattle.tac_server.specs.Script.{IsWorkedOut};
 ghost use Rattle.tac_server.specs.declared.replaying.ReplayEnd.{ReplayEnd as ReplayEndValue};
@@ -11,14 +11,12 @@ use crate::script::run_script;
 use crate::script_fault::Stop;
 use basics::send;
 use std::alloc::{AllocError, AllocFailed, Global};
-use std::io::{ErrorKind, Read, Write};
+use std::io::{Read, Write};
+use tac_input::{InputFault, read_whole};
 use thiserror::Error;
 
 /// The most bytes that a script has.
 const MAX_SCRIPT: usize = 268_435_456;
-
-/// What is read at once.
-const CHUNK: usize = 8192;
 
 /// How a replay ended.
 #[derive(Clone, Copy, Debug, PartialEq, Eq)]
@@ -59,27 +57,6 @@ impl<T: Drop> From<AllocFailed<T>> for ReplayFault {
     }
 }
 
-// One read into the chunk; nothing where it was interrupted.
-fn read_piece<R: Read>(reader: &mut R, chunk: &mut [u8]) -> Result<Option<usize>, ReplayFault>
-    requires { 0 < length chunk.old }
-    ensures bound { IfOk result (λ piece. IfSome piece (λ n. n ≤ length chunk.new)) }
-    ensures bytes { IfOk result (λ piece. MatchOption piece
-        (Keeps (R.remaining reader.old) (R.remaining reader.new))
-        (λ n. Consumes (R.remaining reader.old) (R.remaining reader.new) (take n chunk.new)
-        × (n ≡ 0 → IsAtEnd (R.remaining reader.new)))) }
-    ensures fault { IfErr result (λ fault. fault ≡ ReplayFault.ReadFault) }
-{
-    match reader.read(chunk) {
-        Ok(n) => Ok(Some(n)),
-        Err(e) => {
-            if e.kind() == ErrorKind::Interrupted {
-                return Ok(None);
-            }
-            Err(ReplayFault::ReadFault)
-        }
-    }
-}
-
 // The whole script.
 fn read_script<R: Read>(alloc: Global, reader: &mut R) -> Result<Vec<u8>, ReplayFault>
     ensures bytes { IfOk result (λ script.
@@ -88,21 +65,11 @@ fn read_script<R: Read>(alloc: Global, reader: &mut R) -> Result<Vec<u8>, Replay
     ensures bound { IfOk result (λ script. vec_len script ≤ 268435456) }
     ensures fault { IfErr result (λ fault. fault ≢ ReplayFault.WriteFault) }
 {
-    let mut script = Vec::new(alloc);
-    let mut chunk = [0; CHUNK];
-    'reads: for _ in 0..u64::MAX {
-        let Some(n) = read_piece(reader, &mut chunk)? else {
-            continue;
-        };
-        if n == 0 {
-            return Ok(script);
-        }
-        if n > MAX_SCRIPT - script.len() {
-            return Err(ReplayFault::ReadFault);
-        }
-        script.extend_from_slice(&chunk[..n])?;
+    match read_whole(alloc, reader, MAX_SCRIPT) {
+        Ok(script) => Ok(script),
+        Err(InputFault::Memory) => Err(ReplayFault::Memory),
+        Err(InputFault::Failed | InputFault::TooLong) => Err(ReplayFault::ReadFault),
     }
-    Err(ReplayFault::ReadFault)
 }
 
 // What a script prints, and how its replay ends.
