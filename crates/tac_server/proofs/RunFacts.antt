@@ -6,6 +6,7 @@ use Rattle.pol_names.specs.declared.subject_id.SubjectId.{SubjectId}
 use Rattle.pol_edit.specs.declared.fault.EditFault.{EditFault}
 use Rattle.pol_edit.specs.declared.fault.EditFault.TheVariants as edits
 use Rattle.pol_live.specs.Sizes.{IsSmall, IsFirstLarge, IsRefusedFor}
+use Rattle.std.proofs.lemmas.List.{append_cancel_left}
 use Rattle.pol_text.specs.declared.subject.Subject.{Subject}
 use Rattle.pol_text.specs.Text.{policy_of, text_of_lines}
 use Rattle.tac_desk.specs.Meaning.{Meaning}
@@ -22,9 +23,11 @@ use Rattle.tac_server.specs.declared.script_fault.Stop.TheVariants as stops
 use Rattle.tac_server.specs.Serving.{Said, said_on}
 use Rattle.tac_server.specs.Server.{State, opening, opened, lost, heard, with_meaning}
 use Rattle.tac_server.specs.Command.{event_of}
-use Rattle.tac_server.specs.Events.{Hears, shown}
+use Rattle.tac_server.specs.Happening.{Nothing, Packets, Text}
+use Rattle.tac_server.specs.Events.{shown, printed}
 use Rattle.tac_server.specs.Kept.{Sends, HasState, IsOpened, IsHeardUnlessMemory, IsAnswered, IsOnlyAnswer, IsDone, IsDoneUnless, stop_of}
 use Rattle.tac_server.specs.Script.{Run, Runs, RunsOn, BodyRuns, LinesRun, ReadsPolicy, Ends, Prints, DeskRuns, desk_of, ended, stopped_by, stopped, behind_text, is_run, before_run, key_line}
+use Rattle.tac_server.proofs.CourseFacts.{only_hears}
 
 -- ---- opening
 
@@ -34,8 +37,8 @@ opens_line meaning line number server state text h = record {
   text = [];
   next = opened number state;
   free = rw h.0 refl;
-  does = (refl, refl);
-  only = λ other later d. d;
+  does = record { given = Nothing; gives = (h.0, refl, refl); prints = refl };
+  only = λ other later d. (d.prints ∙ ap (printed state.key) d.gives.1, d.gives.2);
   added = sym (append-nil text);
   has = h.1;
 }
@@ -58,8 +61,8 @@ loses_line meaning line number server state text h = record {
   text = [];
   next = lost number state;
   free = refl;
-  does = (refl, refl);
-  only = λ other later d. d;
+  does = record { given = Nothing; gives = (refl, refl); prints = refl };
+  only = λ other later d. (d.prints ∙ ap (printed state.key) d.gives.0, d.gives.1);
   added = sym (append-nil text);
   has = h;
 }
@@ -80,14 +83,6 @@ keeps_line meaning line size server state text h = record {
 
 -- ---- handing bytes in
 
-only_hears : (state : State) (number : ℕ) (bytes before : List ℕ) → state.connections number ≡ Some before → (other : List ℕ) (later : State) → Hears state number bytes other later
-    → (other ≡ shown state.key number (said_on state.key state.meaning before bytes)) × (later ≡ heard number (before ++ bytes) (said_on state.key state.meaning before bytes) state)
-only_hears state number bytes before e other later d =
-    let same : d.before ≡ before = (let h : Some d.before ≡ Some before = sym d.is_open ∙ e in cc) in (
-      d.prints ∙ ap (λ (b : List ℕ). shown state.key number (said_on state.key state.meaning b bytes)) same,
-      d.leaves ∙ ap (λ (b : List ℕ). heard number (b ++ bytes) (said_on state.key state.meaning b bytes) state) same,
-    )
-
 pub hands_line : {D : Type 0} (meaning : D → Meaning) (key : List ℕ) (line number : ℕ) (bytes : List ℕ) (server : Server D) (state : State) (sent : List ℕ) (closes : Bool) (old new : List ℕ) → key ≡ server.key
     → IsHeardUnlessMemory meaning [] sent server number bytes state (Ok closes)
     → ((said : Said) → Sends key [] sent said.sent → closes ≡ said.closes → new ≡ old ++ shown key number said)
@@ -99,8 +94,10 @@ hands_line meaning key line number bytes server state sent closes old new same (
       text = shown state.key number whole;
       next = heard number (before ++ bytes) whole state;
       free = rw e refl;
-      does = record { before = before; is_open = e; prints = refl; leaves = refl };
-      only = only_hears state number bytes before e;
+      does = record { given = Packets number whole; gives = record { before = before; is_open = e; says = refl; leaves = refl }; prints = refl };
+      only = λ other later d.
+          let one = only_hears state number bytes before e d.given later d.gives in
+          (d.prints ∙ ap (printed state.key) one.0, one.1);
       added = show whole (subst (λ (k : List ℕ). Sends k [] sent whole.sent) (sym keys) said.sends) said.closing ∙ ap (λ (k : List ℕ). old ++ shown k number whole) keys;
       has = said.has;
     }
@@ -120,19 +117,16 @@ tells_line meaning number line server state old new h only = record {
   text = h.0;
   next = with_meaning h.1 state;
   free = refl;
-  does = record { meaning = h.1; answers = h.2; leaves = refl };
-  only = λ other later d. (
-      let same = only other d.meaning d.answers in
-      let texts : old ++ other ≡ old ++ h.0 = sym same.0 ∙ h.3 in
-      let meanings : d.meaning ≡ h.1 = sym same.1 ∙ h.4.desk in
-      (append-left_cancel old other h.0 texts, d.leaves ∙ ap (λ (m : Meaning). with_meaning m state) meanings));
+  does = record { given = Text h.0; gives = record { text = h.0; meaning = h.1; answers = h.2; says = refl; leaves = refl }; prints = refl };
+  only = λ other later d.
+      let g = d.gives in
+      let same = only g.text g.meaning g.answers in
+      let texts : g.text ≡ h.0 = append_cancel_left old g.text h.0 (sym same.0 ∙ h.3) in
+      let meanings : g.meaning ≡ h.1 = sym same.1 ∙ h.4.desk in
+      (d.prints ∙ ap (printed state.key) g.says ∙ texts, g.leaves ∙ ap (λ (m : Meaning). with_meaning m state) meanings);
   added = h.3;
   has = h.4;
 }
-  where
-    append-left_cancel : (front a b : List ℕ) → front ++ a ≡ front ++ b → a ≡ b
-    append-left_cancel [] a b e = e
-    append-left_cancel (x ∷ front) a b e = append-left_cancel front a b (let here : x ∷ (front ++ a) ≡ x ∷ (front ++ b) = e in cc)
 
 -- ---- one line after another
 

@@ -1,41 +1,20 @@
--- What happens at a server, one event after another, and what it gives out.
-use Rattle.std.specs.Prelude.{◌≡◌, ℕ, List, [], ◌∷◌, ◌++◌, Some, None}
+-- What happens at a server, one event after another, and the bytes that it gives out.
+use Rattle.std.specs.Prelude.{◌≡◌, ℕ, List, [], ◌∷◌, ◌++◌}
 use Rattle.tac_desk.specs.Meaning.{Meaning}
-use Rattle.tac_server.specs.Serving.{said_on, sent_bytes}
-use Rattle.tac_server.specs.Server.{State, opened, lost, heard}
-use Rattle.tac_server.specs.Events.{Tells}
+use Rattle.tac_server.specs.Server.{State}
+use Rattle.tac_server.specs.Happening.{Happening, Given, Gives, bytes_given}
 use Rattle.tac_server.specs.Kept.{HasState}
 use Rattle.tac_server.specs.declared.server.Server.{Server}
-
--- what may happen: a connection of a number is opened, bytes come on it, it is lost, and a line
--- is typed at the console
-pub data Happening : Type 0 where
-  Opens : ℕ → Happening
-  Brings : ℕ → List ℕ → Happening
-  Loses : ℕ → Happening
-  Types : List ℕ → Happening
-
--- what the server gives out at an event, on its connection or at the console, and the state that
--- it leaves; a number is opened only where it isn't open, and brings bytes only where it is
-abbrev pub Gives : State → Happening → List ℕ → State → Type 0
-Gives state (Opens number) out after =
-    (state.connections number ≡ None) × (out ≡ []) × (after ≡ opened number state)
-Gives state (Brings number piece) out after =
-    (before : List ℕ) × (state.connections number ≡ Some before)
-    × (out ≡ sent_bytes state.key (said_on state.key state.meaning before piece).sent)
-    × (after ≡ heard number (before ++ piece) (said_on state.key state.meaning before piece) state)
-Gives state (Loses number) out after = (out ≡ []) × (after ≡ lost number state)
-Gives state (Types line) out after = Tells state line out after
 
 -- an event behind what came earlier
 pub record Behind (earlier : List (List ℕ) → State → Type 0) (event : Happening)
     (outs : List (List ℕ)) (after : State) : Type 0 where
   pub before : State
   pub rest : List (List ℕ)
-  pub out : List ℕ
+  pub given : Given
   pub was : earlier rest before
-  pub gives : Gives before event out after
-  pub is : outs ≡ out ∷ rest
+  pub gives : Gives before event given after
+  pub is : outs ≡ bytes_given before.key given ∷ rest
 
 -- events in their order, the latest first: what was given out at each, the latest first, and the
 -- state that they leave

@@ -7,10 +7,10 @@ use Rattle.tac_wire.specs.Header.{header_of}
 use Rattle.tac_wire.specs.Pad.{padded}
 use Rattle.tac_conn.specs.declared.packet.Packet.{Packet}
 use Rattle.tac_conn.specs.Packet.{sent}
-use Rattle.tac_desk.specs.Meaning.{Meaning}
-use Rattle.tac_server.specs.Serving.{Said, said_on}
-use Rattle.tac_server.specs.Server.{Connections, State, opened, lost, heard, with_meaning}
-use Rattle.tac_server.specs.Console.{Answers}
+use Rattle.tac_server.specs.Serving.{Said}
+use Rattle.tac_server.specs.Server.{Connections, State}
+use Rattle.tac_server.specs.Happening.{Happening, Opens, Brings, Loses, Types, Gives}
+use Rattle.tac_server.specs.Happening.{Given, Nothing, Packets, Text}
 use Rattle.tac_server.specs.declared.event.Event.{Event}
 use Rattle.tac_server.specs.declared.event.Event.TheVariants.{Open, Hand, Pieces, Lost, Console}
 use Rattle.tac_server.specs.declared.script_fault.ScriptFault.{ScriptFault}
@@ -44,24 +44,31 @@ reply_lines key number packets = flat_map (λ packet. reply_line key number (sen
 abbrev pub shown : List ℕ → ℕ → Said → List ℕ
 shown key number said = reply_lines key number said.sent ++ closed_line number said.closes
 
--- bytes are handed in on an open connection
-pub record Hears (state : State) (number : ℕ) (bytes : List ℕ) (text : List ℕ) (after : State) : Type 0 where
-  pub before : List ℕ
-  pub is_open : state.connections number ≡ Some before
-  pub prints : text ≡ shown state.key number (said_on state.key state.meaning before bytes)
-  pub leaves : after ≡ heard number (before ++ bytes) (said_on state.key state.meaning before bytes) state
+-- what is printed of what the server gives out
+abbrev pub printed : List ℕ → Given → List ℕ
+printed key Nothing = []
+printed key (Packets number said) = shown key number said
+printed key (Text text) = text
 
--- a line is said at the console
-pub record Tells (state : State) (line : List ℕ) (text : List ℕ) (after : State) : Type 0 where
-  pub meaning : Meaning
-  pub answers : Answers state.meaning line text meaning
-  pub leaves : after ≡ with_meaning meaning state
+-- what happens at the server, and what is printed of it
+pub record Happens (state : State) (happening : Happening) (text : List ℕ) (after : State)
+    : Type 0 where
+  pub given : Given
+  pub gives : Gives state happening given after
+  pub prints : text ≡ printed state.key given
 
--- an event that nothing keeps from being done prints this, and leaves this; in which pieces bytes are handed in
--- changes nothing
+-- what an event of a script makes happen; in which pieces bytes are handed in changes nothing
+abbrev pub happening_of : Event → Option Happening
+happening_of (Open number) = Some (Opens number)
+happening_of (Hand number bytes) = Some (Brings number bytes)
+happening_of (Pieces size) = None
+happening_of (Lost number) = Some (Loses number)
+happening_of (Console line) = Some (Types line)
+
+abbrev pub DoesIf : State → Option Happening → List ℕ → State → Type 0
+DoesIf state None text after = (text ≡ []) × (after ≡ state)
+DoesIf state (Some happening) text after = Happens state happening text after
+
+-- an event that nothing keeps from being done prints this, and leaves this
 abbrev pub Does : State → Event → List ℕ → State → Type 0
-Does state (Open number) text after = (text ≡ []) × (after ≡ opened number state)
-Does state (Hand number bytes) text after = Hears state number bytes text after
-Does state (Pieces size) text after = (text ≡ []) × (after ≡ state)
-Does state (Lost number) text after = (text ≡ []) × (after ≡ lost number state)
-Does state (Console line) text after = Tells state line text after
+Does state event text after = DoesIf state (happening_of event) text after

@@ -2,6 +2,7 @@ pub mod Number
 pub mod Serving
 pub mod Server
 pub mod Console
+pub mod Happening
 pub mod Kept
 pub mod Turning
 pub mod Command

@@ -7,7 +7,7 @@ ghost use Rattle.tac_server.specs.Server as servers;
 ghost use Rattle.tac_server.specs.Console as consoles;
 ghost use Rattle.tac_server.specs.Kept as kept;
 ghost use Rattle.tac_server.specs.Course as course;
-ghost use Rattle.tac_server.specs.Course.{Happening};
+ghost use Rattle.tac_server.specs.Happening.{Happening, Opens, Brings, Loses, Types};
 ghost use Rattle.tac_server.specs.declared.server.ServerFault.TheVariants.{Memory};
 
 use crate::turning::serve_piece;
@@ -90,7 +90,7 @@ impl<D: Desk> Server<D> {
         // Behind all that happened before.
         ensures course { (start : servers.State) (events : List Happening) (outs : List (List ℕ))
             → course.HasRun D.meaning self.old start events outs → OnOk result (course.HasRun
-            D.meaning self.new start (course.Opens conn ∷ events) ([] ∷ outs)) }
+            D.meaning self.new start (Opens conn ∷ events) ([] ∷ outs)) }
     {
         if self.connections.contains_key(&conn) {
             return Err(ServerFault::AlreadyOpen);
@@ -115,7 +115,7 @@ impl<D: Desk> Server<D> {
         ensures course { (start : servers.State) (events : List Happening) (outs : List (List ℕ))
             → course.HasRun D.meaning self.old start events outs → OnOk result (course.RunsOn
             D.meaning out.old.items out.new.items self.new start
-            (course.Brings conn piece.now) events outs) }
+            (Brings conn piece.now) events outs) }
 
         // However bytes are cut into pieces, the same is said.
         ensures pieces { OnOk result ((meaning : MeaningValue) (before first second : List ℕ) →
@@ -147,7 +147,7 @@ impl<D: Desk> Server<D> {
         // Behind all that happened before.
         ensures course { (start : servers.State) (events : List Happening) (outs : List (List ℕ))
             → course.HasRun D.meaning self.old start events outs
-            → course.HasRun D.meaning self.new start (course.Loses conn ∷ events) ([] ∷ outs) }
+            → course.HasRun D.meaning self.new start (Loses conn ∷ events) ([] ∷ outs) }
     {
         let _ = self.connections.remove(&conn);
     }
@@ -210,7 +210,7 @@ impl<D: Desk> Server<D> {
         // Behind all that happened before.
         ensures course { (start : servers.State) (events : List Happening) (outs : List (List ℕ))
             → course.HasRun D.meaning self.old start events outs → OnOk result (course.RunsOn
-            D.meaning out.old.items out.new.items self.new start (course.Types line.now)
+            D.meaning out.old.items out.new.items self.new start (Types line.now)
             events outs) }
     {
         match read_console(self.alloc, line)? {
