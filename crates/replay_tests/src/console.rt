@@ -52,6 +52,7 @@ fn a_rule_put_before_another(rt: HostRuntime) -> Result<(), Fail> {
         closed 1
         > insert group ops 1 deny show .*
         ok
+        user bob now denies: show 
         open 1
         packet 1 c0020100.00000001.00000036.06010101030400030d080f'bobtty0service=shellcmd=showcmd-arg=version'
         reply 1 c0020200.00000001.00000020.1000001a0000'denied by group ops rule 1'
@@ -60,6 +61,7 @@ fn a_rule_put_before_another(rt: HostRuntime) -> Result<(), Fail> {
         denied by group ops rule 1
         > drop group ops 1
         ok
+        user bob now permits: show 
         open 1
         packet 1 c0020100.00000001.00000036.06010101030400030d080f'bobtty0service=shellcmd=showcmd-arg=version'
         reply 1 c0020200.00000001.00000006.010000000000
@@ -110,6 +112,7 @@ fn a_user_moved_with_records(rt: HostRuntime) -> Result<(), Fail> {
         tally group ops starts 0 stops 1 watchdogs 0 updates 0 open 0 elapsed 12 drift 0
         > move user bob in bare
         ok
+        user bob now denies: show 
         > tally user bob
         tally user bob starts 0 stops 1 watchdogs 0 updates 0 open 0 elapsed 12 drift 1
         > tally group ops
@@ -168,8 +171,9 @@ fn lines_that_ask_nothing(rt: HostRuntime) -> Result<(), Fail> {
         "why ",
         "why  bob",
         "why b*b x",
-        "shadow",
-        "reach group ops",
+        "shadow group ops",
+        "reach",
+        "reach ops",
         "quit",
         "\u{e9}",
         "why bob \t",

@@ -134,14 +134,17 @@ fn each_edit_accepted(rt: HostRuntime) -> Result<(), Fail> {
         ok
         > insert group ops 1 permit ping
         ok
+        user eve now permits: ping
         > insert group ops 1 deny 
         ok
         > insert group ops 3 permit show .*
         ok
+        user eve now permits: show 
         > shift group ops 1 3
         ok
         > drop group ops 2
         ok
+        user eve now denies: show 
         > remove user bob
         ok
         > policy
@@ -158,6 +161,23 @@ fn each_edit_accepted(rt: HostRuntime) -> Result<(), Fail> {
         permitted by group ops rule 1
         > why eve
         denied by group ops rule 2
+        ",
+    )
+}
+
+#[test]
+fn policies_that_would_be_too_large(rt: HostRuntime) -> Result<(), Fail> {
+    converses(
+        &rt,
+        "group g\n",
+        "
+        > insert group g 1 deny .*a...........
+        ok
+        > insert group g 1 deny .*a............
+        refused 11 TooManyStates group g
+        > policy
+        group g
+        deny .*a...........
         ",
     )
 }

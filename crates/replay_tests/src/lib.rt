@@ -19,6 +19,8 @@ mod pieces;
 #[cfg(test)]
 mod policy_faults;
 #[cfg(test)]
+mod rules;
+#[cfg(test)]
 mod script_faults;
 #[cfg(test)]
 mod sessions;

@@ -64,6 +64,39 @@ fn no_run(rt: HostRuntime) -> Result<(), Fail> {
 }
 
 #[test]
+fn policies_that_are_too_large(rt: HostRuntime) -> Result<(), Fail> {
+    // 8,192 residuals. It is judged before the events.
+    let large = "deny .*a............\n";
+    stops(
+        &rt,
+        &[
+            "key k\ngroup base\ngroup g in base\n",
+            large,
+            "user u in g\nrun\nno event\n",
+        ],
+        "fault TooManyStates group g\n",
+    )?;
+    // The first in order is named, also for what it inherits.
+    stops(
+        &rt,
+        &["key k\nuser u in g\ngroup g\n", large, "run\n"],
+        "fault TooManyStates user u\n",
+    )?;
+    // The policy's text is judged before its size.
+    stops(
+        &rt,
+        &["key k\ngroup g\n", large, "permit *\nrun\n"],
+        "fault line 4 5 BadPattern 5 NothingToRepeat at 0\n",
+    )?;
+    // 4,096 residuals.
+    plays(
+        &rt,
+        &["key k\ngroup g\ndeny .*a...........\nrun\nconsole why u x\n"],
+        "unknown user\n",
+    )
+}
+
+#[test]
 fn bad_commands(rt: HostRuntime) -> Result<(), Fail> {
     let lines = [
         "close 1",
