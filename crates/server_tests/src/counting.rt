@@ -1,7 +1,5 @@
 //! A desk that isn't the server's: it counts what it is asked.
 
-ghost use Rattle.tac_desk.specs.Kept.{stands_for};
-
 use pol_edit::{Edit, EditFault};
 use pol_report::Changes;
 use std::alloc::AllocError;
@@ -18,7 +16,7 @@ pub(crate) struct Counting {
 }
 
 impl Desk for Counting {
-    ghost meaning = { λ desk. stands_for desk.inner };
+    ghost meaning = { λ desk. desk.inner };
 
     fn ask(&mut self, ask: &Ask) -> Result<Answer, AllocError> {
         self.asks = self.asks.saturating_add(1);

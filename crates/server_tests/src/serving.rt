@@ -83,7 +83,12 @@ fn another_desk_through_the_same_server(rt: HostRuntime) -> Result<(), Fail> {
         Ok(false)
     );
     assert_eq!(rt; out.as_slice(), permitted.as_slice());
-    tells(&rt, &mut server, "insert group ops 1 deny show .*", "ok\n")?;
+    tells(
+        &rt,
+        &mut server,
+        "insert group ops 1 deny show .*",
+        "ok\nuser bob now denies: show \n",
+    )?;
     out.clear();
     assert_eq!(rt;
         server.feed(4_294_967_295, request.as_slice(), &mut out),
@@ -96,7 +101,12 @@ fn another_desk_through_the_same_server(rt: HostRuntime) -> Result<(), Fail> {
         "why bob show version",
         "denied by group ops rule 1\n",
     )?;
-    tells(&rt, &mut server, "shadow", "refused 1 BadEdit\n")
+    tells(
+        &rt,
+        &mut server,
+        "shadow",
+        "shadowed in group ops: group ops rule 2\nshadowed in user bob: group ops rule 2\n",
+    )
 }
 
 // Hands bytes in, cut in two at a place; this has to be sent.
