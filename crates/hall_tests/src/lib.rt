@@ -1,0 +1,9 @@
+//! Tests of the hall: calls of several seats.
+#![tactic(auto)]
+
+#[cfg(test)]
+mod calls;
+#[cfg(test)]
+mod seats;
+#[cfg(test)]
+mod support;

@@ -1,0 +1,177 @@
+//! What the tests share: conversations with a hall.
+
+use basics::Bytes;
+use pol_edit::read_edit;
+use pol_names::By;
+use pol_text::Policy;
+use std::alloc::{AllocError, Global};
+use std::sync::Wait;
+use std::test::Fail;
+use tac_conn::{Answer, Ask};
+use tac_desk::{PlainDesk, Query};
+use tac_hall::{Call, CallAnswer, Hall, HallFault, Receipt, Seat};
+
+/// A policy under which bob may show things.
+pub(crate) const OPS: &str = "group ops\npermit show .*\nuser bob in ops\n";
+
+/// A hall round a desk of this policy, whose log takes so many calls.
+pub(crate) fn hall_of<R: AllocGlobal>(
+    rt: &R,
+    policy: &str,
+    limit: usize,
+) -> Result<Hall<PlainDesk>, Fail> {
+    let policy = Policy::read(rt.alloc(), policy.as_bytes())?;
+    let desk = PlainDesk::new(rt.alloc(), policy, 9)?;
+    Ok(Hall::new(rt, desk, limit)?)
+}
+
+// The first word of a text, and what is behind the space.
+fn word(text: &str) -> (&str, &str) {
+    text.split_once(' ').unwrap_or((text, ""))
+}
+
+fn run(alloc: Global, user: &str, line: &str) -> Result<Call, AllocError> {
+    let user = Bytes::from_slice(alloc, user.as_bytes())?;
+    let line = Bytes::from_slice(alloc, line.as_bytes())?;
+    Ok(Call::Ask(Ask::Authorise { user, line }))
+}
+
+/// Bob asks for `show version`.
+pub(crate) fn show_version(alloc: Global) -> Result<Call, AllocError> {
+    run(alloc, "bob", "show version")
+}
+
+// `run NAME LINE`, `records`, `stop`, or an edit.
+fn call_of(alloc: Global, words: &str) -> Result<Call, Fail> {
+    let (verb, rest) = word(words);
+    match verb {
+        "run" => {
+            let (name, line) = word(rest);
+            Ok(run(alloc, name, line)?)
+        }
+        "records" => Ok(Call::Query(Query::Records)),
+        "stop" => Ok(Call::Stop),
+        _ => {
+            let edit = read_edit(alloc, words.as_bytes())?;
+            Ok(Call::Edit(edit))
+        }
+    }
+}
+
+fn show_answer(out: &mut String, answer: &CallAnswer) -> Result<(), AllocError> {
+    match answer {
+        CallAnswer::Ask(Answer::Permitted(None)) => write!(out, "permitted"),
+        CallAnswer::Ask(Answer::Denied(By::Rule(owner, number))) => {
+            write!(out, "denied by {owner} rule {number}")
+        }
+        CallAnswer::Ask(_) => write!(out, "another answer"),
+        CallAnswer::Edit(Ok(changes)) => write!(out, "changes {}", changes.get().len()),
+        CallAnswer::Edit(Err(fault)) => write!(out, "refused {fault}"),
+        CallAnswer::Query(Ok(_)) => write!(out, "report"),
+        CallAnswer::Query(Err(fault)) => write!(out, "refused {fault}"),
+        CallAnswer::Stopped => write!(out, "stopped"),
+    }
+}
+
+// The place of a call and its answer, or why it is refused.
+fn show(out: &mut String, told: &Result<Receipt, HallFault>) -> Result<(), AllocError> {
+    match told {
+        Ok(receipt) => {
+            write!(out, "{} ", receipt.place)?;
+            show_answer(out, &receipt.answer)
+        }
+        Err(fault) => write!(out, "{fault}"),
+    }
+}
+
+// Makes a call by a seat; this has to be what comes of it.
+fn says<R: Wait + AllocGlobal>(
+    rt: &R,
+    hall: &Hall<PlainDesk>,
+    seat: &mut Seat,
+    words: &str,
+    wanted: &str,
+) -> Result<(), Fail> {
+    let call = call_of(rt.alloc(), words)?;
+    let told = hall.call(rt, seat, call);
+    let mut shown = String::new(rt.alloc());
+    show(&mut shown, &told)?;
+    if shown.as_str() == wanted {
+        Ok(())
+    } else {
+        Err(Fail::from(shown))
+    }
+}
+
+// One line of a conversation.
+fn exchanges<R: Wait + AllocGlobal>(
+    rt: &R,
+    hall: &Hall<PlainDesk>,
+    seats: &mut [Seat],
+    line: &str,
+) -> Result<(), Fail> {
+    let (asked, wanted) = line.split_once(" = ").unwrap_or((line, ""));
+    let (number, words) = word(asked);
+    match seats.get_mut(number.parse::<usize>()?) {
+        Some(seat) => says(rt, hall, seat, words, wanted),
+        None => Err(Fail::from("no such seat")),
+    }
+}
+
+// All lines of a conversation.
+fn talks<R: Wait + AllocGlobal>(
+    rt: &R,
+    hall: &Hall<PlainDesk>,
+    seats: &mut [Seat],
+    talk: &str,
+) -> Result<(), Fail> {
+    for line in talk.lines() {
+        let line = line.trim();
+        if !line.is_empty() {
+            exchanges(rt, hall, seats, line)?;
+        }
+    }
+    Ok(())
+}
+
+// The hall is closed with these seats, and its log has so many calls.
+pub(crate) fn closes(hall: Hall<PlainDesk>, seats: Vec<Seat>, logged: usize) -> Result<(), Fail> {
+    match hall.close(seats) {
+        Ok(settled) => {
+            if settled.log.len() == logged {
+                Ok(())
+            } else {
+                Err(Fail::from("another number of calls"))
+            }
+        }
+        Err(_) => Err(Fail::from("close refused")),
+    }
+}
+
+/// So many seats of a hall.
+pub(crate) fn seats_of<R: Wait + AllocGlobal>(
+    rt: &R,
+    hall: &Hall<PlainDesk>,
+    count: usize,
+) -> Result<Vec<Seat>, Fail> {
+    let mut seats = Vec::new(rt.alloc());
+    for _ in 0..count {
+        let seat = hall.seat(rt)?;
+        seats.push(seat)?;
+    }
+    Ok(seats)
+}
+
+/// Each line is `SEAT CALL = PLACE ANSWER`, or `SEAT CALL = REFUSAL`, at a hall of bob's policy with
+/// two seats; behind them the hall is closed, and its log has so many calls.
+pub(crate) fn converses<R: Wait + AllocGlobal>(
+    rt: &R,
+    limit: usize,
+    talk: &str,
+    logged: usize,
+) -> Result<(), Fail> {
+    let hall = hall_of(rt, OPS, limit)?;
+    let mut seats = seats_of(rt, &hall, 2)?;
+    talks(rt, &hall, seats.as_mut_slice(), talk)?;
+    closes(hall, seats, logged)
+}
