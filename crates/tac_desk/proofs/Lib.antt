@@ -6,3 +6,4 @@ pub mod MarkFacts
 pub mod TallyFacts
 pub mod Unchanged
 pub mod Settling
+pub mod Recalled

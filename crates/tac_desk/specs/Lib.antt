@@ -7,3 +7,4 @@ pub mod Reporting
 pub mod FaultText
 pub mod Kept
 pub mod Metered
+pub mod Remembered

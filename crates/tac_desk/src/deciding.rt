@@ -3,23 +3,35 @@
 ghost use Rattle.std.specs.Prelude.{◌≡◌};
 ghost use Rattle.tac_tally.specs.Recount.{is_denied as denied_test};
 ghost use Rattle.tac_desk.specs.Asking as asking;
+ghost use Rattle.tac_desk.specs.Remembered.{AreDecisionsBy};
 ghost use Rattle.tac_desk.specs.Reporting as reporting;
 
 use crate::authorisation::decided;
+use crate::remembering::Remembered;
 use basics::is_text;
 use pol_live::Live;
 use pol_names::{Name, Verdict};
+use std::alloc::Global;
 use tac_conn::Answer;
 use tac_tally::Record;
 
-/// Whether the user of this name may run this line: a walk along the line. Takes no memory.
-pub(crate) fn authorisation_by(live: &Live, name: &[u8], line: &[u8]) -> Answer
-    ensures { result ≡ asking.authorisation live.now name.now line.now }
+/// Whether the user of this name may run this line, by what is remembered, or else by a walk along
+/// the line. Without memory nothing new is remembered.
+pub(crate) fn authorisation_by(
+    alloc: Global,
+    live: &Live,
+    remembered: &mut Remembered,
+    name: &[u8],
+    line: &[u8],
+) -> Answer
+    requires { AreDecisionsBy live.now remembered.old.kept.entries }
+    ensures answer { result ≡ asking.authorisation live.now name.now line.now }
+    ensures right { AreDecisionsBy live.now remembered.new.kept.entries }
 {
     let Some(user) = Name::read(name) else {
         return Answer::UnknownUser;
     };
-    let Some(decision) = live.decide(&user, line) else {
+    let Some(decision) = remembered.decide(alloc, live, &user, line) else {
         return Answer::UnknownUser;
     };
     if !is_text(line) {

@@ -13,6 +13,7 @@ mod plain;
 mod query;
 mod reaching;
 mod recounting;
+mod remembering;
 mod state;
 mod tallies;
 mod thrice;

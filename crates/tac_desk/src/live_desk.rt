@@ -19,6 +19,7 @@ use crate::live_editing::change_kept;
 use crate::live_reports::{reach_report_of, shadow_report_of, tally_by_marks};
 use crate::plain::copy_records;
 use crate::query::{Query, QueryFault, Report};
+use crate::remembering::Remembered;
 use crate::state::State;
 use crate::thrice::Thrice;
 use pol_automaton::Meter;
@@ -31,8 +32,9 @@ use std::marker::Model;
 use tac_conn::{Answer, Ask};
 use tac_tally::{Book, Record};
 
-/// A desk that keeps the automata of its policy, and beside each record whether the policy denies
-/// its line. A line is decided by a walk along it, and an edit works out anew only what it changes.
+/// A desk that keeps the automata of its policy, the decisions on the lines that were asked last,
+/// and beside each record whether the policy denies its line. A line is decided by what is
+/// remembered, or by a walk along it, and an edit works out anew only what it changes.
 /// A contract sees what the desk stands for, and its meter.
 #[derive(Drop)]
 pub struct LiveDesk {
@@ -42,11 +44,14 @@ pub struct LiveDesk {
     meter: Meter,
     // its marks are the policy's
     book: Book,
+    // of decisions of the policy
+    remembered: Remembered,
 }
 
 impl Model for LiveDesk {
     ghost use Rattle.tac_desk.specs.Kept.{meaning_of};
     ghost use Rattle.tac_desk.specs.Metered.{Metered, HasMarksBy};
+    ghost use Rattle.tac_desk.specs.Remembered.{AreDecisionsBy};
 
     ghost Value = { Metered };
 
@@ -55,7 +60,8 @@ impl Model for LiveDesk {
       meter = desk.meter;
     } };
 
-    ghost invariant = { λ desk. HasMarksBy desk.live desk.book };
+    ghost invariant = { λ desk. HasMarksBy desk.live desk.book
+        × AreDecisionsBy desk.live desk.remembered.kept.entries };
 }
 
 impl LiveDesk {
@@ -70,11 +76,13 @@ impl LiveDesk {
     {
         let mut meter = Meter::new();
         let live = Live::build(alloc, policy, &mut meter)?;
+        let remembered = Remembered::new(alloc)?;
         Ok(LiveDesk {
             alloc,
             live,
             meter,
             book: Book::new(alloc, record_limit),
+            remembered,
         })
     }
 
@@ -157,7 +165,14 @@ impl Desk for LiveDesk {
                 proof,
             } => Ok(authentication(self.live.policy(), user.as_slice(), *service, proof)),
             Ask::Authorise { user, line } => {
-                Ok(authorisation_by(&self.live, user.as_slice(), line.as_slice()))
+                let answer = authorisation_by(
+                    self.alloc,
+                    &self.live,
+                    &mut self.remembered,
+                    user.as_slice(),
+                    line.as_slice(),
+                );
+                Ok(answer)
             }
             Ask::Account(item) => self.store(item),
         }
@@ -171,6 +186,7 @@ impl Desk for LiveDesk {
             &mut self.book,
             edit,
         )?;
+        self.remembered.clear();
         Ok(thrice)
     }
 

@@ -13,4 +13,4 @@ returns-in_err-live-clause-only c =
 pub returns-clause-only : goal.returns-clause-only
 returns-clause-only c =
     let live = c.in_ok-live.ensures in
-    rw (live.found.0, c.new.ensures) (opened_only c.args.policy c.args.record_limit c.in_ok-live.live live.found live.only)
+    rw (live.found.0, c.new-2.ensures) (opened_only c.args.policy c.args.record_limit c.in_ok-live.live live.found live.only)
