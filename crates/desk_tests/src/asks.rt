@@ -37,6 +37,7 @@ fn logins_and_lines(rt: HostRuntime) -> Result<(), Fail> {
         # Edits count at once.
         > insert group ops 1 deny show .*
         ok
+        user bob now denies: show 
         ? run bob show version
         denied
         > clear login bob

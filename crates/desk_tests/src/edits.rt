@@ -16,7 +16,7 @@ fn accepted_and_refused(rt: HostRuntime) -> Result<(), Fail> {
         "group base\ngroup ops in base\nuser bob in ops\npermit show .*\n",
         9,
         "
-        # Each refusal of an edit but the last two.
+        # Each refusal of an edit that doesn't come from its size.
         > add group ops in none
         refused 2 NoSuch
         > add user bob
@@ -70,10 +70,13 @@ fn accepted_and_refused(rt: HostRuntime) -> Result<(), Fail> {
         ok
         > insert user bob 1 deny show run
         ok
+        user bob now denies: show run
         > shift user bob 1 2
         ok
+        user bob now permits: show run
         > drop user bob 1
         ok
+        user bob now denies: show 
         > move group ops out
         ok
         > policy
@@ -132,9 +135,19 @@ fn lines_that_ask_nothing(rt: HostRuntime) -> Result<(), Fail> {
         refused 1 BadEdit
         > why bob show\tversion
         refused 1 BadEdit
-        > shadow
+        > shadow 
         refused 1 BadEdit
-        > reach group ops
+        > shadow group ops
+        refused 1 BadEdit
+        > reach
+        refused 1 BadEdit
+        > reach 
+        refused 1 BadEdit
+        > reach ops
+        refused 1 BadEdit
+        > reach group  ops
+        refused 1 BadEdit
+        > reach group ops 
         refused 1 BadEdit
         > add
         refused 1 BadEdit
@@ -169,9 +182,9 @@ fn changes(alloc: Global) -> Result<Changes, Fail> {
     Ok(changes)
 }
 
-// What no edit is answered yet: which decisions it changes, and the last refusals.
+// How answers are printed, among them those that no edit of these tests is given.
 #[test]
-fn other_answers(rt: HostRuntime) -> Result<(), Fail> {
+fn printed_answers(rt: HostRuntime) -> Result<(), Fail> {
     let alloc = rt.alloc();
     let mut out = Vec::new(alloc);
     write_edit_answer(alloc, &mut out, &Ok(&changes(alloc)?))?;

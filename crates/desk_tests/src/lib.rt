@@ -8,6 +8,8 @@ mod edits;
 #[cfg(test)]
 mod questions;
 #[cfg(test)]
+mod rules;
+#[cfg(test)]
 mod sizes;
 #[cfg(test)]
 mod support;

@@ -35,6 +35,7 @@ fn why(rt: HostRuntime) -> Result<(), Fail> {
         permitted by group ops rule 2
         > move user bob out
         ok
+        user bob now denies: show 
         > why bob show version
         denied by default
         ",
@@ -74,6 +75,7 @@ fn tallies(rt: HostRuntime) -> Result<(), Fail> {
         # Where the user moves, the records go too, and are judged by the policy as it is then.
         > move user bob in bare
         ok
+        user bob now denies: show 
         > tally user bob
         tally user bob starts 1 stops 1 watchdogs 0 updates 0 open 1 elapsed 12 drift 1
         > tally group ops
@@ -82,10 +84,12 @@ fn tallies(rt: HostRuntime) -> Result<(), Fail> {
         tally group bare starts 1 stops 1 watchdogs 0 updates 0 open 1 elapsed 12 drift 1
         > insert group bare 1 permit show version
         ok
+        user bob now permits: show version
         > tally user bob
         tally user bob starts 1 stops 1 watchdogs 0 updates 0 open 1 elapsed 12 drift 0
         > add user zed in bare
         ok
+        user zed now permits: show version
         > tally group bare
         tally group bare starts 1 stops 2 watchdogs 0 updates 0 open 1 elapsed 112 drift 0
         > remove group bare

@@ -9,6 +9,7 @@ use std::test::Fail;
 fn push_size(text: &mut String, size: u32) -> Result<(), AllocError> {
     writeln!(text, "? record bob stop {size} 1 show%20{size}\nstored")?;
     writeln!(text, "> insert user bob {size} permit ping {size}\nok")?;
+    writeln!(text, "user bob now permits: ping {size}")?;
     writeln!(
         text,
         "> why bob ping {size}\npermitted by user bob rule {size}"
