@@ -1,0 +1,91 @@
+"""Policies as a network team writes them, made from a seed, for bench/analysis.
+
+A unit is 10 groups of 25 rules, nested to depth 3, and 18 users without rules of their own: 28
+subjects, with 1,475 entries along all chains.
+"""
+import random
+
+PARENTS = [None, None, None, 0, 0, 1, 2, 3, 4, 5]
+HOMES = [0, 1, 2] + [3, 4, 5, 6] * 2 + [3] + [7, 8, 9] * 2
+RULES = 25
+
+VERBS = [
+    "show", "clear", "debug", "undebug", "configure", "copy", "ping", "traceroute", "reload",
+    "write", "set", "monitor", "test", "archive", "crypto", "interface", "router", "snmp-server",
+]
+NOUNS = [
+    "version", "running-config", "startup-config", "interfaces", "ip route", "ip bgp", "ip ospf",
+    "vlan", "access-lists", "mac address-table", "spanning-tree", "logging", "users", "clock",
+    "inventory", "ntp associations", "cdp neighbors", "lldp neighbors", "processes cpu", "memory",
+    "policy-map", "port-security", "arp-cache", "counters", "ip dhcp binding", "crypto isakmp sa",
+]
+
+
+def pattern(choose):
+    """One pattern, of a form that operators use."""
+    verb, noun = choose.choice(VERBS), choose.choice(NOUNS)
+    some = "|".join(choose.sample(NOUNS, choose.randint(2, 4)))
+    verbs = "|".join(choose.sample(VERBS, 2))
+    return choose.choice([
+        f"{verb} {noun}",
+        f"{verb} {noun} .*",
+        f"{verb} {noun}( .*)?",
+        f"{verb} ({some})( .*)?",
+        f"({verbs}) {noun}( .*)?",
+        f"(no )?{verb} {noun} .*",
+        f"{verb} {noun} [0-9]+",
+        f"{verb} {noun} (Gigabit|TenGigabit)Ethernet[0-9]+/[0-9]+(/[0-9]+)?",
+        f"{verb} {noun} [0-9]+\\.[0-9]+\\.[0-9]+\\.[0-9]+",
+        f"{verb} {noun} [A-Za-z0-9_\\-]+( detail| brief| summary)?",
+    ])
+
+
+def rules(choose):
+    return [(choose.choice(["permit", "permit", "deny"]), pattern(choose)) for _ in range(RULES)]
+
+
+class Policy:
+    """Groups as (name, parent, rules) and users as (name, group), of so many units."""
+
+    def __init__(self, seed, units):
+        choose = random.Random(seed)
+        self.groups, self.users = [], []
+        for unit in range(units):
+            first = len(self.groups)
+            for number, parent in enumerate(PARENTS):
+                above = None if parent is None else first + parent
+                self.groups.append((f"group{unit}-{number}", above, rules(choose)))
+            for number, home in enumerate(HOMES):
+                self.users.append((f"user{unit}-{number}", first + home))
+
+    def text(self):
+        lines = []
+        for name, parent, own in self.groups:
+            above = "" if parent is None else f" in {self.groups[parent][0]}"
+            lines += [f"group {name}{above}"] + [f"{verdict} {source}" for verdict, source in own]
+        lines += [f"user {name} in {self.groups[home][0]}" for name, home in self.users]
+        return "".join(line + "\n" for line in lines)
+
+    def patterns_along(self, group):
+        """The patterns along a group's chain, its own first."""
+        found = []
+        while group is not None:
+            _, parent, own = self.groups[group]
+            found += [source for _, source in own]
+            group = parent
+        return found
+
+    def chains(self):
+        """The patterns along the chain of each subject, in the policy's order."""
+        ends = list(range(len(self.groups))) + [home for _, home in self.users]
+        return [self.patterns_along(group) for group in ends]
+
+
+def lines(seed, count):
+    """Command lines as they are typed, half of them with an argument or two."""
+    choose = random.Random(seed)
+    endings = ["", "", "", " 17", " 10.0.3.1", " detail", " GigabitEthernet0/1", " vlan-17 brief"]
+    return [
+        f"{choose.choice(VERBS)} {choose.choice(NOUNS)}{choose.choice(endings)}"
+        for _ in range(count)
+    ]
