@@ -9,6 +9,8 @@ mod differences;
 #[cfg(test)]
 mod lists;
 #[cfg(test)]
+mod meters;
+#[cfg(test)]
 mod policies;
 #[cfg(test)]
 mod reports;
