@@ -13,5 +13,5 @@ mod turning;
 
 pub use replaying::{ReplayEnd, ReplayFault, replay};
 pub use server::{Server, ServerFault};
-pub use tac_desk::{Desk, PlainDesk};
+pub use tac_desk::{Desk, LiveDesk, PlainDesk};
 pub use tac_wire::Key;

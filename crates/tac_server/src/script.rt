@@ -16,7 +16,7 @@ use pol_edit::EditFault;
 use pol_names::SubjectId;
 use pol_text::{Policy, PolicyFault};
 use std::alloc::Global;
-use tac_desk::PlainDesk;
+use tac_desk::LiveDesk;
 use tac_wire::Key;
 
 /// The most records that are kept.
@@ -99,7 +99,7 @@ fn run_policy(
     ensures { Prints out.old.items out.new.items result
         (DeskRuns key policy lines.old.number lines.old.lines) }
 {
-    match PlainDesk::new(alloc, policy, MAX_RECORDS) {
+    match LiveDesk::new(alloc, policy, MAX_RECORDS) {
         Ok(desk) => run_events(alloc, Server::new(alloc, desk, key), lines, out),
         Err(EditFault::TooManyStates(subject)) => Err(too_large(subject)),
         Err(EditFault::Memory) => Err(Stop::Memory),

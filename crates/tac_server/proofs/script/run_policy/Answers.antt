@@ -6,8 +6,8 @@ pub returns-in-Ok : goal.returns-in-Ok
 returns-in-Ok c =
     let opened = c.in-Ok.ensures in
     runs_at_desk c.args.key c.args.policy c.args.lines.now.number c.args.lines.now.lines c.args.out.now.items c.run_events.new.out.items
-    c.in-Ok.desk opened.found.0 opened.found.1 opened.only c.run_events.result
-    (c.run_events.ensures (opening c.args.key c.in-Ok.desk) c.new-in-Ok.ensures)
+    c.in-Ok.desk.meaning opened.found.0 opened.found.1 opened.only c.run_events.result
+    (c.run_events.ensures (opening c.args.key c.in-Ok.desk.meaning) c.new-in-Ok.ensures.state)
 
 pub returns-in-Err-TooManyStates : goal.returns-in-Err-TooManyStates
 returns-in-Err-TooManyStates c =
