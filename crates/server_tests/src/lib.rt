@@ -2,6 +2,8 @@
 #![tactic(auto)]
 
 #[cfg(test)]
+mod conversing;
+#[cfg(test)]
 mod counting;
 #[cfg(test)]
 mod serving;
