@@ -1,7 +1,9 @@
 //! The desk that keeps what follows from its policy.
 
-ghost use Rattle.std.specs.Prelude.{◌≡◌, ◌↔◌, true, false, Ok, Err, IsOk, IsTrue, IfOk, OnOk, OnErr};
+ghost use Rattle.std.specs.Prelude.{◌≡◌, ◌≤◌, ◌↔◌, true, false, Ok, Err, IsOk, IsTrue};
+ghost use Rattle.std.specs.Prelude.{IfOk, OnOk, OnErr};
 ghost use Rattle.pol_live.specs.Live.{is_memory};
+ghost use Rattle.pol_live.specs.Rise.{IsBuildRise, IsEditRise, Rises};
 ghost use Rattle.tac_conn.specs.Ask.{kind_of_ask, kind_of_answer};
 ghost use Rattle.tac_conn.specs.declared.ask.Answer.TheVariants as answers;
 ghost use Rattle.tac_desk.specs.Unless.{UnlessMemory};
@@ -9,6 +11,7 @@ ghost use Rattle.tac_desk.specs.Opening.{Opens, IsOnlyOpened};
 ghost use Rattle.tac_desk.specs.Metered.{unmetered};
 ghost use Rattle.tac_desk.specs.Asking as asking;
 ghost use Rattle.tac_desk.specs.Asking.{asked, stores, Passes};
+ghost use Rattle.tac_desk.specs.Editing as editing;
 ghost use Rattle.tac_desk.specs.Reporting as reporting;
 ghost use Rattle.tac_desk.specs.declared.query.QueryFault.TheVariants.{NoSuch};
 
@@ -73,6 +76,9 @@ impl LiveDesk {
             (Opens policy record_limit (unmetered result)) }
         ensures only { UnlessMemory is_memory result
             (IsOnlyOpened policy record_limit (unmetered result)) }
+
+        // The meter rises from nothing, by the residuals of each automaton that is made.
+        ensures rises { IfOk result (λ desk. Rises (IsBuildRise policy) 0 desk.meter) }
     {
         let mut meter = Meter::new();
         let live = Live::build(alloc, policy, &mut meter)?;
@@ -178,7 +184,18 @@ impl Desk for LiveDesk {
         }
     }
 
-    fn edit(&mut self, edit: &Edit) -> Result<Thrice<Changes>, EditFault> {
+    fn edit(&mut self, edit: &Edit) -> Result<Thrice<Changes>, EditFault>
+        ensures found { UnlessMemory is_memory result
+            (editing.Edits self.old.meaning edit.now result self.new.meaning) }
+        ensures only { UnlessMemory is_memory result
+            (editing.IsOnly self.old.meaning edit.now result self.new.meaning) }
+        ensures err { OnErr result (self.new.meaning ≡ self.old.meaning) }
+
+        // The meter rises by the residuals of each automaton that the edit makes anew.
+        ensures rises { OnOk result (Rises (IsEditRise edit.now self.new.meaning.policy)
+            self.old.meter self.new.meter) }
+        ensures kept { OnErr result (self.old.meter ≤ self.new.meter) }
+    {
         let thrice = change_kept(
             self.alloc,
             &mut self.live,

@@ -1,7 +1,8 @@
 //! Making an edit of a policy that has its automata, beside records that have their marks.
 
-ghost use Rattle.std.specs.Prelude.{◌≡◌, length, OnErr};
+ghost use Rattle.std.specs.Prelude.{◌≡◌, ◌≤◌, length, OnOk, OnErr};
 ghost use Rattle.pol_live.specs.Live.{is_memory};
+ghost use Rattle.pol_live.specs.Rise.{IsEditRise, Rises};
 ghost use Rattle.tac_tally.specs.Recount.{settled};
 ghost use Rattle.tac_desk.specs.Meaning.{with_policy};
 ghost use Rattle.tac_desk.specs.Unless.{UnlessMemory};
@@ -25,6 +26,7 @@ fn make(live: &mut Live, book: &mut Book, prepared: Prepared, recount: Recount)
     requires marks { settled recount book.old.entries ≡ entries_by prepared.after book.old }
     ensures meaning { meaning_of live.new book.new
         ≡ with_policy prepared.after (meaning_of live.old book.old) }
+    ensures policy { live.new ≡ prepared.after }
     ensures marks { HasMarksBy live.new book.new }
 {
     live.commit(prepared);
@@ -49,7 +51,11 @@ pub(crate) fn change_kept(
     ensures policy { OnErr result (live.new ≡ live.old) }
     ensures book { OnErr result (book.new ≡ book.old) }
     ensures marks { HasMarksBy live.new book.new }
+    ensures rises { OnOk result (Rises (IsEditRise edit.now live.new) meter.old meter.new) }
+    ensures kept { OnErr result (meter.old ≤ meter.new) }
 {
+    // the call is for its clause: the meter is a number of its type
+    let _ = meter.total();
     let prepared = live.prepare(alloc, edit, meter)?;
     let changes = changes(alloc, live, &prepared)?;
     let coming = Coming {
