@@ -58,12 +58,12 @@ pub(crate) fn change_kept(
     let _ = meter.total();
     let prepared = live.prepare(alloc, edit, meter)?;
     let changes = changes(alloc, live, &prepared)?;
+    let thrice = Thrice::new(alloc, changes)?;
     let coming = Coming {
         live,
         prepared: &prepared,
     };
-    let recount = recount_changed(alloc, &coming, changes.as_slice(), book)?;
-    let thrice = Thrice::new(alloc, changes)?;
+    let recount = recount_changed(alloc, &coming, thrice.first.as_slice(), book)?;
     make(live, book, prepared, recount);
     Ok(thrice)
 }
