@@ -4,6 +4,10 @@
 #[cfg(test)]
 mod asks;
 #[cfg(test)]
+mod both;
+#[cfg(test)]
+mod chance;
+#[cfg(test)]
 mod edits;
 #[cfg(test)]
 mod questions;

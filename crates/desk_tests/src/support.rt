@@ -102,9 +102,9 @@ fn account(alloc: Global, words: &str) -> Result<Ask, Fail> {
     )))
 }
 
-// `login NAME PASSWORD`, `enable NAME PASSWORD`, `chap NAME RESPONSE` to the challenge `c` with the
-// id `a`, `run NAME LINE` or `record ..`.
-fn ask(alloc: Global, words: &str) -> Result<Ask, Fail> {
+/// `login NAME PASSWORD`, `enable NAME PASSWORD`, `chap NAME RESPONSE` to the challenge `c` with
+/// the id `a`, `run NAME LINE` or `record ..`.
+pub(crate) fn ask(alloc: Global, words: &str) -> Result<Ask, Fail> {
     let (verb, rest) = word(words);
     if verb == "record" {
         return account(alloc, rest);

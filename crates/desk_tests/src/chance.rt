@@ -1,0 +1,111 @@
+//! Calls by chance: what connections ask, edits and questions, as lines of a conversation.
+
+use std::alloc::{AllocError, Global};
+
+// The calls, of which each line is as likely as any other. Each word in capitals stands for one of
+// its choices.
+const CALLS: &str = "? login USER SECRET
+? login USER SECRET
+? enable USER SECRET
+? run USER LINE
+? run USER LINE
+? run USER LINE
+? run USER LINE
+? run USER LINE
+? run USER LINE
+? record USER KIND 7 5
+? record USER KIND 8 12 SHOWN
+> add user USER in GROUP
+> add user USER in GROUP
+> add group GROUP in GROUP
+> remove SUBJECT
+> move SUBJECT PARENT
+> move SUBJECT PARENT
+> login USER SECRET
+> enable USER SECRET
+> clear login USER
+> priv SUBJECT LEVEL
+> insert SUBJECT PLACE VERDICT PATTERN
+> insert SUBJECT PLACE VERDICT PATTERN
+> insert SUBJECT PLACE VERDICT PATTERN
+> insert SUBJECT PLACE VERDICT PATTERN
+> drop SUBJECT PLACE
+> shift SUBJECT PLACE PLACE
+> policy
+> records
+> shadow
+> reach SUBJECT
+> tally SUBJECT
+> why USER LINE
+> why USER LINE";
+
+// Asks for a shell, of which the level is told. By chance no such call comes.
+const SHELL: &str = "? run ann \n";
+
+// What a word may stand for, a line each.
+fn choices(word: &str) -> Option<&'static str> {
+    match word {
+        "USER" => Some("bob\neve\nann\nzed"),
+        "GROUP" => Some("ops\nnet\nops\nnet\nlab"),
+        "SUBJECT" => Some("group ops\ngroup net\nuser bob\nuser eve\nuser ann\nuser zed"),
+        "PARENT" => Some("in ops\nin net\nin ops\nin net\nin lab\nout"),
+        "SECRET" => Some("x\nmore"),
+        "LINE" => Some("a\nab\nab\nb\nbb\na\u{7f}"),
+        "SHOWN" => Some("ab\nb\n%FF"),
+        "KIND" => Some("start\nstop\nwatchdog\nupdate"),
+        "LEVEL" => Some("0\n15\n16"),
+        "PLACE" => Some("1\n1\n1\n2\n3"),
+        "VERDICT" => Some("permit\ndeny"),
+        "PATTERN" => Some("a\na.*\n[^a]*\nab\nb+\na|b\n*a"),
+        _ => None,
+    }
+}
+
+// A generator of numbers that seem to be by chance (D. E. Knuth and H. W. Lewis).
+#[derive(Drop)]
+struct Chance {
+    state: u32,
+}
+
+impl Chance {
+    // One of the lines.
+    fn line<'a>(&mut self, lines: &'a str) -> &'a str {
+        self.state = self
+            .state
+            .wrapping_mul(1_664_525)
+            .wrapping_add(1_013_904_223);
+        let count = lines.lines().count().max(1);
+        // The low bits come round too soon.
+        let at = (self.state >> 16) as usize % count;
+        lines.lines().nth(at).unwrap_or("")
+    }
+
+    // What stands for a word of a call.
+    fn word(&mut self, word: &'static str) -> &'static str {
+        match choices(word) {
+            Some(lines) => self.line(lines),
+            None => word,
+        }
+    }
+
+    fn push_call(&mut self, text: &mut String) -> Result<(), AllocError> {
+        for (at, word) in self.line(CALLS).split(' ').enumerate() {
+            if at > 0 {
+                text.push_str(" ")?;
+            }
+            text.push_str(self.word(word))?;
+        }
+        text.push_str("\n")
+    }
+}
+
+/// An ask for a shell, and so many calls by chance, a line each, as a conversation has them.
+pub(crate) fn calls(alloc: Global, seed: u32, count: u32) -> Result<String, AllocError> {
+    let mut text = String::new(alloc);
+    let mut chance = Chance { state: seed };
+    text.push_str(SHELL)?;
+    for _ in 0..count {
+        chance.push_call(&mut text)?;
+    }
+    Ok(text)
+}
