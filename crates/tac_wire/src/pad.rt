@@ -1,6 +1,6 @@
 //! The pad that hides a body.
 
-ghost use Rattle.std.specs.Prelude.{◌≡◌, ◌++◌, List, ℕ};
+ghost use Rattle.std.specs.Prelude.{◌≡◌, ◌++◌, List, ℕ, length};
 ghost use Rattle.md5.specs.Md5.{md5};
 ghost use Rattle.tac_wire.specs.Pad.{seed, padded};
 
@@ -32,6 +32,8 @@ pub fn pad_in_place(header: &Header, key: &Key, body: &mut [u8])
     // Padding twice gives the bytes back, whatever they are.
     ensures twice { (bytes : List ℕ) →
         padded header.now key.now (padded header.now key.now bytes) ≡ bytes }
+    // Bytes are as many with their pad as without it.
+    ensures lengths { (bytes : List ℕ) → length (padded header.now key.now bytes) ≡ length bytes }
 {
     let len = body.len();
     let mut digest = digest_after(header, key, &[]);

@@ -57,9 +57,14 @@ pub returns-clause-value : goal.returns-clause-value
 returns-clause-value c =
     whole (seed c.args.header.now c.args.key.now) c.args.body.now c.loop-i.body (omega arith) (λ k lt. c.loop-i.invariant.done k (omega arith))
 
+-- bytes are as many with the pad of a seed
+length-padded : (s bytes : List ℕ) → length (xored bytes (take (length bytes) (digests s (length bytes)))) ≡ length bytes
+length-padded s bytes = length-xored bytes _ (omega (arith, length-pad s (length bytes)))
+
 pub returns-clause-twice : goal.returns-clause-twice
 returns-clause-twice c = λ bytes.
     let s = seed c.args.header.now c.args.key.now in
-    let long : length bytes ≤ length (take (length bytes) (digests s (length bytes))) = omega (arith, length-pad s (length bytes)) in
-    let same : length (xored bytes (take (length bytes) (digests s (length bytes)))) ≡ length bytes = length-xored bytes _ long in
-    rw same (xored-xored bytes _ long)
+    rw (length-padded s bytes) (xored-xored bytes _ (omega (arith, length-pad s (length bytes))))
+
+pub returns-clause-lengths : goal.returns-clause-lengths
+returns-clause-lengths c = λ bytes. length-padded (seed c.args.header.now c.args.key.now) bytes
