@@ -18,10 +18,13 @@ pub struct Sent {
 
 impl Model for Sent {
     ghost use Rattle.std.specs.Prelude.{List, ℕ};
+    ghost use Rattle.tac_conn.specs.Packet.{IsWhole};
 
     ghost Value = { List ℕ };
 
     ghost view = { λ sent. sent.bytes.items };
+
+    ghost invariant = { λ sent. IsWhole sent.bytes.items };
 }
 
 impl Sent {
@@ -45,6 +48,9 @@ impl Sent {
     pub fn as_slice(&self) -> &[u8]
         ensures value { result.now ≡ self.now }
         ensures bound { length result.now ≤ 96 }
+
+        // They are one whole packet: its header says its length.
+        ensures whole { packets.IsWhole self.now }
     {
         self.bytes.as_slice()
     }
