@@ -29,3 +29,4 @@ pub mod Left
 pub mod Marks
 pub mod Descent
 pub mod Parts
+pub mod HeldTexts

@@ -8,7 +8,7 @@ use Rattle.pol_pattern.specs.declared.token.Repeat.{Repeat}
 use Rattle.pol_pattern.specs.declared.token.Repeat.TheVariants.{Star, Plus, Question}
 use Rattle.pol_pattern.specs.Spelling.{ClassSymbol, plain, quoted, Item, one, range, Alternatives, Sequence, Repetition, Atom, single, or, nothing, next, once, repeated, literal, dot, bracket, parentheses, escaped, class_symbol, class_symbol_bytes, item_bytes, items_bytes, negation_bytes, repeat_byte, alternatives_bytes, sequence_bytes, repetition_bytes, atom_bytes, is_special, is_right_class_symbol, is_right_item, begins_with_caret, is_right_alternatives, is_right_sequence, is_right_repetition, is_right_atom}
 
-text_joined : (xs ys : List ℕ) → is_text xs ≡ true → is_text ys ≡ true → is_text (xs ++ ys) ≡ true
+pub text_joined : (xs ys : List ℕ) → is_text xs ≡ true → is_text ys ≡ true → is_text (xs ++ ys) ≡ true
 text_joined xs ys first behind = list_all-append is_symbol xs ys ∙ and_from (is_text xs) (is_text ys) first behind
 
 class_symbol_text : (tree : ClassSymbol) → is_right_class_symbol tree ≡ true → is_text (class_symbol_bytes tree) ≡ true

@@ -3,8 +3,11 @@
 -- Each class of a flat form has a mark, in the order in which the classes stand: it says whether the
 -- text so far can end in a symbol of that class. Whether it can end just before a part, `before`, comes
 -- from what stands in front of that part.
-use Rattle.std.specs.Prelude.{ℕ, ◌+◌, Bool, true, false, ◌&&◌, ◌||◌, List, [], ◌∷◌, ◌++◌, take, drop, replicate, Result, Ok, Err, slice_index_or}
+use Rattle.std.specs.Prelude.{◌↔◌, ℕ, ◌+◌, Bool, true, false, ◌&&◌, ◌||◌, IsTrue, List, [], ◌∷◌, ◌++◌}
+use Rattle.std.specs.Prelude.{take, drop, replicate, Result, Ok, Err, slice_index_or}
+use Rattle.basics.specs.Symbol.{is_text}
 use Rattle.pol_pattern.specs.Flat.{holds_symbol, Factor, class, group, star, Term, empty, put, Terms, none, alt}
+use Rattle.pol_pattern.specs.Spelling.{Holds}
 use Rattle.pol_pattern.specs.Reading.{reading}
 use Rattle.pol_pattern.specs.declared.fault.PatternFault.{PatternFault}
 
@@ -74,3 +77,8 @@ matches_reading (Err fault) text = false
 -- whether the pattern that the source spells holds the text
 unfoldable pub matches : List ℕ → List ℕ → Bool
 matches source text = matches_reading (reading source) text
+
+-- whether a pattern matches a line is whether its set holds it, and a set holds texts alone
+pub record MatchLaw : Type 0 where
+  pub same : (source line : List ℕ) → IsTrue (matches source line) ↔ Holds source line
+  pub texts : (source line : List ℕ) → Holds source line → IsTrue (is_text line)

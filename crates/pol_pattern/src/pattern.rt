@@ -6,11 +6,12 @@ ghost use Rattle.std.specs.Cmp.Lexicographic.{pointwise};
 ghost use Rattle.std.specs.Cmp.Rules.{comparing};
 ghost use Rattle.std.proofs.Common.{rules};
 ghost use Rattle.basics.specs.Memory.{GivesUnlessMemory};
+ghost use Rattle.basics.specs.Symbol.{is_text};
 ghost use Rattle.pol_pattern.specs.Memory.{is_memory};
 ghost use Rattle.pol_pattern.specs.Flat.{Terms, terms_value};
 ghost use Rattle.pol_pattern.specs.Spelling.{Spells, Holds};
 ghost use Rattle.pol_pattern.specs.Languages.{LanguageLaws};
-ghost use Rattle.pol_pattern.specs.Matching.{matches};
+ghost use Rattle.pol_pattern.specs.Matching.{matches, MatchLaw};
 ghost use Rattle.pol_pattern.specs.Reading.{reading as reading_of, pattern_of, is_unprintable};
 
 use crate::copying::copy_terms;
@@ -96,6 +97,9 @@ impl Pattern {
 
         // Whatever else the source spells is that.
         ensures only { (flat : Terms) → Spells self.now flat → flat ≡ terms_value result.now }
+
+        // The test that definitions use is the set's, and a set holds texts alone.
+        ensures law { MatchLaw }
     {
         &self.terms
     }
@@ -118,6 +122,9 @@ impl Pattern {
         // The same, as a test, and that the test is the set's for every source.
         ensures test { result ≡ matches self.now text.now }
         ensures law { (source bytes : List ℕ) → IsTrue (matches source bytes) ↔ Holds source bytes }
+
+        // A set holds texts alone.
+        ensures texts { (source bytes : List ℕ) → Holds source bytes → IsTrue (is_text bytes) }
 
         // The sets in the words of formal languages: union, concatenation, star.
         ensures languages { LanguageLaws }

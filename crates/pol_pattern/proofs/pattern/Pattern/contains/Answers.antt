@@ -4,6 +4,7 @@ use Rattle.pol_pattern.proofs.Soundness.{reading_spells}
 use Rattle.pol_pattern.proofs.Languages.{union_law, concatenation_law, star_law, plus_law, question_law, group_law}
 use Rattle.pol_pattern.proofs.Symbols.{empty_law, literal_law, escaped_law, dot_law, class_law}
 use Rattle.pol_pattern.proofs.Laws.{matches_is, holds_text, test_is_set}
+use Rattle.pol_pattern.proofs.HeldTexts.{held_text}
 use Rattle.pol_pattern.proofs.Marks.{matches_holds, terms_positions-le_size}
 use Rattle.pol_pattern.proofs.pattern.Pattern.contains.Goals as goal
 
@@ -24,6 +25,9 @@ returns-clause-test c =
 
 pub returns-clause-law : goal.returns-clause-law
 returns-clause-law c = test_is_set matches_holds
+
+pub returns-clause-texts : goal.returns-clause-texts
+returns-clause-texts c = held_text
 
 pub returns-clause-languages : goal.returns-clause-languages
 returns-clause-languages c = record {
