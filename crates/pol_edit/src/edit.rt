@@ -87,52 +87,33 @@ impl Edit {
     pub fn copy(&self, alloc: Global) -> Result<Edit, AllocError>
         ensures { IfOk result (λ copy. copy ≡ self.now) }
     {
-        Ok(match self {
-            Edit::AddGroup { name, parent } => Edit::AddGroup {
-                name: *name,
-                parent: *parent,
-            },
-            Edit::AddUser { name, parent } => Edit::AddUser {
-                name: *name,
-                parent: *parent,
-            },
-            Edit::Remove { subject } => Edit::Remove { subject: *subject },
-            Edit::SetParent { subject, parent } => Edit::SetParent {
-                subject: *subject,
-                parent: *parent,
-            },
-            Edit::SetLogin { user, secret } => Edit::SetLogin {
-                user: *user,
+        Ok(match *self {
+            Edit::AddGroup { name, parent } => Edit::AddGroup { name, parent },
+            Edit::AddUser { name, parent } => Edit::AddUser { name, parent },
+            Edit::Remove { subject } => Edit::Remove { subject },
+            Edit::SetParent { subject, parent } => Edit::SetParent { subject, parent },
+            Edit::SetLogin { user, ref secret } => Edit::SetLogin {
+                user,
                 secret: copy_secret(alloc, secret)?,
             },
-            Edit::SetEnable { user, secret } => Edit::SetEnable {
-                user: *user,
+            Edit::SetEnable { user, ref secret } => Edit::SetEnable {
+                user,
                 secret: copy_secret(alloc, secret)?,
             },
-            Edit::SetPriv { subject, level } => Edit::SetPriv {
-                subject: *subject,
-                level: *level,
-            },
+            Edit::SetPriv { subject, level } => Edit::SetPriv { subject, level },
             Edit::InsertRule {
                 subject,
                 at,
                 verdict,
-                pattern,
+                ref pattern,
             } => Edit::InsertRule {
-                subject: *subject,
-                at: *at,
-                verdict: *verdict,
+                subject,
+                at,
+                verdict,
                 pattern: pattern.copy(alloc)?,
             },
-            Edit::RemoveRule { subject, at } => Edit::RemoveRule {
-                subject: *subject,
-                at: *at,
-            },
-            Edit::MoveRule { subject, from, to } => Edit::MoveRule {
-                subject: *subject,
-                from: *from,
-                to: *to,
-            },
+            Edit::RemoveRule { subject, at } => Edit::RemoveRule { subject, at },
+            Edit::MoveRule { subject, from, to } => Edit::MoveRule { subject, from, to },
         })
     }
 }
