@@ -116,11 +116,6 @@ impl Subject {
         ensures subject { result ≡ new_subject kind name parent }
         ensures right { IsTrue (is_right_subject result) }
     {
-        // a slice of a name says that it is one
-        let _ = name.as_slice();
-        if let Some(parent) = &parent {
-            let _ = parent.as_slice();
-        }
         Subject {
             kind,
             name,
@@ -157,10 +152,6 @@ impl Subject {
         ensures changed { self.new ≡ with_secret credential secret self.old }
         ensures right { IsTrue (all_of is_secret secret) }
     {
-        // a slice of a secret says that it is one
-        if let Some(secret) = &secret {
-            let _ = secret.as_slice();
-        }
         match credential {
             Credential::Login => self.login = secret,
             Credential::Enable => self.enable = secret,
@@ -169,14 +160,13 @@ impl Subject {
 
     /// Puts a rule at a place, counted from 0; those from there on move up. By its type a rule's
     /// pattern is right.
+    #[tactic(auto, unfolding(pol_pattern::specs::Reading::pattern_of))]
     pub(crate) fn insert_rule(&mut self, at: usize, rule: Rule) -> Result<(), AllocError>
         requires { at ≤ length self.old.rules }
         ensures ok { OnOk result (self.new ≡ with_rule_at at rule self.old) }
         ensures err { OnErr result (self.new ≡ self.old) }
         ensures right { IsTrue (is_right_rule rule) }
     {
-        // a pattern's source says that it is one
-        let _ = rule.pattern.source();
         self.rules.insert(at, rule)?;
         Ok(())
     }
