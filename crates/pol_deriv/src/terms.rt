@@ -3,6 +3,7 @@
 ghost use Rattle.std.specs.Prelude.{◌≡◌, ◌↔◌, ◌<◌, ◌++◌, ◌∷◌, [], ℕ, List, length, IsTrue, IfOk};
 ghost use Rattle.std.specs.Borrow.{sem};
 ghost use Rattle.pol_pattern.specs.Flat as flat;
+ghost use Rattle.pol_pattern.specs.Matching.{MatchLaw};
 ghost use Rattle.pol_pattern.specs.Sets.{InTerm, InTerms};
 ghost use Rattle.pol_pattern.specs.Spelling.{Spells};
 ghost use Rattle.pol_deriv.specs.Derivative.{Derivatives, Residual};
@@ -72,6 +73,9 @@ impl Terms {
 
         // What a pattern holds is told by its residuals.
         ensures holds { ResidualLaw }
+
+        // That is what the test of definitions says, and a pattern holds texts alone.
+        ensures matching { MatchLaw }
         ensures numbers { IfOk result (λ set. AreNumbers self.new set) }
     {
         let numbers = self.table.add_each(pattern.terms())?;
