@@ -17,12 +17,12 @@ use Rattle.pol_automaton.specs.Entries.{Entries, AreWhole, AreEntries}
 
 -- ---- residuals, from the residual by the empty text on
 
-residual_after : (flat : Terms) (text : List ℕ) (term : Term) → Residual flat text term → After (Residual flat []) text term
+pub residual_after : (flat : Terms) (text : List ℕ) (term : Term) → Residual flat text term → After (Residual flat []) text term
 residual_after flat text term (at_first among) = at_first among
 residual_after flat text term (by_more {text = before} {symbol} {term = own} r d) =
     (after_push (Residual flat []) before symbol term).1 (own, residual_after flat before own r, d)
 
-after_residual : (flat : Terms) (done text : List ℕ) (term : Term) → After (Residual flat done) text term → Residual flat (done ++ text) term
+pub after_residual : (flat : Terms) (done text : List ℕ) (term : Term) → After (Residual flat done) text term → Residual flat (done ++ text) term
 after_residual flat done [] term h = subst (λ (l : List ℕ). Residual flat l term) (sym (append-nil done)) h
 after_residual flat done (symbol ∷ text) term h =
     let more = after_more (Derivatives symbol (Residual flat done)) (Residual flat (done ++ symbol ∷ [])) text (λ t w. by_more w.1 w.2) term h in

@@ -1,5 +1,5 @@
 -- Entries that grow: by terms alone, and by one more entry.
-use Rattle.std.proofs.Common.{◌≡◌, ◌<◌, ◌≤◌, ◌+◌, ◌-◌, ◌↔◌, ◌⊎◌, inl, inr, ℕ, Bool, true, false, ◌&&◌, IsTrue, List, [], ◌∷◌, ◌++◌, map, length, Less, Equal, Result, Ok, Err, refl, sym, subst, ap, ◌∙◌, append-nil, arith, rules}
+use Rattle.std.proofs.Common.{◌≡◌, ◌<◌, ◌≤◌, ◌+◌, ◌↔◌, ◌⊎◌, inl, inr, ℕ, List, [], ◌∷◌, ◌++◌, map, length, Less, Equal, Result, Ok, Err, refl, sym, subst, ◌∙◌, append-nil, arith, rules}
 use Rattle.std.specs.Prelude.{All, OnErr, IfOk}
 use Rattle.std.specs.List.{AllByRecursion}
 use Rattle.std.specs.List.Sorted.{IsStrictlySortedBy, IsStrictlyIncreasing}
@@ -9,38 +9,24 @@ use Rattle.std.proofs.lemmas.Cmp.{nat_cmp_total, tied_itself}
 use Rattle.std.proofs.lemmas.List.{get_or_append_left, get_or-append-add, length-append}
 use Rattle.std.proofs.lemmas.List.Elements.{All-append, All-from_recursion, All-map, All-weaker, All-contains, All-head, All-tail}
 use Rattle.std.proofs.lemmas.Map.Keys.{sorted_from_strictly_increasing}
-use Rattle.basics.specs.Symbol.{is_symbol, is_text}
 use Rattle.pol_pattern.specs.Flat.{Term, Terms}
 use Rattle.pol_pattern.specs.Sets.{InTerms}
 use Rattle.pol_pattern.specs.Spelling.{Spells}
 use Rattle.pol_deriv.specs.Derivative.{Residual, ResidualLaw}
 use Rattle.pol_deriv.specs.Table.{Grows, IsSetOf}
-use Rattle.pol_scan.specs.Alphabet.{Alphabet, IsAlphabet, column_of, least_of, word_of, text_of}
+use Rattle.pol_scan.specs.Alphabet.{Alphabet, IsAlphabet, HasClasses}
 use Rattle.pol_automaton.specs.declared.entry_term.EntryTerm.{EntryTerm}
 use Rattle.pol_automaton.specs.Decision.{entry_at}
 use Rattle.pol_automaton.specs.Scanning.{item_of, HasTerm, order}
-use Rattle.pol_automaton.specs.Entries.{Entries, IsExact, AreWhole, IsToldByResiduals, AreEntries, GrowsTo}
+use Rattle.pol_automaton.specs.Entries.{Entries, AreWhole, IsToldByResiduals, AreEntries, GrowsTo}
 use Rattle.pol_automaton.specs.Having.{adds_set, added_within}
 use Rattle.pol_automaton.specs.Telling.{grown}
+use Rattle.pol_automaton.specs.Alike.{AreAlike}
+use Rattle.pol_automaton.proofs.Divided.{IsDividedBy, classes_more}
 
 pub on_err : {T E P : Type 0} (r : Result T E) → P → OnErr r P
 on_err (Ok v) p = tt
 on_err (Err e) p = p
-
--- ---- the alphabet of symbols
-
-and_parts : (a b : Bool) → IsTrue (a && b) → IsTrue a × IsTrue b
-and_parts true b h = (refl, h)
-and_parts false b h = absurd cc
-
-pub exact_alphabet : (alphabet : Alphabet) → ((symbol : ℕ) → IsTrue (is_symbol symbol) → column_of alphabet symbol ≡ symbol - 32)
-    → ((symbol : ℕ) → IsTrue (is_symbol symbol) → least_of alphabet (symbol - 32) ≡ symbol) → IsExact alphabet
-exact_alphabet alphabet own least [] h = refl
-exact_alphabet alphabet own least (symbol ∷ text) h =
-    let p = and_parts (is_symbol symbol) (is_text text) h in
-    let first : least_of alphabet (column_of alphabet symbol) ≡ symbol = ap (least_of alphabet) (own symbol p.0) ∙ least symbol p.0 in
-    let rest : text_of alphabet (word_of alphabet text) ≡ text = exact_alphabet alphabet own least text p.1 in
-    cc
 
 -- ---- more terms
 
@@ -57,11 +43,12 @@ grows_terms e terms whole grows = record {
 }
 
 pub whole_terms : (e : Entries) (terms : List Term) → AreWhole e → Grows e.terms terms → AreWhole (record { alphabet = e.alphabet; terms = terms; start = e.start; count = e.count })
-whole_terms e terms whole grows = record { letters = whole.letters; exact = whole.exact; right = (grown e.terms terms grows e.start whole.right).0; below = whole.below }
+whole_terms e terms whole grows = record { letters = whole.letters; right = (grown e.terms terms grows e.start whole.right).0; below = whole.below }
 
 pub entries_kept : (a b : Entries) → GrowsTo a b → (entries : List (List ℕ)) → AreEntries a entries → AreEntries b entries
 entries_kept a b g entries are = record {
   many = g.count ∙ are.many;
+  classes = subst (λ (al : Alphabet). HasClasses al (AreAlike entries)) (sym g.alphabet) are.classes;
   told = are.told;
   spelled = are.spelled;
   first = λ entry flat lt spells term.
@@ -123,13 +110,14 @@ pub record AreFirst (table : List Term) (source numbers : List ℕ) : Type 0 whe
   pub told : IsToldByResiduals source
   pub sets : (flat : Terms) → Spells source flat → IsSetOf table numbers (Residual flat [])
 
-abbrev pub with_entry : Entries → List Term → List ℕ → Entries
-with_entry e terms numbers = record { alphabet = e.alphabet; terms = terms; start = e.start ++ map (item_of e.count) numbers; count = e.count + 1 }
+abbrev pub with_entry : Entries → Alphabet → List Term → List ℕ → Entries
+with_entry e alphabet terms numbers =
+    record { alphabet = alphabet; terms = terms; start = e.start ++ map (item_of e.count) numbers; count = e.count + 1 }
 
-pub whole_entry : (e : Entries) (terms : List Term) (source numbers : List ℕ) → AreWhole e → Grows e.terms terms → IsStrictlyIncreasing numbers → AreFirst terms source numbers → AreWhole (with_entry e terms numbers)
-whole_entry e terms source numbers whole grows rising first = record {
-  letters = whole.letters;
-  exact = whole.exact;
+pub whole_entry : (e : Entries) (alphabet : Alphabet) (terms : List Term) (source numbers : List ℕ) → AreWhole e → IsAlphabet alphabet → Grows e.terms terms → IsStrictlyIncreasing numbers
+    → AreFirst terms source numbers → AreWhole (with_entry e alphabet terms numbers)
+whole_entry e alphabet terms source numbers whole letters grows rising first = record {
+  letters = letters;
   right = record {
     sorted = sorted_append e.count e.start numbers whole.below whole.right.sorted (items_sorted e.count numbers (sorted_from_strictly_increasing numbers rising));
     within = added_within e.terms terms e.count e.start numbers (Residual first.spelled.0 []) grows whole.right.within (first.sets first.spelled.0 first.spelled.1);
@@ -140,10 +128,11 @@ whole_entry e terms source numbers whole grows rising first = record {
       (All-map (λ (x : EntryTerm). x.entry < e.count + 1) (item_of e.count) numbers (λ k d lt. omega arith));
 }
 
-pub entries_more : (e : Entries) (terms : List Term) (source numbers : List ℕ) → AreWhole e → Grows e.terms terms → AreFirst terms source numbers → (entries : List (List ℕ)) → AreEntries e entries
-    → AreEntries (with_entry e terms numbers) (entries ++ source ∷ [])
-entries_more e terms source numbers whole grows new entries are = record {
+pub entries_more : (e : Entries) (alphabet : Alphabet) (terms : List Term) (source numbers : List ℕ) → AreWhole e → IsDividedBy e.alphabet alphabet source → Grows e.terms terms
+    → AreFirst terms source numbers → (entries : List (List ℕ)) → AreEntries e entries → AreEntries (with_entry e alphabet terms numbers) (entries ++ source ∷ [])
+entries_more e alphabet terms source numbers whole divided grows new entries are = record {
   many = omega (arith, length-append entries (source ∷ []), are.many);
+  classes = classes_more e.alphabet alphabet entries source are.classes divided;
   told = All-append IsToldByResiduals entries (source ∷ []) are.told (All-from_recursion IsToldByResiduals (source ∷ []) (new.told, tt));
   spelled = λ entry lt. spelled_at entry (place entry lt);
   first = λ entry flat lt spells term. first_at entry flat term (place entry lt) spells;
@@ -182,19 +171,19 @@ entries_more e terms source numbers whole grows new entries are = record {
           λ r. has.1 (inr (omega (arith, at, are.many), r)),
         )
 
-pub no_entries : (alphabet : Alphabet) → AreEntries (record { alphabet = alphabet; terms = []; start = []; count = 0 }) []
-no_entries alphabet = record {
+pub no_entries : (alphabet : Alphabet) → HasClasses alphabet (λ a b. Unit {0}) → AreEntries (record { alphabet = alphabet; terms = []; start = []; count = 0 }) []
+no_entries alphabet classes = record {
   many = refl;
+  classes = λ a b p q. (λ _ k d lt. absurd (omega arith), λ _. (classes a b p q).1 tt);
   told = λ k d lt. absurd (omega arith);
   spelled = λ entry lt. absurd (omega arith);
   first = λ entry flat lt spells term. absurd (omega arith);
 }
 
-pub no_whole : (alphabet : Alphabet) → IsAlphabet alphabet → IsExact alphabet → AreWhole (record { alphabet = alphabet; terms = []; start = []; count = 0 })
+pub no_whole : (alphabet : Alphabet) → IsAlphabet alphabet → AreWhole (record { alphabet = alphabet; terms = []; start = []; count = 0 })
 unfolding IsStrictlySortedBy
-no_whole alphabet letters exact = record {
+no_whole alphabet letters = record {
   letters = letters;
-  exact = exact;
   right = record { sorted = tt; within = λ k d lt. absurd (omega arith); distinct = λ a b term p q. absurd cc };
   below = λ k d lt. absurd (omega arith);
 }

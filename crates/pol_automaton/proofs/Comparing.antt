@@ -14,9 +14,9 @@ use Rattle.pol_automaton.specs.declared.way.Way.{Way}
 use Rattle.pol_automaton.specs.declared.way.Way.TheVariants.{NowPermitted, NowDenied}
 use Rattle.pol_automaton.specs.Decision.{verdict_by, IsDecided, verdict_before, verdict_after, ruling, IsChanged, IsLeastChange}
 use Rattle.pol_automaton.specs.Automaton.{Automaton, state_of, first_of, IsWhole, IsDecider}
-use Rattle.pol_automaton.specs.Entries.{IsExact}
-use Rattle.pol_automaton.specs.Pairs.{pairs, is_change, comparison_of, changes}
+use Rattle.pol_automaton.specs.Pairs.{pairs, is_change, comparison_of, changes_at, changes}
 use Rattle.pol_automaton.proofs.Words.{is_word, spells_text}
+use Rattle.pol_automaton.proofs.Columns.{Refines, state_spelled}
 use Rattle.pol_automaton.proofs.Reaching.{first_one, least_same}
 
 -- ---- pairs in numbers
@@ -81,20 +81,29 @@ module _ (old : Automaton) (old_verdicts : List Verdict) (new : Automaton) (new_
         ),
   )
 
-  pub least_change : (alphabet : Alphabet) → IsExact alphabet → (text : List ℕ)
+  -- what is spelled of a text by a finer alphabet changed as the text did
+  changed_spelled : (alphabet : Alphabet) → IsAlphabet alphabet → Refines alphabet old.alphabet → Refines alphabet new.alphabet → (text : List ℕ) → IsTrue (is_text text)
+      → changes (comparison_of old old_verdicts new new_verdicts way) (text_of alphabet (word_of alphabet text)) ≡ changes (comparison_of old old_verdicts new new_verdicts way) text
+  unfolding changes
+  changed_spelled alphabet letters was is text h =
+      let compared = comparison_of old old_verdicts new new_verdicts way in
+      ap (λ n. changes_at compared n (state_of new (text_of alphabet (word_of alphabet text)))) (state_spelled alphabet letters old was text h)
+      ∙ ap (changes_at compared (state_of old text)) (state_spelled alphabet letters new is text h)
+
+  pub least_change : (alphabet : Alphabet) → IsAlphabet alphabet → Refines alphabet old.alphabet → Refines alphabet new.alphabet → (text : List ℕ)
       → IsLeast (IsTextThat (λ t. IsTrue (changes (comparison_of old old_verdicts new new_verdicts way) (text_of alphabet (word_of alphabet t))))) text
       → IsLeastChange (ruling before old_verdicts) (ruling after new_verdicts) way text
-  least_change alphabet exact text least =
+  least_change alphabet letters was is text least =
       least_same _ _ text
       (λ t. (
-        λ p. (changed_by t).0 (p.0, subst (λ (l : List ℕ). IsTrue (changes (comparison_of old old_verdicts new new_verdicts way) l)) (exact t p.0) p.1),
-        λ q. let p = (changed_by t).1 q in (p.0, subst (λ (l : List ℕ). IsTrue (changes (comparison_of old old_verdicts new new_verdicts way) l)) (sym (exact t p.0)) p.1),
+        λ p. (changed_by t).0 (p.0, subst IsTrue (changed_spelled alphabet letters was is t p.0) p.1),
+        λ q. let p = (changed_by t).1 q in (p.0, subst IsTrue (sym (changed_spelled alphabet letters was is t p.0)) p.1),
       )) least
 
-  pub no_change : (alphabet : Alphabet) → IsAlphabet alphabet → IsExact alphabet
+  pub no_change : (alphabet : Alphabet) → IsAlphabet alphabet → Refines alphabet old.alphabet → Refines alphabet new.alphabet
       → ((word : List ℕ) → ¬ (IsWordThat alphabet.width (λ w. IsTrue (changes (comparison_of old old_verdicts new new_verdicts way) (text_of alphabet w))) word))
       → (text : List ℕ) → ¬ (IsChanged (ruling before old_verdicts) (ruling after new_verdicts) way text)
-  no_change alphabet letters exact none text q =
+  no_change alphabet letters was is none text q =
       let p = (changed_by text).1 q in
       none (word_of alphabet text)
-      (is_word alphabet letters text p.0, subst (λ (l : List ℕ). IsTrue (changes (comparison_of old old_verdicts new new_verdicts way) l)) (sym (exact text p.0)) p.1)
+      (is_word alphabet letters text p.0, subst IsTrue (sym (changed_spelled alphabet letters was is text p.0)) p.1)

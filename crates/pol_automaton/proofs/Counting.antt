@@ -1,12 +1,15 @@
 -- How many residuals entries have: a count excludes more.
 use Rattle.std.proofs.Common.{◌≡◌, ◌⊎◌, ◌<◌, ◌≤◌, ℕ, zero, suc, true, false, IsTrue, List, [], ◌∷◌, length, refl, sym, ap, ◌∙◌, subst, inl, inr, eqb, arith}
+use Rattle.std.specs.Prelude.{All, AllPairs, Any}
 use Rattle.std.specs.List.{slice_index_or, list_any, AllByRecursion, IsDistinct}
 use Rattle.std.proofs.lemmas.Bool.{cases_lt, or_cases, eqb-true, ne_eqb}
 use Rattle.std.proofs.lemmas.List.{get_or_past, get_or_default}
 use Rattle.std.proofs.lemmas.Map.Keys.{IsDistinct-cons, IsDistinct-from_apart}
 use Rattle.std.proofs.lemmas.Map.Steps.{length-le_from_distinct_below}
-use Rattle.basics.specs.Symbol.{is_text}
-use Rattle.pol_automaton.specs.Residuals.{SameResiduals, IsResidualCount, HasMoreResiduals, ExcludesLaw}
+use Rattle.basics.specs.Symbol.{is_symbol, is_text}
+use Rattle.pol_automaton.specs.Residuals.{SameResiduals, IsResidualCount, ExcludesLaw}
+use Rattle.pol_automaton.specs.Alike.{AreAlike, IsClassCount}
+use Rattle.pol_automaton.proofs.Alikes.{alike_symmetric, alike_transitive}
 
 -- ---- different numbers below a bound
 
@@ -48,59 +51,67 @@ at_most : (m n : ℕ) (f : ℕ → ℕ) → ((i : ℕ) → i < m → f i < n) �
 at_most m n f below one =
     omega (arith, length-numbers f m, length-le_from_distinct_below (numbers f m) n (numbers_distinct f m m (omega arith) one) (λ q h. numbers_below f m n q below h))
 
+-- ---- of different ones there are no more than of those among which each has the same
+
+module _ {X : Type 0} (Right : X → Type 0) (Same : X → X → Type 0) (symmetric : (x y : X) → Same x y → Same y x)
+    (transitive : (x y z : X) → Same x y → Same y z → Same x z) (any : X) (any_right : Right any) where
+  module _ (xs ys : List X) (right : All Right xs) (different : AllPairs (λ x y. ¬ (Same x y)) xs)
+      (complete : (x : X) → Right x → Any (Same x) ys) where
+    at : ℕ → X
+    at i = slice_index_or xs i any
+
+    right_at : (i : ℕ) → Right (at i)
+    unfolding at
+    right_at i = by (cases_lt i (length xs))
+      where
+        by : (i < length xs) ⊎ (length xs ≤ i) → Right (slice_index_or xs i any)
+        by (inl h) = right i any h
+        by (inr h) = subst Right (sym (get_or_past xs i any h)) any_right
+
+    number_at : ℕ → ℕ
+    number_at i = (complete (at i) (right_at i)).0
+
+    number_below : (i : ℕ) → number_at i < length ys
+    unfolding number_at
+    number_below i = (complete (at i) (right_at i)).2
+
+    same_as_numbered : (i : ℕ) → Same (at i) (slice_index_or ys (number_at i) any)
+    unfolding number_at
+    same_as_numbered i =
+        let c = complete (at i) (right_at i) in
+        subst (Same (at i)) (sym c.3 ∙ get_or_default ys c.0 c.1 any c.2) c.4
+
+    one_place : (i j : ℕ) → i < length xs → j < length xs → number_at i ≡ number_at j → i ≡ j
+    unfolding at
+    one_place i j p q e = by (cases_lt i j) (cases_lt j i)
+      where
+        same : (k l : ℕ) → number_at k ≡ number_at l → Same (at k) (at l)
+        same k l f =
+            transitive (at k) (slice_index_or ys (number_at k) any) (at l) (same_as_numbered k)
+            (symmetric (at l) (slice_index_or ys (number_at k) any) (subst (λ (n : ℕ). Same (at l) (slice_index_or ys n any)) (sym f) (same_as_numbered l)))
+
+        by : (i < j) ⊎ (j ≤ i) → (j < i) ⊎ (i ≤ j) → i ≡ j
+        by (inl k) r = absurd (different i j any k q (same i j e))
+        by (inr k) (inl r) = absurd (different j i any r p (same j i (sym e)))
+        by (inr k) (inr r) = omega arith
+
+    pub no_more : length xs ≤ length ys
+    unfolding IsOneToOne
+    no_more = at_most (length xs) (length ys) number_at (λ i p. number_below i) one_place
+
 -- ---- texts and their residuals
 
-text_at : List (List ℕ) → ℕ → List ℕ
-text_at texts i = slice_index_or texts i []
-
-same_symmetric : (entries : List (List ℕ)) (t u : List ℕ) → SameResiduals entries t u → SameResiduals entries u t
+pub same_symmetric : (entries : List (List ℕ)) (t u : List ℕ) → SameResiduals entries t u → SameResiduals entries u t
 same_symmetric entries t u same = λ k d lt term. ((same k d lt term).1, (same k d lt term).0)
 
-same_transitive : (entries : List (List ℕ)) (t u v : List ℕ) → SameResiduals entries t u → SameResiduals entries u v → SameResiduals entries t v
+pub same_transitive : (entries : List (List ℕ)) (t u v : List ℕ) → SameResiduals entries t u → SameResiduals entries u v → SameResiduals entries t v
 same_transitive entries t u v p q = λ k d lt term. (λ h. (q k d lt term).0 ((p k d lt term).0 h), λ h. (p k d lt term).1 ((q k d lt term).1 h))
 
-module _ (entries : List (List ℕ)) (count limit : ℕ) (has : IsResidualCount entries count) (above : HasMoreResiduals entries limit) where
-  is_text_at : (i : ℕ) → IsTrue (is_text (text_at above.texts i))
-  unfolding text_at
-  is_text_at i = by (cases_lt i (length above.texts))
-    where
-      by : (i < length above.texts) ⊎ (length above.texts ≤ i) → IsTrue (is_text (slice_index_or above.texts i []))
-      by (inl h) = above.different.all_texts i [] h
-      by (inr h) = subst (λ (t : List ℕ). IsTrue (is_text t)) (sym (get_or_past above.texts i [] h)) refl
-
-  number_at : ℕ → ℕ
-  number_at i = (has.complete (text_at above.texts i) (is_text_at i)).0
-
-  number_below : (i : ℕ) → number_at i < count
-  unfolding number_at
-  number_below i = subst (λ (n : ℕ). (has.complete (text_at above.texts i) (is_text_at i)).0 < n) has.many (has.complete (text_at above.texts i) (is_text_at i)).2
-
-  same_as_numbered : (i : ℕ) → SameResiduals entries (text_at above.texts i) (text_at has.texts (number_at i))
-  unfolding text_at number_at
-  same_as_numbered i =
-      let c = has.complete (text_at above.texts i) (is_text_at i) in
-      subst (SameResiduals entries (text_at above.texts i)) (sym c.3 ∙ get_or_default has.texts c.0 c.1 [] c.2) c.4
-
-  one_place : (i j : ℕ) → i < length above.texts → j < length above.texts → number_at i ≡ number_at j → i ≡ j
-  unfolding text_at
-  one_place i j p q e = by (cases_lt i j) (cases_lt j i)
-    where
-      same : (k l : ℕ) → number_at k ≡ number_at l → SameResiduals entries (text_at above.texts k) (text_at above.texts l)
-      same k l f =
-          same_transitive entries (text_at above.texts k) (text_at has.texts (number_at k)) (text_at above.texts l) (same_as_numbered k)
-          (same_symmetric entries (text_at above.texts l) (text_at has.texts (number_at k)) (subst (λ (n : ℕ). SameResiduals entries (text_at above.texts l) (text_at has.texts n)) (sym f) (same_as_numbered l)))
-
-      by : (i < j) ⊎ (j ≤ i) → (j < i) ⊎ (i ≤ j) → i ≡ j
-      by (inl k) r = absurd (above.different.different i j [] k q (same i j e))
-      by (inr k) (inl r) = absurd (above.different.different j i [] r p (same j i (sym e)))
-      by (inr k) (inr r) = omega arith
-
-  no_more : length above.texts ≤ count
-  unfolding IsOneToOne
-  no_more = at_most (length above.texts) count number_at (λ i p. number_below i) one_place
-
 pub excludes : ExcludesLaw
-excludes entries count limit has few above = omega (arith, no_more entries count limit has above, above.many)
+excludes entries count limit has few above =
+    let most = no_more (λ (t : List ℕ). IsTrue (is_text t)) (SameResiduals entries) (same_symmetric entries) (same_transitive entries) [] refl
+    above.texts has.texts above.different.all_texts above.different.different has.complete in
+    omega (arith, most, has.many, above.many)
 
 -- so there is one count
 one_up : (entries : List (List ℕ)) (n m : ℕ) → IsResidualCount entries n → IsResidualCount entries m → ¬ (n < m)
@@ -114,3 +125,15 @@ one_count entries n m p q = by (cases_lt n m) (cases_lt m n)
     by (inl h) r = absurd (one_up entries n m p q h)
     by (inr h) (inl k) = absurd (one_up entries m n q p k)
     by (inr h) (inr k) = omega arith
+
+-- ---- symbols and their classes
+
+module _ (entries : List (List ℕ)) where
+  one_way : (n m : ℕ) → IsClassCount entries n → IsClassCount entries m → n ≤ m
+  one_way n m p q =
+      let most = no_more (λ (symbol : ℕ). IsTrue (is_symbol symbol)) (AreAlike entries) (alike_symmetric entries) (alike_transitive entries) 32 refl
+      p.symbols q.symbols p.all_symbols p.different q.complete in
+      omega (arith, most, p.many, q.many)
+
+  pub one_class_count : (n m : ℕ) → IsClassCount entries n → IsClassCount entries m → n ≡ m
+  one_class_count n m p q = omega (arith, one_way n m p q, one_way m n q p)

@@ -20,7 +20,7 @@ use Rattle.pol_automaton.specs.Entries.{Entries, AreWhole, AreEntries, GrowsTo}
 use Rattle.pol_automaton.specs.Matching.{Accepts, IsFirstAccepted}
 use Rattle.pol_automaton.specs.Telling.{behind_grown}
 use Rattle.pol_automaton.proofs.Zips.{zip_length, zip_through}
-use Rattle.pol_automaton.proofs.Machines.{TellsResiduals, IsFound, automaton_of, is_whole, read, kept_word, is_decider}
+use Rattle.pol_automaton.proofs.Machines.{TellsResiduals, IsFound, automaton_of, is_whole, read, spelled_same, kept_word, is_decider}
 use Rattle.pol_automaton.proofs.Behind.{SameAfter, same_after, holds_after, behind_none, after_some}
 
 -- ---- what the scan finds
@@ -51,9 +51,9 @@ pub tells_residuals : (e : Entries) (sources : List (List ℕ)) → AreWhole e �
     → TellsResiduals e.alphabet (residuals e.alphabet e.terms e.start) sources
 tells_residuals e sources whole are = record {
   letters = whole.letters;
-  exact = whole.exact;
   columns = refl;
   same = λ u v p q. same_after e sources whole are (text_of e.alphabet u) (text_of e.alphabet v);
+  classes = are.classes;
 }
 
 module _ (e : Entries) (sources : List (List ℕ)) (whole : AreWhole e) (are : AreEntries e sources) where
@@ -72,16 +72,18 @@ module _ (e : Entries) (sources : List (List ℕ)) (whole : AreWhole e) (are : A
           let word = word_of e.alphabet text in
           let lt = s.found.automaton.within word (read e.alphabet machine sources tells text h) in
           let found = word_at table.words (walk table word) in
-          let after = subst (λ (l : List ℕ). SameAfter e l (text_of e.alphabet found)) (whole.exact text h)
-          (kept_word e.alphabet machine sources tells table s.found text h) in
+          let before : SameAfter e text (text_of e.alphabet word) =
+          (same_after e sources whole are text (text_of e.alphabet word)).1 (spelled_same e.alphabet machine sources tells text h) in
+          let behind = kept_word e.alphabet machine sources tells table s.found text h in
           let there = zip_through _ _ table.words states firsts (walk table word) [] None s.led s.matched lt in
           record {
             items = there.0.items;
             has = λ entry term.
                 let members = there.1.members entry term in
                 let grown = behind_grown e now s.grows found entry term in
-                let to_text = after entry term in
-                (λ k. to_text.1 (grown.1 (members.0 k)), λ k. members.1 (grown.0 (to_text.0 k)));
+                let read_so = before entry term in
+                let kept = behind entry term in
+                (λ k. read_so.1 (kept.1 (grown.1 (members.0 k))), λ k. members.1 (grown.0 (kept.0 (read_so.0 k))));
             accepted = there.2;
           }
 

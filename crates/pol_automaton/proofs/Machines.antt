@@ -4,7 +4,7 @@ use Rattle.std.specs.List.{slice_index_or}
 use Rattle.std.proofs.lemmas.List.{get_or-map, length-map}
 use Rattle.basics.specs.Symbol.{is_text}
 use Rattle.basics.specs.TextOrder.{IsLeast}
-use Rattle.pol_scan.specs.Alphabet.{Alphabet, IsAlphabet, word_of, text_of}
+use Rattle.pol_scan.specs.Alphabet.{Alphabet, IsAlphabet, HasClasses, word_of, text_of}
 use Rattle.pol_scan.specs.Words.{IsWord, IsWordThat, word_at}
 use Rattle.pol_scan.specs.Congruence.{Congruence, AreDifferent, HasIndex, HasIndexAbove}
 use Rattle.pol_scan.specs.Table.{Table, count, walk, IsAutomatonOf}
@@ -12,16 +12,19 @@ use Rattle.pol_automaton.specs.Residuals.{SameResiduals, IsResidualCount, HasMor
 use Rattle.pol_automaton.specs.Residuals.{AreDifferent as AreDifferentTexts}
 use Rattle.pol_automaton.specs.Decision.{IsFirstMatch}
 use Rattle.pol_automaton.specs.Automaton.{Automaton, state_of, first_of, IsWhole, IsDecider}
-use Rattle.pol_automaton.specs.Entries.{IsExact}
+use Rattle.pol_automaton.specs.Alike.{AreAlike}
 use Rattle.pol_automaton.proofs.Words.{is_word, spells_text}
+use Rattle.pol_automaton.proofs.Alikes.{same_alike}
+use Rattle.pol_automaton.proofs.Counting.{same_symmetric, same_transitive}
+use Rattle.pol_automaton.proofs.Columns.{by_classes, spelled_related}
 
 -- the machine reads texts by the alphabet, and words are the same if their texts have the same residuals
 pub record TellsResiduals (alphabet : Alphabet) (machine : Congruence) (sources : List (List ℕ)) : Type 0 where
   pub letters : IsAlphabet alphabet
-  pub exact : IsExact alphabet
   pub columns : machine.width ≡ alphabet.width
   pub same : (u v : List ℕ) → IsWord machine.width u → IsWord machine.width v
       → machine.same u v ↔ SameResiduals sources (text_of alphabet u) (text_of alphabet v)
+  pub classes : HasClasses alphabet (AreAlike sources)
 
 -- what the scan finds of a machine
 pub record IsFound (machine : Congruence) (table : Table) : Type 0 where
@@ -52,23 +55,30 @@ module _ (alphabet : Alphabet) (machine : Congruence) (sources : List (List ℕ)
   pub spelled : (word : List ℕ) → IsWord machine.width word → IsTrue (is_text (text_of alphabet word))
   spelled word w = spells_text alphabet is.letters word (subst (λ n. IsWord n word) is.columns w)
 
+  -- what is spelled of a text that was read has the text's residuals
+  pub spelled_same : (text : List ℕ) → IsTrue (is_text text) → SameResiduals sources text (text_of alphabet (word_of alphabet text))
+  spelled_same text h = same_alike sources text (text_of alphabet (word_of alphabet text))
+      (spelled_related alphabet is.letters (AreAlike sources) (by_classes alphabet (AreAlike sources) is.classes) text h)
+
   -- words that are the same, of which the first is a text's
   same_half : (text word : List ℕ) → IsTrue (is_text text) → IsWord machine.width word
       → machine.same (word_of alphabet text) word ↔ SameResiduals sources text (text_of alphabet word)
   same_half text word h w =
       let by_words = is.same (word_of alphabet text) word (read text h) w in
-      let at = is.exact text h in (
-        λ s. subst (λ (l : List ℕ). SameResiduals sources l (text_of alphabet word)) at (by_words.0 s),
-        λ s. by_words.1 (subst (λ (l : List ℕ). SameResiduals sources l (text_of alphabet word)) (sym at) s),
+      let spelt = text_of alphabet (word_of alphabet text) in
+      let at = spelled_same text h in (
+        λ s. same_transitive sources text spelt (text_of alphabet word) at (by_words.0 s),
+        λ s. by_words.1 (same_transitive sources spelt text (text_of alphabet word) (same_symmetric sources text spelt at) s),
       )
 
   same_whole : (text other : List ℕ) → IsTrue (is_text text) → IsTrue (is_text other)
       → machine.same (word_of alphabet text) (word_of alphabet other) ↔ SameResiduals sources text other
   same_whole text other h k =
       let half = same_half text (word_of alphabet other) h (read other k) in
-      let at = is.exact other k in (
-        λ s. subst (SameResiduals sources text) at (half.0 s),
-        λ s. half.1 (subst (SameResiduals sources text) (sym at) s),
+      let spelt = text_of alphabet (word_of alphabet other) in
+      let at = spelled_same other k in (
+        λ s. same_transitive sources text spelt other (half.0 s) (same_symmetric sources other spelt at),
+        λ s. half.1 (same_transitive sources text other spelt s at),
       )
 
   different_texts : (words : List (List ℕ)) → AreDifferent machine words → AreDifferentTexts sources (map (text_of alphabet) words)
@@ -125,6 +135,7 @@ module _ (alphabet : Alphabet) (machine : Congruence) (sources : List (List ℕ)
         → IsDecider (automaton_of alphabet table firsts many) sources
     is_decider firsts many size matched = record {
       many = size;
+      classes = is.classes;
       tells = λ text other h k.
           let by_words = found.automaton.tells (word_of alphabet text) (word_of alphabet other) (read text h) (read other k) in
           let by_texts = same_whole text other h k in

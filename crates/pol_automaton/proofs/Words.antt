@@ -5,7 +5,7 @@ use Rattle.basics.specs.Symbol.{is_symbol, is_text}
 use Rattle.pol_scan.specs.Alphabet.{Alphabet, IsAlphabet, column_of, least_of, word_of, text_of}
 use Rattle.pol_scan.specs.Words.{IsWord}
 
-both : (a b : Bool) → IsTrue (a && b) → IsTrue a × IsTrue b
+pub both : (a b : Bool) → IsTrue (a && b) → IsTrue a × IsTrue b
 both true b h = (refl, h)
 both false b h = absurd cc
 

@@ -3,12 +3,13 @@
 use Rattle.std.specs.Prelude.{◌≡◌, ◌↔◌, ◌<◌, ℕ, Bool, IsTrue, List, length, Option, None, Some, slice_index_or}
 use Rattle.basics.specs.Symbol.{is_text}
 use Rattle.basics.specs.TextOrder.{IsLeast}
-use Rattle.pol_scan.specs.Alphabet.{Alphabet, IsAlphabet, word_of}
+use Rattle.pol_scan.specs.Alphabet.{Alphabet, IsAlphabet, HasClasses, word_of}
 use Rattle.pol_scan.specs.Words.{IsWord, IsWordThat}
 use Rattle.pol_scan.specs.Table.{Table, count, walk}
 use Rattle.pol_scan.specs.Table.{word_of as found_along}
 use Rattle.pol_automaton.specs.Residuals.{SameResiduals, IsResidualCount}
 use Rattle.pol_automaton.specs.Decision.{IsFirstMatch}
+use Rattle.pol_automaton.specs.Alike.{AreAlike}
 
 -- how texts are read; the states; the first match of each state; how many entries there are
 pub record Automaton : Type 0 where
@@ -38,6 +39,8 @@ pub record IsWhole (automaton : Automaton) : Type 0 where
 -- the automaton is the Decider of these entries
 pub record IsDecider (automaton : Automaton) (entries : List (List ℕ)) : Type 0 where
   pub many : automaton.entries ≡ length entries
+  -- its columns are the classes of alike symbols
+  pub classes : HasClasses automaton.alphabet (AreAlike entries)
   -- its states are the residuals: each is reached, and two texts lead to one state exactly if they have the same
   pub tells : (text other : List ℕ) → IsTrue (is_text text) → IsTrue (is_text other)
       → (state_of automaton text ≡ state_of automaton other) ↔ SameResiduals entries text other

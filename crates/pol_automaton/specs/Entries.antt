@@ -1,16 +1,16 @@
 -- Entries of which an automaton is to be made, as contracts see them: they don't hold their patterns.
-use Rattle.std.specs.Prelude.{◌≡◌, ◌↔◌, ◌<◌, ℕ, IsTrue, List, [], length, All, refl}
+use Rattle.std.specs.Prelude.{◌≡◌, ◌↔◌, ◌<◌, ℕ, List, [], length, All, refl}
 use Rattle.std.specs.Coded.{Coded, code_by, coded×, coded_ℕ, coded_list}
 use Rattle.pol_pattern.specs.Flat.{Term, Terms}
 use Rattle.pol_pattern.specs.Sets.{InTerm}
 use Rattle.pol_pattern.specs.Spelling.{Spells, Holds}
 use Rattle.pol_deriv.specs.Derivative.{Residual}
 use Rattle.pol_deriv.specs.TermCode.{term_code}
-use Rattle.basics.specs.Symbol.{is_text}
-use Rattle.pol_scan.specs.Alphabet.{Alphabet, IsAlphabet, word_of, text_of}
+use Rattle.pol_scan.specs.Alphabet.{Alphabet, IsAlphabet, HasClasses}
 use Rattle.pol_automaton.specs.declared.entry_term.EntryTerm.{EntryTerm}
 use Rattle.pol_automaton.specs.Residuals.{InResidual}
 use Rattle.pol_automaton.specs.Decision.{entry_at}
+use Rattle.pol_automaton.specs.Alike.{AreAlike}
 use Rattle.pol_automaton.specs.Scanning.{HasTerm, AreResiduals}
 
 -- how texts are read; terms under numbers; the residual of each entry by the empty text; how many entries there are
@@ -37,14 +37,9 @@ entries_code =
     (λ e. (e.alphabet, (e.terms, (e.start, e.count))))
     (λ p. record { alphabet = p.0; terms = p.1.0; start = p.1.1.0; count = p.1.1.1 }) (λ _. refl)
 
--- no two symbols have one column
-abbrev pub IsExact : Alphabet → Type 0
-IsExact alphabet = (text : List ℕ) → IsTrue (is_text text) → text_of alphabet (word_of alphabet text) ≡ text
-
 -- their parts fit each other
 pub record AreWhole (collected : Entries) : Type 0 where
   pub letters : IsAlphabet collected.alphabet
-  pub exact : IsExact collected.alphabet
   pub right : AreResiduals collected.terms collected.start
   pub below : All (λ item. item.entry < collected.count) collected.start
 
@@ -56,6 +51,8 @@ IsToldByResiduals source = (text : List ℕ) → Holds source text
 -- they are collected of these sources, in order
 pub record AreEntries (collected : Entries) (entries : List (List ℕ)) : Type 0 where
   pub many : collected.count ≡ length entries
+  -- they are read by the classes of alike symbols
+  pub classes : HasClasses collected.alphabet (AreAlike entries)
   pub told : All IsToldByResiduals entries
   pub spelled : (entry : ℕ) → entry < length entries → (flat : Terms) × Spells (entry_at entries entry) flat
   pub first : (entry : ℕ) (flat : Terms) → entry < length entries → Spells (entry_at entries entry) flat

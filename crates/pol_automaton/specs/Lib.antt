@@ -1,4 +1,5 @@
 pub mod Residuals
+pub mod Alike
 pub mod Decision
 pub mod Faults
 pub mod Automaton

@@ -6,6 +6,7 @@ ghost use Rattle.pol_scan.specs.Table.{count};
 ghost use Rattle.pol_automaton.specs.Residuals.{HasMoreResiduals, ExcludesLaw, IsResidualCount};
 ghost use Rattle.pol_automaton.specs.Entries.{AreEntries};
 ghost use Rattle.pol_automaton.specs.Decision.{IsFirstMatch, Decides, IsReachText};
+ghost use Rattle.pol_automaton.specs.Alike.{IsClassCount};
 
 use crate::entries::Entries;
 use crate::fault::DeciderFault;
@@ -129,6 +130,20 @@ impl Decider {
         self.table.states()
     }
 
+    /// How many columns there are: the number of classes of alike symbols. A state's row has a cell
+    /// for each.
+    pub fn columns(&self) -> usize
+        ensures value { result ≡ self.now.table.width }
+        ensures classes { (entries : List (List ℕ)) → IsDecider self.now entries
+            → IsClassCount entries result }
+
+        // There is one such number.
+        ensures only { (entries : List (List ℕ)) (count : ℕ) → IsDecider self.now entries
+            → IsClassCount entries count → result ≡ count }
+    {
+        self.table.width() as usize
+    }
+
     // The first state of which the entry is the first match.
     fn first_state(&self, entry: usize) -> Option<StateNumber>
         ensures some { IfSome result (λ state. IsFirstState self.now entry state) }
@@ -183,6 +198,13 @@ impl Decider {
         ensures below { IfSome result (λ i. i < self.now.entries) }
     {
         self.firsts[state as usize]
+    }
+
+    // How texts are read.
+    pub(crate) fn alphabet(&self) -> Alphabet
+        ensures { result ≡ self.now.alphabet }
+    {
+        self.alphabet
     }
 
     // How many entries there are.

@@ -7,7 +7,7 @@ use crate::decider::Decider;
 use crate::pairs::Comparing;
 use crate::way::Way;
 use pol_names::Verdict;
-use pol_scan::{Alphabet, search};
+use pol_scan::search;
 use std::alloc::{AllocError, Global};
 
 impl Decider {
@@ -34,7 +34,7 @@ impl Decider {
             → IsDecider new.now after → IfOk result (λ r. IfNone r ((text : List ℕ) → ¬ (IsChanged
             (ruling before old_verdicts.now) (ruling after new_verdicts.now) way text))) }
     {
-        let alphabet = Alphabet::of_symbols();
+        let alphabet = old.alphabet().join(&new.alphabet());
         let bound = old.size() * new.size();
         let mut comparing = Comparing {
             alphabet,

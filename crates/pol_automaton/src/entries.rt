@@ -6,6 +6,7 @@ ghost use Rattle.pol_automaton.specs.Entries.{AreEntries, AreWhole};
 ghost use Rattle.pol_automaton.specs.Scanning.{item_of, AreResiduals};
 ghost use Rattle.pol_automaton.specs.Matching.{IsFirstAccepted};
 
+use crate::dividing::divide_by_terms;
 use crate::entry_term::EntryTerm;
 use crate::matching::first_accepted;
 use crate::stepping::{push_each, step};
@@ -64,14 +65,15 @@ impl Entries {
     {
         Entries {
             alloc,
-            alphabet: Alphabet::of_symbols(),
+            alphabet: Alphabet::undivided(),
             terms: Terms::new(alloc),
             start: Vec::new(alloc),
             count: 0,
         }
     }
 
-    /// Adds an entry, the last. Linear in the pattern's size.
+    /// Adds an entry, the last. Linear in the pattern's size: a look at each symbol for each of its
+    /// classes.
     pub fn add(&mut self, pattern: &Pattern) -> Result<(), AllocError>
         ensures ok { OnOk result ((entries : List (List ℕ)) → AreEntries self.old entries
             → AreEntries self.new (entries ++ pattern.now ∷ [])) }
@@ -85,6 +87,8 @@ impl Entries {
         }
         let set = self.terms.start(pattern)?;
         push_all(self.alloc, &mut self.start, self.count, set.numbers())?;
+        let alphabet = divide_by_terms(self.alphabet, pattern.terms());
+        self.alphabet = alphabet;
         self.count += 1;
         Ok(())
     }

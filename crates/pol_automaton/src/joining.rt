@@ -10,7 +10,7 @@ use crate::decider::Decider;
 use crate::fault::DeciderFault;
 use crate::meter::Meter;
 use crate::pairs::{Joining, Pair};
-use pol_scan::{Alphabet, Automaton, StateNumber, scan};
+use pol_scan::{Automaton, StateNumber, scan};
 use std::alloc::{AllocError, Global};
 
 // The first match of a pair of states.
@@ -79,7 +79,7 @@ impl Decider {
         let Some(entries) = first.entries().checked_add(rest.entries()) else {
             return Err(DeciderFault::Memory);
         };
-        let alphabet = Alphabet::of_symbols();
+        let alphabet = first.alphabet().join(&rest.alphabet());
         let mut joining = Joining {
             alphabet,
             first,

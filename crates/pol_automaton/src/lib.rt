@@ -4,6 +4,7 @@
 mod arranging;
 mod decider;
 mod differing;
+mod dividing;
 mod entries;
 mod entry_term;
 mod fault;

@@ -1,5 +1,5 @@
 -- Texts of least symbols stand in the order of their words.
-use Rattle.std.proofs.Common.{◌≡◌, ◌⊎◌, ◌<◌, ◌≤◌, ◌-◌, ℕ, Bool, true, false, ◌&&◌, IsTrue, List, [], ◌∷◌, ◌++◌, map, length, get_or, take, drop, refl, sym, ap, ◌∙◌, subst, inl, inr, arith}
+use Rattle.std.proofs.Common.{◌≡◌, ◌⊎◌, ◌<◌, ◌≤◌, ◌-◌, ℕ, Bool, true, false, ◌&&◌, IsTrue, List, [], ◌∷◌, ◌++◌, map, length, get_or, slice_index, replicate, zero, suc, ◌+◌, ◌*◌, take, drop, refl, sym, ap, ◌∙◌, subst, inl, inr, nat_le, leb-true, le-leb, arith}
 use Rattle.std.proofs.lemmas.Bool.{cases_lt}
 use Rattle.std.proofs.lemmas.List.{length-map, length-take, get_or-append_right, get_or-drop, take-append-le, take_all}
 use Rattle.std.proofs.lemmas.List.Elements.{All-head, All-tail, All-nil, All-cons}
@@ -16,6 +16,29 @@ from_both : (a b : Bool) → IsTrue a → IsTrue b → IsTrue (a && b)
 from_both true b h k = k
 from_both false b h k = absurd cc
 
+-- which numbers symbols are
+pub symbol_range : (symbol : ℕ) → IsTrue (is_symbol symbol) → (32 ≤ symbol) × (symbol < 127)
+symbol_range symbol h =
+    let p = both (nat_le 32 symbol) (nat_le symbol 126) h in
+    let most = leb-true symbol 126 p.1 in
+    (leb-true 32 symbol p.0, omega arith)
+
+pub in_range : (symbol : ℕ) → 32 ≤ symbol → symbol < 127 → IsTrue (is_symbol symbol)
+in_range symbol p q = from_both (nat_le 32 symbol) (nat_le symbol 126) (le-leb 32 symbol p) (le-leb symbol 126 (omega arith))
+
+-- ---- keys
+
+pub zero_at : (n k : ℕ) → slice_index (replicate n 0) k ≡ 0
+zero_at zero k = refl
+zero_at (suc n) zero = refl
+zero_at (suc n) (suc k) = zero_at n k
+
+-- a key is of one column and one label
+pub one_pair : (a b x y : ℕ) → x < 256 → y < 256 → a * 256 + x ≡ b * 256 + y → (a ≡ b) × (x ≡ y)
+one_pair a b x y p q e = (omega arith, omega arith)
+
+-- ---- spelling in place
+
 -- the next place holds what it did
 pub next_place : (f : ℕ → ℕ) (word now : List ℕ) (i : ℕ) → i < length word → now ≡ map f (take i word) ++ drop i word → get_or now i 0 ≡ get_or word i 0
 next_place f word now i h e =
@@ -28,6 +51,15 @@ rewritten items spelled len e k =
     take-append-le len spelled (drop (length spelled) items) (omega arith) ∙ take_all len spelled (omega arith)
 
 module _ (alphabet : Alphabet) (laws : IsAlphabet alphabet) where
+  -- the column of the symbol at a place, and the number of a least symbol
+  pub column_within : (place : ℕ) → place < 95 → slice_index alphabet.columns place < alphabet.width
+  column_within place lt =
+      let at : 32 + place - 32 ≡ place = omega arith in
+      subst (λ k. slice_index alphabet.columns k < alphabet.width) at (laws.within (32 + place) (in_range (32 + place) (omega arith) (omega arith)))
+
+  pub least_range : (column : ℕ) → column < alphabet.width → (32 ≤ slice_index alphabet.least column) × (slice_index alphabet.least column < 127)
+  least_range column lt = symbol_range (slice_index alphabet.least column) (laws.symbols column lt)
+
   pub is_text-text_of : (word : List ℕ) → IsWord alphabet.width word → IsTrue (is_text (text_of alphabet word))
   is_text-text_of [] w = refl
   is_text-text_of (c ∷ word) w = from_both (is_symbol (least_of alphabet c)) (is_text (text_of alphabet word))

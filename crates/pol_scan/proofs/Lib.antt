@@ -8,3 +8,4 @@ mod Classes
 mod Completing
 mod Seeking
 mod AlphabetFacts
+mod Numbering

@@ -1,19 +1,21 @@
 //! Which column each symbol has.
 
-ghost use Rattle.std.specs.Prelude.{◌≡◌, ◌<◌, ◌≤◌, ◌-◌, ℕ, Bool, List, length, map, slice_index};
-ghost use Rattle.std.specs.Prelude.{IsTrue};
+ghost use Rattle.std.specs.Prelude.{◌≡◌, ◌≢◌, ◌<◌, ◌≤◌, ◌+◌, ◌*◌, ◌-◌, ℕ, Bool, List, length};
+ghost use Rattle.std.specs.Prelude.{IsTrue, map, slice_index};
 ghost use Rattle.basics.specs.Symbol.{is_symbol, is_text};
 ghost use Rattle.basics.specs.TextOrder.{IsBefore, IsLeast};
 ghost use Rattle.pol_scan.specs.Words.{IsWord, IsWordThat};
 ghost use Rattle.pol_scan.specs.Alphabet.{column_of as column_at, least_of as least_at, word_of};
 ghost use Rattle.pol_scan.specs.Alphabet.{text_of, IsTextThat, IsAlphabet};
+ghost use Rattle.pol_scan.specs.Alphabet.{SameColumn, HasClasses, label_of};
 
 use crate::machine::Column;
 use std::marker::Model;
 
-// How many symbols there are, and the first of them.
-const SYMBOLS: usize = 95;
+/// How many symbols there are.
+pub const SYMBOLS: usize = 95;
 
+// the first symbol
 const FIRST: u8 = b' ';
 
 /// Which column each symbol has, and which is a column's least symbol. Columns are numbered in the
@@ -49,27 +51,105 @@ fn spell(least: &[u8], word: &mut [u8])
     }
 }
 
+// The place of a key among the first so many, or behind them.
+fn place_of(keys: &[u16; SYMBOLS], many: usize, key: u16) -> usize
+    requires { many ≤ SYMBOLS }
+    ensures within { result ≤ many }
+    ensures others { (k : ℕ) → k < result → slice_index keys.now k ≢ key }
+    ensures found { result < many → slice_index keys.now result ≡ key }
+{
+    for place in 0..many {
+        if keys[place] == key {
+            return place;
+        }
+    }
+    many
+}
+
+// A key for each symbol, by its column and its label.
+fn keys_of(columns: &[Column; SYMBOLS], labels: &[u8; SYMBOLS]) -> [u16; SYMBOLS]
+    ensures { (k : ℕ) → k < SYMBOLS
+        → slice_index result k ≡ slice_index columns.now k * 256 + slice_index labels.now k }
+{
+    let mut keys = [0; SYMBOLS];
+    for place in 0..SYMBOLS {
+        keys[place] = u16::from(columns[place]) * 256 + u16::from(labels[place]);
+    }
+    keys
+}
+
 impl Alphabet {
-    /// Each symbol has a column of its own.
-    pub fn of_symbols() -> Alphabet
-        ensures width { result.width ≡ SYMBOLS }
-        ensures own { (symbol : ℕ) → IsTrue (is_symbol symbol)
-            → column_at result symbol ≡ symbol - FIRST }
-        ensures least { (symbol : ℕ) → IsTrue (is_symbol symbol)
-            → least_at result (symbol - FIRST) ≡ symbol }
+    /// All symbols have one column.
+    pub fn undivided() -> Alphabet
+        ensures classes { HasClasses result (λ a b. Unit {0}) }
         ensures alphabet { IsAlphabet result }
     {
+        Alphabet::of_keys(&[0; SYMBOLS])
+    }
+
+    // Two symbols have one column exactly if they have one key.
+    fn of_keys(keys: &[u16; SYMBOLS]) -> Alphabet
+        ensures classes { HasClasses result (λ a b. label_of keys.now a ≡ label_of keys.now b) }
+        ensures alphabet { IsAlphabet result }
+    {
+        let mut width = 0;
         let mut columns = [0; SYMBOLS];
         let mut least = [0; SYMBOLS];
-        for column in 0..SYMBOLS {
-            columns[column] = column as Column;
-            least[column] = FIRST + column as u8;
+        // of each column so far
+        let mut firsts = [0; SYMBOLS];
+        for place in 0..SYMBOLS {
+            let column = place_of(&firsts, width, keys[place]);
+            columns[place] = column as Column;
+            if column == width {
+                firsts[width] = keys[place];
+                least[width] = FIRST + place as u8;
+                width += 1;
+            }
         }
         Alphabet {
-            width: SYMBOLS as Column,
+            width: width as Column,
             columns,
             least,
         }
+    }
+
+    // Whether symbols of one column always have one label.
+    fn tells(&self, labels: &[u8; SYMBOLS]) -> bool
+        ensures { IsTrue result → (a b : ℕ) → IsTrue (is_symbol a) → IsTrue (is_symbol b)
+            → SameColumn self.now a b → label_of labels.now a ≡ label_of labels.now b }
+    {
+        for place in 0..SYMBOLS {
+            let least = self.least[self.columns[place] as usize];
+            if labels[place] != labels[(least - FIRST) as usize] {
+                return false;
+            }
+        }
+        true
+    }
+
+    /// The columns divided by labels, one for each symbol from the space on: two symbols have one
+    /// column exactly if they had, and have one label.
+    ///
+    /// One look at each symbol where the columns tell the labels already. Takes no memory.
+    pub fn divide(&self, labels: &[u8; SYMBOLS]) -> Alphabet
+        ensures classes { HasClasses result (λ a b. SameColumn self.now a b
+            × (label_of labels.now a ≡ label_of labels.now b)) }
+        ensures alphabet { IsAlphabet result }
+    {
+        if self.tells(labels) {
+            return *self;
+        }
+        Alphabet::of_keys(&keys_of(&self.columns, labels))
+    }
+
+    /// The columns of two alphabets divided by one another: two symbols have one column exactly if
+    /// they have in both. Takes no memory.
+    pub fn join(&self, other: &Alphabet) -> Alphabet
+        ensures classes { HasClasses result
+            (λ a b. SameColumn self.now a b × SameColumn other.now a b) }
+        ensures alphabet { IsAlphabet result }
+    {
+        self.divide(&other.columns)
     }
 
     /// How many columns there are.

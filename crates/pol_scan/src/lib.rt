@@ -15,7 +15,7 @@ mod searching;
 mod table;
 mod words;
 
-pub use alphabet::Alphabet;
+pub use alphabet::{Alphabet, SYMBOLS};
 pub use automaton::{Automaton, scan};
 pub use fault::ScanFault;
 pub use machine::{Acceptor, Column, Machine};

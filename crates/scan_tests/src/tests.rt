@@ -1,6 +1,6 @@
 //! Tables, limits and least words, against answers that were worked out by hand.
 use crate::remainders::{Numerals, Remainders};
-use pol_scan::{Alphabet, ScanFault, Table, scan};
+use pol_scan::{Alphabet, SYMBOLS, ScanFault, Table, scan};
 use std::alloc::{AllocError, Global};
 use std::test::Fail;
 
@@ -115,10 +115,63 @@ fn least_words(rt: HostRuntime) -> Result<(), Fail> {
     Ok(())
 }
 
+// A label for each symbol: 1 of those that are listed, 0 of all others.
+fn labels_of(listed: &[u8]) -> [u8; SYMBOLS] {
+    let mut labels = [0; SYMBOLS];
+    for place in 0..SYMBOLS {
+        labels[place] = u8::from(listed.contains(&(b' ' + place as u8)));
+    }
+    labels
+}
+
+// Each symbol has a label of its own.
+fn own_labels() -> [u8; SYMBOLS] {
+    let mut labels = [0; SYMBOLS];
+    for place in 0..SYMBOLS {
+        labels[place] = place as u8;
+    }
+    labels
+}
+
+// The least symbols of the columns, in order.
+fn least_symbols(alloc: Global, alphabet: &Alphabet) -> Result<Vec<u8>, AllocError> {
+    let mut least = Vec::new(alloc);
+    for column in 0..alphabet.width() {
+        least.push(alphabet.least_of(column))?;
+    }
+    Ok(least)
+}
+
+fn is_spelled(alloc: Global, alphabet: &Alphabet, text: &[u8]) -> Result<bool, AllocError> {
+    Ok(least_symbols(alloc, alphabet)?.as_slice() == text)
+}
+
+// Columns are numbered in the order of their least symbols, in whichever order they were divided.
+#[test]
+fn columns(rt: HostRuntime) -> Result<(), Fail> {
+    let one = Alphabet::undivided();
+    assert!(rt; is_spelled(rt.alloc(), &one, b" ")?);
+    let digits = one.divide(&labels_of(b"0123456789"));
+    assert!(rt; is_spelled(rt.alloc(), &digits, b" 0")?);
+    let vowels = one.divide(&labels_of(b"aeiou"));
+    assert!(rt; is_spelled(rt.alloc(), &vowels, b" a")?);
+    assert_eq!(rt; vowels.column_of(b'u'), 1);
+    assert_eq!(rt; vowels.column_of(b'b'), 0);
+    let both = vowels.join(&digits);
+    assert!(rt; is_spelled(rt.alloc(), &both, b" 0a")?);
+    assert!(rt; is_spelled(rt.alloc(), &digits.join(&vowels), b" 0a")?);
+    assert!(rt; is_spelled(rt.alloc(), &both.join(&digits), b" 0a")?);
+    let crossing = both.divide(&labels_of(b" 05abz~"));
+    assert!(rt; is_spelled(rt.alloc(), &crossing, b" !01ae")?);
+    assert_eq!(rt; crossing.column_of(b'~'), 0);
+    assert_eq!(rt; crossing.column_of(b'}'), 1);
+    Ok(())
+}
+
 // Texts are read by the column of each symbol, and words are spelled by least symbols.
 #[test]
 fn texts(rt: HostRuntime) -> Result<(), Fail> {
-    let alphabet = Alphabet::of_symbols();
+    let alphabet = Alphabet::undivided().divide(&own_labels());
     assert_eq!(rt; alphabet.width(), 95);
     let word = [0, 1, 94].to_vec(rt.alloc())?;
     let text = alphabet.text_of(word);

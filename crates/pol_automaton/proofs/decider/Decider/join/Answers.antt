@@ -4,13 +4,11 @@ use Rattle.pol_scan.specs.Table.{count}
 use Rattle.pol_scan.specs.declared.fault.ScanFault.TheVariants as scan
 use Rattle.pol_automaton.specs.declared.fault.DeciderFault.TheVariants.{TooManyStates}
 use Rattle.pol_automaton.specs.Faults.{fault_of, too_many_from}
-use Rattle.pol_automaton.specs.Entries.{IsExact}
 use Rattle.pol_automaton.specs.Pairs.{ArePair, led_back}
-use Rattle.pol_automaton.proofs.Collecting.{exact_alphabet}
 use Rattle.pol_automaton.proofs.Counting.{excludes, one_count}
 use Rattle.pol_automaton.proofs.Zips.{zip_all}
 use Rattle.pol_automaton.proofs.Machines.{more_residuals, residual_count}
-use Rattle.pol_automaton.proofs.Joined.{IsJoined, whole_joined, tells_joined, is_joined}
+use Rattle.pol_automaton.proofs.Joined.{IsJoined, first_refined, second_refined, whole_joined, tells_joined, is_joined}
 use Rattle.pol_automaton.proofs.decider.Decider.join.Goals as goal
 use Rattle.pol_automaton.proofs.decider.Decider.join.Goals.{After-raise}
 
@@ -29,25 +27,26 @@ returns-clause-excludes c = excludes
 pub returns-in_err-table-clause-too_many : goal.returns-in_err-table-clause-too_many
 returns-in_err-table-clause-too_many c =
     let p = err_from_is_err_and c.from_residual.result c.from_residual.ensures.1 in
-    let letters = c.of_symbols-alphabet in
-    let exact : IsExact letters.result = exact_alphabet letters.result letters.ensures.own letters.ensures.least in
+    let letters = c.join-alphabet in
+    let both = rw (c.alphabet.ensures, c.alphabet-2.ensures) at letters.ensures.classes in
     rw (p.1, p.2) (λ own others d e h.
     let same : fault_of c.in_err-table.field-0.0 ≡ TooManyStates = cc in
     let is : c.in_err-table.field-0.0 ≡ scan.TooMany = too_many_from c.in_err-table.field-0.0 same in
-    more_residuals _ _ _ (tells_joined letters.result letters.ensures.alphabet exact c.args.first.now c.args.rest.now own others d e) c.args.limit
+    more_residuals _ _ _ (tells_joined letters.result letters.ensures.alphabet c.args.first.now c.args.rest.now both own others d e) c.args.limit
     (c.in_err-table.ensures.too_many (ap Err is)))
 
 pub firsts_of_pairs-requires-clause-within : goal.firsts_of_pairs-requires-clause-within
 firsts_of_pairs-requires-clause-within c =
     rw c.as_slice.ensures.keys
-    (zip_all (λ (word : List ℕ) (s : ℕ × ℕ). ArePair c.of_symbols-alphabet.result c.args.first.now c.args.rest.now word s.0 s.1) (λ (s : ℕ × ℕ). (s.0 < count c.args.first.now.table) × (s.1 < count c.args.rest.now.table)) (λ word s led. (led.first_within, led.second_within))
+    (zip_all (λ (word : List ℕ) (s : ℕ × ℕ). ArePair c.join-alphabet.result c.args.first.now c.args.rest.now word s.0 s.1) (λ (s : ℕ × ℕ). (s.0 < count c.args.first.now.table) × (s.1 < count c.args.rest.now.table)) (λ word s led. (led.first_within, led.second_within))
     c.in_ok-table.field-0.table.words c.in_ok-table.field-0.states.keys
     (led_back _ _ _ _ _ _ c.in_ok-table.ensures.grows.0 c.in_ok-table.ensures.grows.1 c.in_ok-table.ensures.grows.2 c.in_ok-table.field-0.table.words c.in_ok-table.field-0.states.keys c.in_ok-table.ensures.states))
 
-joined : (c : After-raise) → IsJoined c.of_symbols-alphabet.result c.args.first.now c.args.rest.now c.in_ok-table.field-0.table c.in_ok-table.field-0.states.keys c.in_ok-firsts.firsts.items
+joined : (c : After-raise) → IsJoined c.join-alphabet.result c.args.first.now c.args.rest.now c.in_ok-table.field-0.table c.in_ok-table.field-0.states.keys c.in_ok-firsts.firsts.items
 joined c = record {
-  letters = c.of_symbols-alphabet.ensures.alphabet;
-  exact = exact_alphabet c.of_symbols-alphabet.result c.of_symbols-alphabet.ensures.own c.of_symbols-alphabet.ensures.least;
+  letters = c.join-alphabet.ensures.alphabet;
+  first = first_refined c.join-alphabet.result c.args.first.now.alphabet c.args.rest.now.alphabet (rw (c.alphabet.ensures, c.alphabet-2.ensures) at c.join-alphabet.ensures.classes);
+  second = second_refined c.join-alphabet.result c.args.first.now.alphabet c.args.rest.now.alphabet (rw (c.alphabet.ensures, c.alphabet-2.ensures) at c.join-alphabet.ensures.classes);
   found = record { automaton = c.in_ok-table.ensures.automaton; index = c.in_ok-table.ensures.index };
   led = led_back _ _ _ _ _ _ c.in_ok-table.ensures.grows.0 c.in_ok-table.ensures.grows.1 c.in_ok-table.ensures.grows.2 c.in_ok-table.field-0.table.words c.in_ok-table.field-0.states.keys c.in_ok-table.ensures.states;
   matched = rw c.as_slice.ensures.keys at c.in_ok-firsts.ensures;
@@ -57,24 +56,24 @@ pub invariant_of-result : goal.invariant_of-result
 invariant_of-result c =
     let sum : c.in-Some.entries ≡ c.args.first.now.entries + c.args.rest.now.entries = omega (arith, c.in-Some.ensures.1, c.entries.ensures.value, c.entries-2.ensures.value) in
     rw sum
-    (whole_joined c.of_symbols-alphabet.result c.args.first.now c.args.rest.now c.in_ok-table.field-0.table c.in_ok-table.field-0.states.keys c.in_ok-firsts.firsts.items c.entries.ensures.whole c.entries-2.ensures.whole
+    (whole_joined c.join-alphabet.result c.args.first.now c.args.rest.now c.in_ok-table.field-0.table c.in_ok-table.field-0.states.keys c.in_ok-firsts.firsts.items c.entries.ensures.whole c.entries-2.ensures.whole
     (joined (goal.at.invariant_of-result c).After-raise))
 
 pub returns-clause-decider : goal.returns-clause-decider
 returns-clause-decider c = λ own others d e.
     let sum : c.in-Some.entries ≡ c.args.first.now.entries + c.args.rest.now.entries = omega (arith, c.in-Some.ensures.1, c.entries.ensures.value, c.entries-2.ensures.value) in
-    let letters = c.of_symbols-alphabet in
-    let exact : IsExact letters.result = exact_alphabet letters.result letters.ensures.own letters.ensures.least in
+    let letters = c.join-alphabet in
+    let both = rw (c.alphabet.ensures, c.alphabet-2.ensures) at letters.ensures.classes in
     rw sum
-    (is_joined letters.result letters.ensures.alphabet exact c.args.first.now c.args.rest.now own others d e c.in_ok-table.field-0.table c.in_ok-table.field-0.states.keys c.in_ok-firsts.firsts.items
+    (is_joined letters.result letters.ensures.alphabet c.args.first.now c.args.rest.now both own others d e c.in_ok-table.field-0.table c.in_ok-table.field-0.states.keys c.in_ok-firsts.firsts.items
     (joined (goal.at.returns-clause-decider c).After-raise))
 
 pub returns-clause-exact : goal.returns-clause-exact
 returns-clause-exact c = λ own others residuals d e has.
     let made = c.in_ok-table.field-0.table in
-    let letters = c.of_symbols-alphabet in
-    let exact : IsExact letters.result = exact_alphabet letters.result letters.ensures.own letters.ensures.least in
-    let tells = tells_joined letters.result letters.ensures.alphabet exact c.args.first.now c.args.rest.now own others d e in
+    let letters = c.join-alphabet in
+    let both = rw (c.alphabet.ensures, c.alphabet-2.ensures) at letters.ensures.classes in
+    let tells = tells_joined letters.result letters.ensures.alphabet c.args.first.now c.args.rest.now both own others d e in
     let is : residuals ≡ count made =
     one_count (own ++ others) residuals (count made) has (residual_count _ _ (own ++ others) tells (count made) c.in_ok-table.ensures.index) in
     omega (arith, is, c.raise.ensures, c.states-2.ensures.many)
