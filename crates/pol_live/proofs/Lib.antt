@@ -9,3 +9,4 @@ pub mod FillFacts
 pub mod RenewFacts
 pub mod AlikeFacts
 pub mod MeterFacts
+pub mod KeeperFacts

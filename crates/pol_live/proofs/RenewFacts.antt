@@ -1,6 +1,6 @@
 -- What an edit leaves as it was: rules and groups of all subjects but one, and so the rules along most chains.
 use Rattle.std.proofs.Common.{◌≡◌, ℕ, zero, suc, ◌+◌, ◌-◌, ◌<◌, ◌≤◌, Bool, true, false, true≢false, cond, not, ◌&&◌, ◌||◌, List, [], ◌∷◌, ◌++◌, map, Option, None, Some, refl, sym, ap, subst, ◌∙◌, is_some, slice_get, nat_lt, length, IsTrue, if◌then◌else◌}
-use Rattle.std.specs.Option.{option_map_or, option_and_then}
+use Rattle.std.specs.Option.{option_map, option_map_or, option_and_then}
 use Rattle.std.specs.List.{list_any, list_all}
 use Rattle.std.proofs.lemmas.Bool.{and_parts, or_parts, or_right}
 use Rattle.std.proofs.lemmas.Option.{same_Some, none-some, slice_get_within}
@@ -9,12 +9,12 @@ use Rattle.pol_names.specs.SubjectId.{same_id, same_id-Decides, group_id}
 use Rattle.pol_automaton.specs.Automaton.{Automaton}
 use Rattle.pol_text.specs.declared.subject.Rule.{Rule}
 use Rattle.pol_text.specs.declared.subject.Subject.{Subject}
-use Rattle.pol_text.specs.Policy.{id_of, find_subject, parent_of, has_parent, all_of, all_distinct, chain_within, Entry, entries_along, own_entries, numbered, WellFormed}
+use Rattle.pol_text.specs.Policy.{id_of, find_subject, parent_of, has_parent, all_of, all_distinct, chain_within, Entry, entries_along, entries, own_entries, numbered, WellFormed}
 use Rattle.pol_edit.specs.declared.edit.Edit.{Edit}
 use Rattle.pol_live.specs.Along.{patterns_of, patterns_along}
 use Rattle.pol_live.specs.declared.parts.Parts.{Parts}
 use Rattle.pol_live.specs.Kept.{IsFit, AreParts, AreAll, HaveKeepers, slot, own_patterns, has_rules, is_keeper}
-use Rattle.pol_live.specs.Renewing.{touched, is_touched, is_move, renews_own, renews_chain, IsAlike, IsKept, AreKept}
+use Rattle.pol_live.specs.Renewing.{touched, is_touched, is_move, renews_own, renews_chain, LeavesOthers, IsAlike, IsKept, AreKept}
 use Rattle.pol_live.proofs.AlongFacts.{chain_step, chain_none}
 
 -- ---- kinds and names
@@ -86,6 +86,14 @@ module _ (edit : Edit) (old new : List Subject) (alike : IsAlike edit old new) (
           ≡ entries_along (option_map_or (chain_within most new) (option_and_then (λ name. find_subject (group_id name) new) p) [])
       above None there none same = refl
       above (Some name) there none same = same_above most name (find_subject (group_id name) new) same refl there none
+
+-- whose chain hasn't the edit's subject
+pub leaves_others : (edit : Edit) (old new : List Subject) → IsAlike edit old new → list_all (has_parent new) new ≡ true → LeavesOthers (touched edit) old new
+unfolding chain_within
+leaves_others edit old new alike parents id s found other =
+    let was = alike.untouched id s found (or_parts (is_touched (touched edit) s) _ other).0 in
+    let same = same_entries edit old new alike parents 8 id s was.0 found (sym (found_id id old was.0 was.1) ∙ found_id id new s found) was.2 was.3 other in
+    ap (option_map (entries old)) was.1 ∙ ap Some same
 
 -- ---- whether the edit's subject is on a chain, a subject at a time
 

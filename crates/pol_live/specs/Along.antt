@@ -12,7 +12,7 @@ use Rattle.pol_names.specs.declared.subject_id.SubjectId.{SubjectId}
 use Rattle.pol_text.specs.Policy.{find_subject, Entry, entries}
 use Rattle.pol_live.specs.declared.along.ChainRule.{ChainRule}
 
--- the rules along the chain of the subject of this kind and name, none where there is no such subject
+-- the rules along the chain of the subject of this kind and name, none where there is no such one
 abbrev pub entries_of : List Subject → SubjectId → List Entry
 entries_of policy id = option_map_or (entries policy) (find_subject id policy) []
 
@@ -25,7 +25,8 @@ patterns_along policy subject = patterns_of (entries policy subject)
 
 -- whose a rule along the chain is, its number there, and what it says
 abbrev pub chain_rule : Entry → ChainRule
-chain_rule entry = record { owner = entry.owner; number = entry.number; verdict = entry.rule.verdict }
+chain_rule entry =
+    record { owner = entry.owner; number = entry.number; verdict = entry.rule.verdict }
 
 -- what such a rule decides
 abbrev pub decision_by : ChainRule → Decision

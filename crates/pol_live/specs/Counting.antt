@@ -1,5 +1,6 @@
 -- How the meter and the automata that are there rise together.
-use Rattle.std.specs.Prelude.{◌≡◌, ◌≤◌, ◌+◌, ℕ, min, List, [], ◌∷◌, Bool, true, Option, Some, None, if◌then◌else◌}
+use Rattle.std.specs.Prelude.{◌≡◌, ◌≤◌, ◌+◌, ℕ, min, List, [], ◌∷◌, Bool, true}
+use Rattle.std.specs.Prelude.{Option, Some, None, if◌then◌else◌}
 use Rattle.pol_scan.specs.Table.{count}
 use Rattle.pol_automaton.specs.Automaton.{Automaton}
 use Rattle.pol_text.specs.declared.subject.Subject.{Subject}

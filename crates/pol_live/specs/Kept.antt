@@ -1,10 +1,14 @@
--- What is kept of a policy: automata of the rules of single subjects, and of all rules along their chains. Subjects
--- and policies may share one.
-use Rattle.std.specs.Prelude.{◌≡◌, ◌<◌, ℕ, Bool, true, not, ◌||◌, nat_lt, List, [], length, map, Option, Some, None, slice_get, slice_set, is_some, IsTrue}
+-- What is kept of a policy: automata of the rules of single subjects, and of all rules along their
+-- chains. Subjects and policies may share one.
+use Rattle.std.specs.Prelude.{◌≡◌, ◌<◌, ℕ, Bool, true, not, ◌||◌, nat_lt, List, [], ◌∷◌}
+use Rattle.std.specs.Prelude.{length, map, slice_get, slice_set, is_some, IsTrue}
+use Rattle.std.specs.Prelude.{Option, Some, None, if◌then◌else◌}
 use Rattle.std.specs.Option.{option_and_then}
 use Rattle.pol_automaton.specs.Automaton.{Automaton, IsDecider}
 use Rattle.pol_automaton.specs.Residuals.{HasMoreResiduals}
+use Rattle.pol_names.specs.declared.subject_id.SubjectId.{SubjectId}
 use Rattle.pol_text.specs.declared.subject.Subject.{Subject}
+use Rattle.pol_text.specs.Policy.{find_subject, chain}
 use Rattle.pol_live.specs.declared.parts.Parts.{Parts}
 use Rattle.pol_live.specs.Along.{patterns_along}
 
@@ -16,6 +20,16 @@ has_rules subject = nat_lt 0 (length subject.rules)
 -- a subject that has rules, or no group to inherit them from
 abbrev pub is_keeper : Subject → Bool
 is_keeper subject = has_rules subject || not (is_some subject.parent)
+
+-- the first of these that is a keeper
+abbrev pub first_keeper : List Subject → Option Subject
+first_keeper [] = None
+first_keeper (subject ∷ rest) = if is_keeper subject then Some subject else first_keeper rest
+
+-- the keeper by whose automaton a subject's lines are decided: itself, or the nearest above it
+abbrev pub keeper_of : List Subject → SubjectId → Option Subject
+keeper_of policy id =
+    option_and_then (λ subject. first_keeper (chain policy subject)) (find_subject id policy)
 
 -- ---- automata and what they are of
 
@@ -43,7 +57,8 @@ pub record AreParts (policy : List Subject) (parts : Parts) : Type 0 where
 
 -- each automaton that there was stays
 abbrev pub Stays : List (Option Automaton) → List (Option Automaton) → Type 0
-Stays old new = (k : ℕ) (decider : Automaton) → slot old k ≡ Some decider → slot new k ≡ Some decider
+Stays old new = (k : ℕ) (decider : Automaton)
+    → slot old k ≡ Some decider → slot new k ≡ Some decider
 
 abbrev pub Grows : Parts → Parts → Type 0
 Grows old new = Stays old.owns new.owns × Stays old.wholes new.wholes
@@ -63,5 +78,5 @@ abbrev pub AreAll : List Subject → Parts → Type 0
 AreAll policy parts = (k : ℕ) → k < length policy → IsTrue (is_some (slot parts.wholes k))
 
 abbrev pub HaveKeepers : List Subject → Parts → Type 0
-HaveKeepers policy parts = (k : ℕ) (subject : Subject) → slice_get policy k ≡ Some subject → is_keeper subject ≡ true
-    → IsTrue (is_some (slot parts.owns k))
+HaveKeepers policy parts = (k : ℕ) (subject : Subject) → slice_get policy k ≡ Some subject
+    → is_keeper subject ≡ true → IsTrue (is_some (slot parts.owns k))

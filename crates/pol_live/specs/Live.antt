@@ -21,8 +21,10 @@ pub record Step : Type 0 where
   pub after : List Subject
 
 -- an edit that the policy takes is prepared if the new policy may stand
-abbrev pub PreparesTo : List Subject → Result (List Subject) EditFault → Result Step EditFault → Type 0
-PreparesTo before (Ok after) (Ok step) = (step ≡ record { before = before; after = after }) × IsSmall after
+abbrev pub PreparesTo : List Subject → Result (List Subject) EditFault → Result Step EditFault
+    → Type 0
+PreparesTo before (Ok after) (Ok step) =
+    (step ≡ record { before = before; after = after }) × IsSmall after
 PreparesTo before (Ok after) (Err fault) = IsRefusedFor after fault
 PreparesTo before (Err refusal) answer = answer ≡ Err refusal
 
@@ -31,14 +33,17 @@ Prepares before edit answer = PreparesTo before (applied before edit) answer
 
 -- no other answer is right
 abbrev pub IsOnlyBuilt : List Subject → Result (List Subject) EditFault → Type 0
-IsOnlyBuilt policy answer = (other : Result (List Subject) EditFault) → Builds policy other → answer ≡ other
+IsOnlyBuilt policy answer =
+    (other : Result (List Subject) EditFault) → Builds policy other → answer ≡ other
 
 abbrev pub IsOnlyPrepared : List Subject → Edit → Result Step EditFault → Type 0
-IsOnlyPrepared before edit answer = (other : Result Step EditFault) → Prepares before edit other → answer ≡ other
+IsOnlyPrepared before edit answer =
+    (other : Result Step EditFault) → Prepares before edit other → answer ≡ other
 
 -- the decider of the rules along a subject's chain, or nothing where there is no subject
 abbrev pub IsDeciderFor : List Subject → Option Subject → Option Automaton → Type 0
-IsDeciderFor policy (Some subject) (Some decider) = IsDecider decider (patterns_along policy subject)
+IsDeciderFor policy (Some subject) (Some decider) =
+    IsDecider decider (patterns_along policy subject)
 IsDeciderFor policy None None = Unit {0}
 IsDeciderFor policy _ _ = ⊥
 

@@ -26,7 +26,8 @@ IsSum each (subject ∷ rest) sum = (here later : ℕ)
 abbrev pub IsRise : (Subject → Bool) → (Subject → Bool) → List Subject → ℕ → Type 0
 IsRise own joined policy rise = (owns chains : ℕ)
     × IsSum (λ subject. IsCount (own subject) (own_patterns subject)) policy owns
-    × IsSum (λ subject. IsCount (joined subject) (patterns_along policy subject)) policy chains × (rise ≡ owns + chains)
+    × IsSum (λ subject. IsCount (joined subject) (patterns_along policy subject)) policy chains
+    × (rise ≡ owns + chains)
 
 -- a policy that is built: of its keepers, and of those with a group
 abbrev pub IsBuildRise : List Subject → ℕ → Type 0

@@ -21,7 +21,8 @@ AreSmall policy (subject ∷ rest) = (¬ (IsLarge policy subject)) × AreSmall p
 abbrev pub IsFirstLarge : List Subject → List Subject → SubjectId → Type 0
 IsFirstLarge policy [] id = ⊥
 IsFirstLarge policy (subject ∷ rest) id =
-    (IsLarge policy subject × (id ≡ id_of subject)) ⊎ ((¬ (IsLarge policy subject)) × IsFirstLarge policy rest id)
+    (IsLarge policy subject × (id ≡ id_of subject))
+    ⊎ ((¬ (IsLarge policy subject)) × IsFirstLarge policy rest id)
 
 -- a policy may stand if no subject is large
 abbrev pub IsSmall : List Subject → Type 0
@@ -29,4 +30,5 @@ IsSmall policy = AreSmall policy policy
 
 -- else the first large one is named
 abbrev pub IsRefusedFor : List Subject → EditFault → Type 0
-IsRefusedFor policy fault = (id : SubjectId) × (fault ≡ TooManyStates id) × IsFirstLarge policy policy id
+IsRefusedFor policy fault =
+    (id : SubjectId) × (fault ≡ TooManyStates id) × IsFirstLarge policy policy id

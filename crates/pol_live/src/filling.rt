@@ -33,22 +33,22 @@ pub(crate) fn has_rules(subject: &Subject) -> bool
     0 < subject.rules.len()
 }
 
-// Whether the subject has an automaton of its own.
-fn is_keeper(subject: &Subject) -> bool
+/// Whether the subject has an automaton of its own.
+pub(crate) fn is_keeper(subject: &Subject) -> bool
     ensures { result ≡ keeps subject.now }
 {
     has_rules(subject) || subject.parent.is_none()
 }
 
-// The subject at a place.
-fn subject_at(policy: &Policy, index: usize) -> Option<&Subject>
+/// The subject at a place.
+pub(crate) fn subject_at(policy: &Policy, index: usize) -> Option<&Subject>
     ensures { option_copied result ≡ slice_get policy.now index }
 {
     policy.subjects().get(index)
 }
 
-// Where the group that the subject belongs to stands.
-fn parent_index(policy: &Policy, subject: &Subject) -> Option<usize>
+/// Where the group that the subject belongs to stands.
+pub(crate) fn parent_index(policy: &Policy, subject: &Subject) -> Option<usize>
     ensures found { parent_of policy.now subject.now
         ≡ option_and_then (slice_get policy.now) result }
     ensures within { IfSome result (λ at. at < length policy.now) }
@@ -190,7 +190,8 @@ fn fill_whole(
     ensures raised { OnOk result ((whole : Automaton)
         × (parts.new.wholes ≡ slice_set parts.old.wholes index (Some whole))
         × Raised meter.old meter.new (if is_some (slot parts.old.owns index)
-        && is_some (option_and_then (slot parts.old.wholes) parent) then count whole.table else 0)) }
+        && is_some (option_and_then (slot parts.old.wholes) parent)
+        then count whole.table else 0)) }
     ensures kept { OnErr result (NotLowered meter.old meter.new) }
 {
     let own = lookup(&parts.owns, index);

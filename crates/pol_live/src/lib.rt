@@ -5,6 +5,7 @@ mod along;
 mod building;
 mod deciding;
 mod filling;
+mod keeping;
 mod live;
 mod parts;
 mod prepared;
@@ -12,5 +13,6 @@ mod reusing;
 mod shared;
 
 pub use along::{ChainRule, rules_along};
+pub use keeping::keeper;
 pub use live::Live;
 pub use prepared::Prepared;

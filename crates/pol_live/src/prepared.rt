@@ -1,8 +1,8 @@
 //! Changes of a policy that are ready to be made.
 
 ghost use Rattle.std.specs.Prelude.{◌≡◌, ◌≤◌, ◌↔◌, IsTrue, IfOk, OnErr};
-ghost use Rattle.std.specs.Option.{option_copied};
-ghost use Rattle.pol_text.specs.Policy.{find_subject, decide};
+ghost use Rattle.std.specs.Option.{option_copied, option_map};
+ghost use Rattle.pol_text.specs.Policy.{find_subject, decide, entries};
 ghost use Rattle.pol_live.specs.Along.{MatchLaw};
 ghost use Rattle.pol_live.specs.Sizes.{IsSmall};
 ghost use Rattle.pol_live.specs.Rise.{IsEditRise, Rises};
@@ -10,6 +10,7 @@ ghost use Rattle.pol_live.specs.Live.{Prepares, IsOnlyPrepared, IsDeciderFor, Un
 ghost use Rattle.pol_live.specs.Live.{is_memory};
 
 use crate::live::Live;
+use crate::reusing::{has_on_chain, touched_alone};
 use basics::StructuralEq;
 use pol_automaton::{Decider, Meter};
 use pol_edit::{Edit, EditFault, apply};
@@ -24,14 +25,20 @@ use std::marker::Model;
 pub struct Prepared {
     before: Policy,
     after: Live,
+    // on whose chain a subject's must be for its rules to have changed
+    touched: Option<SubjectId>,
 }
 
 impl Model for Prepared {
     ghost use Rattle.pol_live.specs.Live.{Step};
+    ghost use Rattle.pol_live.specs.Renewing.{LeavesOthers};
 
     ghost Value = { Step };
 
     ghost view = { λ prepared. record { before = prepared.before; after = prepared.after } };
+
+    ghost invariant = { λ prepared.
+        LeavesOthers prepared.touched prepared.before prepared.after };
 }
 
 impl Live {
@@ -70,8 +77,13 @@ impl Live {
         let before = self.policy().copy(alloc)?;
         let mut policy = self.policy().copy(alloc)?;
         apply(alloc, &mut policy, edit)?;
+        let touched = touched_alone(&before, edit, &policy);
         let after = self.renewed(alloc, edit, policy, meter)?;
-        Ok(Prepared { before, after })
+        Ok(Prepared {
+            before,
+            after,
+            touched,
+        })
     }
 
     /// Makes a prepared edit, of a policy that is the present one. Takes no memory.
@@ -98,6 +110,20 @@ impl Prepared {
         ensures small { IsSmall self.now.after }
     {
         self.after.policy()
+    }
+
+    /// Whether the edit leaves the rules along the chain of a subject of the new policy, so that it
+    /// changes no decision there. It says no wherever the edit concerns a subject of that chain.
+    /// Takes no memory, and a look-up for each subject of the chain.
+    pub fn leaves(&self, subject: &SubjectId) -> bool
+        ensures { IsTrue result
+            → option_map (entries self.now.before) (find_subject subject.now self.now.before)
+            ≡ option_map (entries self.now.after) (find_subject subject.now self.now.after) }
+    {
+        match self.after.policy().find(subject) {
+            Some(subject) => !has_on_chain(&self.touched, self.after.policy(), subject),
+            None => false,
+        }
     }
 
     /// What the new policy says of a user's line. Nothing where it has no such user. Takes no

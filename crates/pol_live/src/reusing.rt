@@ -7,7 +7,8 @@ ghost use Rattle.pol_text.specs.Policy.{WellFormed, chain};
 ghost use Rattle.pol_edit.specs.Applying.{applied};
 ghost use Rattle.pol_live.specs.Kept.{AreParts, slot};
 ghost use Rattle.pol_live.specs.Renewing.{AreKept, IsKept, renews_own as own_renewed};
-ghost use Rattle.pol_live.specs.Renewing.{renews_chain as chain_renewed};
+ghost use Rattle.pol_live.specs.Renewing.{renews_chain as chain_renewed, has_on_chain as on_chain};
+ghost use Rattle.pol_live.specs.Renewing.{LeavesOthers};
 ghost use Rattle.pol_live.specs.Renewing.{touched as touched_by, is_touched as has_touched};
 ghost use Rattle.pol_live.specs.Renewing.{is_move as moves_only};
 
@@ -63,14 +64,14 @@ fn renews_own(edit: &Edit, subject: &Subject) -> bool
     is_touched(&touched(edit), subject) && !(is_move(edit) && has_rules(subject))
 }
 
-// Whether that of the rules along its chain is.
-fn renews_chain(edit: &Edit, policy: &Policy, subject: &Subject) -> bool
-    ensures { result ≡ chain_renewed edit.now policy.now subject.now }
+/// Whether the subject that was touched is on a subject's chain. Takes no memory, and a look-up for
+/// each subject of the chain.
+pub(crate) fn has_on_chain(touched: &Option<SubjectId>, policy: &Policy, subject: &Subject) -> bool
+    ensures { result ≡ on_chain touched.now policy.now subject.now }
 {
-    let touched = touched(edit);
     let mut present = subject;
     'chain: for _ in 0..Policy::MAX_CHAIN {
-        if is_touched(&touched, present) {
+        if is_touched(touched, present) {
             return true;
         }
         match parent(policy, present) {
@@ -79,6 +80,25 @@ fn renews_chain(edit: &Edit, policy: &Policy, subject: &Subject) -> bool
         }
     }
     false
+}
+
+// Whether that of the rules along its chain is.
+fn renews_chain(edit: &Edit, policy: &Policy, subject: &Subject) -> bool
+    ensures { result ≡ chain_renewed edit.now policy.now subject.now }
+{
+    has_on_chain(&touched(edit), policy, subject)
+}
+
+/// The subject whose rules or whose group an edit may change, which leaves those along all chains
+/// without it.
+pub(crate) fn touched_alone(before: &Policy, edit: &Edit, after: &Policy) -> Option<SubjectId>
+    requires { applied before.now edit.now ≡ Ok after.now }
+    ensures { LeavesOthers result before.now after.now }
+{
+    // every policy is well formed: the call is for its clause
+    let _ = after.subjects();
+    let _ = before;
+    touched(edit)
 }
 
 // The automaton at a place, if there is one, with one more owner.

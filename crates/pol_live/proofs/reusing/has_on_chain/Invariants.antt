@@ -2,7 +2,7 @@ use Rattle.std.proofs.Common.{◌≡◌, ◌-◌}
 use Rattle.std.specs.List.{list_any}
 use Rattle.pol_text.specs.Policy.{chain_within, chain}
 use Rattle.pol_live.specs.Renewing.{is_touched}
-use Rattle.pol_live.proofs.reusing.renews_chain.Given as goal
+use Rattle.pol_live.proofs.reusing.has_on_chain.Given as goal
 
 abbrev pub invariant-chain : goal.invariant-chain
 invariant-chain l =
