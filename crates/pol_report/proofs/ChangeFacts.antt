@@ -1,5 +1,5 @@
 -- What changes for a user, by automata with verdicts and by the policies.
-use Rattle.std.proofs.Common.{◌≡◌, ◌<◌, ℕ, zero, suc, Bool, true, false, cond, IsTrue, List, [], ◌∷◌, length, map, Option, Some, None, refl, sym, ap, subst, ◌∙◌, arith, slice_index_or}
+use Rattle.std.proofs.Common.{◌≡◌, ◌<◌, ℕ, zero, suc, Bool, true, false, true≢false, cond, IsTrue, List, [], ◌∷◌, ◌++◌, filter, append-nil, length, map, Option, Some, None, refl, sym, ap, subst, ◌∙◌, arith, slice_index_or}
 use Rattle.std.specs.Option.{option_map, option_map_or}
 use Rattle.basics.specs.Symbol.{is_text}
 use Rattle.pol_pattern.specs.Matching.{matches}
@@ -18,7 +18,9 @@ use Rattle.pol_automaton.specs.declared.way.Way.TheVariants.{NowPermitted, NowDe
 use Rattle.pol_live.specs.Along.{MatchLaw, patterns_of, chain_rule, entries_of}
 use Rattle.pol_live.specs.Live.{IsDeciderFor}
 use Rattle.pol_report.specs.Reach.{IsLeastIfAny}
-use Rattle.pol_report.specs.Changes.{is_permit, permits, IsGained, IsChangeOf}
+use Rattle.pol_report.specs.Changes.{is_permit, permits, IsGained, IsChangeOf, is_change}
+use Rattle.pol_report.specs.Sharing.{along, along_at, permits_along, IsGainedAlong, IsDifference, IsListed}
+use Rattle.pol_report.specs.declared.differing.Difference.{Difference}
 use Rattle.pol_report.specs.declared.Changed.{Changed}
 use Rattle.pol_report.proofs.Leasts.{if_any_same}
 use Rattle.pol_report.proofs.ReachFacts.{not_matched, not_held}
@@ -116,71 +118,137 @@ module _ (law : MatchLaw) where
     texts = λ line e. absurd cc;
   }
 
-  -- ---- a policy's side of a change
+  -- ---- one side of a change
 
-  -- the entries with their verdicts say what the policy permits the user
-  pub record Side (policy : List Subject) (user : List ℕ) (entries : List (List ℕ)) (verdicts : List Verdict) : Type 0 where
+  -- the entries with their verdicts say what these rules permit
+  pub record Side (rules : Option (List Entry)) (entries : List (List ℕ)) (verdicts : List Verdict) : Type 0 where
     pub verdict : List ℕ → Verdict
     pub says_so : Says entries verdicts verdict
-    pub policy_so : (line : List ℕ) → permits policy user line ≡ is_permit (verdict line)
+    pub rules_so : (line : List ℕ) → permits_along rules line ≡ is_permit (verdict line)
 
-  pub present_side : (policy : List Subject) (user : List ℕ)
-      → Side policy user (patterns_of (entries_of policy (user_id user))) (own_verdicts (entries_of policy (user_id user)))
-  present_side policy user = record { verdict = says along; says_so = own_says along; policy_so = λ line. by line (find_subject (user_id user) policy) }
+  pub present_side : (policy : List Subject) (id : SubjectId)
+      → Side (along policy id) (patterns_of (entries_of policy id)) (own_verdicts (entries_of policy id))
+  present_side policy id = record { verdict = says here; says_so = own_says here; rules_so = λ line. by line (find_subject id policy) }
     where
-      along : List Entry
-      along = entries_of policy (user_id user)
+      here : List Entry
+      here = entries_of policy id
 
-      by : (line : List ℕ) (found : Option Subject) → option_map_or (λ d. is_permit d.verdict) (option_map (λ s. decision policy s line) found) false ≡ is_permit (says (option_map_or (entries policy) found []) line)
+      by : (line : List ℕ) (found : Option Subject) → permits_along (option_map (entries policy) found) line ≡ is_permit (says (option_map_or (entries policy) found []) line)
       by line None = refl
       by line (Some s) = refl
 
-  pub absent_side : (policy : List Subject) (user : List ℕ) (along : List Entry) → find_subject (user_id user) policy ≡ None → Side policy user (patterns_of along) (denials along)
-  absent_side policy user along none = record {
+  pub absent_side : (policy : List Subject) (id : SubjectId) (others : List Entry) → find_subject id policy ≡ None → Side (along policy id) (patterns_of others) (denials others)
+  absent_side policy id others none = record {
     verdict = λ line. Deny;
-    says_so = denials_say along;
-    policy_so = λ line. ap (λ (found : Option Subject). option_map_or (λ d. is_permit d.verdict) (option_map (λ s. decision policy s line) found) false) none;
+    says_so = denials_say others;
+    rules_so = λ line. ap (λ (found : Option Subject). permits_along (option_map (entries policy) found) line) none;
   }
 
 denies_is : (v : Verdict) → is_permit v ≡ false → v ≡ Deny
 denies_is Permit e = absurd cc
 denies_is Deny e = refl
 
-permits_is : (v : Verdict) → is_permit v ≡ true → v ≡ Permit
-permits_is Permit e = refl
-permits_is Deny e = absurd cc
+permit_is : (v : Verdict) → is_permit v ≡ true → v ≡ Permit
+permit_is Permit e = refl
+permit_is Deny e = absurd cc
 
-module _ (law : MatchLaw) (before after : List Subject) (user : List ℕ) (e f : List (List ℕ)) (v w : List Verdict) (old : Side law before user e v) (new : Side law after user f w) where
-  gains : (line : List ℕ) → IsChanged (record { entries = e; verdicts = v }) (record { entries = f; verdicts = w }) NowPermitted line → IsGained before after user line
+module _ (law : MatchLaw) (before after : Option (List Entry)) (e f : List (List ℕ)) (v w : List Verdict) (old : Side law before e v) (new : Side law after f w) where
+  gains : (line : List ℕ) → IsChanged (record { entries = e; verdicts = v }) (record { entries = f; verdicts = w }) NowPermitted line → IsGainedAlong before after line
   gains line h =
-      (old.policy_so line ∙ ap is_permit (old.says_so.only line Deny h.1.0), new.policy_so line ∙ ap is_permit (new.says_so.only line Permit h.1.1))
+      (old.rules_so line ∙ ap is_permit (old.says_so.only line Deny h.1.0), new.rules_so line ∙ ap is_permit (new.says_so.only line Permit h.1.1))
 
-  gained : (line : List ℕ) → IsGained before after user line → IsChanged (record { entries = e; verdicts = v }) (record { entries = f; verdicts = w }) NowPermitted line
+  gained : (line : List ℕ) → IsGainedAlong before after line → IsChanged (record { entries = e; verdicts = v }) (record { entries = f; verdicts = w }) NowPermitted line
   gained line h =
-      let deny = denies_is (old.verdict line) (sym (old.policy_so line) ∙ h.0) in
-      let permit = permits_is (new.verdict line) (sym (new.policy_so line) ∙ h.1) in
+      let deny = denies_is (old.verdict line) (sym (old.rules_so line) ∙ h.0) in
+      let permit = permit_is (new.verdict line) (sym (new.rules_so line) ∙ h.1) in
       (new.says_so.texts line permit, (subst (λ (d : Verdict). IsDecided e v line d) deny (old.says_so.sees line), subst (λ (d : Verdict). IsDecided f w line d) permit (new.says_so.sees line)))
 
-  loses : (line : List ℕ) → IsChanged (record { entries = e; verdicts = v }) (record { entries = f; verdicts = w }) NowDenied line → IsGained after before user line
+  loses : (line : List ℕ) → IsChanged (record { entries = e; verdicts = v }) (record { entries = f; verdicts = w }) NowDenied line → IsGainedAlong after before line
   loses line h =
-      (new.policy_so line ∙ ap is_permit (new.says_so.only line Deny h.1.1), old.policy_so line ∙ ap is_permit (old.says_so.only line Permit h.1.0))
+      (new.rules_so line ∙ ap is_permit (new.says_so.only line Deny h.1.1), old.rules_so line ∙ ap is_permit (old.says_so.only line Permit h.1.0))
 
-  lost : (line : List ℕ) → IsGained after before user line → IsChanged (record { entries = e; verdicts = v }) (record { entries = f; verdicts = w }) NowDenied line
+  lost : (line : List ℕ) → IsGainedAlong after before line → IsChanged (record { entries = e; verdicts = v }) (record { entries = f; verdicts = w }) NowDenied line
   lost line h =
-      let deny = denies_is (new.verdict line) (sym (new.policy_so line) ∙ h.0) in
-      let permit = permits_is (old.verdict line) (sym (old.policy_so line) ∙ h.1) in
+      let deny = denies_is (new.verdict line) (sym (new.rules_so line) ∙ h.0) in
+      let permit = permit_is (old.verdict line) (sym (old.rules_so line) ∙ h.1) in
       (old.says_so.texts line permit, (subst (λ (d : Verdict). IsDecided e v line d) permit (old.says_so.sees line), subst (λ (d : Verdict). IsDecided f w line d) deny (new.says_so.sees line)))
 
-  -- what the automata find is what the policies change
-  pub found_change : (changed : Changed) → changed.user ≡ user
-      → IsLeastIfAny (IsChanged (record { entries = e; verdicts = v }) (record { entries = f; verdicts = w }) NowPermitted) changed.permits
-      → IsLeastIfAny (IsChanged (record { entries = e; verdicts = v }) (record { entries = f; verdicts = w }) NowDenied) changed.denies
-      → IsChangeOf before after user changed
-  found_change changed is permits denies = record {
-    user_is = is;
-    permits_is = if_any_same _ (IsGained before after user) gains gained changed.permits permits;
-    denies_is = if_any_same _ (IsGained after before user) loses lost changed.denies denies;
+  -- what the automata find is what differs
+  pub found_difference : (difference : Difference)
+      → IsLeastIfAny (IsChanged (record { entries = e; verdicts = v }) (record { entries = f; verdicts = w }) NowPermitted) difference.permits
+      → IsLeastIfAny (IsChanged (record { entries = e; verdicts = v }) (record { entries = f; verdicts = w }) NowDenied) difference.denies
+      → IsDifference before after difference
+  found_difference difference permits denies = record {
+    permits_is = if_any_same _ (IsGainedAlong before after) gains gained difference.permits permits;
+    denies_is = if_any_same _ (IsGainedAlong after before) loses lost difference.denies denies;
   }
+
+-- ---- what that changes for a user
+
+permits_is : (policy : List Subject) (user line : List ℕ) → permits policy user line ≡ permits_along (along policy (user_id user)) line
+permits_is policy user line = by (find_subject (user_id user) policy)
+  where
+    by : (found : Option Subject) → option_map_or (λ d. is_permit d.verdict) (option_map (λ s. decision policy s line) found) false ≡ permits_along (option_map (entries policy) found) line
+    by None = refl
+    by (Some s) = refl
+
+module _ (before after : List Subject) (user : List ℕ) where
+  theirs : (line : List ℕ) → IsGainedAlong (along before (user_id user)) (along after (user_id user)) line → IsGained before after user line
+  theirs line h = (permits_is before user line ∙ h.0, permits_is after user line ∙ h.1)
+
+  as_theirs : (line : List ℕ) → IsGained before after user line → IsGainedAlong (along before (user_id user)) (along after (user_id user)) line
+  as_theirs line h = (sym (permits_is before user line) ∙ h.0, sym (permits_is after user line) ∙ h.1)
+
+-- what differs for one who has these rules is what changes for the user
+pub user_change : (before after : List Subject) (user : List ℕ) (difference : Difference) → IsDifference (along before (user_id user)) (along after (user_id user)) difference
+    → IsChangeOf before after user (record { user = user; permits = difference.permits; denies = difference.denies })
+user_change before after user difference h = record {
+  user_is = refl;
+  permits_is = if_any_same _ (IsGained before after user) (theirs before after user) (as_theirs before after user) difference.permits h.permits_is;
+  denies_is = if_any_same _ (IsGained after before user) (theirs after before user) (as_theirs after before user) difference.denies h.denies_is;
+}
+
+-- nothing changes where the rules stay
+none_gained : (before after : List Subject) (user : List ℕ) → along before (user_id user) ≡ along after (user_id user) → (line : List ℕ) → ¬ (IsGained before after user line)
+none_gained before after user same line h =
+    let equal = permits_is before user line ∙ ap (λ (rules : Option (List Entry)). permits_along rules line) same ∙ sym (permits_is after user line) in
+    true≢false (sym h.1 ∙ sym equal ∙ h.0)
+
+no_change : (before after : List Subject) (user : List ℕ) → along before (user_id user) ≡ along after (user_id user)
+    → IsChangeOf before after user (record { user = user; permits = None; denies = None })
+no_change before after user same = record {
+  user_is = refl;
+  permits_is = none_gained before after user same;
+  denies_is = none_gained after before user (sym same);
+}
+
+pub not_listed : (before after : List Subject) (user : List ℕ) (changes : List Changed) → along before (user_id user) ≡ along after (user_id user) → IsListed before after user changes changes
+not_listed before after user changes same = record {
+  changed = record { user = user; permits = None; denies = None };
+  change = no_change before after user same;
+  listed = sym (append-nil changes);
+}
+
+pub is_listed : (before after : List Subject) (user : List ℕ) (old new : List Changed) (difference : Difference) → IsDifference (along before (user_id user)) (along after (user_id user)) difference
+    → new ≡ old ++ filter is_change (record { user = user; permits = difference.permits; denies = difference.denies } ∷ []) → IsListed before after user old new
+is_listed before after user old new difference h listed = record {
+  changed = record { user = user; permits = difference.permits; denies = difference.denies };
+  change = user_change before after user difference h;
+  listed = listed;
+}
+
+-- what differs between keepers differs for whom they keep
+pub for_keepers : (before after : List Subject) (id : SubjectId) (was is : Option ℕ) (difference : Difference) → along_at before was ≡ along before id → along_at after is ≡ along after id
+    → IsDifference (along_at before was) (along_at after is) difference → IsDifference (along before id) (along after id) difference
+for_keepers before after id was is difference old new h =
+    subst (λ (rules : Option (List Entry)). IsDifference (along before id) rules difference) new
+    (subst (λ (rules : Option (List Entry)). IsDifference rules (along_at after is) difference) old h)
+
+pub by_keepers : (before after : List Subject) (id : SubjectId) (was is : Option ℕ) (difference : Difference) → along_at before was ≡ along before id → along_at after is ≡ along after id
+    → IsDifference (along before id) (along after id) difference → IsDifference (along_at before was) (along_at after is) difference
+by_keepers before after id was is difference old new h =
+    subst (λ (rules : Option (List Entry)). IsDifference (along_at before was) rules difference) (sym new)
+    (subst (λ (rules : Option (List Entry)). IsDifference rules (along after id) difference) (sym old) h)
 
 -- the decider of a subject's rules, or none of a subject that isn't there
 pub its_decider : (policy : List Subject) (id : SubjectId) (decider : Automaton) → IsDeciderFor policy (find_subject id policy) (Some decider) → IsDecider decider (patterns_of (entries_of policy id))

@@ -3,3 +3,4 @@ pub mod ReachFacts
 pub mod ShadowFacts
 pub mod ChangeFacts
 pub mod ListFacts
+pub mod KnownFacts

@@ -3,6 +3,7 @@ use Rattle.std.proofs.Common.{◌≡◌, ◌<◌, ◌+◌, ℕ, suc, length, map
 use Rattle.std.specs.List.{AllZip}
 use Rattle.pol_text.specs.declared.subject.Subject.{Subject}
 use Rattle.pol_report.specs.Changes.{IsGained, IsChangeOf, ChangesOf, is_change}
+use Rattle.pol_report.specs.Sharing.{IsListed}
 use Rattle.pol_report.specs.declared.Changed.{Changed}
 use Rattle.pol_report.proofs.Leasts.{if_any_unique, filter_more}
 
@@ -54,7 +55,7 @@ module _ (before after : List Subject) where
   only_changes users a b h k = h.listed ∙ ap (filter is_change) (only_all users h.all k.all h.each k.each) ∙ sym k.listed
 
   -- one more subject: a user that is looked for, or another
-  pub step_listed : (test : Subject → Bool) (subjects : List Subject) (i : ℕ) (subject : Subject) (users : List (List ℕ)) (changes next : List Changed) (changed : Changed)
+  step_listed : (test : Subject → Bool) (subjects : List Subject) (i : ℕ) (subject : Subject) (users : List (List ℕ)) (changes next : List Changed) (changed : Changed)
       → i < length subjects → get_or subjects i subject ≡ subject → test subject ≡ true → IsChangeOf before after subject.name changed
       → next ≡ changes ++ filter is_change (changed ∷ []) → ChangesOf before after (users ++ map (λ subject. subject.name) (filter test (take i subjects))) changes
       → ChangesOf before after (users ++ map (λ subject. subject.name) (filter test (take (i + 1) subjects))) next
@@ -68,6 +69,13 @@ module _ (before after : List Subject) where
       ∙ sym (append_assoc users listed (subject.name ∷ [])) in
       subst (λ (us : List (List ℕ)). ChangesOf before after us next) (sym all)
       (subst (λ (cs : List Changed). ChangesOf before after ((users ++ listed) ++ subject.name ∷ []) cs) (sym is) (more_changes (users ++ listed) changes subject.name changed so_far change))
+
+  pub step_told : (test : Subject → Bool) (subjects : List Subject) (i : ℕ) (subject : Subject) (users : List (List ℕ)) (changes next : List Changed)
+      → i < length subjects → get_or subjects i subject ≡ subject → test subject ≡ true → IsListed before after subject.name changes next
+      → ChangesOf before after (users ++ map (λ subject. subject.name) (filter test (take i subjects))) changes
+      → ChangesOf before after (users ++ map (λ subject. subject.name) (filter test (take (i + 1) subjects))) next
+  step_told test subjects i subject users changes next lt at passes told so_far =
+      step_listed test subjects i subject users changes next told.changed lt at passes told.change told.listed so_far
 
   pub step_passed : (test : Subject → Bool) (subjects : List Subject) (i : ℕ) (subject : Subject) (users : List (List ℕ)) (changes next : List Changed)
       → i < length subjects → get_or subjects i subject ≡ subject → test subject ≡ false

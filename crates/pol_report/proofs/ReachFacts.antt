@@ -118,6 +118,6 @@ pub if_ok_so : {X E : Type 0} {P Q : X → Type 0} (r : Result X E) → ((x : X)
 if_ok_so (Ok x) so h = so x h
 if_ok_so (Err e) so h = tt
 
-pub if_ok_all : {X E : Type 0} {A B C D : X → Type 0} (r : Result X E) → ((x : X) → A x → B x → C x → D x) → IfOk r A → IfOk r B → IfOk r C → IfOk r D
-if_ok_all (Ok x) so a b c = so x a b c
-if_ok_all (Err e) so a b c = tt
+pub if_ok_both : {X E : Type 0} {A B C : X → Type 0} (r : Result X E) → ((x : X) → A x → B x → C x) → IfOk r A → IfOk r B → IfOk r C
+if_ok_both (Ok x) so a b = so x a b
+if_ok_both (Err e) so a b = tt

@@ -1,10 +1,12 @@
 -- Rules that no line reaches, a subject at a time.
-use Rattle.std.proofs.Common.{◌≡◌, ◌<◌, ℕ, zero, suc, Bool, true, false, not, cond, is_some, List, [], ◌∷◌, ◌++◌, length, map, filter, take, refl, sym, ap, subst, ◌∙◌, arith, get_or, append_assoc, append-nil}
+use Rattle.std.proofs.Common.{◌≡◌, ◌<◌, ◌+◌, ℕ, zero, suc, Option, None, Some, Bool, true, false, not, cond, is_some, List, [], ◌∷◌, ◌++◌, length, map, filter, take, refl, sym, ap, subst, ◌∙◌, arith, get_or, append_assoc, append-nil}
 use Rattle.pol_names.specs.declared.subject_id.SubjectId.{SubjectId}
 use Rattle.pol_text.specs.declared.subject.Subject.{Subject}
-use Rattle.pol_text.specs.Policy.{id_of}
+use Rattle.std.specs.Option.{option_map, option_map_or}
+use Rattle.pol_text.specs.Policy.{id_of, find_subject, Entry, entries}
 use Rattle.pol_live.specs.Along.{entries_of}
 use Rattle.pol_report.specs.Reach.{AreReached, shadowed_row, unreached, ShadowsOf}
+use Rattle.pol_report.specs.Sharing.{along, along_at, told_for, AreTold, AreUnreached}
 use Rattle.pol_report.specs.declared.Reached.{Reached}
 use Rattle.pol_report.specs.declared.Shadowed.{Shadowed}
 use Rattle.pol_report.proofs.ReachFacts.{only_reached}
@@ -52,3 +54,48 @@ module _ (policy : List Subject) where
       let rows = only_reached (entries_of policy (id_of s)) h.0 k.0 h.2 k.2 in
       let later = only_shadows rest h.1 k.1 h.3 k.3 in
       h.4 ∙ ap (λ (rows : List Reached). unreached (id_of s) rows ++ h.1) rows ∙ ap (λ (back : List Shadowed). unreached (id_of s) k.0 ++ back) later ∙ sym k.4
+
+  pub told_shadows : (subjects : List Subject) (i : ℕ) (subject : Subject) (old new : List Shadowed) → i < length subjects → get_or subjects i subject ≡ subject
+      → ShadowsOf policy (take i subjects) old → AreTold (entries_of policy (id_of subject)) (id_of subject) old new → ShadowsOf policy (take (i + 1) subjects) new
+  told_shadows subjects i subject old new lt at so_far told =
+      let longer : suc i ≡ i + 1 = omega arith in
+      subst (λ (n : ℕ). ShadowsOf policy (take n subjects) new) longer
+      (subst (λ (s : List Shadowed). ShadowsOf policy (take (suc i) subjects) s) (sym told.told) (more_shadows subjects i subject old told.rows lt at so_far told.reached))
+
+-- ---- for whom rules are told
+
+retell : (id other : SubjectId) (rows : List Reached) → map (told_for id) (unreached other rows) ≡ unreached id rows
+retell id other [] = refl
+retell id other (row ∷ rows) = by (is_some row.text) (retell id other rows)
+  where
+    later : List Reached
+    later = filter (λ row. not (is_some row.text)) rows
+
+    by : (b : Bool) → map (told_for id) (map (shadowed_row other) later) ≡ map (shadowed_row id) later
+        → map (told_for id) (map (shadowed_row other) (cond (not b) (row ∷ later) later)) ≡ map (shadowed_row id) (cond (not b) (row ∷ later) later)
+    by true h = h
+    by false h = ap (λ (rest : List Shadowed). shadowed_row id row ∷ rest) h
+
+pub are_told : (rules : List Entry) (id : SubjectId) (found old new : List Shadowed) → AreUnreached rules found → new ≡ old ++ map (told_for id) found → AreTold rules id old new
+are_told rules id found old new h told = record {
+  rows = h.rows;
+  reached = h.reached;
+  told = told ∙ ap (λ (more : List Shadowed). old ++ more) (ap (map (told_for id)) h.listed ∙ retell id h.subject h.rows);
+}
+
+-- the rules of the keeper are those of the subject
+pub rules_of : (policy : List Subject) (id : SubjectId) (place : Option ℕ) → along_at policy place ≡ along policy id
+    → option_map_or (λ rules. rules) (along_at policy place) [] ≡ entries_of policy id
+rules_of policy id place same = ap (λ (rules : Option (List Entry)). option_map_or (λ rules. rules) rules []) same ∙ by (find_subject id policy)
+  where
+    by : (found : Option Subject) → option_map_or (λ rules. rules) (option_map (entries policy) found) [] ≡ option_map_or (entries policy) found []
+    by None = refl
+    by (Some s) = refl
+
+-- nobody has no rules
+pub told_nobody : (policy : List Subject) (id : SubjectId) (shadows : List Shadowed) → is_some (find_subject id policy) ≡ false → AreTold (entries_of policy id) id shadows shadows
+told_nobody policy id shadows absent = by (find_subject id policy) absent
+  where
+    by : (found : Option Subject) → is_some found ≡ false → AreTold (option_map_or (entries policy) found []) id shadows shadows
+    by None none = record { rows = []; reached = record { many = refl; each = λ place entry reached h k. absurd cc }; told = sym (append-nil shadows) }
+    by (Some s) none = absurd cc

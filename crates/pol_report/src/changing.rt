@@ -1,122 +1,111 @@
 //! What a change of the policy changes for its users.
 
-ghost use Rattle.std.specs.Prelude.{◌≡◌, ◌++◌, ℕ, List, [], ◌∷◌, length, map, filter, replicate, IfOk, OnOk};
-ghost use Rattle.pol_names.specs.SubjectId.{same_kind, user_id};
+ghost use Rattle.std.specs.Prelude.{◌≡◌, ◌++◌, ℕ, List, [], ◌∷◌, filter, IfOk, OnOk};
+ghost use Rattle.pol_names.specs.SubjectId.{same_kind};
 ghost use Rattle.pol_names.specs.declared.subject_id.Kind.TheVariants.{User};
-ghost use Rattle.pol_names.specs.declared.decision.Verdict.TheVariants.{Deny};
-ghost use Rattle.pol_automaton.specs.Automaton.{IsDecider};
-ghost use Rattle.pol_automaton.specs.Decision.{Ruling, IsChanged};
-ghost use Rattle.pol_automaton.specs.declared.way.Way.TheVariants.{NowPermitted, NowDenied};
-ghost use Rattle.pol_live.specs.Along.{entries_of};
-ghost use Rattle.pol_report.specs.Reach.{IsLeastIfAny};
-ghost use Rattle.pol_report.specs.Changes.{IsChangeOf, ChangesOf, AreChanges, is_change as change_test, is_alone as alone_test, users_of, users_alone};
+ghost use Rattle.pol_report.specs.Changes.{IsChangeOf, ChangesOf, AreChanges, users_of};
+ghost use Rattle.pol_report.specs.Changes.{is_change as change_test, is_alone as alone_test};
+ghost use Rattle.pol_report.specs.Changes.{users_alone};
+ghost use Rattle.pol_report.specs.Sharing.{AreKnown, IsListed};
 ghost use Rattle.pol_report.specs.declared.Changed.{Changed as ChangedValue};
 
-use crate::line::line_of;
+use crate::differing::{Difference, difference_for};
+use crate::known::Differences;
+use crate::line::copied;
 use crate::{Changed, Changes};
 use basics::Sequence;
-use pol_automaton::{Decider, Way};
-use pol_live::{ChainRule, Live, Prepared, rules_along};
-use pol_names::{Kind, Name, SubjectId, Verdict};
+use pol_live::{Live, Prepared, keeper};
+use pol_names::{Kind, Name, SubjectId};
 use pol_text::{Policy, Subject};
 use std::alloc::{AllocError, Global};
 
-// What each of the rules says.
-fn verdicts(alloc: Global, rules: &[ChainRule]) -> Result<Vec<Verdict>, AllocError>
-    ensures { IfOk result (λ verdicts. verdicts.items ≡ map (λ rule. rule.verdict) rules.now) }
-{
-    rules.iter().map(|rule| rule.verdict).collect(alloc)
-}
-
-// For each of the rules a denial.
-fn denials(alloc: Global, rules: &[ChainRule]) -> Result<Vec<Verdict>, AllocError>
-    ensures { IfOk result (λ verdicts. verdicts.items ≡ map (λ rule. Deny) rules.now) }
-{
-    rules.iter().map(|_| Verdict::Deny).collect(alloc)
-}
-
-// What changes for a user, by the old rules' automaton and verdicts and the new ones'.
-fn changed(
+// Lists what changes for a user, if anything does.
+fn list_change(
     alloc: Global,
+    changes: &mut Changes,
     user: Name,
-    old: &Decider,
-    old_verdicts: &[Verdict],
-    new: &Decider,
-    new_verdicts: &[Verdict],
-) -> Result<Changed, AllocError>
-    ensures user { IfOk result (λ changed. changed.user ≡ user) }
-    ensures permits { (before after : Ruling) → IsDecider old.now before.entries
-        → IsDecider new.now after.entries → before.verdicts ≡ old_verdicts.now
-        → after.verdicts ≡ new_verdicts.now → IfOk result
-        (λ changed. IsLeastIfAny (IsChanged before after NowPermitted) changed.permits) }
-    ensures denies { (before after : Ruling) → IsDecider old.now before.entries
-        → IsDecider new.now after.entries → before.verdicts ≡ old_verdicts.now
-        → after.verdicts ≡ new_verdicts.now → IfOk result
-        (λ changed. IsLeastIfAny (IsChanged before after NowDenied) changed.denies) }
+    difference: &Difference,
+) -> Result<(), AllocError>
+    ensures { OnOk result (changes.new ≡ changes.old ++ filter change_test (record
+        { user = user; permits = difference.now.permits; denies = difference.now.denies } ∷ [])) }
 {
-    let permits = Decider::differ(
-        alloc,
-        old,
-        old_verdicts,
-        new,
-        new_verdicts,
-        Way::NowPermitted,
-    )?;
-    let denies = Decider::differ(alloc, old, old_verdicts, new, new_verdicts, Way::NowDenied)?;
-    Ok(Changed {
-        user,
-        permits: line_of(permits),
-        denies: line_of(denies),
-    })
+    if difference.permits.is_some() || difference.denies.is_some() {
+        let permits = copied(alloc, &difference.permits)?;
+        let denies = copied(alloc, &difference.denies)?;
+        changes
+            .push(Changed {
+                user,
+                permits,
+                denies,
+            })
+            .map_err(|_| AllocError)?;
+    }
+    Ok(())
 }
 
-// What changes for a user. Who isn't in a policy may do nothing there: as if all rules that the
-// other policy has for the user denied.
-fn change_of(
+// Lists what changes for a user, searched for.
+fn list_searched(
     alloc: Global,
+    changes: &mut Changes,
     live: &Live,
     prepared: &Prepared,
     user: &Name,
-) -> Result<Changed, AllocError>
+) -> Result<(), AllocError>
     requires { prepared.now.before ≡ live.now }
-    ensures { IfOk result (λ changed.
-        IsChangeOf live.now prepared.now.after user.now changed) }
+    ensures { OnOk result (IsListed live.now prepared.now.after user.now changes.old changes.new) }
 {
-    let id = SubjectId::user(*user);
-    let old_rules = rules_along(alloc, live.policy(), &id)?;
-    let new_rules = rules_along(alloc, prepared.policy(), &id)?;
-    match (live.decider(&id), prepared.decider(live, &id)) {
-        (Some(old), Some(new)) => {
-            let before = verdicts(alloc, &old_rules)?;
-            let after = verdicts(alloc, &new_rules)?;
-            changed(alloc, *user, old, &before, new, &after)
-        }
-        (Some(old), None) => {
-            let before = verdicts(alloc, &old_rules)?;
-            let after = denials(alloc, &old_rules)?;
-            changed(alloc, *user, old, &before, old, &after)
-        }
-        (None, Some(new)) => {
-            let before = denials(alloc, &new_rules)?;
-            let after = verdicts(alloc, &new_rules)?;
-            changed(alloc, *user, new, &before, new, &after)
-        }
-        (None, None) => Ok(Changed {
-            user: *user,
-            permits: None,
-            denies: None,
-        }),
-    }
+    let difference = difference_for(alloc, live, prepared, &SubjectId::user(*user))?;
+    list_change(alloc, changes, *user, &difference)
 }
 
-// Lists the change, if it is one.
-fn list_change(changes: &mut Changes, changed: Changed) -> Result<(), AllocError>
-    ensures { OnOk result (changes.new ≡ changes.old ++ filter change_test (changed ∷ [])) }
+// Lists what changes for a user whose rules the edit may have changed. Searches once for all who
+// have their rules by one keeper.
+fn list_touched(
+    alloc: Global,
+    changes: &mut Changes,
+    known: &mut Differences,
+    live: &Live,
+    prepared: &Prepared,
+    user: &Name,
+) -> Result<(), AllocError>
+    requires before { prepared.now.before ≡ live.now }
+    requires known { AreKnown live.now prepared.now.after known.old.by_keeper }
+    ensures known { OnOk result (AreKnown live.now prepared.now.after known.new.by_keeper) }
+    ensures listed { OnOk result (IsListed live.now prepared.now.after user.now
+        changes.old changes.new) }
 {
-    if changed.permits.is_some() || changed.denies.is_some() {
-        changes.push(changed).map_err(|_| AllocError)?;
+    let id = SubjectId::user(*user);
+    let before = keeper(live.policy(), &id);
+    let Some(after) = keeper(prepared.policy(), &id) else {
+        return list_searched(alloc, changes, live, prepared, user);
+    };
+    if let Some(difference) = known.find(before, after) {
+        return list_change(alloc, changes, *user, difference);
     }
-    Ok(())
+    let difference = difference_for(alloc, live, prepared, &id)?;
+    list_change(alloc, changes, *user, &difference)?;
+    known.remember(before, after, difference)
+}
+
+// Lists what changes for a user of the new policy.
+fn list_user(
+    alloc: Global,
+    changes: &mut Changes,
+    known: &mut Differences,
+    live: &Live,
+    prepared: &Prepared,
+    user: &Name,
+) -> Result<(), AllocError>
+    requires before { prepared.now.before ≡ live.now }
+    requires known { AreKnown live.now prepared.now.after known.old.by_keeper }
+    ensures known { OnOk result (AreKnown live.now prepared.now.after known.new.by_keeper) }
+    ensures listed { OnOk result (IsListed live.now prepared.now.after user.now
+        changes.old changes.new) }
+{
+    if prepared.leaves(&SubjectId::user(*user)) {
+        return Ok(());
+    }
+    list_touched(alloc, changes, known, live, prepared, user)
 }
 
 fn is_user(subject: &Subject) -> bool
@@ -144,10 +133,10 @@ fn list_present(
         → OnOk result (ChangesOf live.now prepared.now.after
         (users ++ users_of prepared.now.after) changes.new) }
 {
+    let mut known = Differences::new(alloc);
     for subject in prepared.policy().subjects() {
         if is_user(subject) {
-            let changed = change_of(alloc, live, prepared, &subject.name)?;
-            list_change(changes, changed)?;
+            list_user(alloc, changes, &mut known, live, prepared, &subject.name)?;
         }
     }
     Ok(())
@@ -167,8 +156,7 @@ fn list_gone(
 {
     for subject in live.policy().subjects() {
         if is_alone(prepared.policy(), subject) {
-            let changed = change_of(alloc, live, prepared, &subject.name)?;
-            list_change(changes, changed)?;
+            list_searched(alloc, changes, live, prepared, &subject.name)?;
         }
     }
     Ok(())
@@ -176,6 +164,9 @@ fn list_gone(
 
 /// What a prepared edit changes for users: those of the new policy in its order, then those of the
 /// old one alone. A user for whom nothing changes isn't listed.
+///
+/// It searches once for each automaton that the edit concerns, however many users share it; all
+/// else takes a few look-ups for each subject, and the list itself.
 pub fn changes(alloc: Global, live: &Live, prepared: &Prepared) -> Result<Changes, AllocError>
     requires { prepared.now.before ≡ live.now }
     ensures found { IfOk result (λ changes. AreChanges live.now prepared.now.after changes) }

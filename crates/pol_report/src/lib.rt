@@ -3,13 +3,17 @@
 #![tactic(auto)]
 
 mod changing;
+mod differing;
+mod known;
 mod line;
 mod reaching;
+mod shadowing;
 
 use basics::{Bytes, Sequence, StructuralEq};
 pub use changing::changes;
 use pol_names::{Name, SubjectId};
-pub use reaching::{reach, shadows};
+pub use reaching::reach;
+pub use shadowing::shadows;
 
 /// A user for whom a change of the policy changes a decision.
 #[derive(Debug, Drop, PartialEq, Eq)]

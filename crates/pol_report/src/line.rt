@@ -1,9 +1,10 @@
 //! Lines that automata found.
 
-ghost use Rattle.std.specs.Prelude.{◌≡◌};
+ghost use Rattle.std.specs.Prelude.{◌≡◌, IfOk};
 ghost use Rattle.std.specs.Option.{option_map};
 
 use basics::Bytes;
+use std::alloc::{AllocError, Global};
 
 /// The line, as contracts compare it.
 pub(crate) fn line_of(found: Option<Vec<u8>>) -> Option<Bytes>
@@ -12,5 +13,18 @@ pub(crate) fn line_of(found: Option<Vec<u8>>) -> Option<Bytes>
     match found {
         Some(line) => Some(Bytes::from(line)),
         None => None,
+    }
+}
+
+/// A copy of the line, if there is one.
+pub(crate) fn copied(alloc: Global, line: &Option<Bytes>) -> Result<Option<Bytes>, AllocError>
+    ensures { IfOk result (λ copy. copy ≡ line.now) }
+{
+    match line {
+        Some(line) => {
+            let copy = line.copy(alloc)?;
+            Ok(Some(copy))
+        }
+        None => Ok(None),
     }
 }

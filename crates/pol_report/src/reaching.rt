@@ -1,12 +1,11 @@
-//! By which lines rules are reached, and which are reached by none.
+//! By which lines rules are reached.
 
 ghost use Rattle.std.specs.Prelude.{◌≡◌, ◌++◌, List, length, map, IfOk, IfSome, IfNone, OnOk};
 ghost use Rattle.pol_automaton.specs.Automaton.{IsDecider};
 ghost use Rattle.pol_text.specs.declared.subject.Subject.{Subject as SubjectValue};
 ghost use Rattle.pol_live.specs.Along.{MatchLaw, patterns_of, entries_of};
-ghost use Rattle.pol_report.specs.Reach.{AreReached, Shadows, shadowed_row, unreached};
+ghost use Rattle.pol_report.specs.Reach.{AreReached, shadowed_row, unreached};
 ghost use Rattle.pol_report.specs.declared.Reached.{Reached as ReachedValue};
-ghost use Rattle.pol_report.specs.declared.Shadowed.{Shadowed as ShadowedValue};
 
 use crate::line::line_of;
 use crate::{Reached, Shadowed};
@@ -61,8 +60,8 @@ pub fn reach(
     }
 }
 
-// Adds those that no line reaches.
-fn add_unreached(
+/// Adds those that no line reaches.
+pub(crate) fn add_unreached(
     shadows: &mut Sequence<Shadowed>,
     subject: &SubjectId,
     rows: &Sequence<Reached>,
@@ -79,22 +78,4 @@ fn add_unreached(
         }
     }
     Ok(())
-}
-
-/// The rules that decide no line, for each subject in the policy's order and each rule along its
-/// chain.
-pub fn shadows(alloc: Global, live: &Live) -> Result<Sequence<Shadowed>, AllocError>
-    ensures found { IfOk result (λ shadows. Shadows live.now shadows) }
-
-    // There is one such report.
-    ensures only { IfOk result (λ shadows. (other : List ShadowedValue)
-        → Shadows live.now other → shadows ≡ other) }
-{
-    let mut shadows = Sequence::new(alloc);
-    for subject in live.policy().subjects() {
-        let id = subject.id();
-        let rows = reach(alloc, live, &id)?;
-        add_unreached(&mut shadows, &id, &rows)?;
-    }
-    Ok(shadows)
 }

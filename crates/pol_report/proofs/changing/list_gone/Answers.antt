@@ -1,8 +1,8 @@
 use Rattle.std.proofs.Common.{◌≡◌, ◌<◌, length, get_or, sym, ◌∙◌}
 use Rattle.pol_report.specs.Changes.{is_alone}
-use Rattle.pol_report.proofs.ListFacts.{step_listed, step_passed}
+use Rattle.pol_report.proofs.ListFacts.{step_told, step_passed}
 use Rattle.pol_report.proofs.changing.list_gone.Goals as goal
-use Rattle.pol_report.proofs.changing.list_gone.Goals.{then-is_alone+in_ok-changed+in_ok-list_change, else-is_alone}
+use Rattle.pol_report.proofs.changing.list_gone.Goals.{then-is_alone+in_ok-list_searched, else-is_alone}
 
 pub loop-subject-preserved : goal.loop-subject-preserved
 loop-subject-preserved c =
@@ -14,8 +14,8 @@ loop-subject-preserved c =
     let alone : c.is_alone.result ≡ is_alone c.args.prepared.now.after c.subject-item.result = rw (← c.policy-in-loop-subject.ensures.policy) c.is_alone.ensures in
     record {
       so_far = λ users h. elim c.if-is_alone.branch [
-        | then-is_alone+in_ok-changed+in_ok-list_change w ↦ step_listed c.args.live.now c.args.prepared.now.after (is_alone c.args.prepared.now.after) subjects i subject users c.loop-subject.changes c.if-is_alone.changes w.in_ok-changed.changed lt at
-            (sym alone ∙ w.if-is_alone.true) w.in_ok-changed.ensures (w.changes-is ∙ w.in_ok-list_change.ensures) (c.loop-subject.invariant.so_far users h)
+        | then-is_alone+in_ok-list_searched w ↦ step_told c.args.live.now c.args.prepared.now.after (is_alone c.args.prepared.now.after) subjects i subject users c.loop-subject.changes c.if-is_alone.changes lt at
+            (sym alone ∙ w.if-is_alone.true) (rw w.changes-is w.in_ok-list_searched.ensures) (c.loop-subject.invariant.so_far users h)
         | else-is_alone w ↦ step_passed c.args.live.now c.args.prepared.now.after (is_alone c.args.prepared.now.after) subjects i subject users c.loop-subject.changes c.if-is_alone.changes lt at
             (sym alone ∙ w.if-is_alone.false) w.changes-is (c.loop-subject.invariant.so_far users h)
       ];

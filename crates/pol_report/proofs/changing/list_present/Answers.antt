@@ -1,9 +1,20 @@
-use Rattle.std.proofs.Common.{◌≡◌, ◌<◌, length, get_or, sym, ◌∙◌}
+use Rattle.std.proofs.Common.{◌≡◌, ◌<◌, ℕ, List, length, get_or, sym, subst, ◌∙◌, append-nil}
 use Rattle.pol_names.specs.SubjectId.{same_kind}
 use Rattle.pol_names.specs.declared.subject_id.Kind.TheVariants.{User}
-use Rattle.pol_report.proofs.ListFacts.{step_listed, step_passed}
+use Rattle.pol_report.specs.Changes.{ChangesOf}
+use Rattle.pol_report.proofs.ListFacts.{step_told, step_passed}
 use Rattle.pol_report.proofs.changing.list_present.Goals as goal
-use Rattle.pol_report.proofs.changing.list_present.Goals.{then-is_user+in_ok-changed+in_ok-list_change, else-is_user}
+use Rattle.pol_report.proofs.changing.list_present.Goals.{then-is_user+in_ok-list_user, else-is_user}
+
+pub loop-subject-init : goal.loop-subject-init
+loop-subject-init c =
+    let live = c.args.live.now in
+    let after = c.args.prepared.now.after in
+    record {
+      so_far = λ users h. subst (λ (us : List (List ℕ)). ChangesOf live after us c.args.changes.now) (sym (append-nil users)) h;
+      known = c.new-known.ensures live after;
+      same = c.subjects-subject-items.ensures.subjects ∙ c.policy.ensures.policy;
+    }
 
 pub loop-subject-preserved : goal.loop-subject-preserved
 loop-subject-preserved c =
@@ -14,10 +25,14 @@ loop-subject-preserved c =
     let lt : i < length subjects = rw (← c.loop-subject.invariant.same) c.loop-subject-test.true in
     record {
       so_far = λ users h. elim c.if-is_user.branch [
-        | then-is_user+in_ok-changed+in_ok-list_change w ↦ step_listed c.args.live.now c.args.prepared.now.after (λ subject. same_kind subject.kind User) subjects i subject users c.loop-subject.changes c.if-is_user.changes w.in_ok-changed.changed lt at
-            (sym c.is_user.ensures ∙ w.if-is_user.true) w.in_ok-changed.ensures (w.changes-is ∙ w.in_ok-list_change.ensures) (c.loop-subject.invariant.so_far users h)
+        | then-is_user+in_ok-list_user w ↦ step_told c.args.live.now c.args.prepared.now.after (λ subject. same_kind subject.kind User) subjects i subject users c.loop-subject.changes c.if-is_user.changes lt at
+            (sym c.is_user.ensures ∙ w.if-is_user.true) (rw w.changes-is w.in_ok-list_user.ensures.listed) (c.loop-subject.invariant.so_far users h)
         | else-is_user w ↦ step_passed c.args.live.now c.args.prepared.now.after (λ subject. same_kind subject.kind User) subjects i subject users c.loop-subject.changes c.if-is_user.changes lt at
             (sym c.is_user.ensures ∙ w.if-is_user.false) w.changes-is (c.loop-subject.invariant.so_far users h)
+      ];
+      known = elim c.if-is_user.branch [
+        | then-is_user+in_ok-list_user w ↦ rw w.known-is w.in_ok-list_user.ensures.known
+        | else-is_user w ↦ rw w.known-is c.loop-subject.invariant.known
       ];
       same = c.loop-subject.invariant.same;
     }

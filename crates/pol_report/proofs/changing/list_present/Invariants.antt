@@ -2,6 +2,7 @@ use Rattle.std.proofs.Common.{◌≡◌, ◌++◌, ℕ, List, map, filter, take}
 use Rattle.pol_names.specs.SubjectId.{same_kind}
 use Rattle.pol_names.specs.declared.subject_id.Kind.TheVariants.{User}
 use Rattle.pol_report.specs.Changes.{ChangesOf}
+use Rattle.pol_report.specs.Sharing.{AreKnown}
 use Rattle.pol_report.proofs.changing.list_present.Given as goal
 
 -- the users among the first subjects are behind those that were listed before
@@ -9,5 +10,6 @@ abbrev pub invariant-loop-subject : goal.invariant-loop-subject
 invariant-loop-subject l = record {
   so_far : (users : List (List ℕ)) → ChangesOf l.live l.prepared.after users l.fn.changes
       → ChangesOf l.live l.prepared.after (users ++ map (λ subject. subject.name) (filter (λ subject. same_kind subject.kind User) (take l.subject-index l.prepared.after))) l.changes;
+  known : AreKnown l.live l.prepared.after l.known.by_keeper;
   same : l.subject-items ≡ l.prepared.after;
 }

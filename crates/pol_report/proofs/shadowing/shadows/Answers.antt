@@ -1,7 +1,10 @@
-use Rattle.std.proofs.Common.{◌≡◌, ◌<◌, ◌≤◌, length, get_or, sym, add-one}
+use Rattle.std.proofs.Common.{◌≡◌, ◌<◌, ◌≤◌, length, get_or, sym}
+use Rattle.pol_text.specs.Policy.{id_of}
+use Rattle.pol_live.specs.Along.{entries_of}
+use Rattle.pol_report.specs.Sharing.{AreTold}
 use Rattle.pol_report.proofs.Leasts.{take_all}
-use Rattle.pol_report.proofs.ShadowFacts.{more_shadows, only_shadows}
-use Rattle.pol_report.proofs.reaching.shadows.Goals as goal
+use Rattle.pol_report.proofs.ShadowFacts.{told_shadows, only_shadows}
+use Rattle.pol_report.proofs.shadowing.shadows.Goals as goal
 
 pub loop-subject-preserved : goal.loop-subject-preserved
 loop-subject-preserved c =
@@ -10,9 +13,10 @@ loop-subject-preserved c =
     let subject = c.subject-item.result in
     let at : get_or live i subject ≡ subject = rw (← c.loop-subject.invariant.same) (sym c.subject-item.is) in
     let lt : i < length live = rw (← c.loop-subject.invariant.same) c.loop-subject-test.true in
-    let reached = rw c.id-id.ensures at c.in_ok-rows.ensures.found in
+    let told : AreTold (entries_of live (id_of subject)) (id_of subject) c.loop-subject.shadows c.add_shadows.new.shadows = rw (← c.id.ensures) c.in_ok-add_shadows.ensures.told in
     record {
-      so_far = rw (add-one, c.in_ok-add_unreached.ensures, c.id-id.ensures) (more_shadows live live i subject c.loop-subject.shadows c.in_ok-rows.rows lt at c.loop-subject.invariant.so_far reached);
+      so_far = told_shadows live live i subject c.loop-subject.shadows c.add_shadows.new.shadows lt at c.loop-subject.invariant.so_far told;
+      known = c.in_ok-add_shadows.ensures.known;
       same = c.loop-subject.invariant.same;
     }
 
