@@ -16,7 +16,7 @@ use Rattle.tac_conn.specs.Standing as conns
 use Rattle.tac_stream.specs.declared.stream.Stream.{Stream}
 use Rattle.tac_stream.specs.declared.turn.Turn.{Turn}
 use Rattle.tac_stream.specs.declared.turn.Turn.TheVariants.{Reply, Asks, Silent, Need, Close}
-use Rattle.tac_stream.specs.Turns.{packets_of, turn_of, next_turn}
+use Rattle.tac_stream.specs.Turns.{packets_of, turn_of, turn_by, next_turn, IsTurn}
 use Rattle.tac_stream.specs.Kept.{Stands, StandsAfter, Shortens, unread_len}
 
 -- ---- lists
@@ -34,6 +34,22 @@ next_of_list (suc n) (y ∷ ys) x more e =
 
 packets_of-append : (key : List ℕ) (first second : List Frame) → packets_of key (first ++ second) ≡ packets_of key second ++ packets_of key first
 packets_of-append key first second = ap reverse (map-append (clear key) first second) ∙ reverse-append (map (clear key) first) (map (clear key) second)
+
+-- ---- which turn it is
+
+module _ (key bytes : List ℕ) (taken : ℕ) where
+  by_list : (turn : Turn) (frames : List Frame) → drop taken (cut bytes).packets ≡ frames
+      → turn ≡ turn_by key (packets_of key (take taken (cut bytes).packets)) frames (cut bytes).tail → IsTurn key bytes taken turn
+  by_list turn [] left is = inr (record { left = left; is = is })
+  by_list turn (frame ∷ more) left is = inl (record { frame = frame; more = more; left = left; is = is })
+
+  by_turn : (turn : Turn) → turn ≡ next_turn key bytes taken → IsTurn key bytes taken turn
+  unfolding next_turn
+  by_turn turn is = by_list turn (drop taken (cut bytes).packets) refl is
+
+  pub found_turn : (result : Result Turn AllocError) → IfOk result (λ turn. turn ≡ next_turn key bytes taken) → IfOk result (IsTurn key bytes taken)
+  found_turn (Ok turn) is = by_turn turn is
+  found_turn (Err error) is = is
 
 -- ---- the beginning
 

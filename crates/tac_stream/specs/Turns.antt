@@ -1,5 +1,5 @@
 -- What is to be done next on a connection, by all bytes that came on it (RFC 8907, section 4).
-use Rattle.std.specs.Prelude.{◌≡◌, ℕ, List, [], ◌∷◌, map, reverse, take, drop, Bool, true, false, Option, Some, None}
+use Rattle.std.specs.Prelude.{◌≡◌, ◌⊎◌, ℕ, List, [], ◌∷◌, map, reverse, take, drop, Bool, true, false, Option, Some, None}
 use Rattle.tac_wire.specs.declared.frame.Frame.{Frame}
 use Rattle.tac_wire.specs.Stream.{Tail, open_end, fault, cut}
 use Rattle.tac_conn.specs.declared.packet.Packet.{Packet}
@@ -35,6 +35,22 @@ turn_by key earlier [] (fault reason) = Close
 unfoldable pub next_turn : List ℕ → List ℕ → ℕ → Turn
 next_turn key bytes taken =
     let parts = cut bytes in turn_by key (packets_of key (take taken parts.packets)) (drop taken parts.packets) parts.tail
+
+-- the turn is the one for the first of the packets that are left
+pub record IsForFirst (key bytes : List ℕ) (taken : ℕ) (turn : Turn) : Type 0 where
+  pub frame : Frame
+  pub more : List Frame
+  pub left : drop taken (cut bytes).packets ≡ frame ∷ more
+  pub is : turn ≡ turn_of (step_of key (outcome (packets_of key (take taken (cut bytes).packets)) (clear key frame)))
+
+-- no packet is left, and the turn is the one for what stands behind them
+pub record IsForTail (key bytes : List ℕ) (taken : ℕ) (turn : Turn) : Type 0 where
+  pub left : drop taken (cut bytes).packets ≡ []
+  pub is : turn ≡ turn_by key (packets_of key (take taken (cut bytes).packets)) [] (cut bytes).tail
+
+-- which of the two a turn is
+abbrev pub IsTurn : List ℕ → List ℕ → ℕ → Turn → Type 0
+IsTurn key bytes taken turn = IsForFirst key bytes taken turn ⊎ IsForTail key bytes taken turn
 
 -- whether the connection closes at once
 abbrev pub turn_closes : Turn → Bool

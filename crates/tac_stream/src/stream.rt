@@ -99,6 +99,9 @@ impl Stream {
         ensures turn { (bytes : List ℕ) (taken : ℕ) → kept.IsReady self.old →
             kept.Stands key.now self.old bytes taken →
             IfOk result (λ turn. turn ≡ turns.next_turn key.now bytes taken) }
+        ensures found { (bytes : List ℕ) (taken : ℕ) → kept.IsReady self.old →
+            kept.Stands key.now self.old bytes taken →
+            IfOk result (turns.IsTurn key.now bytes taken) }
         ensures stands { (bytes : List ℕ) (taken : ℕ) → kept.IsReady self.old →
             kept.Stands key.now self.old bytes taken →
             IfOk result (λ turn. kept.StandsAfter turn key.now self.new bytes taken) }

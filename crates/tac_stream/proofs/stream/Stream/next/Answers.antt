@@ -1,6 +1,10 @@
 use Rattle.std.proofs.Common.{refl}
-use Rattle.tac_stream.proofs.StreamFacts.{result_after}
+use Rattle.tac_stream.proofs.StreamFacts.{found_turn, result_after}
 use Rattle.tac_stream.proofs.stream.Stream.next.Goals as goal
+
+pub returns-clause-found : goal.returns-clause-found
+returns-clause-found c = λ bytes taken ready s.
+    found_turn c.args.key.now bytes taken c.first_turn-turn.result (c.first_turn-turn.ensures.turn bytes taken s)
 
 pub returns-clause-stands : goal.returns-clause-stands
 returns-clause-stands c = λ bytes taken ready s.
