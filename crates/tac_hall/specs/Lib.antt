@@ -3,3 +3,6 @@ pub mod History
 pub mod Room
 pub mod Seat
 pub mod Closing
+pub mod Served
+pub mod Worked
+pub mod Working

@@ -71,6 +71,10 @@ impl Seat {
         }
     }
 
+    pub(crate) fn alloc(&self) -> Global {
+        self.alloc
+    }
+
     /// The seat's number in its hall, from 0.
     pub fn number(&self) -> u32
         ensures { result ≡ self.now.number }

@@ -1,0 +1,36 @@
+-- What a read brings.
+use Rattle.std.proofs.Common.{◌≡◌, ℕ, List, [], ◌++◌, Option, Result, Ok, Err, IsErrAnd, refl, sym, ap, ◌∙◌, append-nil}
+use Rattle.std.specs.Io.KnownBytes.{Consumes, Keeps}
+use Rattle.std.proofs.KnownBytes.{Consumes-nil, Consumes-kept}
+use Rattle.tac_wire.specs.declared.frame.Frame.{Frame}
+use Rattle.tac_wire.specs.Stream.{Parts, Tail, open_end, fault, cut, continued}
+use Rattle.tac_stream.specs.declared.stream.Stream.{Stream}
+use Rattle.tac_hall.specs.declared.worked.End.{End}
+use Rattle.tac_hall.specs.declared.worked.End.TheVariants.{Memory}
+use Rattle.tac_hall.specs.Working.{Prolongs, HearsMore, Heard}
+
+-- behind a header that is refused no packet comes; else the open end goes on
+pub prolongs_cut : (piece : List ℕ) → ((bytes more : List ℕ) → cut (bytes ++ more) ≡ continued (cut bytes) more) → Prolongs piece
+prolongs_cut piece law = λ bytes. by_tail bytes (cut bytes).packets (cut bytes).tail refl
+  where
+    by_tail : (bytes : List ℕ) (packets : List Frame) (tail : Tail) → cut bytes ≡ record { packets = packets; tail = tail }
+        → (more : List Frame) × ((cut (bytes ++ piece)).packets ≡ packets ++ more)
+    by_tail bytes packets (open_end rest) e = ((cut (rest ++ piece)).packets, ap (λ (p : Parts). p.packets) (law bytes piece ∙ ap (λ (p : Parts). continued p piece) e))
+    by_tail bytes packets (fault reason) e = ([], ap (λ (p : Parts). p.packets) (law bytes piece ∙ ap (λ (p : Parts). continued p piece) e) ∙ sym (append-nil packets))
+
+-- nothing was read
+pub hears_nothing : (before after : Option (List ℕ)) (stream : Stream) → Keeps before after → HearsMore before after stream stream
+hears_nothing before after stream kept = record {
+  piece = [];
+  read = Consumes-kept before before after [] (Consumes-nil before) kept;
+  prolongs = λ bytes. ([], rw (append-nil bytes) (sym (append-nil (cut bytes).packets)));
+  closed = refl;
+  pending = refl;
+  stands = λ key bytes taken open_still stands. rw (append-nil bytes) stands;
+}
+
+-- a piece was read, and there was no memory for it
+pub heard_memory : (result : Result (Unit {0}) End) (before after : Option (List ℕ)) (was now : Stream) (piece : List ℕ) → IsErrAnd result (λ end. end ≡ Memory)
+    → Consumes before after piece → Prolongs piece → Heard result before after was now
+heard_memory (Ok _) before after was now piece is read prolongs = absurd is
+heard_memory (Err end) before after was now piece is read prolongs = rw is (piece, read, prolongs)

@@ -1,0 +1,178 @@
+-- What is sent for packets, in parts that join.
+use Rattle.std.proofs.Common.{◌≡◌, ℕ, List, [], ◌∷◌, ◌++◌, map, reverse, Option, Some, None, refl, sym, ap, ◌∙◌, append_assoc, append-nil}
+use Rattle.std.specs.List.{cons_option}
+use Rattle.std.proofs.lemmas.List.{map-append, reverse-append}
+use Rattle.std.proofs.lemmas.List.Concat.{flat_map-append}
+use Rattle.std.specs.Io.KnownBytes.{Appends}
+use Rattle.std.proofs.KnownBytes.{Appends-nil, Appends-trans}
+use Rattle.tac_wire.specs.declared.frame.Frame.{Frame}
+use Rattle.tac_conn.specs.declared.ask.Answer.{Answer}
+use Rattle.tac_conn.specs.declared.ask.Ask.{Ask}
+use Rattle.tac_conn.specs.declared.packet.Packet.{Packet}
+use Rattle.tac_conn.specs.Packet.{clear, sent}
+use Rattle.tac_stream.specs.Turns.{packets_of}
+use Rattle.tac_hall.specs.declared.entry.Made.{Made}
+use Rattle.tac_hall.specs.declared.entry.Receipt.{Receipt}
+use Rattle.tac_hall.specs.declared.worked.End.{End}
+use Rattle.tac_hall.specs.declared.worked.End.TheVariants.{Finished, ByProtocol, Stopped, LogFull, Memory, ReadFault, WriteFault, Held, NoSeat}
+use Rattle.tac_hall.specs.Served.{Sending, served_to, asks_in, bytes_sent, carried}
+use Rattle.tac_hall.specs.Worked.{Exchange, asks_of, answers_of, in_view, receipt_for, Calling, Makes, WritesSome, WritesBeginning, Writes, Ends}
+use Rattle.tac_hall.specs.Working.{Handled, GoesOn}
+
+-- ---- lists
+
+pub packets_of-append : (key : List ℕ) (first second : List Frame) → packets_of key (first ++ second) ≡ packets_of key second ++ packets_of key first
+packets_of-append key first second = ap reverse (map-append (clear key) first second) ∙ reverse-append (map (clear key) first) (map (clear key) second)
+
+-- the packets of the second behind those of the first
+history : (key : List ℕ) (first second : List Frame) (earlier : List Packet)
+    → packets_of key second ++ (packets_of key first ++ earlier) ≡ packets_of key (first ++ second) ++ earlier
+history key first second earlier =
+    sym (append_assoc (packets_of key second) (packets_of key first) earlier) ∙ ap (λ (l : List Packet). l ++ earlier) (sym (packets_of-append key first second))
+
+pub bytes_sent-append : (key : List ℕ) (first second : List Sending) → bytes_sent key (first ++ second) ≡ bytes_sent key first ++ bytes_sent key second
+bytes_sent-append key first second = flat_map-append (λ (sending : Sending). sent key sending.packet) first second
+
+cons_option-append : (answer : Option Answer) (first second whole : List Answer) → whole ≡ first ++ second → cons_option answer whole ≡ cons_option answer first ++ second
+cons_option-append None first second whole e = e
+cons_option-append (Some answer) first second whole e = ap (λ (l : List Answer). answer ∷ l) e
+
+pub carried-append : (first second : List Sending) → carried (first ++ second) ≡ carried first ++ carried second
+carried-append [] second = refl
+carried-append (sending ∷ first) second =
+    cons_option-append sending.carries (carried first) (carried second) (carried (first ++ second)) (carried-append first second)
+
+answers_of-append : (first second : List Exchange) → answers_of (first ++ second) ≡ answers_of first ++ answers_of second
+answers_of-append first second = map-append (λ (exchange : Exchange). exchange.answer) first second
+
+asks_of-append : (first second : List Exchange) → asks_of (first ++ second) ≡ asks_of first ++ asks_of second
+asks_of-append first second = map-append (λ (exchange : Exchange). exchange.ask) first second
+
+-- ---- calls
+
+pub makes_none : (was : Calling) → Makes was was []
+makes_none was = record { number = refl; view = sym (append-nil was.seat.view); receipts = sym (append-nil was.receipts) }
+
+pub makes-then : (was mid now : Calling) (first second : List Exchange) → Makes was mid first → Makes mid now second → Makes was now (first ++ second)
+makes-then was mid now first second f s = record {
+  number = s.number ∙ f.number;
+  view = s.view ∙ ap (λ (l : List Made). l ++ map in_view second) f.view ∙ append_assoc was.seat.view (map in_view first) (map in_view second)
+      ∙ ap (λ (l : List Made). was.seat.view ++ l) (sym (map-append in_view first second));
+  receipts = s.receipts ∙ ap (λ (n : ℕ). mid.receipts ++ map (receipt_for n) second) f.number
+      ∙ ap (λ (l : List Receipt). l ++ map (receipt_for was.seat.number) second) f.receipts
+      ∙ append_assoc was.receipts (map (receipt_for was.seat.number) first) (map (receipt_for was.seat.number) second)
+      ∙ ap (λ (l : List Receipt). was.receipts ++ l) (sym (map-append (receipt_for was.seat.number) first second));
+}
+
+-- ---- packets that were served
+
+handled_none : (key : List ℕ) (earlier : List Packet) → Handled key earlier [] [] []
+handled_none key earlier = record { served = λ more later. refl; asks = λ more. refl; carries = refl }
+
+module _ (key : List ℕ) (earlier : List Packet) (first : List Frame) (made : List Exchange) (sendings : List Sending) (f : Handled key earlier first made sendings) where
+  -- what is sent for more packets, by more answers
+  served_more : (second : List Frame) (others : List Exchange) (later : List Answer)
+      → served_to key earlier (first ++ second) (answers_of (made ++ others) ++ later) ≡ sendings ++ served_to key (packets_of key first ++ earlier) second (answers_of others ++ later)
+  served_more second others later =
+      ap (λ (l : List Answer). served_to key earlier (first ++ second) (l ++ later)) (answers_of-append made others)
+      ∙ ap (λ (l : List Answer). served_to key earlier (first ++ second) l) (append_assoc (answers_of made) (answers_of others) later)
+      ∙ f.served second (answers_of others ++ later)
+
+  pub served_behind : (second : List Frame) (others : List Exchange)
+      → served_to key earlier (first ++ second) (answers_of (made ++ others)) ≡ sendings ++ served_to key (packets_of key first ++ earlier) second (answers_of others)
+  served_behind second others =
+      ap (λ (l : List Answer). served_to key earlier (first ++ second) l) (sym (append-nil (answers_of (made ++ others))))
+      ∙ served_more second others []
+      ∙ ap (λ (l : List Answer). sendings ++ served_to key (packets_of key first ++ earlier) second l) (append-nil (answers_of others))
+
+  pub carries_behind : (others : List Exchange) (behind : List Sending) → carried behind ≡ answers_of others → carried (sendings ++ behind) ≡ answers_of (made ++ others)
+  carries_behind others behind e =
+      carried-append sendings behind ∙ ap (λ (l : List Answer). l ++ carried behind) f.carries ∙ ap (λ (l : List Answer). answers_of made ++ l) e ∙ sym (answers_of-append made others)
+
+  pub asks_behind : (second : List Frame) (others : List Exchange) (left : List Ask) → asks_in key (packets_of key first ++ earlier) second ≡ asks_of others ++ left
+      → asks_in key earlier (first ++ second) ≡ asks_of (made ++ others) ++ left
+  asks_behind second others left e =
+      f.asks second ∙ ap (λ (l : List Ask). asks_of made ++ l) e ∙ sym (append_assoc (asks_of made) (asks_of others) left)
+      ∙ ap (λ (l : List Ask). l ++ left) (sym (asks_of-append made others))
+
+  handled-then : (second : List Frame) (others : List Exchange) (behind : List Sending) → Handled key (packets_of key first ++ earlier) second others behind
+      → Handled key earlier (first ++ second) (made ++ others) (sendings ++ behind)
+  handled-then second others behind s = record {
+    served = λ more later.
+        ap (λ (l : List Frame). served_to key earlier l (answers_of (made ++ others) ++ later)) (append_assoc first second more)
+        ∙ served_more (second ++ more) others later
+        ∙ ap (λ (l : List Sending). sendings ++ l) (s.served more later)
+        ∙ sym (append_assoc sendings behind (served_to key (packets_of key second ++ (packets_of key first ++ earlier)) more later))
+        ∙ ap (λ (h : List Packet). (sendings ++ behind) ++ served_to key h more later) (history key first second earlier);
+    asks = λ more.
+        ap (λ (l : List Frame). asks_in key earlier l) (append_assoc first second more)
+        ∙ asks_behind (second ++ more) others (asks_in key (packets_of key second ++ (packets_of key first ++ earlier)) more) (s.asks more)
+        ∙ ap (λ (h : List Packet). asks_of (made ++ others) ++ asks_in key h more) (history key first second earlier);
+    carries = carries_behind others behind s.carries;
+  }
+
+-- ---- and written
+
+pub goes_none : (key : List ℕ) (earlier : List Packet) (was : Calling) (old : Option (List ℕ)) → GoesOn key earlier [] was was old old
+goes_none key earlier was old = record { made = []; sendings = []; handled = handled_none key earlier; makes = makes_none was; written = Appends-nil old }
+
+module _ (key : List ℕ) (earlier : List Packet) (first : List Frame) (was mid : Calling) (old between : Option (List ℕ)) (g : GoesOn key earlier first was mid old between) where
+  pub goes-then : (second : List Frame) (now : Calling) (new : Option (List ℕ)) → GoesOn key (packets_of key first ++ earlier) second mid now between new
+      → GoesOn key earlier (first ++ second) was now old new
+  goes-then second now new s = record {
+    made = g.made ++ s.made;
+    sendings = g.sendings ++ s.sendings;
+    handled = handled-then key earlier first g.made g.sendings g.handled second s.made s.sendings s.handled;
+    makes = makes-then was mid now g.made s.made g.makes s.makes;
+    written = rw (bytes_sent-append key g.sendings s.sendings) (Appends-trans old between new (bytes_sent key g.sendings) (bytes_sent key s.sendings) g.written s.written);
+  }
+
+  module _ (new : Option (List ℕ)) (others : List Exchange) (behind all : List Sending) (whole : all ≡ g.sendings ++ behind) where
+    -- all of it was written
+    all_behind : Appends between new (bytes_sent key behind) → Appends old new (bytes_sent key all)
+    all_behind w =
+        rw (whole, bytes_sent-append key g.sendings behind) (Appends-trans old between new (bytes_sent key g.sendings) (bytes_sent key behind) g.written w)
+
+    some_behind : WritesSome key behind (answers_of others) between new → WritesSome key all (answers_of (g.made ++ others)) old new
+    some_behind w = record {
+      first = g.sendings ++ w.first;
+      others = w.others;
+      parts = whole ∙ ap (λ (l : List Sending). g.sendings ++ l) w.parts ∙ sym (append_assoc g.sendings w.first w.others);
+      carries = carries_behind key earlier first g.made g.sendings g.handled others w.first w.carries;
+      written = rw (bytes_sent-append key g.sendings w.first) (Appends-trans old between new (bytes_sent key g.sendings) (bytes_sent key w.first) g.written w.written);
+    }
+
+    beginning_behind : WritesBeginning key behind between new → WritesBeginning key all old new
+    beginning_behind w = record {
+      first = bytes_sent key g.sendings ++ w.first;
+      others = w.others;
+      parts = ap (bytes_sent key) whole ∙ bytes_sent-append key g.sendings behind ∙ ap (λ (l : List ℕ). bytes_sent key g.sendings ++ l) w.parts
+          ∙ sym (append_assoc (bytes_sent key g.sendings) w.first w.others);
+      written = Appends-trans old between new (bytes_sent key g.sendings) w.first g.written w.written;
+    }
+
+    writes_behind : (end : End) → Writes end key behind (answers_of others) between new → Writes end key all (answers_of (g.made ++ others)) old new
+    writes_behind Finished w = all_behind w
+    writes_behind ByProtocol w = all_behind w
+    writes_behind Stopped w = all_behind w
+    writes_behind LogFull w = all_behind w
+    writes_behind Memory w = some_behind w
+    writes_behind ReadFault w = all_behind w
+    writes_behind WriteFault w = beginning_behind w
+    writes_behind Held w = all_behind w
+    writes_behind NoSeat w = all_behind w
+
+  -- the others end the connection
+  pub ends-behind : (end : End) (second : List Frame) (now : Calling) (new : Option (List ℕ))
+      → Ends end key (asks_in key (packets_of key first ++ earlier) second) (served_to key (packets_of key first ++ earlier) second) mid now between new
+      → Ends end key (asks_in key earlier (first ++ second)) (served_to key earlier (first ++ second)) was now old new
+  ends-behind end second now new e = record {
+    made = g.made ++ e.made;
+    makes = makes-then was mid now g.made e.made g.makes e.makes;
+    left = e.left;
+    asks = asks_behind key earlier first g.made g.sendings g.handled second e.made e.left e.asks;
+    leaves = e.leaves;
+    writes = writes_behind new e.made (served_to key (packets_of key first ++ earlier) second (answers_of e.made))
+        (served_to key earlier (first ++ second) (answers_of (g.made ++ e.made)))
+        (served_behind key earlier first g.made g.sendings g.handled second e.made) end e.writes;
+  }

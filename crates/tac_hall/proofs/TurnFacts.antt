@@ -1,0 +1,342 @@
+-- What one turn of a worker does.
+use Rattle.std.proofs.Common.{◌≡◌, ℕ, suc, List, [], ◌∷◌, ◌++◌, take, drop, Bool, true, false, not, Option, None, Result, Ok, Err, IsErrAnd, if◌then◌else◌, inl, inr, refl, sym, ap, subst, ◌∙◌, append_assoc, append-nil}
+use Rattle.std.specs.Io.KnownBytes.{Appends}
+use Rattle.std.proofs.KnownBytes.{Appends-nil}
+use Rattle.tac_wire.specs.declared.frame.Frame.{Frame}
+use Rattle.tac_wire.specs.Stream.{Tail, open_end, fault, cut}
+use Rattle.tac_conn.specs.declared.ask.Answer.{Answer}
+use Rattle.tac_conn.specs.declared.ask.Ask.{Ask}
+use Rattle.tac_conn.specs.declared.ask.Slot.{Slot}
+use Rattle.tac_conn.specs.declared.outcome.Outcome.{Outcome}
+use Rattle.tac_conn.specs.declared.outcome.Outcome.TheVariants as comes_to
+use Rattle.tac_conn.specs.declared.packet.Packet.{Packet}
+use Rattle.tac_conn.specs.declared.reply.Reply.{Reply as ReplyValue}
+use Rattle.tac_conn.specs.Packet.{clear, sent}
+use Rattle.tac_conn.specs.Reply.{packet_of, answer_body}
+use Rattle.tac_conn.specs.Judging.{reply_in}
+use Rattle.tac_conn.specs.History.{outcome}
+use Rattle.tac_conn.specs.Standing.{step_of}
+use Rattle.tac_stream.specs.declared.stream.Stream.{Stream}
+use Rattle.tac_stream.specs.declared.turn.Turn.{Turn}
+use Rattle.tac_stream.specs.declared.turn.Turn.TheVariants.{Reply, Asks, Silent, Need, Close}
+use Rattle.tac_stream.specs.Turns.{packets_of, turn_of, turn_by, IsTurn}
+use Rattle.tac_stream.specs.Kept.{Stands, closed_of, pending_of}
+use Rattle.tac_hall.specs.declared.worked.End.{End}
+use Rattle.tac_hall.specs.declared.worked.End.TheVariants.{Finished, ByProtocol, Stopped, LogFull, Memory, ReadFault, WriteFault, Held, NoSeat}
+use Rattle.tac_hall.specs.declared.serving.Went.{Went}
+use Rattle.tac_hall.specs.declared.serving.Went.TheVariants.{On, Rests}
+use Rattle.tac_hall.specs.Served.{Sending, plain, carrying, served_for, asked_by, served_to, asks_in, bytes_sent, carried}
+use Rattle.tac_hall.specs.Worked.{Exchange, asks_of, answers_of, Calling, Makes, Leaves, Writes, Ends}
+use Rattle.tac_hall.specs.Working.{Handled, GoesOn, IsUncalled, Replies, Turned}
+use Rattle.tac_hall.proofs.ServedFacts.{makes_none}
+
+-- ---- what a packet comes to, by its turn
+
+abbrev pub ServesBy : Turn → List ℕ → Outcome → Type 0
+ServesBy (Reply bytes ends) key came =
+    (reply : ReplyValue) × (bytes ≡ sent key (packet_of reply))
+    × ((answers : List Answer) (later : List Answer → List Sending) → served_for came answers later ≡ plain reply ∷ (if ends then [] else later answers))
+    × ((later : List Ask) → asked_by came later ≡ (if ends then [] else later))
+ServesBy (Asks ask slot) key came = came ≡ comes_to.Asks ask slot
+ServesBy Silent key came = came ≡ comes_to.Silent
+ServesBy Need key came = ⊥
+ServesBy Close key came = came ≡ comes_to.Close
+
+serves_by : (key : List ℕ) (came : Outcome) → ServesBy (turn_of (step_of key came)) key came
+serves_by key (comes_to.Question reply session) = (reply, refl, λ answers later. refl, λ later. refl)
+serves_by key (comes_to.Reply reply ends) = (reply, refl, λ answers later. refl, λ later. refl)
+serves_by key (comes_to.Asks ask slot) = refl
+serves_by key comes_to.Silent = refl
+serves_by key comes_to.Close = refl
+
+pub serves_turn : (key : List ℕ) (came : Outcome) (turn : Turn) → turn ≡ turn_of (step_of key came) → ServesBy turn key came
+serves_turn key came turn is = subst (λ (t : Turn). ServesBy t key came) (sym is) (serves_by key came)
+
+-- ---- one packet
+
+module _ (key : List ℕ) (earlier : List Packet) (frame : Frame) where
+  served_first : (more : List Frame) (answers : List Answer)
+      → served_to key earlier (frame ∷ more) answers ≡ served_for (outcome earlier (clear key frame)) answers (λ left. served_to key (clear key frame ∷ earlier) more left)
+  unfolding served_to
+  served_first more answers = refl
+
+  asks_first : (more : List Frame) → asks_in key earlier (frame ∷ more) ≡ asked_by (outcome earlier (clear key frame)) (asks_in key (clear key frame ∷ earlier) more)
+  unfolding asks_in
+  asks_first more = refl
+
+  -- a packet is sent for it, behind which the connection closes or not
+  pub record IsSaid (made : List Exchange) (sending : Sending) (ends : Bool) : Type 0 where
+    pub served : (more : List Frame) (later : List Answer)
+        → served_to key earlier (frame ∷ more) (answers_of made ++ later) ≡ sending ∷ (if ends then [] else served_to key (clear key frame ∷ earlier) more later)
+    pub asks : (more : List Frame) → asks_in key earlier (frame ∷ more) ≡ asks_of made ++ (if ends then [] else asks_in key (clear key frame ∷ earlier) more)
+    pub carries : carried (sending ∷ []) ≡ answers_of made
+
+  said_plain : (reply : ReplyValue) (ends : Bool)
+      → ((answers : List Answer) (later : List Answer → List Sending) → served_for (outcome earlier (clear key frame)) answers later ≡ plain reply ∷ (if ends then [] else later answers))
+      → ((later : List Ask) → asked_by (outcome earlier (clear key frame)) later ≡ (if ends then [] else later))
+      → IsSaid [] (plain reply) ends
+  said_plain reply ends s a = record {
+    served = λ more later. served_first more later ∙ s later (λ left. served_to key (clear key frame ∷ earlier) more left);
+    asks = λ more. asks_first more ∙ a (asks_in key (clear key frame ∷ earlier) more);
+    carries = refl;
+  }
+
+  said_answer : (exchange : Exchange) (slot : Slot) → outcome earlier (clear key frame) ≡ comes_to.Asks exchange.ask slot → IsSaid (exchange ∷ []) (carrying slot exchange.answer) (not slot.single)
+  said_answer exchange slot came = by_single slot.single refl
+    where
+      by_single : (single : Bool) → slot.single ≡ single → IsSaid (exchange ∷ []) (carrying slot exchange.answer) (not slot.single)
+      by_single true e = record {
+        served = λ more later. served_first more (exchange.answer ∷ later) ∙ rw (came, e) refl;
+        asks = λ more. asks_first more ∙ rw (came, e) refl;
+        carries = refl;
+      }
+      by_single false e = record {
+        served = λ more later. served_first more (exchange.answer ∷ later) ∙ rw (came, e) refl;
+        asks = λ more. asks_first more ∙ rw (came, e) refl;
+        carries = refl;
+      }
+
+  -- nothing is sent for it
+  handled_silent : outcome earlier (clear key frame) ≡ comes_to.Silent → Handled key earlier (frame ∷ []) [] []
+  handled_silent came = record {
+    served = λ more later. served_first more later ∙ rw came refl;
+    asks = λ more. asks_first more ∙ rw came refl;
+    carries = refl;
+  }
+
+  module _ (made : List Exchange) (sending : Sending) (was now : Calling) (old new : Option (List ℕ)) (makes : Makes was now made) where
+    -- the packet was written, and the connection stays open
+    goes_said : IsSaid made sending false → Appends old new (sent key sending.packet) → GoesOn key earlier (frame ∷ []) was now old new
+    goes_said s written = record {
+      made = made;
+      sendings = sending ∷ [];
+      handled = record { served = s.served; asks = s.asks; carries = s.carries };
+      makes = makes;
+      written = rw (append-nil (sent key sending.packet)) written;
+    }
+
+    -- it was, and the connection closes
+    ends_said : (more : List Frame) → IsSaid made sending true → Appends old new (sent key sending.packet)
+        → Ends ByProtocol key (asks_in key earlier (frame ∷ more)) (served_to key earlier (frame ∷ more)) was now old new
+    ends_said more s written =
+        let whole : served_to key earlier (frame ∷ more) (answers_of made) ≡ sending ∷ [] =
+        ap (λ (l : List Answer). served_to key earlier (frame ∷ more) l) (sym (append-nil (answers_of made))) ∙ s.served more [] in
+        record {
+          made = made;
+          makes = makes;
+          left = [];
+          asks = s.asks more;
+          leaves = refl;
+          writes = rw (whole, append-nil (sent key sending.packet)) written;
+        }
+
+    -- a beginning of it was
+    ends_cut : (more : List Frame) (ends : Bool) → IsSaid made sending ends → (first others : List ℕ) → sent key sending.packet ≡ first ++ others → Appends old new first
+        → Ends WriteFault key (asks_in key earlier (frame ∷ more)) (served_to key earlier (frame ∷ more)) was now old new
+    ends_cut more ends s first others parts written =
+        let later = if ends then [] else served_to key (clear key frame ∷ earlier) more [] in
+        let whole : served_to key earlier (frame ∷ more) (answers_of made) ≡ sending ∷ later =
+        ap (λ (l : List Answer). served_to key earlier (frame ∷ more) l) (sym (append-nil (answers_of made))) ∙ s.served more [] in
+        record {
+          made = made;
+          makes = makes;
+          left = if ends then [] else asks_in key (clear key frame ∷ earlier) more;
+          asks = s.asks more;
+          leaves = tt;
+          writes = record {
+            first = first;
+            others = others ++ bytes_sent key later;
+            parts = ap (bytes_sent key) whole ∙ ap (λ (l : List ℕ). l ++ bytes_sent key later) parts ∙ append_assoc first others (bytes_sent key later);
+            written = written;
+          };
+        }
+
+-- ---- no packet
+
+pub served_at_end : (key : List ℕ) (earlier : List Packet) (answers : List Answer) → served_to key earlier [] answers ≡ []
+unfolding served_to
+served_at_end key earlier answers = refl
+
+pub asks_at_end : (key : List ℕ) (earlier : List Packet) → asks_in key earlier [] ≡ []
+unfolding asks_in
+asks_at_end key earlier = refl
+
+-- ---- ends
+
+-- nothing was done for what is left, for want of memory
+pub ends_memory : (key : List ℕ) (asked : List Ask) (sent_by : List Answer → List Sending) (was : Calling) (old : Option (List ℕ)) → Ends Memory key asked sent_by was was old old
+ends_memory key asked sent_by was old = record {
+  made = [];
+  makes = makes_none was;
+  left = asked;
+  asks = refl;
+  leaves = tt;
+  writes = record { first = []; others = sent_by []; parts = refl; carries = refl; written = Appends-nil old };
+}
+
+-- nothing is sent for what is left, and nothing is asked
+pub ends_none : (end : End) (key : List ℕ) (asked : List Ask) (sent_by : List Answer → List Sending) (was : Calling) (old new : Option (List ℕ)) → asked ≡ [] → sent_by [] ≡ []
+    → Appends old new [] → Leaves end [] → (Appends old new [] → Writes end key [] [] old new) → Ends end key asked sent_by was was old new
+ends_none end key asked sent_by was old new none nothing written leaves writes = record {
+  made = [];
+  makes = makes_none was;
+  left = [];
+  asks = none;
+  leaves = leaves;
+  writes = rw nothing (writes written);
+}
+
+-- the next ask wasn't called
+pub ends_uncalled : (end : End) (key : List ℕ) (asked : List Ask) (sent_by : List Answer → List Sending) (was : Calling) (old : Option (List ℕ)) → IsUncalled end → sent_by [] ≡ []
+    → Ends end key asked sent_by was was old old
+ends_uncalled Finished key asked sent_by was old u nothing = absurd u
+ends_uncalled ByProtocol key asked sent_by was old u nothing = absurd u
+ends_uncalled Stopped key asked sent_by was old u nothing =
+    record { made = []; makes = makes_none was; left = asked; asks = refl; leaves = tt; writes = rw nothing (Appends-nil old) }
+ends_uncalled LogFull key asked sent_by was old u nothing =
+    record { made = []; makes = makes_none was; left = asked; asks = refl; leaves = tt; writes = rw nothing (Appends-nil old) }
+ends_uncalled Memory key asked sent_by was old u nothing = ends_memory key asked sent_by was old
+ends_uncalled ReadFault key asked sent_by was old u nothing = absurd u
+ends_uncalled WriteFault key asked sent_by was old u nothing = absurd u
+ends_uncalled Held key asked sent_by was old u nothing =
+    record { made = []; makes = makes_none was; left = asked; asks = refl; leaves = tt; writes = rw nothing (Appends-nil old) }
+ends_uncalled NoSeat key asked sent_by was old u nothing =
+    record { made = []; makes = makes_none was; left = asked; asks = refl; leaves = tt; writes = rw nothing (Appends-nil old) }
+
+uncalled_unfinished : (end : End) → IsUncalled end → end ≡ Finished → ⊥
+uncalled_unfinished Finished u e = u
+uncalled_unfinished ByProtocol u e = u
+uncalled_unfinished Stopped u e = cc
+uncalled_unfinished LogFull u e = cc
+uncalled_unfinished Memory u e = cc
+uncalled_unfinished ReadFault u e = u
+uncalled_unfinished WriteFault u e = u
+uncalled_unfinished Held u e = cc
+uncalled_unfinished NoSeat u e = cc
+
+-- ---- a turn
+
+module _ (key bytes : List ℕ) (taken : ℕ) where
+  -- the turn's packet is answered by this
+  module _ (frame : Frame) (more : List Frame) (left : drop taken (cut bytes).packets ≡ frame ∷ more) (made : List Exchange) (sending : Sending) (was now : Calling) (old new : Option (List ℕ))
+      (stream : Stream) (makes : Makes was now made) where
+    replied : (result : Result Went End) (ends : Bool) → IsSaid key (packets_of key (take taken (cut bytes).packets)) frame made sending ends → Replies result (sent key sending.packet) ends old new
+        → closed_of stream ≡ ends → pending_of stream ≡ None → Stands key stream bytes (suc taken) → Turned result key bytes taken was now old new stream
+    replied (Ok On) ends s r closed free stands =
+        record {
+          frame = frame;
+          more = more;
+          left = left;
+          goes = goes_said key _ frame made sending was now old new makes (rw r.0 at s) r.1;
+          ready = (closed ∙ r.0, free);
+          stands = stands;
+        }
+    replied (Ok Rests) ends s r closed free stands = absurd r
+    replied (Err Finished) ends s r closed free stands = absurd r
+    replied (Err ByProtocol) ends s r closed free stands =
+        record { unfinished = λ e. cc; ends = rw left (ends_said key _ frame made sending was now old new makes more (rw r.0 at s) r.1) }
+    replied (Err Stopped) ends s r closed free stands = absurd r
+    replied (Err LogFull) ends s r closed free stands = absurd r
+    replied (Err Memory) ends s r closed free stands = absurd r
+    replied (Err ReadFault) ends s r closed free stands = absurd r
+    replied (Err WriteFault) ends s r closed free stands =
+        record { unfinished = λ e. cc; ends = rw left (ends_cut key _ frame made sending was now old new makes more ends s r.0 r.1 r.2 r.3) }
+    replied (Err Held) ends s r closed free stands = absurd r
+    replied (Err NoSeat) ends s r closed free stands = absurd r
+
+  -- a reply is sent
+  pub turned_reply : (was : Calling) (old new : Option (List ℕ)) (stream : Stream) (packet : List ℕ) (ends : Bool) (result : Result Went End) → IsTurn key bytes taken (Reply packet ends)
+      → Replies result packet ends old new → closed_of stream ≡ ends → pending_of stream ≡ None → Stands key stream bytes (suc taken)
+      → Turned result key bytes taken was was old new stream
+  turned_reply was old new stream packet ends result (inl f) r closed free stands =
+      let s = serves_turn key _ (Reply packet ends) f.is in
+      replied f.frame f.more f.left [] (plain s.0) was was old new stream (makes_none was) result ends (said_plain key _ f.frame s.0 ends s.2 s.3)
+      (subst (λ (p : List ℕ). Replies result p ends old new) s.1 r) closed free stands
+  turned_reply was old new stream packet ends result (inr n) r closed free stands = absurd (by_tail (cut bytes).tail n.is)
+    where
+      by_tail : (tail : Tail) → Reply packet ends ≡ turn_by key (packets_of key (take taken (cut bytes).packets)) [] tail → ⊥
+      by_tail (open_end rest) e = cc
+      by_tail (fault reason) e = cc
+
+  -- the desk has answered
+  pub turned_answer : (was now : Calling) (old new : Option (List ℕ)) (stream : Stream) (ask : Ask) (slot : Slot) (place : ℕ) (answer : Answer) (given : List ℕ × Bool) (result : Result Went End)
+      → IsTurn key bytes taken (Asks ask slot) → Makes was now (record { ask = ask; place = place; answer = answer } ∷ []) → given ≡ (sent key (packet_of (reply_in slot (answer_body answer))), not slot.single)
+      → Replies result given.0 given.1 old new → closed_of stream ≡ given.1 → pending_of stream ≡ None → Stands key stream bytes (suc taken)
+      → Turned result key bytes taken was now old new stream
+  turned_answer was now old new stream ask slot place answer given result (inl f) makes told r closed free stands =
+      let exchange : Exchange = record { ask = ask; place = place; answer = answer } in
+      replied f.frame f.more f.left (exchange ∷ []) (carrying slot answer) was now old new stream makes result (not slot.single)
+      (said_answer key _ f.frame exchange slot (serves_turn key _ (Asks ask slot) f.is))
+      (subst (λ (p : List ℕ × Bool). Replies result p.0 p.1 old new) told r) (closed ∙ ap (λ (p : List ℕ × Bool). p.1) told) free stands
+  turned_answer was now old new stream ask slot place answer given result (inr n) makes told r closed free stands = absurd (by_tail (cut bytes).tail n.is)
+    where
+      by_tail : (tail : Tail) → Asks ask slot ≡ turn_by key (packets_of key (take taken (cut bytes).packets)) [] tail → ⊥
+      by_tail (open_end rest) e = cc
+      by_tail (fault reason) e = cc
+
+  -- it wasn't asked
+  pub turned_uncalled : (was : Calling) (old : Option (List ℕ)) (stream : Stream) (ask : Ask) (slot : Slot) (end : End) → IsTurn key bytes taken (Asks ask slot) → IsUncalled end
+      → Turned (Err end) key bytes taken was was old old stream
+  turned_uncalled was old stream ask slot end (inl f) u =
+      let came = serves_turn key _ (Asks ask slot) f.is in
+      record {
+        unfinished = uncalled_unfinished end u;
+        ends = ends_uncalled end key _ _ was old u (rw f.left (served_first key _ f.frame f.more [] ∙ rw came refl));
+      }
+  turned_uncalled was old stream ask slot end (inr n) u = absurd (by_tail (cut bytes).tail n.is)
+    where
+      by_tail : (tail : Tail) → Asks ask slot ≡ turn_by key (packets_of key (take taken (cut bytes).packets)) [] tail → ⊥
+      by_tail (open_end rest) e = cc
+      by_tail (fault reason) e = cc
+
+  pub turned_refusal : (was now : Calling) (old : Option (List ℕ)) (stream : Stream) (ask : Ask) (slot : Slot) (result : Result Went End) (end : End) → IsTurn key bytes taken (Asks ask slot)
+      → now ≡ was → IsUncalled end → IsErrAnd result (λ told. told ≡ end) → Turned result key bytes taken was now old old stream
+  turned_refusal was now old stream ask slot (Ok went) end turn same u told = absurd told
+  turned_refusal was now old stream ask slot (Err other) end turn same u told = rw (same, told) (turned_uncalled was old stream ask slot end turn u)
+
+  -- nothing is sent
+  pub turned_silent : (was : Calling) (old : Option (List ℕ)) (stream : Stream) → IsTurn key bytes taken Silent → closed_of stream ≡ false → pending_of stream ≡ None → Stands key stream bytes (suc taken)
+      → Turned (Ok On) key bytes taken was was old old stream
+  turned_silent was old stream (inl f) closed free stands = record {
+    frame = f.frame;
+    more = f.more;
+    left = f.left;
+    goes = record {
+      made = [];
+      sendings = [];
+      handled = handled_silent key _ f.frame (serves_turn key _ Silent f.is);
+      makes = makes_none was;
+      written = Appends-nil old;
+    };
+    ready = (closed, free);
+    stands = stands;
+  }
+  turned_silent was old stream (inr n) closed free stands = absurd (by_tail (cut bytes).tail n.is)
+    where
+      by_tail : (tail : Tail) → Silent ≡ turn_by key (packets_of key (take taken (cut bytes).packets)) [] tail → ⊥
+      by_tail (open_end rest) e = cc
+      by_tail (fault reason) e = cc
+
+  -- no packet is left
+  pub turned_need : (was : Calling) (old : Option (List ℕ)) (stream : Stream) → IsTurn key bytes taken Need → closed_of stream ≡ false → pending_of stream ≡ None → Stands key stream bytes taken
+      → Turned (Ok Rests) key bytes taken was was old old stream
+  turned_need was old stream (inl f) closed free stands = absurd (serves_turn key _ Need f.is)
+  turned_need was old stream (inr n) closed free stands = record { left = n.left; same = refl; nothing = Appends-nil old; ready = (closed, free); stands = stands }
+
+  -- the connection closes without a reply
+  pub turned_close : (was : Calling) (old : Option (List ℕ)) (stream : Stream) → IsTurn key bytes taken Close → Turned (Err ByProtocol) key bytes taken was was old old stream
+  turned_close was old stream (inl f) =
+      let came = serves_turn key _ Close f.is in
+      record {
+        unfinished = λ e. cc;
+        ends = ends_none ByProtocol key _ _ was old old (rw f.left (asks_first key _ f.frame f.more ∙ rw came refl)) (rw f.left (served_first key _ f.frame f.more [] ∙ rw came refl))
+            (Appends-nil old) refl (λ w. w);
+      }
+  turned_close was old stream (inr n) = record {
+    unfinished = λ e. cc;
+    ends = ends_none ByProtocol key _ _ was old old (rw n.left (asks_at_end key _)) (rw n.left (served_at_end key _ [])) (Appends-nil old) refl (λ w. w);
+  }
+
+  -- memory ran out for a packet
+  pub turned_memory : (was : Calling) (old : Option (List ℕ)) (stream : Stream) → Turned (Err Memory) key bytes taken was was old old stream
+  turned_memory was old stream = record { unfinished = λ e. cc; ends = ends_memory key _ _ was old }

@@ -1,0 +1,8 @@
+use Rattle.std.proofs.Common.{sym, take, drop}
+use Rattle.std.proofs.lemmas.List.{take-append-drop}
+use Rattle.tac_hall.proofs.serving.reply.Goals as goal
+
+pub returns-in-Err : goal.returns-in-Err
+returns-in-Err g c =
+    let sent = c.send-sent.result.0 in
+    let all = c.args.packet.now in (take sent all, drop sent all, sym (take-append-drop sent all), rw c.as_slice.ensures.value at c.send-sent.ensures.taken)

@@ -1,0 +1,7 @@
+use Rattle.tac_hall.specs.Working.{Serving}
+use Rattle.tac_hall.proofs.serving.serve.Given as goal
+
+-- what the packets that were taken are served was done
+abbrev pub invariant-turns : goal.invariant-turns
+invariant-turns g l =
+    Serving l.fn.key l.fn.caller l.caller (g.R.Read.remaining l.fn.reader) (g.R.Read.remaining l.reader) (g.W.Write.contents l.fn.writer) (g.W.Write.contents l.writer) l.stream
