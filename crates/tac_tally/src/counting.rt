@@ -1,6 +1,6 @@
 //! Counting: the tallies of users and of groups.
 
-ghost use Rattle.std.specs.Prelude.{◌≡◌, ◌^◌, IsOk, IfOk};
+ghost use Rattle.std.specs.Prelude.{◌≡◌, ◌^◌, IfOk};
 ghost use Rattle.tac_tally.specs.Tally.{tally_of, group_tally_of, IsBelow};
 ghost use Rattle.tac_tally.specs.Tally.{is_user_below as below_test};
 
@@ -32,18 +32,15 @@ fn is_user_below(
 impl Book {
     /// What a user's records count up to, by the marks as they are. The user may be any bytes, and
     /// need not be in a policy. One look-up: the counts are kept, and asking takes no memory.
-    pub fn tally(&self, _alloc: Global, user: &[u8]) -> Result<Tally, AllocError>
-        ensures value { IfOk result (λ tally. tally ≡ tally_of user.now self.now.entries) }
+    pub fn tally(&self, user: &[u8]) -> Tally
+        ensures value { result ≡ tally_of user.now self.now.entries }
 
         // No number reaches two to the power of 96: the sums of tallies fit.
-        ensures small { IfOk result (IsBelow (2 ^ 96)) }
-
-        // Memory never runs out.
-        ensures sure { IsOk result }
+        ensures small { IsBelow (2 ^ 96) result }
     {
         match self.accounts.get(user) {
-            Some(account) => Ok(account.tally()),
-            None => Ok(Tally::NONE),
+            Some(account) => account.tally(),
+            None => Tally::NONE,
         }
     }
 
@@ -65,7 +62,7 @@ impl Book {
             if !is_user_below(alloc, policy, group, subject)? {
                 continue;
             }
-            let tally = self.tally(alloc, subject.name.as_slice())?;
+            let tally = self.tally(subject.name.as_slice());
             total = total.plus(tally);
         }
         Ok(total)

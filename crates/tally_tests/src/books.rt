@@ -98,7 +98,7 @@ impl Bench {
 
     fn tally(&self, user: &str) -> Result<String, Fail> {
         let user = field(self.alloc, user)?;
-        self.shown(self.book.tally(self.alloc, user.as_slice())?)
+        self.shown(self.book.tally(user.as_slice()))
     }
 
     fn group(&self, group: &str) -> Result<String, Fail> {

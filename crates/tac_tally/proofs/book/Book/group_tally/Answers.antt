@@ -8,5 +8,5 @@ subjects-preserved c =
     let items = c.subjects-subject-items in
     let more = seen-more c.args.policy.now items.result.now c.subjects.subject-index c.subject-item.result items.ensures.subjects c.subjects-test.true c.subject-item.is in
     let below = sym c.in_ok-is_user_below.ensures ∙ c.if-not-branch.false in
-    let tally = rw c.as_slice.ensures.value at c.in_ok-tally.ensures.value in
-    rw more (sums-user _ _ _ _ c.subjects.subject-index c.subjects.total _ c.in_ok-tally.tally c.subject-item.result below tally c.in_ok-tally.ensures.small c.plus-total.ensures c.subjects.invariant)
+    let tally = rw c.as_slice.ensures.value at c.tally-tally.ensures.value in
+    rw more (sums-user _ _ _ _ c.subjects.subject-index c.subjects.total _ c.tally-tally.result c.subject-item.result below tally c.tally-tally.ensures.small c.plus-total.ensures c.subjects.invariant)
