@@ -9,6 +9,7 @@ use lru::LruCache;
 use pol_live::Live;
 use pol_names::{Decision, Name};
 use std::alloc::{AllocError, Global};
+use std::mem;
 use std::num::NonZeroUsize;
 
 /// A user's command line.
@@ -19,12 +20,17 @@ pub(crate) struct Command {
 }
 
 impl Command {
-    fn new(alloc: Global, user: &Name, line: &[u8]) -> Result<Command, AllocError>
+    // The command, written down in the room of another.
+    fn new(mut room: Vec<u8>, user: &Name, line: &[u8]) -> Result<Command, AllocError>
         ensures user { IfOk result (λ command. command.user ≡ user.now) }
         ensures line { IfOk result (λ command. command.line.items ≡ line.now) }
     {
-        let line = Vec::from_slice(alloc, line)?;
-        Ok(Command { user: *user, line })
+        room.clear();
+        room.extend_from_slice(line)?;
+        Ok(Command {
+            user: *user,
+            line: room,
+        })
     }
 }
 
@@ -32,6 +38,8 @@ impl Command {
 #[derive(Drop)]
 pub(crate) struct Remembered {
     pub(crate) kept: LruCache<Command, Decision>,
+    // for the next command that is looked for: the room of the last one that was found
+    room: Vec<u8>,
 }
 
 impl Remembered {
@@ -46,7 +54,10 @@ impl Remembered {
             return Err(AllocError);
         };
         let kept = LruCache::new(alloc, most)?;
-        Ok(Remembered { kept })
+        Ok(Remembered {
+            kept,
+            room: Vec::new(alloc),
+        })
     }
 
     // What was decided on the line, which is the last that was asked from then on.
@@ -95,6 +106,7 @@ impl Remembered {
     {
         let known = self.recall(&command);
         if known.is_some() {
+            self.room = command.line;
             known
         } else {
             self.decide_anew(live, command)
@@ -102,7 +114,8 @@ impl Remembered {
     }
 
     /// What the policy says of a user's line, by what is remembered, or else by its automata.
-    /// Nothing where there is no such user. Without memory nothing new is remembered.
+    /// Nothing where there is no such user. Without memory nothing new is remembered. What is
+    /// remembered takes memory only for a line that is longer than those found before.
     pub(crate) fn decide(
         &mut self,
         alloc: Global,
@@ -114,7 +127,8 @@ impl Remembered {
         ensures decision { result ≡ decide live.now user.now line.now }
         ensures right { AreDecisionsBy live.now self.new.kept.entries }
     {
-        match Command::new(alloc, user, line) {
+        let room = mem::replace(&mut self.room, Vec::new(alloc));
+        match Command::new(room, user, line) {
             Ok(command) => self.decide_command(live, command),
             Err(_) => live.decide(user, line),
         }
