@@ -118,11 +118,14 @@ fn write_records(out: &mut Vec<u8>, records: &[Record]) -> io::Result<()>
 
 // ---- all reports
 
+// The room that a line takes, which most answers are.
+const LINE: usize = 64;
+
 fn report_text(alloc: Global, query: &Query, report: &Report) -> io::Result<Vec<u8>>
     requires { IsTrue (is_report_to query.now report.now) }
     ensures { IfOk result (λ text. text.items ≡ answers.report_text query.now report.now) }
 {
-    let mut text = Vec::new(alloc);
+    let mut text = Vec::with_capacity(alloc, LINE)?;
     match (report, query) {
         (Report::Policy(policy), _) => return Ok(policy.print(alloc)?.into_vec()),
         (Report::Shadow(rows), _) => write_rows(&mut text, rows.as_slice())?,
