@@ -1,5 +1,4 @@
 pub mod Meaning
-pub mod Unless
 pub mod Opening
 pub mod Asking
 pub mod Editing

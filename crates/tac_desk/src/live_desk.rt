@@ -2,11 +2,10 @@
 
 ghost use Rattle.std.specs.Prelude.{◌≡◌, ◌≤◌, ◌↔◌, true, false, Ok, Err, IsOk, IsTrue};
 ghost use Rattle.std.specs.Prelude.{IfOk, OnOk, OnErr};
-ghost use Rattle.pol_live.specs.Live.{is_memory};
+ghost use Rattle.pol_live.specs.Live.{UnlessMemory, is_memory};
 ghost use Rattle.pol_live.specs.Rise.{IsBuildRise, IsEditRise, Rises};
 ghost use Rattle.tac_conn.specs.Ask.{kind_of_ask, kind_of_answer};
 ghost use Rattle.tac_conn.specs.declared.ask.Answer.TheVariants as answers;
-ghost use Rattle.tac_desk.specs.Unless.{UnlessMemory};
 ghost use Rattle.tac_desk.specs.Opening.{Opens, IsOnlyOpened};
 ghost use Rattle.tac_desk.specs.Metered.{unmetered};
 ghost use Rattle.tac_desk.specs.Asking as asking;

@@ -1,11 +1,10 @@
 //! Making an edit of a policy that has its automata, beside records that have their marks.
 
 ghost use Rattle.std.specs.Prelude.{◌≡◌, ◌≤◌, length, OnOk, OnErr};
-ghost use Rattle.pol_live.specs.Live.{is_memory};
+ghost use Rattle.pol_live.specs.Live.{UnlessMemory, is_memory};
 ghost use Rattle.pol_live.specs.Rise.{IsEditRise, Rises};
 ghost use Rattle.tac_tally.specs.Recount.{settled};
 ghost use Rattle.tac_desk.specs.Meaning.{with_policy};
-ghost use Rattle.tac_desk.specs.Unless.{UnlessMemory};
 ghost use Rattle.tac_desk.specs.Editing as editing;
 ghost use Rattle.tac_desk.specs.Kept.{meaning_of, entries_by};
 ghost use Rattle.tac_desk.specs.Metered.{HasMarksBy};

@@ -1,8 +1,8 @@
 //! Reports by automata and marks that are there.
 
 ghost use Rattle.std.specs.Prelude.{◌≡◌, Ok, Err, Result, IfOk};
-ghost use Rattle.tac_tally.specs.Tally.{tally_of, group_tally_of};
-ghost use Rattle.tac_desk.specs.Unless.{UnlessMemory};
+ghost use Rattle.pol_live.specs.Live.{UnlessMemory};
+ghost use Rattle.tac_tally.specs.Tally.{group_tally_of};
 ghost use Rattle.tac_desk.specs.Kept.{meaning_of, entries_by};
 ghost use Rattle.tac_desk.specs.Metered.{HasMarksBy};
 ghost use Rattle.tac_desk.specs.Reporting as reporting;
@@ -49,20 +49,6 @@ pub(crate) fn reach_report_of(
     Ok(Report::Reach(rows))
 }
 
-// What a user's records count up to, by marks that are the policy's.
-fn user_tally_by(
-    alloc: Global,
-    policy: &Policy,
-    book: &Book,
-    user: &Name,
-) -> Result<Tally, AllocError>
-    requires { HasMarksBy policy.now book.now }
-    ensures { IfOk result (λ tally. tally ≡ tally_of user.now (entries_by policy.now book.now)) }
-{
-    let _ = policy;
-    book.tally(alloc, user.as_slice())
-}
-
 // What the records of a group's users count up to, by marks that are the policy's.
 fn group_tally_by(
     alloc: Global,
@@ -92,10 +78,7 @@ pub(crate) fn tally_by_marks(
         (Err NoSuch) → result ≡ Err NoSuch }
 {
     match subject.kind {
-        Kind::User => {
-            let tally = user_tally_by(alloc, policy, book, &subject.name)?;
-            Ok(Report::Tally(tally))
-        }
+        Kind::User => Ok(Report::Tally(book.tally(subject.name.as_slice()))),
         Kind::Group => {
             if policy.find(subject).is_none() {
                 return Err(QueryFault::NoSuch);

@@ -2,18 +2,18 @@
 
 ghost use Rattle.std.specs.Prelude.{◌≡◌, Ok, Err, Result, IfOk};
 ghost use Rattle.pol_live.specs.Sizes.{IsSmall};
-ghost use Rattle.tac_desk.specs.Unless.{UnlessMemory};
+ghost use Rattle.pol_live.specs.Live.{UnlessMemory};
 ghost use Rattle.tac_desk.specs.Reporting.{IsShadowReport, IsReachOf, is_memory};
 ghost use Rattle.tac_desk.specs.declared.query.Report.{Report as ReportValue};
 ghost use Rattle.tac_desk.specs.declared.query.QueryFault.{QueryFault as QueryFaultValue};
 ghost use Rattle.tac_desk.specs.declared.query.QueryFault.TheVariants.{NoSuch};
 
+use crate::live_reports::{reach_report_of, shadow_report_of};
 use crate::query::{QueryFault, Report};
 use pol_automaton::Meter;
 use pol_edit::EditFault;
 use pol_live::Live;
 use pol_names::SubjectId;
-use pol_report::{reach, shadows};
 use pol_text::Policy;
 use std::alloc::{AllocError, Global};
 
@@ -39,8 +39,7 @@ pub(crate) fn shadow_report(alloc: Global, policy: &Policy) -> Result<Report, Al
         → IsShadowReport policy.now other → Ok report ≡ other) }
 {
     let live = live_policy(alloc, policy)?;
-    let list = shadows(alloc, &live)?;
-    Ok(Report::Shadow(list))
+    shadow_report_of(alloc, &live)
 }
 
 /// By which lines the rules along the chain of a subject are reached. The policy must have the
@@ -60,6 +59,5 @@ pub(crate) fn reach_report(
         return Err(QueryFault::NoSuch);
     }
     let live = live_policy(alloc, policy)?;
-    let rows = reach(alloc, &live, subject)?;
-    Ok(Report::Reach(rows))
+    reach_report_of(alloc, &live, subject)
 }

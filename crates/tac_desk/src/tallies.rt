@@ -1,58 +1,43 @@
-//! Tallies by the present policy.
+//! Tallies by the present policy, whose marks are worked out anew.
 
-ghost use Rattle.std.specs.Prelude.{◌≡◌, Err, IfOk, OnOk};
-ghost use Rattle.tac_tally.specs.Tally.{tally_of, group_tally_of};
-ghost use Rattle.tac_desk.specs.Unless.{UnlessMemory};
+ghost use Rattle.std.specs.Prelude.{◌≡◌, true, false, Err, OnOk};
+ghost use Rattle.pol_live.specs.Live.{UnlessMemory};
+ghost use Rattle.tac_tally.specs.Book.{Contents};
 ghost use Rattle.tac_desk.specs.Reporting as reporting;
-ghost use Rattle.tac_desk.specs.Kept.{meaning_of, entries_by};
+ghost use Rattle.tac_desk.specs.Kept.{meaning_of};
+ghost use Rattle.tac_desk.specs.Metered.{HasMarksBy};
 ghost use Rattle.tac_desk.specs.declared.query.Query.TheVariants as queries;
 ghost use Rattle.tac_desk.specs.declared.query.QueryFault.TheVariants.{NoSuch};
 
 use crate::authorisation::denies;
+use crate::live_reports::tally_by_marks;
 use crate::query::{QueryFault, Report};
-use pol_names::{Kind, Name, SubjectId};
+use pol_names::{Kind, SubjectId};
 use pol_text::Policy;
 use std::alloc::{AllocError, Global};
-use tac_tally::{Book, Tally};
+use tac_tally::Book;
+
+// Whether there is no tally of the subject: it is a group that the policy doesn't have.
+fn is_missing(policy: &Policy, subject: &SubjectId) -> bool
+    ensures missing { result ≡ true → (book : Contents) →
+        reporting.Reports (meaning_of policy.now book) (queries.Tally subject.now) (Err NoSuch) }
+    ensures there { result ≡ false → (book : Contents) → reporting.Reports
+        (meaning_of policy.now book) (queries.Tally subject.now) (Err NoSuch) → ⊥ }
+{
+    match subject.kind {
+        Kind::User => false,
+        Kind::Group => policy.find(subject).is_none(),
+    }
+}
 
 // Works out anew whether the policy denies the records' lines.
 fn remark(alloc: Global, policy: &Policy, book: &mut Book) -> Result<(), AllocError>
-    ensures marks { OnOk result (book.new.entries ≡ entries_by policy.now book.old) }
+    ensures marks { OnOk result (HasMarksBy policy.now book.new) }
     ensures kept { meaning_of policy.now book.new ≡ meaning_of policy.now book.old }
 {
     let recount = book.recount_all(alloc, |user, line| Ok(denies(policy, user, line)))?;
     book.settle(recount);
     Ok(())
-}
-
-// What a user's records count up to, by the present policy.
-fn user_tally(
-    alloc: Global,
-    policy: &Policy,
-    book: &mut Book,
-    user: &Name,
-) -> Result<Tally, AllocError>
-    ensures tally { IfOk result (λ tally.
-        tally ≡ tally_of user.now (entries_by policy.now book.old)) }
-    ensures kept { meaning_of policy.now book.new ≡ meaning_of policy.now book.old }
-{
-    remark(alloc, policy, book)?;
-    book.tally(alloc, user.as_slice())
-}
-
-// What the records of a group's users count up to, by the present policy.
-fn group_tally(
-    alloc: Global,
-    policy: &Policy,
-    book: &mut Book,
-    group: &Name,
-) -> Result<Tally, AllocError>
-    ensures tally { IfOk result (λ tally.
-        tally ≡ group_tally_of policy.now group.now (entries_by policy.now book.old)) }
-    ensures kept { meaning_of policy.now book.new ≡ meaning_of policy.now book.old }
-{
-    remark(alloc, policy, book)?;
-    book.group_tally(alloc, policy, group)
 }
 
 /// What the records of a subject count up to, by the present policy: those of a user, who needn't
@@ -69,17 +54,10 @@ pub(crate) fn tally(
         (Err NoSuch) → result ≡ Err NoSuch }
     ensures kept { meaning_of policy.now book.new ≡ meaning_of policy.now book.old }
 {
-    match subject.kind {
-        Kind::User => {
-            let tally = user_tally(alloc, policy, book, &subject.name)?;
-            Ok(Report::Tally(tally))
-        }
-        Kind::Group => {
-            if policy.find(subject).is_none() {
-                return Err(QueryFault::NoSuch);
-            }
-            let tally = group_tally(alloc, policy, book, &subject.name)?;
-            Ok(Report::Tally(tally))
-        }
+    // marks take memory, and a refusal doesn't
+    if is_missing(policy, subject) {
+        return Err(QueryFault::NoSuch);
     }
+    remark(alloc, policy, book)?;
+    tally_by_marks(alloc, policy, book, subject)
 }

@@ -8,9 +8,8 @@ use Rattle.tac_desk.specs.declared.query.Query.{Query}
 use Rattle.tac_desk.specs.declared.query.QueryFault.{QueryFault}
 use Rattle.tac_desk.specs.declared.query.Report.{Report}
 use Rattle.tac_desk.specs.Meaning.{Meaning}
-use Rattle.tac_desk.specs.Unless.{UnlessMemory}
 use Rattle.tac_desk.specs.Asking.{asked}
-use Rattle.pol_live.specs.Live.{is_memory}
+use Rattle.pol_live.specs.Live.{UnlessMemory, is_memory}
 use Rattle.tac_desk.specs.Editing as editing
 use Rattle.tac_desk.specs.Reporting as reporting
 use Rattle.tac_hall.specs.declared.call.Call.{Call}

@@ -1,9 +1,24 @@
-use Rattle.std.proofs.Common.{sym, ap, ◌∙◌}
+use Rattle.std.proofs.Common.{◌≡◌, sym, ap, ◌∙◌}
 use Rattle.std.proofs.lemmas.Bool.{not_from_true, not_from_false}
 use Rattle.tac_desk.specs.Reporting.{tally_report}
-use Rattle.tac_desk.specs.Kept.{meaning_of}
-use Rattle.tac_desk.proofs.TallyFacts.{absent, there}
+use Rattle.tac_tally.specs.Tally.{tally_of}
+use Rattle.tac_desk.specs.Kept.{meaning_of, entries_by}
+use Rattle.tac_desk.proofs.TallyFacts.{absent, there, user_there}
 use Rattle.tac_desk.proofs.live_reports.tally_by_marks.Goals as goal
+
+pub returns-in-User-clause-found : goal.returns-in-User-clause-found
+returns-in-User-clause-found c =
+    let subject = c.args.subject.now in
+    let is = ap tally_report (user_there (meaning_of c.args.policy.now c.args.book.now) subject.name subject.kind c.in-User.is) in
+    let counted : c.tally.result ≡ tally_of subject.name (entries_by c.args.policy.now c.args.book.now)
+    = rw (← c.requires, ← c.as_slice.ensures.value) c.tally.ensures.value in
+    rw counted (sym is)
+
+pub returns-in-User-clause-sure : goal.returns-in-User-clause-sure
+returns-in-User-clause-sure c refused =
+    let subject = c.args.subject.now in
+    let is = ap tally_report (user_there (meaning_of c.args.policy.now c.args.book.now) subject.name subject.kind c.in-User.is) in
+    absurd cc
 
 pub returns-then-is_none-clause-found : goal.returns-then-is_none-clause-found
 returns-then-is_none-clause-found c =
