@@ -1,5 +1,6 @@
 -- How answers are printed (docs/CONSOLE.md). Every line ends in LF.
-use Rattle.std.specs.Prelude.{ℕ, suc, List, [], ◌∷◌, ◌++◌, codes, Option, Some, None, Result, Ok, Err}
+use Rattle.std.specs.Prelude.{ℕ, suc, List, [], ◌∷◌, ◌++◌, codes, Option, Some, None, Result, Ok}
+use Rattle.std.specs.Prelude.{Err}
 use Rattle.std.specs.List.{flat_map}
 use Rattle.std.specs.Option.{option_map_or}
 use Rattle.std.specs.Fmt.{decimal}
@@ -41,11 +42,13 @@ refused fault = codes "refused " ++ fault ++ 10 ∷ []
 
 -- a line where there is a text
 abbrev pub change_line : List ℕ → List ℕ → Option (List ℕ) → List ℕ
-change_line user what text = option_map_or (λ text. codes "user " ++ user ++ what ++ text ++ 10 ∷ []) text []
+change_line user what text =
+    option_map_or (λ text. codes "user " ++ user ++ what ++ text ++ 10 ∷ []) text []
 
 abbrev pub changed_lines : Changed → List ℕ
 changed_lines changed =
-    change_line changed.user (codes " now permits: ") changed.permits ++ change_line changed.user (codes " now denies: ") changed.denies
+    change_line changed.user (codes " now permits: ") changed.permits
+    ++ change_line changed.user (codes " now denies: ") changed.denies
 
 abbrev pub edit_answer : Result (List Changed) EditFault → List ℕ
 edit_answer (Ok changes) = codes "ok" ++ 10 ∷ flat_map changed_lines changes
@@ -55,9 +58,11 @@ edit_answer (Err fault) = refused (edit_faults.fault_text fault)
 
 abbrev pub tally_line : SubjectId → Tally → List ℕ
 tally_line subject tally =
-    codes "tally " ++ subject_text subject ++ codes " starts " ++ decimal tally.starts ++ codes " stops " ++ decimal tally.stops
+    codes "tally " ++ subject_text subject ++ codes " starts " ++ decimal tally.starts
+    ++ codes " stops " ++ decimal tally.stops
     ++ codes " watchdogs " ++ decimal tally.watchdogs ++ codes " updates " ++ decimal tally.updates
-    ++ codes " open " ++ decimal tally.open_tasks ++ codes " elapsed " ++ decimal tally.elapsed ++ codes " drift " ++ decimal tally.drift ++ 10 ∷ []
+    ++ codes " open " ++ decimal tally.open_tasks ++ codes " elapsed " ++ decimal tally.elapsed
+    ++ codes " drift " ++ decimal tally.drift ++ 10 ∷ []
 
 abbrev pub tally_text : Query → Tally → List ℕ
 tally_text (queries.Tally subject) tally = tally_line subject tally
@@ -92,8 +97,10 @@ line_field line = option_map_or (λ line. codes " line " ++ percent_form line) l
 
 abbrev pub record_line : ℕ → Record → List ℕ
 record_line number item =
-    codes "record " ++ decimal number ++ codes " user " ++ percent_form item.user ++ codes " " ++ kind_text item.kind
-    ++ codes " task " ++ percent_form item.task ++ codes " elapsed " ++ decimal item.elapsed ++ line_field item.line ++ 10 ∷ []
+    codes "record " ++ decimal number ++ codes " user " ++ percent_form item.user
+    ++ codes " " ++ kind_text item.kind
+    ++ codes " task " ++ percent_form item.task
+    ++ codes " elapsed " ++ decimal item.elapsed ++ line_field item.line ++ 10 ∷ []
 
 -- the first of these has this number
 abbrev pub record_lines : ℕ → List Record → List ℕ

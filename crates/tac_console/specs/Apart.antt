@@ -12,7 +12,9 @@ are_bytes bytes = list_all (λ byte. nat_lt byte 256) bytes
 
 -- a record as there can be one: bytes, and 32 bits of seconds
 abbrev pub is_record : Record → Bool
-is_record item = are_bytes item.user && are_bytes item.task && all_of are_bytes item.line && nat_lt item.elapsed (2 ^ 32)
+is_record item =
+    are_bytes item.user && are_bytes item.task && all_of are_bytes item.line
+    && nat_lt item.elapsed (2 ^ 32)
 
 -- a symbol, but no blank
 abbrev pub is_visible : ℕ → Bool
@@ -24,4 +26,6 @@ HasNoBlank text = IsTrue (are_bytes text) → IsTrue (list_all is_visible (perce
 
 -- records that are printed alike are the same
 abbrev pub AreApart : List Record → List Record → Type 0
-AreApart a b = IsTrue (list_all is_record a) → IsTrue (list_all is_record b) → records_text a ≡ records_text b → a ≡ b
+AreApart a b =
+    IsTrue (list_all is_record a) → IsTrue (list_all is_record b)
+    → records_text a ≡ records_text b → a ≡ b

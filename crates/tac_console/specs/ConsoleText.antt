@@ -1,12 +1,14 @@
 -- The line of a console: an edit, a question, or neither (docs/CONSOLE.md).
-use Rattle.std.specs.Prelude.{ℕ, List, [], codes, Bool, true, false, Option, Some, None, option_map, if◌then◌else◌}
+use Rattle.std.specs.Prelude.{ℕ, List, [], codes, Bool, true, false, Option, Some, None, option_map}
+use Rattle.std.specs.Prelude.{if◌then◌else◌}
 use Rattle.std.specs.Str.{bytes_eq}
 use Rattle.basics.specs.Symbol.{is_text}
 use Rattle.pol_names.specs.Name.{name_of}
 use Rattle.pol_edit.specs.EditText.{parted, subject_of, edit_of}
 use Rattle.pol_edit.specs.declared.edit.Edit.{Edit}
 use Rattle.tac_desk.specs.declared.query.Query.{Query}
-use Rattle.tac_desk.specs.declared.query.Query.TheVariants.{Policy, Shadow, Reach, Tally, Why, Records}
+use Rattle.tac_desk.specs.declared.query.Query.TheVariants.{Policy, Shadow, Reach, Tally, Why}
+use Rattle.tac_desk.specs.declared.query.Query.TheVariants.{Records}
 use Rattle.tac_console.specs.declared.asked.Asked.{Asked}
 use Rattle.tac_console.specs.declared.asked.Asked.TheVariants as asks
 

@@ -13,7 +13,8 @@ fault_line what = codes "fault " ++ what ++ 10 ∷ []
 
 -- a text that says no policy: the line, and what is wrong there
 abbrev pub policy_fault : PolicyFault → List ℕ
-policy_fault (policies.Refused line refusal) = fault_line (codes "line " ++ decimal line ++ codes " " ++ refusal_text refusal)
+policy_fault (policies.Refused line refusal) =
+    fault_line (codes "line " ++ decimal line ++ codes " " ++ refusal_text refusal)
 policy_fault policies.Memory = fault_line (codes "Memory")
 
 -- whether a policy may be refused so when its automata are built
@@ -24,6 +25,7 @@ is_build_fault _ = false
 
 -- a policy that is too large: whose rules are
 abbrev pub build_fault : EditFault → List ℕ
-build_fault (edits.TooManyStates subject) = fault_line (codes "TooManyStates " ++ subject_text subject)
+build_fault (edits.TooManyStates subject) =
+    fault_line (codes "TooManyStates " ++ subject_text subject)
 build_fault edits.Memory = fault_line (codes "Memory")
 build_fault _ = []

@@ -1,14 +1,16 @@
 -- Which line of a console spells what, by cases (docs/CONSOLE.md).
 --
 --   line    = edit | query
---   query   = "policy" | "shadow" | "reach " subject | "tally " subject | "why " name [ " " text ] | "records"
+--   query   = "policy" | "shadow" | "reach " subject | "tally " subject
+--           | "why " name [ " " text ] | "records"
 use Rattle.std.specs.Prelude.{◌≡◌, ◌⊎◌, ℕ, List, [], ◌++◌, codes, IsTrue}
 use Rattle.basics.specs.Symbol.{is_text}
 use Rattle.pol_names.specs.SubjectId.{subject_text}
 use Rattle.pol_edit.specs.Spelling.{IsName, Spells as SpellsEdit}
 use Rattle.pol_edit.specs.declared.edit.Edit.{Edit}
 use Rattle.tac_desk.specs.declared.query.Query.{Query}
-use Rattle.tac_desk.specs.declared.query.Query.TheVariants.{Policy, Shadow, Reach, Tally, Why, Records}
+use Rattle.tac_desk.specs.declared.query.Query.TheVariants.{Policy, Shadow, Reach, Tally, Why}
+use Rattle.tac_desk.specs.declared.query.Query.TheVariants.{Records}
 use Rattle.tac_console.specs.declared.asked.Asked.{Asked}
 use Rattle.tac_console.specs.declared.asked.Asked.TheVariants as asks
 
@@ -16,10 +18,13 @@ use Rattle.tac_console.specs.declared.asked.Asked.TheVariants as asks
 abbrev pub SpellsWords : List ℕ → Query → Type 0
 SpellsWords line Policy = line ≡ codes "policy"
 SpellsWords line Shadow = line ≡ codes "shadow"
-SpellsWords line (Reach subject) = (line ≡ codes "reach " ++ subject_text subject) × IsName subject.name
-SpellsWords line (Tally subject) = (line ≡ codes "tally " ++ subject_text subject) × IsName subject.name
+SpellsWords line (Reach subject) =
+    (line ≡ codes "reach " ++ subject_text subject) × IsName subject.name
+SpellsWords line (Tally subject) =
+    (line ≡ codes "tally " ++ subject_text subject) × IsName subject.name
 SpellsWords line (Why user text) =
-    ((line ≡ codes "why " ++ user ++ codes " " ++ text) ⊎ ((line ≡ codes "why " ++ user) × (text ≡ []))) × IsName user
+    ((line ≡ codes "why " ++ user ++ codes " " ++ text)
+    ⊎ ((line ≡ codes "why " ++ user) × (text ≡ []))) × IsName user
 SpellsWords line Records = line ≡ codes "records"
 
 -- all of the line are symbols
@@ -29,4 +34,5 @@ SpellsQuery line query = IsTrue (is_text line) × SpellsWords line query
 abbrev pub Spells : List ℕ → Asked → Type 0
 Spells line (asks.Edit edit) = SpellsEdit line edit
 Spells line (asks.Query query) = SpellsQuery line query
-Spells line asks.Neither = ((edit : Edit) → ¬ SpellsEdit line edit) × ((query : Query) → ¬ SpellsQuery line query)
+Spells line asks.Neither =
+    ((edit : Edit) → ¬ SpellsEdit line edit) × ((query : Query) → ¬ SpellsQuery line query)
