@@ -1,18 +1,15 @@
 //! The check of a policy's text, from bytes to bytes.
 
-ghost use Rattle.std.specs.Prelude.{◌≡◌, ◌≢◌, [], ◌∷◌, ◌++◌, codes, ◌≤◌, ◌<◌, ℕ, List, length};
-ghost use Rattle.std.specs.Prelude.{take, IfOk, IfErr, OnOk, IfSome, IsErrOf};
+ghost use Rattle.std.specs.Prelude.{[], ◌∷◌, ◌++◌, codes, ◌≤◌, ◌<◌, ℕ, List, length};
+ghost use Rattle.std.specs.Prelude.{take, IfOk, OnOk, IfSome, IsErrOf};
 ghost use Rattle.std.specs.Io.KnownBytes.{Appends, IsAtEnd, Keeps};
 ghost use Rattle.tac_check.specs.Check.{IsWorkedOut};
-ghost use Rattle.tac_check.specs.Input.{fault_by};
 ghost use Rattle.tac_check.specs.declared.checking.CheckEnd.{CheckEnd as CheckEndValue};
-ghost use Rattle.tac_check.specs.declared.checking.CheckFault.TheVariants.{Memory};
 
 use crate::output::output;
-use basics::send;
-use std::alloc::{AllocError, Global};
+use std::alloc::Global;
 use std::io::{Read, Write};
-use tac_input::{InputFault, read_whole};
+use tac_input::{AnswerFault, InputFault, read_whole, write_answer};
 use thiserror::Error;
 
 /// The most bytes that a policy's text has.
@@ -44,42 +41,18 @@ pub enum CheckFault {
     Memory,
 }
 
-impl From<InputFault> for CheckFault {
-    ghost from_gives = { λ fault given. given ≡ fault_by fault };
-
-    fn from(fault: InputFault) -> CheckFault {
-        match fault {
-            InputFault::Failed => CheckFault::ReadFault,
-            InputFault::TooLong => CheckFault::TooLong,
-            InputFault::Memory => CheckFault::Memory,
-        }
-    }
-}
-
-impl From<AllocError> for CheckFault {
-    ghost from_gives = { λ _ fault. fault ≡ Memory };
-
-    fn from(_error: AllocError) -> CheckFault {
-        CheckFault::Memory
-    }
-}
-
 // Reads a text, and works out what its check prints.
-fn answer<R: Read>(alloc: Global, reader: &mut R) -> Result<(Vec<u8>, CheckEnd), CheckFault>
+fn answer<R: Read>(alloc: Global, reader: &mut R) -> Result<(Vec<u8>, CheckEnd), InputFault>
     ensures end { OnOk result (IsAtEnd (R.remaining reader.new)) }
     ensures output { IfOk result (λ output. IfSome (R.remaining reader.old) (λ text.
         (length text ≤ 268435456) × IsWorkedOut text output.0.items output.1)) }
-    ensures fault { IfErr result (λ fault. fault ≢ CheckFault.WriteFault) }
-    ensures too_long { IsErrOf result CheckFault.TooLong →
+    ensures too_long { IsErrOf result InputFault.TooLong →
         IfSome (R.remaining reader.old) (λ text. 268435456 < length text) }
 {
     let text = read_whole(alloc, reader, MAX_TEXT)?;
     let (printed, end) = output(alloc, text.as_slice())?;
     Ok((printed, end))
 }
-
-/// The line that is written where memory runs out.
-const MEMORY_LINE: &[u8] = b"fault Memory\n";
 
 /// Checks the policy whose text the reader gives, and writes what is wrong with it, or how much it
 /// has and which of its rules decide nothing (docs/POLICY.md, "Checking a policy"). The whole text
@@ -113,18 +86,11 @@ pub fn check<R: Read, W: Write>(
         × Appends (W.contents writer.old) (W.contents writer.new)
         (take n (codes "fault Memory" ++ 10 ∷ [])) }
 {
-    match answer(alloc, reader) {
-        Ok((text, end)) => {
-            let (_, sent) = send(writer, text.as_slice());
-            match sent {
-                Ok(()) => Ok(end),
-                Err(_) => Err(CheckFault::WriteFault),
-            }
-        }
-        Err(CheckFault::Memory) => {
-            let (_, _) = send(writer, MEMORY_LINE);
-            Err(CheckFault::Memory)
-        }
-        Err(fault) => Err(fault),
+    match write_answer(writer, answer(alloc, reader)) {
+        Ok(end) => Ok(end),
+        Err(AnswerFault::Unread) => Err(CheckFault::ReadFault),
+        Err(AnswerFault::TooLong) => Err(CheckFault::TooLong),
+        Err(AnswerFault::Unwritten) => Err(CheckFault::WriteFault),
+        Err(AnswerFault::Memory) => Err(CheckFault::Memory),
     }
 }

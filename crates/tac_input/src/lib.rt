@@ -1,8 +1,10 @@
-//! Reading the whole of an input, up to a bound.
+//! Reading the whole of an input, up to a bound, and writing what it is answered.
 #![tactic(auto)]
 
+mod answering;
 mod reading;
 #[cfg(test)]
 mod tests;
 
+pub use answering::{AnswerFault, write_answer};
 pub use reading::{InputFault, read_whole};

@@ -1,18 +1,16 @@
 //! The replay of a script, from bytes to bytes.
 
-ghost use Rattle.std.specs.Prelude.{◌≡◌, ◌≢◌, [], ◌∷◌, ◌++◌, codes, ◌≤◌, ◌<◌, ℕ, List, length};
-ghost use Rattle.std.specs.Prelude.{take, IfOk, IfErr, OnOk, IfSome, IsErrOf, vec_len};
-ghost use Rattle.std.specs.Io.KnownBytes.{Appends, Consumes, IsAtEnd, Keeps};
+ghost use Rattle.std.specs.Prelude.{[], ◌∷◌, ◌++◌, codes, ◌≤◌, ℕ, List, length};
+ghost use Rattle.std.specs.Prelude.{take, IfOk, OnOk, IfSome, IsErrOf};
+ghost use Rattle.std.specs.Io.KnownBytes.{Appends, IsAtEnd, Keeps};
 ghost use Rattle.tac_server.specs.Script.{IsWorkedOut};
 ghost use Rattle.tac_server.specs.declared.replaying.ReplayEnd.{ReplayEnd as ReplayEndValue};
-ghost use Rattle.tac_server.specs.declared.replaying.ReplayFault.TheVariants.{Memory};
 
 use crate::script::run_script;
 use crate::script_fault::Stop;
-use basics::send;
-use std::alloc::{AllocError, AllocFailed, Global};
+use std::alloc::{AllocError, Global};
 use std::io::{Read, Write};
-use tac_input::{InputFault, read_whole};
+use tac_input::{AnswerFault, InputFault, read_whole, write_answer};
 use thiserror::Error;
 
 /// The most bytes that a script has.
@@ -41,37 +39,6 @@ pub enum ReplayFault {
     Memory,
 }
 
-impl From<AllocError> for ReplayFault {
-    ghost from_gives = { λ _ fault. fault ≡ Memory };
-
-    fn from(_error: AllocError) -> ReplayFault {
-        ReplayFault::Memory
-    }
-}
-
-impl<T: Drop> From<AllocFailed<T>> for ReplayFault {
-    ghost from_gives = { λ _ fault. fault ≡ Memory };
-
-    fn from(_error: AllocFailed<T>) -> ReplayFault {
-        ReplayFault::Memory
-    }
-}
-
-// The whole script.
-fn read_script<R: Read>(alloc: Global, reader: &mut R) -> Result<Vec<u8>, ReplayFault>
-    ensures bytes { IfOk result (λ script.
-        Consumes (R.remaining reader.old) (R.remaining reader.new) script.items) }
-    ensures end { OnOk result (IsAtEnd (R.remaining reader.new)) }
-    ensures bound { IfOk result (λ script. vec_len script ≤ 268435456) }
-    ensures fault { IfErr result (λ fault. fault ≢ ReplayFault.WriteFault) }
-{
-    match read_whole(alloc, reader, MAX_SCRIPT) {
-        Ok(script) => Ok(script),
-        Err(InputFault::Memory) => Err(ReplayFault::Memory),
-        Err(InputFault::Failed | InputFault::TooLong) => Err(ReplayFault::ReadFault),
-    }
-}
-
 // What a script prints, and how its replay ends.
 fn output(alloc: Global, script: &[u8]) -> Result<(Vec<u8>, ReplayEnd), AllocError>
     ensures { IfOk result (λ output. IsWorkedOut script.now output.0.items output.1) }
@@ -90,19 +57,15 @@ fn output(alloc: Global, script: &[u8]) -> Result<(Vec<u8>, ReplayEnd), AllocErr
 }
 
 // Reads a script, and works out what it prints.
-fn answer<R: Read>(alloc: Global, reader: &mut R) -> Result<(Vec<u8>, ReplayEnd), ReplayFault>
+fn answer<R: Read>(alloc: Global, reader: &mut R) -> Result<(Vec<u8>, ReplayEnd), InputFault>
     ensures end { OnOk result (IsAtEnd (R.remaining reader.new)) }
     ensures output { IfOk result (λ output. IfSome (R.remaining reader.old) (λ script.
         (length script ≤ 268435456) × IsWorkedOut script output.0.items output.1)) }
-    ensures fault { IfErr result (λ fault. fault ≢ ReplayFault.WriteFault) }
 {
-    let script = read_script(alloc, reader)?;
+    let script = read_whole(alloc, reader, MAX_SCRIPT)?;
     let (text, end) = output(alloc, script.as_slice())?;
     Ok((text, end))
 }
-
-/// The line that is written where memory runs out.
-const MEMORY_LINE: &[u8] = b"fault Memory\n";
 
 /// Runs the script that the reader gives, and writes what that prints (docs/SCRIPT.md). The whole
 /// script is read first; for a given policy, time and memory are linear in it.
@@ -132,18 +95,10 @@ pub fn replay<R: Read, W: Write>(
         × Appends (W.contents writer.old) (W.contents writer.new)
         (take n (codes "fault Memory" ++ 10 ∷ [])) }
 {
-    match answer(alloc, reader) {
-        Ok((text, end)) => {
-            let (_, sent) = send(writer, text.as_slice());
-            match sent {
-                Ok(()) => Ok(end),
-                Err(_) => Err(ReplayFault::WriteFault),
-            }
-        }
-        Err(ReplayFault::Memory) => {
-            let (_, _) = send(writer, MEMORY_LINE);
-            Err(ReplayFault::Memory)
-        }
-        Err(fault) => Err(fault),
+    match write_answer(writer, answer(alloc, reader)) {
+        Ok(end) => Ok(end),
+        Err(AnswerFault::Unread | AnswerFault::TooLong) => Err(ReplayFault::ReadFault),
+        Err(AnswerFault::Unwritten) => Err(ReplayFault::WriteFault),
+        Err(AnswerFault::Memory) => Err(ReplayFault::Memory),
     }
 }
