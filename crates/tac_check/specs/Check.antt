@@ -21,13 +21,17 @@ count_rules policy = sum_by (λ subject. length subject.rules) policy
 
 -- `policy ok: S subjects, R rules`
 abbrev pub ok_line : List Subject → List ℕ
-ok_line policy = codes "policy ok: " ++ decimal (length policy) ++ codes " subjects, " ++ decimal (count_rules policy) ++ codes " rules" ++ 10 ∷ []
+ok_line policy =
+    codes "policy ok: " ++ decimal (length policy) ++ codes " subjects, "
+    ++ decimal (count_rules policy) ++ codes " rules" ++ 10 ∷ []
 
 -- the counts, and then the rules that decide nothing
 abbrev pub Reports : List Subject → List ℕ → Type 0
-Reports policy output = (rows : List Shadowed) × Shadows policy rows × (output ≡ ok_line policy ++ shadows_text rows)
+Reports policy output =
+    (rows : List Shadowed) × Shadows policy rows × (output ≡ ok_line policy ++ shadows_text rows)
 
--- a policy that may stand is reported on; else it is refused, with its first subject that is too large
+-- a policy that may stand is reported on; else it is refused, with its first subject that is too
+-- large
 abbrev pub PrintsBuilt : Result (List Subject) EditFault → List ℕ → CheckEnd → Type 0
 PrintsBuilt (Ok policy) output end = Reports policy output × (end ≡ Sound)
 PrintsBuilt (Err fault) output end = (output ≡ build_fault fault) × (end ≡ Refused)
@@ -40,7 +44,8 @@ pub record IsBuilt (policy : List Subject) (output : List ℕ) (end : CheckEnd) 
 -- the policy of a text, or the first refusal with its line. No text is refused for want of memory
 abbrev pub IsCheckOf : Result (List Subject) PolicyFault → List ℕ → CheckEnd → Type 0
 IsCheckOf (Ok policy) output end = IsBuilt policy output end
-IsCheckOf (Err (policies.Refused line refusal)) output end = (output ≡ policy_fault (policies.Refused line refusal)) × (end ≡ Refused)
+IsCheckOf (Err (policies.Refused line refusal)) output end =
+    (output ≡ policy_fault (policies.Refused line refusal)) × (end ≡ Refused)
 IsCheckOf (Err policies.Memory) output end = ⊥
 
 -- the check of a text prints this, and ends so
@@ -56,9 +61,11 @@ pub record IsReported (policy : List Subject) (output : List ℕ) (end : CheckEn
   pub ends : end ≡ Sound
 
 -- a check was worked out, and no other is right
-pub record IsWorkedOutOf (policy : Result (List Subject) PolicyFault) (output : List ℕ) (end : CheckEnd) : Type 0 where
+pub record IsWorkedOutOf (policy : Result (List Subject) PolicyFault) (output : List ℕ)
+    (end : CheckEnd) : Type 0 where
   pub check : IsCheckOf policy output end
-  pub only : (other : List ℕ) (last : CheckEnd) → IsCheckOf policy other last → (other ≡ output) × (last ≡ end)
+  pub only : (other : List ℕ) (last : CheckEnd) → IsCheckOf policy other last
+      → (other ≡ output) × (last ≡ end)
 
 abbrev pub IsWorkedOut : List ℕ → List ℕ → CheckEnd → Type 0
 IsWorkedOut text output end = IsWorkedOutOf (policy_of text) output end
