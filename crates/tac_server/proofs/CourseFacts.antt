@@ -6,8 +6,8 @@ use Rattle.tac_desk.specs.Meaning.{Meaning}
 use Rattle.tac_server.specs.Serving.{said_on, sent_bytes}
 use Rattle.tac_server.specs.Server.{State, opened, lost, heard, with_meaning}
 use Rattle.tac_server.specs.Kept.{HasState, IsOpened, IsHeard, IsAnswered, IsOnlyAnswer}
-use Rattle.tac_server.specs.Happening.{Happening, Opens, Brings, Loses, Types, Given, Nothing, Packets, Text, Gives, Hears, bytes_given}
-use Rattle.tac_server.specs.Course.{HasRun, RunsOn}
+use Rattle.tac_server.specs.Happening.{Happening, Opens, Brings, Loses, Types, Given, Nothing, Packets, Text, Gives, Hears}
+use Rattle.tac_server.specs.Course.{Course, HasRun, RunsOn}
 use Rattle.tac_server.specs.declared.server.Server.{Server}
 use Rattle.tac_server.specs.declared.server.ServerFault.{ServerFault}
 
@@ -23,15 +23,69 @@ only_hears state number bytes before e other later d =
       d.leaves ∙ ap (λ (b : List ℕ). heard number (b ++ bytes) (said_on state.key state.meaning b bytes) state) same,
     )
 
+-- ---- the key stays
+
+pub gives_key : (state : State) (event : Happening) (given : Given) (after : State) → Gives state event given after → after.key ≡ state.key
+gives_key state (Opens number) given after g = ap (λ (s : State). s.key) g.2
+gives_key state (Brings number bytes) given after g = ap (λ (s : State). s.key) g.leaves
+gives_key state (Loses number) given after g = ap (λ (s : State). s.key) g.1
+gives_key state (Types line) given after g = ap (λ (s : State). s.key) g.leaves
+
+course_key : (start : State) (events : List Happening) (outs : List Given) (after : State) → Course start events outs after → after.key ≡ start.key
+course_key start [] outs after c = ap (λ (s : State). s.key) c.1
+course_key start (event ∷ events) outs after c = gives_key c.before event c.given after c.gives ∙ course_key start events c.rest c.before c.was
+
+-- ---- an event first
+
+-- an event before all others
+pub course_first : (start next after : State) (event : Happening) (given : Given) (events : List Happening) (outs : List Given)
+    → Gives start event given next → Course next events outs after → Course start (events ++ event ∷ []) (outs ++ given ∷ []) after
+course_first start next after event given [] outs gives c =
+    record { before = start; rest = []; given = given; was = (refl, refl); gives = subst (Gives start event given) (sym c.1) gives; is = ap (λ (l : List Given). l ++ given ∷ []) c.0 }
+course_first start next after event given (last ∷ events) outs gives c =
+    record {
+      before = c.before;
+      rest = c.rest ++ given ∷ [];
+      given = c.given;
+      was = course_first start next c.before event given events c.rest gives c.was;
+      gives = c.gives;
+      is = ap (λ (l : List Given). l ++ given ∷ []) c.is;
+    }
+
+-- the first event, and the course of the others
+pub record First (start : State) (event : Happening) (events : List Happening) (outs : List Given) (after : State) : Type 0 where
+  pub next : State
+  pub given : Given
+  pub rest : List Given
+  pub gives : Gives start event given next
+  pub course : Course next events rest after
+  pub is : outs ≡ rest ++ given ∷ []
+
+pub course_split : (start after : State) (event : Happening) (events : List Happening) (outs : List Given) → Course start (events ++ event ∷ []) outs after → First start event events outs after
+course_split start after event [] outs c =
+    record { next = after; given = c.given; rest = []; gives = subst (λ (s : State). Gives s event c.given after) c.was.1 c.gives; course = (refl, refl); is = c.is ∙ ap (λ (l : List Given). c.given ∷ l) c.was.0 }
+course_split start after event (last ∷ events) outs c =
+    let f = course_split start c.before event events c.rest c.was in
+    record {
+      next = f.next;
+      given = f.given;
+      rest = c.given ∷ f.rest;
+      gives = f.gives;
+      course = record { before = c.before; rest = f.rest; given = c.given; was = f.course; gives = c.gives; is = refl };
+      is = c.is ∙ ap (λ (l : List Given). c.given ∷ l) f.is;
+    }
+
+-- ---- an event last
+
 module _ {D : Type 0} (meaning : D → Meaning) where
   -- nothing has happened
   pub run_none : (server : Server D) (start : State) → HasState meaning server start → HasRun meaning server start [] []
   run_none server start has = record { state = start; has = has; course = (refl, refl); only = λ others other h. h }
 
   -- one event more, whose outcome is the only one
-  run_more : (old new : Server D) (start : State) (events : List Happening) (outs : List (List ℕ)) (event : Happening) (h : HasRun meaning old start events outs) (given : Given) (after : State)
+  run_more : (old new : Server D) (start : State) (events : List Happening) (outs : List Given) (event : Happening) (h : HasRun meaning old start events outs) (given : Given) (after : State)
       → Gives h.state event given after → ((other : Given) (later : State) → Gives h.state event other later → (other ≡ given) × (later ≡ after)) → HasState meaning new after
-      → HasRun meaning new start (event ∷ events) (bytes_given h.state.key given ∷ outs)
+      → HasRun meaning new start (event ∷ events) (given ∷ outs)
   run_more old new start events outs event h given after gives only has = record {
     state = after;
     has = has;
@@ -39,32 +93,31 @@ module _ {D : Type 0} (meaning : D → Meaning) where
     only = λ others other b.
         let same = h.only b.rest b.before b.was in
         let one = only b.given other (subst (λ (s : State). Gives s event b.given other) same.1 b.gives) in
-        let out = ap (λ (s : State). bytes_given s.key b.given) same.1 ∙ ap (bytes_given h.state.key) one.0 in
-        (b.is ∙ ap (λ (l : List ℕ). l ∷ b.rest) out ∙ ap (λ (l : List (List ℕ)). bytes_given h.state.key given ∷ l) same.0, one.1);
+        (b.is ∙ ap (λ (g : Given). g ∷ b.rest) one.0 ∙ ap (λ (l : List Given). given ∷ l) same.0, one.1);
   }
 
   pub run_opened : (old new : Server D) (number : ℕ) (result : Result (Unit {0}) ServerFault) → ((state : State) → HasState meaning old state → IsOpened meaning new number state result)
-      → (start : State) (events : List Happening) (outs : List (List ℕ)) → HasRun meaning old start events outs → OnOk result (HasRun meaning new start (Opens number ∷ events) ([] ∷ outs))
+      → (start : State) (events : List Happening) (outs : List Given) → HasRun meaning old start events outs → OnOk result (HasRun meaning new start (Opens number ∷ events) (Nothing ∷ outs))
   run_opened old new number (Err fault) step start events outs h = tt
   run_opened old new number (Ok done) step start events outs h =
       let s = step h.state h.has in
       run_more old new start events outs (Opens number) h Nothing (opened number h.state) (s.0, refl, refl) (λ other later g. (g.1, g.2)) s.1
 
   pub run_lost : (old new : Server D) (number : ℕ) → ((state : State) → HasState meaning old state → HasState meaning new (lost number state))
-      → (start : State) (events : List Happening) (outs : List (List ℕ)) → HasRun meaning old start events outs → HasRun meaning new start (Loses number ∷ events) ([] ∷ outs)
+      → (start : State) (events : List Happening) (outs : List Given) → HasRun meaning old start events outs → HasRun meaning new start (Loses number ∷ events) (Nothing ∷ outs)
   run_lost old new number step start events outs h =
       run_more old new start events outs (Loses number) h Nothing (lost number h.state) (refl, refl) (λ other later g. g) (step h.state h.has)
 
   pub run_heard : (old new : Server D) (was now : List ℕ) (number : ℕ) (piece : List ℕ) (result : Result Bool ServerFault)
       → ((state : State) → HasState meaning old state → IsHeard meaning was now new number piece state result)
-      → (start : State) (events : List Happening) (outs : List (List ℕ)) → HasRun meaning old start events outs → OnOk result (RunsOn meaning was now new start (Brings number piece) events outs)
+      → (start : State) (events : List Happening) (outs : List Given) → HasRun meaning old start events outs → OnOk result (RunsOn meaning was now new start (Brings number piece) events outs)
   run_heard old new was now number piece (Err fault) step start events outs h = tt
   run_heard old new was now number piece (Ok closes) step start events outs h =
       let s = step h.state h.has in
       let before = s.0 in
       let said = said_on h.state.key h.state.meaning before piece in (
-        sent_bytes h.state.key said.sent,
-        s.2.sends.0,
+        Packets number said,
+        s.2.sends.0 ∙ ap (λ (k : List ℕ). was ++ sent_bytes k said.sent) (course_key start events outs h.state h.course),
         run_more old new start events outs (Brings number piece) h (Packets number said) (heard number (before ++ piece) said h.state)
             (record { before = before; is_open = s.1; says = refl; leaves = refl }) (only_hears h.state number piece before s.1) s.2.has,
       )
@@ -72,12 +125,12 @@ module _ {D : Type 0} (meaning : D → Meaning) where
   pub run_told : (old new : Server D) (was now line : List ℕ) (result : Result (Unit {0}) ServerFault)
       → ((state : State) → HasState meaning old state → IsAnswered meaning was now new line state result)
       → ((state : State) → HasState meaning old state → OnOk result (IsOnlyAnswer meaning was now new line state))
-      → (start : State) (events : List Happening) (outs : List (List ℕ)) → HasRun meaning old start events outs → OnOk result (RunsOn meaning was now new start (Types line) events outs)
+      → (start : State) (events : List Happening) (outs : List Given) → HasRun meaning old start events outs → OnOk result (RunsOn meaning was now new start (Types line) events outs)
   run_told old new was now line (Err fault) step only start events outs h = tt
   run_told old new was now line (Ok done) step only start events outs h =
       let s = step h.state h.has in
       let alone = only h.state h.has in (
-        s.0,
+        Text s.0,
         s.3,
         run_more old new start events outs (Types line) h (Text s.0) (with_meaning s.1 h.state) (record { text = s.0; meaning = s.1; answers = s.2; says = refl; leaves = refl })
             (λ other later g.

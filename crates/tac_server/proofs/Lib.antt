@@ -7,3 +7,4 @@ pub mod RunFacts
 pub mod EventFacts
 pub mod ShownFacts
 pub mod CourseFacts
+pub mod LinesFacts

@@ -26,8 +26,10 @@ use Rattle.tac_server.specs.Command.{event_of}
 use Rattle.tac_server.specs.Happening.{Nothing, Packets, Text}
 use Rattle.tac_server.specs.Events.{shown, printed}
 use Rattle.tac_server.specs.Kept.{Sends, HasState, IsOpened, IsHeardUnlessMemory, IsAnswered, IsOnlyAnswer, IsDone, IsDoneUnless, stop_of}
-use Rattle.tac_server.specs.Script.{Run, Runs, RunsOn, BodyRuns, LinesRun, ReadsPolicy, Ends, Prints, DeskRuns, desk_of, ended, stopped_by, stopped, behind_text, is_run, before_run, key_line}
+use Rattle.tac_server.specs.Running.{Steps, EventGoesOn}
+use Rattle.tac_server.specs.Script.{Run, Runs, BodyRuns, LinesRun, ReadsPolicy, Ends, Prints, DeskRuns, desk_of, ended, stopped_by, stopped, behind_text, is_run, before_run, key_line}
 use Rattle.tac_server.proofs.CourseFacts.{only_hears}
+use Rattle.tac_server.proofs.LinesFacts.{prints_course}
 
 -- ---- opening
 
@@ -137,11 +139,11 @@ pub record Progress {D : Type 0} (meaning : D → Meaning) (old new : List ℕ) 
   pub text : List ℕ
   pub has : HasState meaning server state
   pub printed : new ≡ old ++ text
-  pub found : (rest : Run) → Runs state number lines rest → runs (behind_text text rest)
-  pub only : (run : Run) → runs run → (rest : Run) × Runs state number lines rest × (run ≡ behind_text text rest)
+  pub found : (rest : Run) → Steps state number lines rest → runs (behind_text text rest)
+  pub only : (run : Run) → runs run → (rest : Run) × Steps state number lines rest × (run ≡ behind_text text rest)
 
 pub run_begun : {D : Type 0} (meaning : D → Meaning) (old : List ℕ) (server : Server D) (number : ℕ) (lines : List (List ℕ)) (state : State) → HasState meaning server state
-    → Progress meaning old old server number lines (Runs state number lines)
+    → Progress meaning old old server number lines (Steps state number lines)
 run_begun meaning old server number lines state has = record {
   state = state;
   text = [];
@@ -153,7 +155,7 @@ run_begun meaning old server number lines state has = record {
 
 module _ {D : Type 0} (meaning : D → Meaning) (old new : List ℕ) (server : Server D) (number : ℕ) (lines : List (List ℕ)) (runs : Run → Type 0) (p : Progress meaning old new server number lines runs) where
   -- a run that prints no more
-  ends_with : (end : Run) (fault : Option Located) → Runs p.state number lines end → ((other : Run) → Runs p.state number lines other → other ≡ end) → end.text ≡ [] → end.fault ≡ fault
+  ends_with : (end : Run) (fault : Option Located) → Steps p.state number lines end → ((other : Run) → Steps p.state number lines other → other ≡ end) → end.text ≡ [] → end.fault ≡ fault
       → Ends old new fault runs
   ends_with end fault is only none same = record {
     run = behind_text p.text end;
@@ -165,20 +167,20 @@ module _ {D : Type 0} (meaning : D → Meaning) (old new : List ℕ) (server : S
 
   -- no line is left
   pub run_ended : lines ≡ [] → Ends old new None runs
-  unfolding Runs
+  unfolding Steps
   run_ended e = ends_with ended None (rw e refl) (λ other h. rw e at h) refl refl
 
   module _ (line : List ℕ) (rest : List (List ℕ)) (split : lines ≡ line ∷ rest) where
     -- the line is no command
     pub run_refused : (at : ℕ) → at ≡ number → event_of p.state.key line ≡ None → Ends old new (Some (record { line = Some at; fault = BadCommand })) runs
-    unfolding Runs
+    unfolding Steps
     run_refused at same none =
         ends_with (stopped number BadCommand) (Some (record { line = Some at; fault = BadCommand })) (rw (split, none) refl) (λ other h. rw (split, none) at h) refl (rw same refl)
 
     -- the event was not done
     pub run_stopped : (event : Event) (at : ℕ) (now : List ℕ) (last : Server D) (stop : Stop) → at ≡ number → event_of p.state.key line ≡ Some event
         → IsDoneUnless meaning at new now last p.state event (Err stop) → Prints old now (Err stop) runs
-    unfolding Runs
+    unfolding Steps
     run_stopped event at now last stops.Memory same found h = tt
     run_stopped event at now last (stops.Fault fault) same found h =
         let end : Run = stopped number fault.fault in
@@ -190,16 +192,16 @@ module _ {D : Type 0} (meaning : D → Meaning) (old new : List ℕ) (server : S
       joined : (r : Run) → behind_text p.text (behind_text d.text r) ≡ behind_text (p.text ++ d.text) r
       joined r = ap (λ (t : List ℕ). record r { text = t }) (sym (append_assoc p.text d.text r.text))
 
-      runs_line : (r : Run) → Runs d.next next rest r → Runs p.state number lines (behind_text d.text r)
-      unfolding Runs
+      runs_line : (r : Run) → Steps d.next next rest r → Steps p.state number lines (behind_text d.text r)
+      unfolding Steps
       runs_line r h = rw (split, found, d.free) (record { text = d.text; next = d.next; rest = r; does = d.does; onward = rw more at h; is = refl })
 
-      runs_back : (run : Run) → Runs p.state number lines run → (r : Run) × Runs d.next next rest r × (run ≡ behind_text d.text r)
-      unfolding Runs
+      runs_back : (run : Run) → Steps p.state number lines run → (r : Run) × Steps d.next next rest r × (run ≡ behind_text d.text r)
+      unfolding Steps
       runs_back run h =
-          let on : RunsOn p.state event (λ after r. Runs after (number + 1) rest r) run = rw (split, found, d.free) at h in
+          let on : EventGoesOn p.state event (λ after r. Steps after (number + 1) rest r) run = rw (split, found, d.free) at h in
           let same = d.only on.text on.next on.does in
-          let onward : Runs d.next next rest on.rest = rw (← same.1, more) on.onward in
+          let onward : Steps d.next next rest on.rest = rw (← same.1, more) on.onward in
           (on.rest, onward, on.is ∙ ap (λ (t : List ℕ). behind_text t on.rest) same.0)
 
       pub run_goes_on : Progress meaning old now last next rest runs
@@ -254,8 +256,9 @@ module _ (key : List ℕ) (policy : List Subject) (number : ℕ) (events : List 
     runs_so (Err stops.Memory) h = tt
     runs_so (Err (stops.Fault at)) h = ends_at_desk (Some at) h
 
-    pub runs_at_desk : (result : Result (Unit {0}) Stop) → Prints old new result (Runs (opening key meaning) number events) → Prints old new result (DeskRuns key policy number events)
-    runs_at_desk result h = runs_so result (subst (λ (m : Meaning). Prints old new result (Runs (opening key m) number events)) is h)
+    pub runs_at_desk : (result : Result (Unit {0}) Stop) → Prints old new result (Steps (opening key meaning) number events) → Prints old new result (DeskRuns key policy number events)
+    runs_at_desk result h =
+        runs_so result (subst (λ (m : Meaning). Prints old new result (Runs (opening key m) number events)) is (prints_course (opening key meaning) number events old new result h))
 
   -- a policy that may not stand
   module _ (subject : SubjectId) (first : IsRefusedFor policy (edits.TooManyStates subject)) (only : IsOnlyOpened policy 1000000 (Err (edits.TooManyStates subject))) where

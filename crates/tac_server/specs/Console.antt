@@ -16,13 +16,15 @@ use Rattle.tac_console.specs.declared.asked.Asked.{Asked}
 use Rattle.tac_console.specs.declared.asked.Asked.TheVariants as asks
 
 -- the text is how the desk's answer to the edit is printed
-pub record AnswersEdit (before : Meaning) (edit : Edit) (text : List ℕ) (after : Meaning) : Type 0 where
+pub record AnswersEdit (before : Meaning) (edit : Edit) (text : List ℕ) (after : Meaning)
+    : Type 0 where
   pub answer : Result (List Changed) EditFault
   pub edits : Edits before edit answer after
   pub is : text ≡ edit_answer answer
 
 -- the text is how the desk's answer to the question is printed
-pub record AnswersQuery (before : Meaning) (query : Query) (text : List ℕ) (after : Meaning) : Type 0 where
+pub record AnswersQuery (before : Meaning) (query : Query) (text : List ℕ) (after : Meaning)
+    : Type 0 where
   pub answer : Result Report QueryFault
   pub reports : Reports before query answer
   pub is : text ≡ query_answer query answer
@@ -40,7 +42,8 @@ Answers before line text after = AnswersAsked before (asked_by line) text after
 -- no other answer is right, and it leaves nothing else
 abbrev pub IsOnly : Meaning → List ℕ → List ℕ → Meaning → Type 0
 IsOnly before line text after =
-    (other : List ℕ) (later : Meaning) → Answers before line other later → (other ≡ text) × (later ≡ after)
+    (other : List ℕ) (later : Meaning) → Answers before line other later
+    → (other ≡ text) × (later ≡ after)
 
 -- the line is an edit, and the desk takes it
 pub record Accepts (before : Meaning) (line : List ℕ) (after : Meaning) : Type 0 where

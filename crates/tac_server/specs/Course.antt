@@ -1,4 +1,4 @@
--- What happens at a server, one event after another, and the bytes that it gives out.
+-- What happens at a server, one event after another, and what it gives out.
 use Rattle.std.specs.Prelude.{◌≡◌, ℕ, List, [], ◌∷◌, ◌++◌}
 use Rattle.tac_desk.specs.Meaning.{Meaning}
 use Rattle.tac_server.specs.Server.{State}
@@ -7,32 +7,33 @@ use Rattle.tac_server.specs.Kept.{HasState}
 use Rattle.tac_server.specs.declared.server.Server.{Server}
 
 -- an event behind what came earlier
-pub record Behind (earlier : List (List ℕ) → State → Type 0) (event : Happening)
-    (outs : List (List ℕ)) (after : State) : Type 0 where
+pub record Behind (earlier : List Given → State → Type 0) (event : Happening)
+    (outs : List Given) (after : State) : Type 0 where
   pub before : State
-  pub rest : List (List ℕ)
+  pub rest : List Given
   pub given : Given
   pub was : earlier rest before
   pub gives : Gives before event given after
-  pub is : outs ≡ bytes_given before.key given ∷ rest
+  pub is : outs ≡ given ∷ rest
 
 -- events in their order, the latest first: what was given out at each, the latest first, and the
 -- state that they leave
-abbrev pub Course : State → List Happening → List (List ℕ) → State → Type 0
+abbrev pub Course : State → List Happening → List Given → State → Type 0
 Course start [] outs after = (outs ≡ []) × (after ≡ start)
 Course start (event ∷ earlier) outs after = Behind (Course start earlier) event outs after
 
 -- the server is the one that these events leave, and gave out this; nothing else is right
 pub record HasRun {D : Type 0} (meaning : D → Meaning) (server : Server D) (start : State)
-    (events : List Happening) (outs : List (List ℕ)) : Type 0 where
+    (events : List Happening) (outs : List Given) : Type 0 where
   pub state : State
   pub has : HasState meaning server state
   pub course : Course start events outs state
-  pub only : (others : List (List ℕ)) (other : State) → Course start events others other
+  pub only : (others : List Given) (other : State) → Course start events others other
       → (others ≡ outs) × (other ≡ state)
 
--- the same, with one event more, at which this was added to what was given out before
+-- the same, with one event more, whose bytes were added to those that stood there before
 abbrev pub RunsOn : {D : Type 0} → (D → Meaning) → List ℕ → List ℕ → Server D → State
-    → Happening → List Happening → List (List ℕ) → Type 0
+    → Happening → List Happening → List Given → Type 0
 RunsOn meaning old new server start event events outs =
-    (out : List ℕ) × (new ≡ old ++ out) × HasRun meaning server start (event ∷ events) (out ∷ outs)
+    (given : Given) × (new ≡ old ++ bytes_given start.key given)
+    × HasRun meaning server start (event ∷ events) (given ∷ outs)

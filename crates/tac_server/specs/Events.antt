@@ -1,5 +1,6 @@
 -- What the lines behind `run` do.
-use Rattle.std.specs.Prelude.{◌≡◌, ℕ, List, [], ◌∷◌, ◌++◌, take, drop, codes, Bool, true, false, is_some, Option, Some, None, if◌then◌else◌}
+use Rattle.std.specs.Prelude.{◌≡◌, ℕ, List, [], ◌∷◌, ◌++◌, take, drop, codes, Bool, true, false}
+use Rattle.std.specs.Prelude.{is_some, Option, Some, None, if◌then◌else◌}
 use Rattle.std.specs.List.{flat_map}
 use Rattle.std.specs.Fmt.{decimal}
 use Rattle.hex.specs.Hex.{encode_lower}
@@ -14,12 +15,14 @@ use Rattle.tac_server.specs.Happening.{Given, Nothing, Packets, Text}
 use Rattle.tac_server.specs.declared.event.Event.{Event}
 use Rattle.tac_server.specs.declared.event.Event.TheVariants.{Open, Hand, Pieces, Lost, Console}
 use Rattle.tac_server.specs.declared.script_fault.ScriptFault.{ScriptFault}
-use Rattle.tac_server.specs.declared.script_fault.ScriptFault.TheVariants.{NoConnection, AlreadyOpen}
+use Rattle.tac_server.specs.declared.script_fault.ScriptFault.TheVariants.{NoConnection}
+use Rattle.tac_server.specs.declared.script_fault.ScriptFault.TheVariants.{AlreadyOpen}
 
 -- what keeps an event from being done
 abbrev pub fault_in : Connections → Event → Option ScriptFault
 fault_in connections (Open number) = if is_some (connections number) then Some AlreadyOpen else None
-fault_in connections (Hand number bytes) = if is_some (connections number) then None else Some NoConnection
+fault_in connections (Hand number bytes) =
+    if is_some (connections number) then None else Some NoConnection
 fault_in connections (Pieces size) = None
 fault_in connections (Lost number) = None
 fault_in connections (Console line) = None
@@ -30,7 +33,8 @@ unpadded key bytes = take 12 bytes ++ padded (header_of (take 12 bytes)) key (dr
 
 -- `reply N HEX`, of a packet that was sent
 abbrev pub reply_line : List ℕ → ℕ → List ℕ → List ℕ
-reply_line key number bytes = codes "reply " ++ decimal number ++ 32 ∷ encode_lower (unpadded key bytes) ++ 10 ∷ []
+reply_line key number bytes =
+    codes "reply " ++ decimal number ++ 32 ∷ encode_lower (unpadded key bytes) ++ 10 ∷ []
 
 -- `closed N`
 abbrev pub closed_line : ℕ → Bool → List ℕ
@@ -39,7 +43,8 @@ closed_line number true = codes "closed " ++ decimal number ++ 10 ∷ []
 
 -- a line for each packet
 abbrev pub reply_lines : List ℕ → ℕ → List Packet → List ℕ
-reply_lines key number packets = flat_map (λ packet. reply_line key number (sent key packet)) packets
+reply_lines key number packets =
+    flat_map (λ packet. reply_line key number (sent key packet)) packets
 
 abbrev pub shown : List ℕ → ℕ → Said → List ℕ
 shown key number said = reply_lines key number said.sent ++ closed_line number said.closes

@@ -4,7 +4,10 @@ use Rattle.std.specs.Fmt.{decimal}
 use Rattle.pol_names.specs.SubjectId.{subject_text}
 use Rattle.pol_text.specs.FaultText.{refusal_text}
 use Rattle.tac_server.specs.declared.script_fault.ScriptFault.{ScriptFault}
-use Rattle.tac_server.specs.declared.script_fault.ScriptFault.TheVariants.{BadKey, NoRun, BadPolicy, TooManyStates, BadCommand, NoConnection, AlreadyOpen}
+use Rattle.tac_server.specs.declared.script_fault.ScriptFault.TheVariants.{BadKey, NoRun, BadPolicy}
+use Rattle.tac_server.specs.declared.script_fault.ScriptFault.TheVariants.{TooManyStates}
+use Rattle.tac_server.specs.declared.script_fault.ScriptFault.TheVariants.{BadCommand, NoConnection}
+use Rattle.tac_server.specs.declared.script_fault.ScriptFault.TheVariants.{AlreadyOpen}
 use Rattle.tac_server.specs.declared.script_fault.Located.{Located}
 
 abbrev pub script_fault_text : ScriptFault → List ℕ

@@ -8,5 +8,6 @@ pub mod Turning
 pub mod Command
 pub mod Events
 pub mod FaultText
-pub mod Script
 pub mod Course
+pub mod Script
+pub mod Running

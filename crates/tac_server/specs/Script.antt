@@ -1,7 +1,9 @@
 -- What the replay of a script prints.
-use Rattle.std.specs.Prelude.{◌≡◌, ◌⊎◌, ℕ, ◌+◌, List, [], ◌∷◌, ◌++◌, length, codes, Bool, true, false, Option, Some, None, Result, Ok, Err, if◌then◌else◌}
+use Rattle.std.specs.Prelude.{◌≡◌, ◌⊎◌, ℕ, ◌+◌, List, [], ◌∷◌, ◌++◌, length, reverse, codes, Bool}
+use Rattle.std.specs.Prelude.{true, false, Option, Some, None, option_map, Result, Ok, Err}
+use Rattle.std.specs.Prelude.{if◌then◌else◌}
 use Rattle.std.specs.Option.{option_and_then}
-use Rattle.std.specs.List.{list_any}
+use Rattle.std.specs.List.{list_any, flat_map}
 use Rattle.std.specs.Str.{bytes_eq}
 use Rattle.tac_wire.specs.Key.{key_of}
 use Rattle.basics.specs.Lines.{split_at_first, lines_of}
@@ -12,13 +14,17 @@ use Rattle.tac_server.specs.FaultText.{located_text}
 use Rattle.tac_server.specs.Command.{event_of}
 use Rattle.tac_desk.specs.Meaning.{Meaning}
 use Rattle.tac_desk.specs.Meaning as desks
-use Rattle.tac_server.specs.Server.{State, opening}
-use Rattle.tac_server.specs.Events.{fault_in, Does}
+use Rattle.tac_server.specs.Server.{Connections, State, opening}
+use Rattle.tac_server.specs.Happening.{Happening, Given}
+use Rattle.tac_server.specs.Course.{Course}
+use Rattle.tac_server.specs.Events.{fault_in, happening_of, printed}
 use Rattle.tac_server.specs.declared.event.Event.{Event}
 use Rattle.pol_text.specs.declared.subject.Subject.{Subject}
 use Rattle.tac_server.specs.declared.script_fault.Located.{Located}
 use Rattle.tac_server.specs.declared.script_fault.ScriptFault.{ScriptFault}
-use Rattle.tac_server.specs.declared.script_fault.ScriptFault.TheVariants.{BadKey, NoRun, BadPolicy, TooManyStates, BadCommand}
+use Rattle.tac_server.specs.declared.script_fault.ScriptFault.TheVariants.{BadKey, NoRun, BadPolicy}
+use Rattle.tac_server.specs.declared.script_fault.ScriptFault.TheVariants.{TooManyStates}
+use Rattle.tac_server.specs.declared.script_fault.ScriptFault.TheVariants.{BadCommand}
 use Rattle.pol_text.specs.declared.fault.PolicyFault.{PolicyFault}
 use Rattle.pol_text.specs.declared.fault.PolicyRefusal.{PolicyRefusal}
 use Rattle.pol_text.specs.declared.fault.PolicyFault.TheVariants as policies
@@ -52,28 +58,43 @@ behind_text text run = record run { text = text ++ run.text }
 
 -- ---- events
 
--- an event prints this, and then goes on
-pub record RunsOn (state : State) (event : Event) (goes_on : State → Run → Type 0) (run : Run) : Type 0 where
-  pub text : List ℕ
-  pub next : State
-  pub rest : Run
-  pub does : Does state event text next
-  pub onward : goes_on next rest
-  pub is : run ≡ behind_text text rest
+abbrev pub with_happening : Option Happening → List Happening → List Happening
+with_happening None events = events
+with_happening (Some event) events = event ∷ events
 
--- an event at a line, and then what goes on with the server that it leaves
-abbrev pub RunsUnless : Option ScriptFault → State → ℕ → Event → (State → Run → Type 0) → Run → Type 0
-RunsUnless None state number event goes_on run = RunsOn state event goes_on run
-RunsUnless (Some fault) state number event goes_on run = run ≡ stopped number fault
+-- what these lines make happen, in their order; nothing where one is no command
+abbrev pub happenings : List ℕ → List (List ℕ) → Option (List Happening)
+happenings key [] = Some []
+happenings key (line ∷ lines) = option_and_then
+    (λ event. option_map (with_happening (happening_of event)) (happenings key lines))
+    (event_of key line)
 
-abbrev pub RunsLine : State → ℕ → Option Event → (State → Run → Type 0) → Run → Type 0
-RunsLine state number None goes_on run = run ≡ stopped number BadCommand
-RunsLine state number (Some event) goes_on run = RunsUnless (fault_in state.connections event) state number event goes_on run
+-- what keeps a line from being done
+abbrev pub line_fault : Connections → Option Event → Option ScriptFault
+line_fault connections None = Some BadCommand
+line_fault connections (Some event) = fault_in connections event
 
--- the run of these lines, of which the first has this number; nothing is printed after the first fault
-unfoldable pub Runs : State → ℕ → List (List ℕ) → Run → Type 0
-Runs state number [] run = run ≡ ended
-Runs state number (line ∷ lines) run = RunsLine state number (event_of state.key line) (λ next rest. Runs next (number + 1) lines rest) run
+-- the first of these lines, which has this number, has this fault; none is left where there is none
+abbrev pub StopsAt : State → ℕ → List (List ℕ) → Option Located → Type 0
+StopsAt state number [] fault = fault ≡ None
+StopsAt state number (line ∷ lines) fault =
+    (reason : ScriptFault)
+    × (line_fault state.connections (event_of state.key line) ≡ Some reason)
+    × (fault ≡ Some (record { line = Some number; fault = reason }))
+
+-- the run of these lines, of which the first has this number: those before the first fault, or all,
+-- make happen what is one course of the server; what that gives out is printed, and nothing else
+pub record Runs (start : State) (number : ℕ) (lines : List (List ℕ)) (run : Run) : Type 0 where
+  pub done : List (List ℕ)
+  pub rest : List (List ℕ)
+  pub events : List Happening
+  pub outs : List Given
+  pub after : State
+  pub split : lines ≡ done ++ rest
+  pub asked : happenings start.key done ≡ Some events
+  pub course : Course start (reverse events) (reverse outs) after
+  pub prints : run.text ≡ flat_map (printed start.key) outs
+  pub stops : StopsAt after (number + length done) rest run.fault
 
 -- ---- the whole script
 
@@ -95,24 +116,31 @@ desk_of policy = desks.opening policy 1000000
 
 -- `key TEXT`
 unfoldable pub key_line : List ℕ → Option (List ℕ)
-key_line line = option_and_then (λ parts. if bytes_eq parts.0 (codes "key") then key_of parts.1 else None) (split_at_first 32 line)
+key_line line =
+    option_and_then
+    (λ parts. if bytes_eq parts.0 (codes "key") then key_of parts.1 else None)
+    (split_at_first 32 line)
 
--- the events with a desk of the policy, if that may stand; else the first subject that is too large is named
+-- the events with a desk of the policy, if that may stand; else the first subject that is too large
+-- is named
 unfoldable pub DeskRuns : List ℕ → List Subject → ℕ → List (List ℕ) → Run → Type 0
 DeskRuns key policy number events run =
     (IsSmall policy × Runs (opening key (desk_of policy)) number events run)
     ⊎ ((subject : SubjectId) × IsFirstLarge policy policy subject × (run ≡ too_large subject))
 
--- the events with the policy, of which the first has this number; the policy's first line is the second of
--- the script. No text is refused for want of memory
-abbrev pub PolicyRuns : List ℕ → ℕ → List (List ℕ) → Result (List Subject) PolicyFault → Run → Type 0
+-- the events with the policy, of which the first has this number; the policy's first line is the
+-- second of the script. No text is refused for want of memory
+abbrev pub PolicyRuns : List ℕ → ℕ → List (List ℕ) → Result (List Subject) PolicyFault → Run
+    → Type 0
 PolicyRuns key number events (Ok policy) run = DeskRuns key policy number events run
-PolicyRuns key number events (Err (policies.Refused line refusal)) run = run ≡ stopped (line + 1) (BadPolicy refusal)
+PolicyRuns key number events (Err (policies.Refused line refusal)) run =
+    run ≡ stopped (line + 1) (BadPolicy refusal)
 PolicyRuns key number events (Err policies.Memory) run = ⊥
 
 abbrev pub BodyRunsBy : Bool → List ℕ → List (List ℕ) → Run → Type 0
 BodyRunsBy true key lines run =
-    PolicyRuns key (length (before_run lines) + 3) (after_run lines) (policy_of (text_of_lines (before_run lines))) run
+    PolicyRuns key (length (before_run lines) + 3) (after_run lines)
+    (policy_of (text_of_lines (before_run lines))) run
 BodyRunsBy false key lines run = run ≡ stopped (length lines + 2) NoRun
 
 -- the lines behind the key; the policy's text is those before `run`
@@ -149,9 +177,12 @@ pub record IsReplay (script output : List ℕ) (end : ReplayEnd) : Type 0 where
 abbrev pub ReadsPolicy : {T : Type 0} → Result T Stop → Result T PolicyFault → Type 0
 ReadsPolicy (Ok policy) wanted = wanted ≡ Ok policy
 ReadsPolicy (Err stops.Memory) wanted = Unit {0}
-ReadsPolicy (Err (stops.Fault at)) wanted = (line : ℕ) × (refusal : PolicyRefusal) × (wanted ≡ Err (policies.Refused line refusal)) × (at ≡ record { line = Some (line + 1); fault = BadPolicy refusal })
+ReadsPolicy (Err (stops.Fault at)) wanted =
+    (line : ℕ) × (refusal : PolicyRefusal) × (wanted ≡ Err (policies.Refused line refusal))
+    × (at ≡ record { line = Some (line + 1); fault = BadPolicy refusal })
 
--- the text grew by what a run of this kind prints, up to the fault that ended it; no other run is one of this kind
+-- the text grew by what a run of this kind prints, up to the fault that ended it; no other run is
+-- one of this kind
 pub record Ends (old new : List ℕ) (fault : Option Located) (runs : Run → Type 0) : Type 0 where
   pub run : Run
   pub is : runs run
@@ -168,4 +199,5 @@ Prints old new (Err (stops.Fault at)) runs = Ends old new (Some at) runs
 -- a replay of the script was worked out, and no other is one of it
 pub record IsWorkedOut (script output : List ℕ) (end : ReplayEnd) : Type 0 where
   pub replay : IsReplay script output end
-  pub only : (other : List ℕ) (last : ReplayEnd) → IsReplay script other last → (other ≡ output) × (last ≡ end)
+  pub only : (other : List ℕ) (last : ReplayEnd) → IsReplay script other last
+      → (other ≡ output) × (last ≡ end)

@@ -11,7 +11,8 @@ abbrev pub no_connections : Connections
 no_connections number = None
 
 abbrev pub with_connection : ℕ → Option (List ℕ) → Connections → Connections
-with_connection number bytes connections = λ other. if other == number then bytes else connections other
+with_connection number bytes connections =
+    λ other. if other == number then bytes else connections other
 
 pub record State : Type 0 where
   pub key : List ℕ
@@ -24,13 +25,15 @@ opening key meaning = record { key = key; meaning = meaning; connections = no_co
 
 -- a connection of this number is opened
 abbrev pub opened : ℕ → State → State
-opened number state = record state { connections = with_connection number (Some []) state.connections }
+opened number state =
+    record state { connections = with_connection number (Some []) state.connections }
 
 -- the connection of this number is lost, if there is one
 abbrev pub lost : ℕ → State → State
 lost number state = record state { connections = with_connection number None state.connections }
 
--- this was said on a connection, to all of these bytes: what is left of them is dropped where it closes
+-- this was said on a connection, to all of these bytes: what is left of them is dropped where it
+-- closes
 abbrev pub heard : ℕ → List ℕ → Said → State → State
 heard number bytes said state = record state {
   meaning = said.meaning;

@@ -1,11 +1,13 @@
 -- What the server says on a connection to the bytes that come on it (RFC 8907, section 4).
-use Rattle.std.specs.Prelude.{ℕ, List, [], ◌∷◌, ◌++◌, length, take, drop, Bool, true, false, not, if◌then◌else◌}
+use Rattle.std.specs.Prelude.{ℕ, List, [], ◌∷◌, ◌++◌, length, take, drop, Bool, true, false, not}
+use Rattle.std.specs.Prelude.{if◌then◌else◌}
 use Rattle.std.specs.List.{flat_map}
 use Rattle.tac_wire.specs.declared.frame.Frame.{Frame}
 use Rattle.tac_wire.specs.Stream.{Tail, open_end, fault, cut}
 use Rattle.tac_conn.specs.declared.packet.Packet.{Packet}
 use Rattle.tac_conn.specs.declared.outcome.Outcome.{Outcome}
-use Rattle.tac_conn.specs.declared.outcome.Outcome.TheVariants.{Question, Reply, Asks, Silent, Close}
+use Rattle.tac_conn.specs.declared.outcome.Outcome.TheVariants.{Question, Reply, Asks, Silent}
+use Rattle.tac_conn.specs.declared.outcome.Outcome.TheVariants.{Close}
 use Rattle.tac_conn.specs.declared.ask.Slot.{Slot}
 use Rattle.tac_conn.specs.Packet.{clear, sent}
 use Rattle.tac_conn.specs.Reply.{packet_of, answer_body}
@@ -15,7 +17,8 @@ use Rattle.tac_stream.specs.Turns.{packets_of}
 use Rattle.tac_desk.specs.Meaning.{Meaning}
 use Rattle.tac_desk.specs.Asking.{Answered, asked}
 
--- what is sent, in clear packets, whether the connection is closed then, and what the desk stands for from then on
+-- what is sent, in clear packets, whether the connection is closed then, and what the desk stands
+-- for from then on
 pub record Said : Type 0 where
   pub sent : List Packet
   pub closes : Bool
@@ -33,8 +36,10 @@ answered slot told = record {
 
 -- what is said to a packet that comes to this
 abbrev pub says : Meaning → Outcome → Said
-says meaning (Question reply session) = record { sent = packet_of reply ∷ []; closes = false; meaning = meaning }
-says meaning (Reply reply closes) = record { sent = packet_of reply ∷ []; closes = closes; meaning = meaning }
+says meaning (Question reply session) =
+    record { sent = packet_of reply ∷ []; closes = false; meaning = meaning }
+says meaning (Reply reply closes) =
+    record { sent = packet_of reply ∷ []; closes = closes; meaning = meaning }
 says meaning (Asks ask slot) = answered slot (asked meaning ask)
 says meaning Silent = record { sent = []; closes = false; meaning = meaning }
 says meaning Close = record { sent = []; closes = true; meaning = meaning }
@@ -54,10 +59,12 @@ abbrev pub closed_by : Tail → Bool
 closed_by (open_end bytes) = false
 closed_by (fault reason) = true
 
--- what is said to these packets, one after another, on a connection on which others came earlier, the latest first:
--- to each by what the desk stands for after the one before, until the connection closes; behind them stands the tail
+-- what is said to these packets, one after another, on a connection on which others came earlier,
+-- the latest first: to each by what the desk stands for after the one before, until the connection
+-- closes; behind them stands the tail
 unfoldable pub said_to : List ℕ → Meaning → List Packet → List Frame → Tail → Said
-said_to key meaning earlier [] tail = record { sent = []; closes = closed_by tail; meaning = meaning }
+said_to key meaning earlier [] tail =
+    record { sent = []; closes = closed_by tail; meaning = meaning }
 said_to key meaning earlier (frame ∷ frames) tail =
     unless_closed (says meaning (outcome earlier (clear key frame)))
     (λ next. said_to key next (clear key frame ∷ earlier) frames tail)
@@ -66,25 +73,29 @@ said_to key meaning earlier (frame ∷ frames) tail =
 abbrev pub said_from : List ℕ → Meaning → List ℕ → ℕ → Said
 said_from key meaning bytes taken =
     let parts = cut bytes in
-    said_to key meaning (packets_of key (take taken parts.packets)) (drop taken parts.packets) parts.tail
+    said_to key meaning (packets_of key (take taken parts.packets))
+    (drop taken parts.packets) parts.tail
 
 -- what is said to the next packets of it, so many of them
 abbrev pub said_part : List ℕ → Meaning → List ℕ → ℕ → ℕ → Said
 said_part key meaning bytes taken count =
     let packets = (cut bytes).packets in
-    said_to key meaning (packets_of key (take taken packets)) (take count (drop taken packets)) (open_end [])
+    said_to key meaning (packets_of key (take taken packets)) (take count (drop taken packets))
+    (open_end [])
 
 -- how many packets are whole in these bytes
 abbrev pub whole_packets : List ℕ → ℕ
 whole_packets bytes = length (cut bytes).packets
 
--- what is said to more bytes, on a connection on which these came before: to the packets that they complete
+-- what is said to more bytes, on a connection on which these came before: to the packets that they
+-- complete
 abbrev pub said_on : List ℕ → Meaning → List ℕ → List ℕ → Said
 said_on key meaning before more = said_from key meaning (before ++ more) (whole_packets before)
 
 -- what is said to the first of the packets that they complete, so many of them
 abbrev pub said_first : List ℕ → Meaning → List ℕ → List ℕ → ℕ → Said
-said_first key meaning before more count = said_part key meaning (before ++ more) (whole_packets before) count
+said_first key meaning before more count =
+    said_part key meaning (before ++ more) (whole_packets before) count
 
 -- the bytes of packets as they are sent, under this key
 abbrev pub sent_bytes : List ℕ → List Packet → List ℕ

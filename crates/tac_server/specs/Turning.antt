@@ -19,7 +19,8 @@ went_by false = On
 went_by true = Closes
 
 -- the next packet was served, and the connection stays open
-pub record GoesOn (key : List ℕ) (was now : Meaning) (old new : List ℕ) (stream : Stream) (bytes : List ℕ) (taken : ℕ) : Type 0 where
+pub record GoesOn (key : List ℕ) (was now : Meaning) (old new : List ℕ) (stream : Stream)
+    (bytes : List ℕ) (taken : ℕ) : Type 0 where
   pub packets : List Packet
   pub within : taken < whole_packets bytes
   pub said : said_part key was bytes taken 1 ≡ record { sent = packets; closes = false; meaning = now }
@@ -28,7 +29,8 @@ pub record GoesOn (key : List ℕ) (was now : Meaning) (old new : List ℕ) (str
   pub stands : Stands key stream bytes (suc taken)
 
 -- no packet is left, and nothing was done
-pub record IsAtRest (key : List ℕ) (was now : Meaning) (old new : List ℕ) (stream : Stream) (bytes : List ℕ) (taken : ℕ) : Type 0 where
+pub record IsAtRest (key : List ℕ) (was now : Meaning) (old new : List ℕ) (stream : Stream)
+    (bytes : List ℕ) (taken : ℕ) : Type 0 where
   pub rest : List ℕ
   pub tail : (cut bytes).tail ≡ open_end rest
   pub all : taken ≡ whole_packets bytes
@@ -38,7 +40,8 @@ pub record IsAtRest (key : List ℕ) (was now : Meaning) (old new : List ℕ) (s
   pub stands : Stands key stream bytes taken
 
 -- all that is said was said, and the connection closes
-pub record ClosesWith (key : List ℕ) (was now : Meaning) (old new : List ℕ) (bytes : List ℕ) (taken : ℕ) : Type 0 where
+pub record ClosesWith (key : List ℕ) (was now : Meaning) (old new : List ℕ) (bytes : List ℕ)
+    (taken : ℕ) : Type 0 where
   pub packets : List Packet
   pub said : said_from key was bytes taken ≡ record { sent = packets; closes = true; meaning = now }
   pub sends : Sends key old new packets
@@ -61,20 +64,24 @@ ServesUnless false key stream bytes = Serves key stream bytes
 ServesUnless true key stream bytes = Unit {0}
 
 -- all was said to a piece, behind which these bytes came
-pub record SaysAll (key : List ℕ) (now : Meaning) (old new : List ℕ) (closes : Bool) (stream : Stream) (bytes : List ℕ) (said : Said) : Type 0 where
+pub record SaysAll (key : List ℕ) (now : Meaning) (old new : List ℕ) (closes : Bool)
+    (stream : Stream) (bytes : List ℕ) (said : Said) : Type 0 where
   pub closing : closes ≡ said.closes
   pub meaning : now ≡ said.meaning
   pub sends : Sends key old new said.sent
   pub serves : ServesUnless closes key stream bytes
 
 -- memory ran out after some of its packets
-pub record SaysSome (key : List ℕ) (was now : Meaning) (old new : List ℕ) (before piece : List ℕ) : Type 0 where
+pub record SaysSome (key : List ℕ) (was now : Meaning) (old new : List ℕ)
+    (before piece : List ℕ) : Type 0 where
   pub count : ℕ
   pub packets : List Packet
   pub said : said_first key was before piece count ≡ record { sent = packets; closes = false; meaning = now }
   pub sends : Sends key old new packets
 
-abbrev pub SaysPiece : Result Bool AllocError → List ℕ → Meaning → Meaning → List ℕ → List ℕ → Stream → List ℕ → List ℕ → Type 0
+abbrev pub SaysPiece : Result Bool AllocError → List ℕ → Meaning → Meaning → List ℕ → List ℕ
+    → Stream → List ℕ → List ℕ → Type 0
 SaysPiece (Ok closes) key was now old new stream before piece =
     SaysAll key now old new closes stream (before ++ piece) (said_on key was before piece)
-SaysPiece (Err error) key was now old new stream before piece = SaysSome key was now old new before piece
+SaysPiece (Err error) key was now old new stream before piece =
+    SaysSome key was now old new before piece

@@ -4,7 +4,8 @@
 ghost use Rattle.std.specs.Prelude.{◌≡◌, List, ℕ};
 ghost use Rattle.tac_server.specs.Server.{State};
 ghost use Rattle.tac_server.specs.Kept as kept;
-ghost use Rattle.tac_server.specs.Script.{Prints, Runs};
+ghost use Rattle.tac_server.specs.Script.{Prints};
+ghost use Rattle.tac_server.specs.Running.{Steps};
 ghost use Rattle.tac_server.specs.declared.event.Event.TheVariants.{Open, Hand, Console};
 
 use crate::event::{Event, read_event};
@@ -175,7 +176,7 @@ pub(crate) fn run_events<D: Desk>(
 ) -> Result<(), Stop>
     ensures { (state : State) → kept.HasState D.meaning server state →
         Prints out.old.items out.new.items result
-        (Runs state lines.old.number lines.old.lines) }
+        (Steps state lines.old.number lines.old.lines) }
 {
     let mut driver = Driver {
         server,

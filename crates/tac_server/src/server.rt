@@ -8,6 +8,7 @@ ghost use Rattle.tac_server.specs.Console as consoles;
 ghost use Rattle.tac_server.specs.Kept as kept;
 ghost use Rattle.tac_server.specs.Course as course;
 ghost use Rattle.tac_server.specs.Happening.{Happening, Opens, Brings, Loses, Types};
+ghost use Rattle.tac_server.specs.Happening.{Given, Nothing};
 ghost use Rattle.tac_server.specs.declared.server.ServerFault.TheVariants.{Memory};
 
 use crate::turning::serve_piece;
@@ -88,9 +89,9 @@ impl<D: Desk> Server<D> {
             kept.IsOpened D.meaning self.new conn state result }
 
         // Behind all that happened before.
-        ensures course { (start : servers.State) (events : List Happening) (outs : List (List ℕ))
+        ensures course { (start : servers.State) (events : List Happening) (outs : List Given)
             → course.HasRun D.meaning self.old start events outs → OnOk result (course.HasRun
-            D.meaning self.new start (Opens conn ∷ events) ([] ∷ outs)) }
+            D.meaning self.new start (Opens conn ∷ events) (Nothing ∷ outs)) }
     {
         if self.connections.contains_key(&conn) {
             return Err(ServerFault::AlreadyOpen);
@@ -112,7 +113,7 @@ impl<D: Desk> Server<D> {
             result }
 
         // Behind all that happened before.
-        ensures course { (start : servers.State) (events : List Happening) (outs : List (List ℕ))
+        ensures course { (start : servers.State) (events : List Happening) (outs : List Given)
             → course.HasRun D.meaning self.old start events outs → OnOk result (course.RunsOn
             D.meaning out.old.items out.new.items self.new start
             (Brings conn piece.now) events outs) }
@@ -145,9 +146,9 @@ impl<D: Desk> Server<D> {
             kept.HasState D.meaning self.new (servers.lost conn state) }
 
         // Behind all that happened before.
-        ensures course { (start : servers.State) (events : List Happening) (outs : List (List ℕ))
+        ensures course { (start : servers.State) (events : List Happening) (outs : List Given)
             → course.HasRun D.meaning self.old start events outs
-            → course.HasRun D.meaning self.new start (Loses conn ∷ events) ([] ∷ outs) }
+            → course.HasRun D.meaning self.new start (Loses conn ∷ events) (Nothing ∷ outs) }
     {
         let _ = self.connections.remove(&conn);
     }
@@ -208,7 +209,7 @@ impl<D: Desk> Server<D> {
             line.now state) }
 
         // Behind all that happened before.
-        ensures course { (start : servers.State) (events : List Happening) (outs : List (List ℕ))
+        ensures course { (start : servers.State) (events : List Happening) (outs : List Given)
             → course.HasRun D.meaning self.old start events outs → OnOk result (course.RunsOn
             D.meaning out.old.items out.new.items self.new start (Types line.now)
             events outs) }
