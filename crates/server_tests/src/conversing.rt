@@ -11,7 +11,8 @@ fn push_fault(out: &mut Vec<u8>, fault: ServerFault) -> Result<(), Fail> {
     let words: &str = match fault {
         ServerFault::NoConnection => "no connection\n",
         ServerFault::AlreadyOpen => "already open\n",
-        ServerFault::Memory { .. } => "memory\n",
+        ServerFault::Memory { accepted: false } => "memory\n",
+        ServerFault::Memory { accepted: true } => "accepted, then memory\n",
     };
     out.extend_from_slice(words.as_bytes())?;
     Ok(())
@@ -39,7 +40,7 @@ fn number(text: &str) -> Result<u32, Fail> {
     }
 }
 
-// `NUMBER DIGITS`: the bytes come on a connection.
+// `NUMBER DIGITS DIGITS ..`: the packets come on a connection, joined.
 fn hand<D: Desk>(
     alloc: Global,
     server: &mut Server<D>,
@@ -48,7 +49,11 @@ fn hand<D: Desk>(
 ) -> Result<(), Fail> {
     let (conn, digits) = words.split_once(' ').unwrap_or((words, ""));
     let conn = number(conn)?;
-    let bytes = packet(alloc, digits)?;
+    let mut bytes = Vec::new(alloc);
+    for word in digits.split(' ') {
+        let packet = packet(alloc, word)?;
+        bytes.extend_from_slice(packet.as_slice())?;
+    }
     let heard = server.feed(conn, bytes.as_slice(), out);
     push_heard(out, heard)
 }
@@ -136,10 +141,10 @@ fn holds<R: Abort, D: Desk>(
 
 /// Holds a conversation with a server over this desk.
 ///
-/// Behind `> ` stands an event: `open NUMBER`, `lost NUMBER`, `hand NUMBER DIGITS` (the bytes of a
-/// packet, on whose body the pad is put), or else a line of the console. Behind each come what is
-/// given out: `< DIGITS`, a packet; `closed`, where a connection is; a refusal; or the console's
-/// lines. A line that begins with `#` is a comment.
+/// Behind `> ` stands an event: `open NUMBER`, `lost NUMBER`, `hand NUMBER DIGITS DIGITS ..` (the
+/// bytes of packets, on whose bodies the pad is put), or else a line of the console. Behind each
+/// come what is given out: `< DIGITS`, a packet; `closed`, where a connection is; a refusal, `memory`
+/// among them; or the console's lines. A line that begins with `#` is a comment.
 pub(crate) fn converses<R: Abort + AllocGlobal, D: Desk>(
     rt: &R,
     desk: D,

@@ -4,7 +4,8 @@
 #[cfg(test)]
 mod conversing;
 #[cfg(test)]
-mod counting;
+mod faltering;
+mod ledger;
 #[cfg(test)]
 mod serving;
 #[cfg(test)]

@@ -1,7 +1,7 @@
 //! What a server answers on connections and at its console.
 
 use crate::conversing::converses;
-use crate::support::{counting, packet, plain, serving};
+use crate::support::{faltering, ledger, packet, plain, serving};
 use std::alloc::Global;
 use std::process::Abort;
 use std::test::Fail;
@@ -26,16 +26,16 @@ fn records_up_to_the_limit(rt: HostRuntime) -> Result<(), Fail> {
         "
         # An update by bob, of task 7.
         > open 1
-        > hand 1 c0030100000000010000001a0a060101010304000109626f62747479307461736b5f69643d37
-        < c003020000000001000000050000000001
+        > hand 1 c0030100.00000001.0000001a.0a060101010304000109'bobtty0task_id=7'
+        < c0030200.00000001.00000005.0000000001
         closed
         > open 1
-        > hand 1 c0030100000000010000001a0a060101010304000109626f62747479307461736b5f69643d37
-        < c003020000000001000000050000000001
+        > hand 1 c0030100.00000001.0000001a.0a060101010304000109'bobtty0task_id=7'
+        < c0030200.00000001.00000005.0000000001
         closed
         > open 1
-        > hand 1 c0030100000000010000001a0a060101010304000109626f62747479307461736b5f69643d37
-        < c00302000000000100000011000c0000027265636f7264732066756c6c
+        > hand 1 c0030100.00000001.0000001a.0a060101010304000109'bobtty0task_id=7'
+        < c0030200.00000001.00000011.000c000002'records full'
         closed
         > tally user bob
         tally user bob starts 0 stops 0 watchdogs 0 updates 2 open 0 elapsed 0 drift 0
@@ -45,21 +45,105 @@ fn records_up_to_the_limit(rt: HostRuntime) -> Result<(), Fail> {
 
 #[test]
 fn another_desk_through_the_same_server(rt: HostRuntime) -> Result<(), Fail> {
-    let desk = counting(rt.alloc(), OPS, 9)?;
+    converses(
+        &rt,
+        ledger(rt.alloc(), 2, 9),
+        "
+        > records
+        none
+        > open 4294967295
+        > hand 4294967295 c0020104.00000001.00000036.06010101030400030d080f'bobtty0service=shellcmd=showcmd-arg=version'
+        < c0020204.00000001.00000012.1000000c0000'unknown user'
+        > hand 4294967295 c0030104.00000001.0000001a.0a060101010304000109'bobtty0task_id=7'
+        < c0030204.00000001.00000005.0000000001
+        > hand 4294967295 c0030104.00000001.0000001a.0a060101010304000109'bobtty0task_id=8'
+        < c0030204.00000001.00000005.0000000001
+        > hand 4294967295 c0030104.00000001.0000001a.0a060101010304000109'bobtty0task_id=7'
+        < c0030204.00000001.00000011.000c000002'records full'
+        > records
+        record 1 user bob update task 7 elapsed 0
+        record 2 user bob update task 8 elapsed 0
+        > policy
+        > shadow
+        none
+        > reach group ops
+        refused 2 NoSuch
+        > why bob show version
+        unknown user
+        ",
+    )
+}
+
+#[test]
+fn want_of_memory_on_a_connection(rt: HostRuntime) -> Result<(), Fail> {
+    converses(
+        &rt,
+        ledger(rt.alloc(), 9, 1),
+        "
+        > open 1
+        > open 2
+        # The packet in front of the one for which memory is wanted has its reply, and the one behind it has none.
+        > hand 1 c0030104.00000001.0000001a.0a060101010304000109'bobtty0task_id=7' c0030104.00000002.0000001a.0a060101010304000109'bobtty0task_id=8' c0020104.00000003.00000036.06010101030400030d080f'bobtty0service=shellcmd=showcmd-arg=version'
+        < c0030204.00000001.00000005.0000000001
+        memory
+        > records
+        record 1 user bob update task 7 elapsed 0
+        # That connection is gone, and the others answer as before.
+        > hand 1 c0020104.00000001.00000036.06010101030400030d080f'bobtty0service=shellcmd=showcmd-arg=version'
+        no connection
+        > hand 2 c0020104.00000001.00000036.06010101030400030d080f'bobtty0service=shellcmd=showcmd-arg=version'
+        < c0020204.00000001.00000012.1000000c0000'unknown user'
+        > open 1
+        > hand 1 c0020104.00000001.00000036.06010101030400030d080f'bobtty0service=shellcmd=showcmd-arg=version'
+        < c0020204.00000001.00000012.1000000c0000'unknown user'
+        # Memory is wanted for records alone.
+        > tally user bob
+        memory
+        > why bob show version
+        unknown user
+        > hand 2 c0030104.00000002.0000001a.0a060101010304000109'bobtty0task_id=7'
+        memory
+        > hand 2
+        no connection
+        > records
+        record 1 user bob update task 7 elapsed 0
+        ",
+    )
+}
+
+#[test]
+fn want_of_memory_at_the_console(rt: HostRuntime) -> Result<(), Fail> {
+    let desk = faltering(rt.alloc(), OPS, 1)?;
     converses(
         &rt,
         desk,
         "
-        > open 4294967295
-        > hand 4294967295 c0020104000000010000003606010101030400030d080f626f6274747930.736572766963653d7368656c6c636d643d73686f77.636d642d6172673d76657273696f6e
-        < c00202040000000100000006010000000000
+        > open 1
+        > priv user bob 3
+        ok
+        # The edit wasn't accepted: all is as before, and it can be made later.
+        > insert group ops 1 deny show .*
+        memory
+        > policy
+        group ops
+        permit show .*
+        user bob in ops
+        priv 3
+        > why bob show version
+        permitted by group ops rule 1
+        > hand 1 c0020104.00000001.00000036.06010101030400030d080f'bobtty0service=shellcmd=showcmd-arg=version'
+        < c0020204.00000001.00000006.010000000000
         > insert group ops 1 deny show .*
         ok
         user bob now denies: show\u{20}
-        > hand 4294967295 c0020104000000010000003606010101030400030d080f626f6274747930.736572766963653d7368656c6c636d643d73686f77.636d642d6172673d76657273696f6e
-        < c002020400000001000000201000001a000064656e6965642062792067726f7570206f70732072756c652031
-        > why bob show version
-        denied by group ops rule 1
+        > policy
+        group ops
+        deny show .*
+        permit show .*
+        user bob in ops
+        priv 3
+        > hand 1 c0020104.00000001.00000036.06010101030400030d080f'bobtty0service=shellcmd=showcmd-arg=version'
+        < c0020204.00000001.00000020.1000001a0000'denied by group ops rule 1'
         > shadow
         shadowed in group ops: group ops rule 2
         shadowed in user bob: group ops rule 2

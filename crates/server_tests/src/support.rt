@@ -1,8 +1,11 @@
 //! What the tests share: servers, and packets as clients send them.
 
-use crate::counting::Counting;
+use crate::faltering::Faltering;
+use crate::ledger::Ledger;
+use basics::Sequence;
 use pol_text::Policy;
 use std::alloc::Global;
+use std::fmt::Write;
 use std::test::Fail;
 use tac_desk::{Desk, PlainDesk};
 use tac_server::Server;
@@ -21,29 +24,42 @@ pub(crate) fn plain(alloc: Global, policy: &str, limit: usize) -> Result<PlainDe
     Ok(PlainDesk::new(alloc, policy, limit)?)
 }
 
-/// The same, and it counts.
-pub(crate) fn counting(alloc: Global, policy: &str, limit: usize) -> Result<Counting, Fail> {
-    Ok(Counting {
-        inner: plain(alloc, policy, limit)?,
-        asks: 0,
-        edits: 0,
-        queries: 0,
+/// The same, to which memory runs out once, at the edit behind so many.
+pub(crate) fn faltering(alloc: Global, policy: &str, before: u32) -> Result<Faltering, Fail> {
+    Ok(Faltering {
+        inner: plain(alloc, policy, 9)?,
+        before: Some(before),
     })
+}
+
+/// A desk that knows nobody, and has room for so many records before memory runs out.
+pub(crate) fn ledger(alloc: Global, limit: usize, room: usize) -> Ledger {
+    Ledger {
+        alloc,
+        latest: Sequence::new(alloc),
+        limit,
+        room,
+    }
 }
 
 pub(crate) fn serving<D: Desk>(alloc: Global, desk: D) -> Result<Server<D>, Fail> {
     Ok(Server::new(alloc, desk, key()?))
 }
 
-/// The bytes that hexadecimal digits spell, with dots between them, and the pad put on the body.
+/// The bytes that hexadecimal digits spell, with dots between them and text in single quotes, and
+/// the pad put on the body.
 pub(crate) fn packet(alloc: Global, digits: &str) -> Result<Vec<u8>, Fail> {
-    let mut plain = Vec::new(alloc);
+    let mut plain = String::new(alloc);
+    let mut is_quoted = false;
     for byte in digits.bytes() {
-        if byte != b'.' {
-            plain.push(byte)?;
+        match byte {
+            b'\'' => is_quoted = !is_quoted,
+            _ if is_quoted => write!(plain, "{byte:02x}")?,
+            b'.' => {}
+            _ => plain.push(char::from(byte))?,
         }
     }
-    let mut bytes = hex::decode(alloc, plain.as_slice())?;
+    let mut bytes = hex::decode(alloc, plain.as_bytes())?;
     if let Some((head, _)) = bytes.as_slice().split_first_chunk::<12>() {
         let header = Header::read(head);
         pad_in_place(&header, &key()?, &mut bytes.as_mut_slice()[12..]);

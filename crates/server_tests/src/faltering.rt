@@ -1,4 +1,6 @@
-//! A desk that isn't the server's: it counts what it is asked.
+//! A desk to which memory runs out once.
+
+ghost use Rattle.std.specs.Prelude.{◌≡◌};
 
 use pol_edit::{Edit, EditFault};
 use pol_report::Changes;
@@ -6,30 +8,42 @@ use std::alloc::AllocError;
 use tac_conn::{Answer, Ask};
 use tac_desk::{Desk, PlainDesk, Query, QueryFault, Report, State, Thrice};
 
-/// Another desk, and how often each of its calls was made.
+/// Another desk, to which memory runs out at one edit.
 #[derive(Drop)]
-pub(crate) struct Counting {
+pub(crate) struct Faltering {
     pub(crate) inner: PlainDesk,
-    pub(crate) asks: u64,
-    pub(crate) edits: u64,
-    pub(crate) queries: u64,
+    // how many edits come before that one; none where it is over
+    pub(crate) before: Option<u32>,
 }
 
-impl Desk for Counting {
+impl Faltering {
+    // Whether memory runs out now.
+    fn falters(&mut self) -> bool
+        ensures { self.new.inner ≡ self.old.inner }
+    {
+        let Some(before) = self.before else {
+            return false;
+        };
+        self.before = before.checked_sub(1);
+        before == 0
+    }
+}
+
+impl Desk for Faltering {
     ghost meaning = { λ desk. desk.inner };
 
     fn ask(&mut self, ask: &Ask) -> Result<Answer, AllocError> {
-        self.asks = self.asks.saturating_add(1);
         self.inner.ask(ask)
     }
 
     fn edit(&mut self, edit: &Edit) -> Result<Thrice<Changes>, EditFault> {
-        self.edits = self.edits.saturating_add(1);
+        if self.falters() {
+            return Err(EditFault::Memory);
+        }
         self.inner.edit(edit)
     }
 
     fn query(&mut self, query: &Query) -> Result<Thrice<Report>, QueryFault> {
-        self.queries = self.queries.saturating_add(1);
         self.inner.query(query)
     }
 

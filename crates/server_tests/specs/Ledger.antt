@@ -1,0 +1,8 @@
+-- What the desk stands for that keeps its records backwards.
+use Rattle.std.specs.Prelude.{[], reverse}
+use Rattle.tac_desk.specs.Meaning.{Meaning}
+use Rattle.server_tests.specs.declared.ledger.Ledger.{Ledger}
+
+-- it knows nobody
+abbrev pub kept_by : Ledger → Meaning
+kept_by desk = record { policy = []; records = reverse desk.latest; limit = desk.limit }

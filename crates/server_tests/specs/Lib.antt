@@ -1,0 +1,2 @@
+-- The desks of the tests.
+pub mod Ledger
