@@ -143,8 +143,8 @@ fn holds<R: Abort, D: Desk>(
 ///
 /// Behind `> ` stands an event: `open NUMBER`, `lost NUMBER`, `hand NUMBER DIGITS DIGITS ..` (the
 /// bytes of packets, on whose bodies the pad is put), or else a line of the console. Behind each
-/// come what is given out: `< DIGITS`, a packet; `closed`, where a connection is; a refusal, `memory`
-/// among them; or the console's lines. A line that begins with `#` is a comment.
+/// comes what is given out: `< DIGITS`, a packet; `closed`, where a connection is; a refusal,
+/// `memory` among them; or the console's lines. A line that begins with `#` is a comment.
 pub(crate) fn converses<R: Abort + AllocGlobal, D: Desk>(
     rt: &R,
     desk: D,

@@ -82,7 +82,7 @@ fn want_of_memory_on_a_connection(rt: HostRuntime) -> Result<(), Fail> {
         "
         > open 1
         > open 2
-        # The packet in front of the one for which memory is wanted has its reply, and the one behind it has none.
+        # Memory is wanted for the second of three packets: the first has its reply, and no other.
         > hand 1 c0030104.00000001.0000001a.0a060101010304000109'bobtty0task_id=7' c0030104.00000002.0000001a.0a060101010304000109'bobtty0task_id=8' c0020104.00000003.00000036.06010101030400030d080f'bobtty0service=shellcmd=showcmd-arg=version'
         < c0030204.00000001.00000005.0000000001
         memory

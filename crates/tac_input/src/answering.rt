@@ -1,6 +1,7 @@
 //! Writing what an input is answered.
 
-ghost use Rattle.std.specs.Prelude.{◌≡◌, [], ◌∷◌, ◌++◌, codes, ℕ, take, Err, IfOk, IsOkAnd, IsErrOf};
+ghost use Rattle.std.specs.Prelude.{◌≡◌, [], ◌∷◌, ◌++◌, codes, ℕ, take, Err};
+ghost use Rattle.std.specs.Prelude.{IfOk, IsOkAnd, IsErrOf};
 ghost use Rattle.std.specs.Io.KnownBytes.{Appends, Keeps};
 ghost use Rattle.tac_input.specs.declared.reading.InputFault.TheVariants as input;
 
