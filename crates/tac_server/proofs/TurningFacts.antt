@@ -11,7 +11,7 @@ use Rattle.tac_conn.specs.declared.outcome.Outcome.{Outcome}
 use Rattle.tac_conn.specs.declared.outcome.Outcome.TheVariants as comes_to
 use Rattle.tac_conn.specs.declared.packet.Packet.{Packet}
 use Rattle.tac_conn.specs.declared.reply.Reply.{Reply as ReplyValue}
-use Rattle.tac_conn.specs.Packet.{clear, sent}
+use Rattle.tac_conn.specs.Packet.{clear, sent, IsWhole}
 use Rattle.tac_conn.specs.Reply.{packet_of, answer_body}
 use Rattle.tac_conn.specs.Judging.{reply_in}
 use Rattle.tac_conn.specs.History.{outcome}
@@ -117,9 +117,9 @@ module _ (key : List ℕ) (bytes : List ℕ) (taken : ℕ) where
 
   -- a reply is sent
   pub goes_reply : (meaning : Meaning) (old new : List ℕ) (stream : Stream) (reply : List ℕ) (ends : Bool) → Reply reply ends ≡ next_turn key bytes taken
-      → new ≡ old ++ reply → length reply ≤ 96 → closed_of stream ≡ ends → pending_of stream ≡ None → Stands key stream bytes (suc taken)
+      → new ≡ old ++ reply → IsWhole reply → closed_of stream ≡ ends → pending_of stream ≡ None → Stands key stream bytes (suc taken)
       → Goes (went_by ends) key meaning meaning old new stream bytes taken
-  goes_reply meaning old new stream reply ends is added short closed free stands = by_case (by_turn meaning (Reply reply ends) is)
+  goes_reply meaning old new stream reply ends is added whole closed free stands = by_case (by_turn meaning (Reply reply ends) is)
     where
       by_tail : (tail : Tail) → Reply reply ends ≡ turn_by key (packets_of key (take taken (cut bytes).packets)) [] tail → ⊥
       by_tail (open_end rest) e = cc
@@ -128,15 +128,15 @@ module _ (key : List ℕ) (bytes : List ℕ) (taken : ℕ) where
       by_case : IsFirst meaning (Reply reply ends) ⊎ IsNone (Reply reply ends) → Goes (went_by ends) key meaning meaning old new stream bytes taken
       by_case (inl f) =
           served meaning meaning old new stream f.frame f.more f.left (packet_of f.says.0 ∷ []) ends f.says.2
-          (sends_one key old new f.says.0 (added ∙ ap (λ (t : List ℕ). old ++ t) f.says.1) (subst (λ (t : List ℕ). length t ≤ 96) f.says.1 short)) closed free stands
+          (sends_one key old new f.says.0 (added ∙ ap (λ (t : List ℕ). old ++ t) f.says.1) (subst IsWhole f.says.1 whole)) closed free stands
       by_case (inr n) = absurd (by_tail (cut bytes).tail n.turn_is)
 
   -- the desk has answered
   pub goes_answer : (was now : Meaning) (old new : List ℕ) (stream : Stream) (ask : Ask) (slot : Slot) (reply : List ℕ) (ends : Bool) → Asks ask slot ≡ next_turn key bytes taken
       → now ≡ (asked was ask).meaning → reply ≡ sent key (packet_of (reply_in slot (answer_body (asked was ask).answer))) → ends ≡ not slot.single
-      → new ≡ old ++ reply → length reply ≤ 96 → closed_of stream ≡ ends → pending_of stream ≡ None → Stands key stream bytes (suc taken)
+      → new ≡ old ++ reply → IsWhole reply → closed_of stream ≡ ends → pending_of stream ≡ None → Stands key stream bytes (suc taken)
       → Goes (went_by ends) key was now old new stream bytes taken
-  goes_answer was now old new stream ask slot reply ends is told same closing added short closed free stands = by_case (by_turn was (Asks ask slot) is)
+  goes_answer was now old new stream ask slot reply ends is told same closing added whole closed free stands = by_case (by_turn was (Asks ask slot) is)
     where
       by_tail : (tail : Tail) → Asks ask slot ≡ turn_by key (packets_of key (take taken (cut bytes).packets)) [] tail → ⊥
       by_tail (open_end rest) e = cc
@@ -146,7 +146,7 @@ module _ (key : List ℕ) (bytes : List ℕ) (taken : ℕ) where
       by_case (inl f) =
           let answer = reply_in slot (answer_body (asked was ask).answer) in
           served was now old new stream f.frame f.more f.left (packet_of answer ∷ []) ends (f.says ∙ rw (told, closing) refl)
-          (sends_one key old new answer (added ∙ ap (λ (t : List ℕ). old ++ t) same) (subst (λ (t : List ℕ). length t ≤ 96) same short)) closed free stands
+          (sends_one key old new answer (added ∙ ap (λ (t : List ℕ). old ++ t) same) (subst IsWhole same whole)) closed free stands
       by_case (inr n) = absurd (by_tail (cut bytes).tail n.turn_is)
 
   -- nothing is sent

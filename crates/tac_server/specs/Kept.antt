@@ -1,12 +1,11 @@
 -- What the code keeps of a server, and what it stands for.
-use Rattle.std.specs.Prelude.{◌≡◌, ℕ, ◌+◌, List, [], ◌∷◌, ◌++◌, length, take, Bool, true, false}
+use Rattle.std.specs.Prelude.{◌≡◌, ℕ, List, [], ◌∷◌, ◌++◌, Bool, true, false}
 use Rattle.std.specs.Prelude.{IsTrue, is_some, Option, Some, None, Result, Ok, Err}
 use Rattle.std.specs.BTreeMap.{BTreeMap, get}
 use Rattle.std.specs.Ordering.{nat_cmp}
-use Rattle.tac_wire.specs.Header.{header_of}
 use Rattle.tac_wire.specs.Stream.{open_end, cut}
 use Rattle.tac_conn.specs.declared.packet.Packet.{Packet}
-use Rattle.tac_conn.specs.Packet.{sent}
+use Rattle.tac_conn.specs.Packet.{sent, IsWhole}
 use Rattle.tac_stream.specs.declared.stream.Stream.{Stream}
 use Rattle.tac_stream.specs.Kept.{IsReady, Stands}
 use Rattle.pol_edit.specs.declared.edit.Edit.{Edit}
@@ -28,10 +27,6 @@ use Rattle.tac_server.specs.declared.server.ServerFault.{ServerFault}
 use Rattle.tac_server.specs.declared.server.ServerFault.TheVariants as faults
 
 -- ---- what is sent
-
--- a whole packet: its header says its length
-abbrev pub IsWhole : List ℕ → Type 0
-IsWhole bytes = 12 + (header_of (take 12 bytes)).length ≡ length bytes
 
 abbrev pub AreWhole : List ℕ → List Packet → Type 0
 AreWhole key [] = Unit {0}

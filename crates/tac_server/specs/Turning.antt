@@ -23,7 +23,8 @@ pub record GoesOn (key : List ℕ) (was now : Meaning) (old new : List ℕ) (str
     (bytes : List ℕ) (taken : ℕ) : Type 0 where
   pub packets : List Packet
   pub within : taken < whole_packets bytes
-  pub said : said_part key was bytes taken 1 ≡ record { sent = packets; closes = false; meaning = now }
+  pub said : said_part key was bytes taken 1
+      ≡ record { sent = packets; closes = false; meaning = now }
   pub sends : Sends key old new packets
   pub ready : IsReady stream
   pub stands : Stands key stream bytes (suc taken)
@@ -76,7 +77,8 @@ pub record SaysSome (key : List ℕ) (was now : Meaning) (old new : List ℕ)
     (before piece : List ℕ) : Type 0 where
   pub count : ℕ
   pub packets : List Packet
-  pub said : said_first key was before piece count ≡ record { sent = packets; closes = false; meaning = now }
+  pub said : said_first key was before piece count
+      ≡ record { sent = packets; closes = false; meaning = now }
   pub sends : Sends key old new packets
 
 abbrev pub SaysPiece : Result Bool AllocError → List ℕ → Meaning → Meaning → List ℕ → List ℕ

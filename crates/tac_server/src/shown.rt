@@ -4,7 +4,8 @@ ghost use Rattle.std.specs.Prelude.{◌≡◌, ◌<◌, ◌++◌, ℕ, List, [],
 ghost use Rattle.std.specs.Prelude.{MatchOption, IfOk, IfSome, OnOk};
 ghost use Rattle.tac_conn.specs.declared.packet.Packet.{Packet};
 ghost use Rattle.tac_server.specs.Serving.{Said};
-ghost use Rattle.tac_server.specs.Kept.{IsWhole, Sends};
+ghost use Rattle.tac_conn.specs.Packet.{IsWhole};
+ghost use Rattle.tac_server.specs.Kept.{Sends};
 ghost use Rattle.tac_server.specs.Events as events;
 
 use std::alloc::{AllocError, Global};

@@ -1,9 +1,9 @@
 //! Serving a piece of bytes, one turn of its connection after another.
 
-ghost use Rattle.std.specs.Prelude.{◌≡◌, ◌+◌, ◌≤◌, ◌++◌, List, ℕ, length, false, not};
+ghost use Rattle.std.specs.Prelude.{◌≡◌, ◌+◌, ◌≤◌, ◌++◌, List, ℕ, false, not};
 ghost use Rattle.std.specs.Prelude.{Some, None, IfOk, OnOk, OnErr, vec_len, vec_capacity};
 ghost use Rattle.tac_conn.specs.Ask.{kind_asked, kind_of_ask};
-ghost use Rattle.tac_conn.specs.Packet.{sent};
+ghost use Rattle.tac_conn.specs.Packet.{sent, IsWhole};
 ghost use Rattle.tac_conn.specs.Reply.{packet_of, answer_body};
 ghost use Rattle.tac_conn.specs.Judging.{reply_in};
 ghost use Rattle.tac_stream.specs.Kept.{IsReady, Stands, closed_of, pending_of, unread_of};
@@ -44,7 +44,7 @@ fn after_reply(closes: bool) -> Went
 fn add(out: &mut Vec<u8>, reply: &Sent)
     requires { vec_len out.old + SENT_MAX ≤ vec_capacity out.old }
     ensures bytes { out.new.items ≡ out.old.items ++ reply.now }
-    ensures bound { length reply.now ≤ SENT_MAX }
+    ensures whole { IsWhole reply.now }
 {
     out.extend_from_slice(reply.as_slice()).unwrap();
 }

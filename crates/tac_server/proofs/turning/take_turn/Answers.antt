@@ -10,7 +10,7 @@ returns-in-Reply-clause-goes g c = λ bytes taken ready s.
     rw c.after_reply.ensures
     (goes_reply c.args.key.now bytes taken (g.D.Desk.meaning c.args.desk.now) c.args.out.now.items c.add.new.out.items c.next.new.self c.in-Reply.reply c.in-Reply.closes
     (sym c.in-Reply.is ∙ c.in_ok-reply.ensures.turn bytes taken ready s)
-    (c.add.ensures.bytes ∙ ap (λ (l : List ℕ). l ++ c.in-Reply.reply) c.in_ok-reserve.ensures.items) c.add.ensures.bound
+    (c.add.ensures.bytes ∙ ap (λ (l : List ℕ). l ++ c.in-Reply.reply) c.in_ok-reserve.ensures.items) c.add.ensures.whole
     (rw c.in-Reply.is at c.in_ok-reply.ensures.closed) (rw c.in-Reply.is at (c.in_ok-reply.ensures.pending ready)) (rw c.in-Reply.is at (c.in_ok-reply.ensures.stands bytes taken ready s)))
 
 pub returns-in_ok-reply-in-Asks-clause-goes : goal.returns-in_ok-reply-in-Asks-clause-goes
@@ -22,7 +22,7 @@ returns-in_ok-reply-in-Asks-clause-goes g c = λ bytes taken ready s.
     c.in-Asks.ask c.in-Asks.slot c.in_ok-reply-in-Asks.reply c.in_ok-reply-in-Asks.closes
     (sym c.in-Asks.is ∙ c.in_ok-reply.ensures.turn bytes taken ready s)
     told.desk (ap (λ (p : List ℕ × Bool). p.0) told.reply) (ap (λ (p : List ℕ × Bool). p.1) told.reply)
-    (c.add-in-Asks.ensures.bytes ∙ ap (λ (l : List ℕ). l ++ c.in_ok-reply-in-Asks.reply) c.in_ok-reserve.ensures.items) c.add-in-Asks.ensures.bound
+    (c.add-in-Asks.ensures.bytes ∙ ap (λ (l : List ℕ). l ++ c.in_ok-reply-in-Asks.reply) c.in_ok-reserve.ensures.items) c.add-in-Asks.ensures.whole
     (told.closed (rw c.in-Asks.is at c.in_ok-reply.ensures.closed)) told.pending (told.stands bytes _ stands))
 
 pub returns-in-Silent-clause-goes : goal.returns-in-Silent-clause-goes
