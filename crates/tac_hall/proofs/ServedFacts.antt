@@ -146,6 +146,7 @@ module _ (key : List ℕ) (earlier : List Packet) (first : List Frame) (was mid 
     beginning_behind w = record {
       first = bytes_sent key g.sendings ++ w.first;
       others = w.others;
+      some_left = w.some_left;
       parts = ap (bytes_sent key) whole ∙ bytes_sent-append key g.sendings behind ∙ ap (λ (l : List ℕ). bytes_sent key g.sendings ++ l) w.parts
           ∙ sym (append_assoc (bytes_sent key g.sendings) w.first w.others);
       written = Appends-trans old between new (bytes_sent key g.sendings) w.first g.written w.written;

@@ -1,5 +1,6 @@
 -- What one turn of a worker does.
-use Rattle.std.proofs.Common.{◌≡◌, ℕ, suc, List, [], ◌∷◌, ◌++◌, take, drop, Bool, true, false, not, Option, None, Result, Ok, Err, IsErrAnd, if◌then◌else◌, inl, inr, refl, sym, ap, subst, ◌∙◌, append_assoc, append-nil}
+use Rattle.std.proofs.Common.{◌≡◌, ℕ, suc, List, [], ◌∷◌, ◌++◌, length, ◌<◌, take, drop, Bool, true, false, not, ◌||◌, Option, None, Result, Ok, Err, IsErrAnd, if◌then◌else◌, inl, inr, refl, sym, ap, subst, ◌∙◌, append_assoc, append-nil, length-append, arith}
+use Rattle.std.proofs.lemmas.List.{take-append-drop}
 use Rattle.std.specs.Io.KnownBytes.{Appends}
 use Rattle.std.proofs.KnownBytes.{Appends-nil}
 use Rattle.tac_wire.specs.declared.frame.Frame.{Frame}
@@ -13,8 +14,8 @@ use Rattle.tac_conn.specs.declared.packet.Packet.{Packet}
 use Rattle.tac_conn.specs.declared.reply.Reply.{Reply as ReplyValue}
 use Rattle.tac_conn.specs.Packet.{clear, sent}
 use Rattle.tac_conn.specs.Reply.{packet_of, answer_body}
-use Rattle.tac_conn.specs.Judging.{reply_in}
-use Rattle.tac_conn.specs.History.{outcome}
+use Rattle.tac_conn.specs.Judging.{reply_in, closes as outcome_closes}
+use Rattle.tac_conn.specs.History.{outcome, judged_after, is_closed}
 use Rattle.tac_conn.specs.Standing.{step_of}
 use Rattle.tac_stream.specs.declared.stream.Stream.{Stream}
 use Rattle.tac_stream.specs.declared.turn.Turn.{Turn}
@@ -25,10 +26,10 @@ use Rattle.tac_hall.specs.declared.worked.End.{End}
 use Rattle.tac_hall.specs.declared.worked.End.TheVariants.{Finished, ByProtocol, Stopped, LogFull, Memory, ReadFault, WriteFault, Held, NoSeat}
 use Rattle.tac_hall.specs.declared.serving.Went.{Went}
 use Rattle.tac_hall.specs.declared.serving.Went.TheVariants.{On, Rests}
-use Rattle.tac_hall.specs.Served.{Sending, plain, carrying, served_for, asked_by, served_to, asks_in, bytes_sent, carried}
-use Rattle.tac_hall.specs.Worked.{Exchange, asks_of, answers_of, Calling, Makes, Leaves, Writes, Ends}
-use Rattle.tac_hall.specs.Working.{Handled, GoesOn, IsUncalled, Replies, Turned}
-use Rattle.tac_hall.proofs.ServedFacts.{makes_none}
+use Rattle.tac_hall.specs.Served.{Sending, plain, carrying, served_for, asked_by, served_to, asks_in, is_refused, closes, bytes_sent, carried}
+use Rattle.tac_hall.specs.Worked.{Exchange, asks_of, answers_of, Calling, Makes, Leaves, Closes, Writes, Ends}
+use Rattle.tac_hall.specs.Working.{Handled, GoesOn, IsUncalled, Replies, taken_of, left_of, Turned}
+use Rattle.tac_hall.proofs.ServedFacts.{packets_of-append, makes_none}
 
 -- ---- what a packet comes to, by its turn
 
@@ -37,20 +38,59 @@ ServesBy (Reply bytes ends) key came =
     (reply : ReplyValue) × (bytes ≡ sent key (packet_of reply))
     × ((answers : List Answer) (later : List Answer → List Sending) → served_for came answers later ≡ plain reply ∷ (if ends then [] else later answers))
     × ((later : List Ask) → asked_by came later ≡ (if ends then [] else later))
+    × (outcome_closes came ≡ ends)
 ServesBy (Asks ask slot) key came = came ≡ comes_to.Asks ask slot
 ServesBy Silent key came = came ≡ comes_to.Silent
 ServesBy Need key came = ⊥
 ServesBy Close key came = came ≡ comes_to.Close
 
 serves_by : (key : List ℕ) (came : Outcome) → ServesBy (turn_of (step_of key came)) key came
-serves_by key (comes_to.Question reply session) = (reply, refl, λ answers later. refl, λ later. refl)
-serves_by key (comes_to.Reply reply ends) = (reply, refl, λ answers later. refl, λ later. refl)
+serves_by key (comes_to.Question reply session) = (reply, refl, λ answers later. refl, λ later. refl, refl)
+serves_by key (comes_to.Reply reply ends) = (reply, refl, λ answers later. refl, λ later. refl, refl)
 serves_by key (comes_to.Asks ask slot) = refl
 serves_by key comes_to.Silent = refl
 serves_by key comes_to.Close = refl
 
 pub serves_turn : (key : List ℕ) (came : Outcome) (turn : Turn) → turn ≡ turn_of (step_of key came) → ServesBy turn key came
 serves_turn key came turn is = subst (λ (t : Turn). ServesBy t key came) (sym is) (serves_by key came)
+
+-- ---- what closes a connection
+
+closed_by : (closed : Bool) (came : Outcome) → outcome_closes (if closed then comes_to.Close else came) ≡ true → (closed || outcome_closes came) ≡ true
+closed_by true came e = refl
+closed_by false came e = e
+
+open_by : (closed : Bool) (came : Outcome) → closed ≡ false → outcome_closes (if closed then comes_to.Close else came) ≡ false → (closed || outcome_closes came) ≡ false
+open_by true came still e = absurd cc
+open_by false came still e = e
+
+closed_next : (earlier : List Packet) (packet : Packet) → outcome_closes (outcome earlier packet) ≡ true → is_closed (packet ∷ earlier) ≡ true
+unfolding outcome is_closed
+closed_next earlier packet e = closed_by (is_closed earlier) (judged_after earlier packet) e
+
+stays_open : (earlier : List Packet) (packet : Packet) → outcome_closes (outcome earlier packet) ≡ false → is_closed earlier ≡ false → is_closed (packet ∷ earlier) ≡ false
+unfolding outcome is_closed
+stays_open earlier packet e still = open_by (is_closed earlier) (judged_after earlier packet) still e
+
+closed_more : (more earlier : List Packet) → is_closed earlier ≡ true → is_closed (more ++ earlier) ≡ true
+unfolding is_closed
+closed_more [] earlier e = e
+closed_more (packet ∷ more) earlier e = rw (closed_more more earlier e) refl
+
+or_true : (b : Bool) → (b || true) ≡ true
+or_true true = refl
+or_true false = refl
+
+-- the bytes of which some packet closes the connection do
+closes_at : (key bytes : List ℕ) (taken : ℕ) (frame : Frame) (more : List Frame) → left_of bytes taken ≡ frame ∷ more → is_closed (clear key frame ∷ taken_of key bytes taken) ≡ true → closes key bytes ≡ true
+closes_at key bytes taken frame more left e =
+    let front = take taken (cut bytes).packets in
+    let parts : (cut bytes).packets ≡ front ++ frame ∷ more = sym (take-append-drop taken (cut bytes).packets) ∙ ap (λ (l : List Frame). front ++ l) left in
+    let history : packets_of key (cut bytes).packets ≡ packets_of key more ++ clear key frame ∷ packets_of key front =
+    ap (packets_of key) parts ∙ packets_of-append key front (frame ∷ more) ∙ ap (λ (l : List Packet). l ++ packets_of key front) (packets_of-append key (frame ∷ []) more)
+    ∙ append_assoc (packets_of key more) (clear key frame ∷ []) (packets_of key front) in
+    ap (λ (l : List Packet). is_closed l || is_refused (cut bytes).tail) history
+    ∙ ap (λ (b : Bool). b || is_refused (cut bytes).tail) (closed_more (packets_of key more) (clear key frame ∷ packets_of key front) e)
 
 -- ---- one packet
 
@@ -70,15 +110,17 @@ module _ (key : List ℕ) (earlier : List Packet) (frame : Frame) where
         → served_to key earlier (frame ∷ more) (answers_of made ++ later) ≡ sending ∷ (if ends then [] else served_to key (clear key frame ∷ earlier) more later)
     pub asks : (more : List Frame) → asks_in key earlier (frame ∷ more) ≡ asks_of made ++ (if ends then [] else asks_in key (clear key frame ∷ earlier) more)
     pub carries : carried (sending ∷ []) ≡ answers_of made
+    pub closing : outcome_closes (outcome earlier (clear key frame)) ≡ ends
 
   said_plain : (reply : ReplyValue) (ends : Bool)
       → ((answers : List Answer) (later : List Answer → List Sending) → served_for (outcome earlier (clear key frame)) answers later ≡ plain reply ∷ (if ends then [] else later answers))
       → ((later : List Ask) → asked_by (outcome earlier (clear key frame)) later ≡ (if ends then [] else later))
-      → IsSaid [] (plain reply) ends
-  said_plain reply ends s a = record {
+      → outcome_closes (outcome earlier (clear key frame)) ≡ ends → IsSaid [] (plain reply) ends
+  said_plain reply ends s a closing = record {
     served = λ more later. served_first more later ∙ s later (λ left. served_to key (clear key frame ∷ earlier) more left);
     asks = λ more. asks_first more ∙ a (asks_in key (clear key frame ∷ earlier) more);
     carries = refl;
+    closing = closing;
   }
 
   said_answer : (exchange : Exchange) (slot : Slot) → outcome earlier (clear key frame) ≡ comes_to.Asks exchange.ask slot → IsSaid (exchange ∷ []) (carrying slot exchange.answer) (not slot.single)
@@ -89,11 +131,13 @@ module _ (key : List ℕ) (earlier : List Packet) (frame : Frame) where
         served = λ more later. served_first more (exchange.answer ∷ later) ∙ rw (came, e) refl;
         asks = λ more. asks_first more ∙ rw (came, e) refl;
         carries = refl;
+        closing = rw came refl;
       }
       by_single false e = record {
         served = λ more later. served_first more (exchange.answer ∷ later) ∙ rw (came, e) refl;
         asks = λ more. asks_first more ∙ rw (came, e) refl;
         carries = refl;
+        closing = rw came refl;
       }
 
   -- nothing is sent for it
@@ -131,9 +175,9 @@ module _ (key : List ℕ) (earlier : List Packet) (frame : Frame) where
         }
 
     -- a beginning of it was
-    ends_cut : (more : List Frame) (ends : Bool) → IsSaid made sending ends → (first others : List ℕ) → sent key sending.packet ≡ first ++ others → Appends old new first
+    ends_cut : (more : List Frame) (ends : Bool) → IsSaid made sending ends → (first others : List ℕ) → sent key sending.packet ≡ first ++ others → 0 < length others → Appends old new first
         → Ends WriteFault key (asks_in key earlier (frame ∷ more)) (served_to key earlier (frame ∷ more)) was now old new
-    ends_cut more ends s first others parts written =
+    ends_cut more ends s first others parts some written =
         let later = if ends then [] else served_to key (clear key frame ∷ earlier) more [] in
         let whole : served_to key earlier (frame ∷ more) (answers_of made) ≡ sending ∷ later =
         ap (λ (l : List Answer). served_to key earlier (frame ∷ more) l) (sym (append-nil (answers_of made))) ∙ s.served more [] in
@@ -146,6 +190,7 @@ module _ (key : List ℕ) (earlier : List Packet) (frame : Frame) where
           writes = record {
             first = first;
             others = others ++ bytes_sent key later;
+            some_left = omega (arith, some, length-append others (bytes_sent key later));
             parts = ap (bytes_sent key) whole ∙ ap (λ (l : List ℕ). l ++ bytes_sent key later) parts ∙ append_assoc first others (bytes_sent key later);
             written = written;
           };
@@ -187,21 +232,21 @@ ends_none end key asked sent_by was old new none nothing written leaves writes =
 }
 
 -- the next ask wasn't called
-pub ends_uncalled : (end : End) (key : List ℕ) (asked : List Ask) (sent_by : List Answer → List Sending) (was : Calling) (old : Option (List ℕ)) → IsUncalled end → sent_by [] ≡ []
+pub ends_uncalled : (end : End) (key : List ℕ) (asked : List Ask) (sent_by : List Answer → List Sending) (was : Calling) (old : Option (List ℕ)) → IsUncalled end → sent_by [] ≡ [] → 0 < length asked
     → Ends end key asked sent_by was was old old
-ends_uncalled Finished key asked sent_by was old u nothing = absurd u
-ends_uncalled ByProtocol key asked sent_by was old u nothing = absurd u
-ends_uncalled Stopped key asked sent_by was old u nothing =
-    record { made = []; makes = makes_none was; left = asked; asks = refl; leaves = tt; writes = rw nothing (Appends-nil old) }
-ends_uncalled LogFull key asked sent_by was old u nothing =
-    record { made = []; makes = makes_none was; left = asked; asks = refl; leaves = tt; writes = rw nothing (Appends-nil old) }
-ends_uncalled Memory key asked sent_by was old u nothing = ends_memory key asked sent_by was old
-ends_uncalled ReadFault key asked sent_by was old u nothing = absurd u
-ends_uncalled WriteFault key asked sent_by was old u nothing = absurd u
-ends_uncalled Held key asked sent_by was old u nothing =
-    record { made = []; makes = makes_none was; left = asked; asks = refl; leaves = tt; writes = rw nothing (Appends-nil old) }
-ends_uncalled NoSeat key asked sent_by was old u nothing =
-    record { made = []; makes = makes_none was; left = asked; asks = refl; leaves = tt; writes = rw nothing (Appends-nil old) }
+ends_uncalled Finished key asked sent_by was old u nothing some = absurd u
+ends_uncalled ByProtocol key asked sent_by was old u nothing some = absurd u
+ends_uncalled Stopped key asked sent_by was old u nothing some =
+    record { made = []; makes = makes_none was; left = asked; asks = refl; leaves = some; writes = rw nothing (Appends-nil old) }
+ends_uncalled LogFull key asked sent_by was old u nothing some =
+    record { made = []; makes = makes_none was; left = asked; asks = refl; leaves = some; writes = rw nothing (Appends-nil old) }
+ends_uncalled Memory key asked sent_by was old u nothing some = ends_memory key asked sent_by was old
+ends_uncalled ReadFault key asked sent_by was old u nothing some = absurd u
+ends_uncalled WriteFault key asked sent_by was old u nothing some = absurd u
+ends_uncalled Held key asked sent_by was old u nothing some =
+    record { made = []; makes = makes_none was; left = asked; asks = refl; leaves = some; writes = rw nothing (Appends-nil old) }
+ends_uncalled NoSeat key asked sent_by was old u nothing some =
+    record { made = []; makes = makes_none was; left = asked; asks = refl; leaves = some; writes = rw nothing (Appends-nil old) }
 
 uncalled_unfinished : (end : End) → IsUncalled end → end ≡ Finished → ⊥
 uncalled_unfinished Finished u e = u
@@ -213,6 +258,17 @@ uncalled_unfinished ReadFault u e = u
 uncalled_unfinished WriteFault u e = u
 uncalled_unfinished Held u e = cc
 uncalled_unfinished NoSeat u e = cc
+
+uncalled_closing : (end : End) (closing : Bool) → IsUncalled end → Closes end closing
+uncalled_closing Finished closing u = absurd u
+uncalled_closing ByProtocol closing u = absurd u
+uncalled_closing Stopped closing u = tt
+uncalled_closing LogFull closing u = tt
+uncalled_closing Memory closing u = tt
+uncalled_closing ReadFault closing u = absurd u
+uncalled_closing WriteFault closing u = tt
+uncalled_closing Held closing u = tt
+uncalled_closing NoSeat closing u = tt
 
 -- ---- a turn
 
@@ -228,19 +284,24 @@ module _ (key bytes : List ℕ) (taken : ℕ) where
           more = more;
           left = left;
           goes = goes_said key _ frame made sending was now old new makes (rw r.0 at s) r.1;
+          stays = stays_open _ _ (s.closing ∙ r.0);
           ready = (closed ∙ r.0, free);
           stands = stands;
         }
     replied (Ok Rests) ends s r closed free stands = absurd r
     replied (Err Finished) ends s r closed free stands = absurd r
     replied (Err ByProtocol) ends s r closed free stands =
-        record { unfinished = λ e. cc; ends = rw left (ends_said key _ frame made sending was now old new makes more (rw r.0 at s) r.1) }
+        record {
+          unfinished = λ e. cc;
+          closing = closes_at key bytes taken frame more left (closed_next _ _ (s.closing ∙ r.0));
+          ends = rw left (ends_said key _ frame made sending was now old new makes more (rw r.0 at s) r.1);
+        }
     replied (Err Stopped) ends s r closed free stands = absurd r
     replied (Err LogFull) ends s r closed free stands = absurd r
     replied (Err Memory) ends s r closed free stands = absurd r
     replied (Err ReadFault) ends s r closed free stands = absurd r
     replied (Err WriteFault) ends s r closed free stands =
-        record { unfinished = λ e. cc; ends = rw left (ends_cut key _ frame made sending was now old new makes more ends s r.0 r.1 r.2 r.3) }
+        record { unfinished = λ e. cc; closing = tt; ends = rw left (ends_cut key _ frame made sending was now old new makes more ends s r.0 r.1 r.2 r.3 r.4) }
     replied (Err Held) ends s r closed free stands = absurd r
     replied (Err NoSeat) ends s r closed free stands = absurd r
 
@@ -250,7 +311,7 @@ module _ (key bytes : List ℕ) (taken : ℕ) where
       → Turned result key bytes taken was was old new stream
   turned_reply was old new stream packet ends result (inl f) r closed free stands =
       let s = serves_turn key _ (Reply packet ends) f.is in
-      replied f.frame f.more f.left [] (plain s.0) was was old new stream (makes_none was) result ends (said_plain key _ f.frame s.0 ends s.2 s.3)
+      replied f.frame f.more f.left [] (plain s.0) was was old new stream (makes_none was) result ends (said_plain key _ f.frame s.0 ends s.2 s.3 s.4)
       (subst (λ (p : List ℕ). Replies result p ends old new) s.1 r) closed free stands
   turned_reply was old new stream packet ends result (inr n) r closed free stands = absurd (by_tail (cut bytes).tail n.is)
     where
@@ -281,7 +342,9 @@ module _ (key bytes : List ℕ) (taken : ℕ) where
       let came = serves_turn key _ (Asks ask slot) f.is in
       record {
         unfinished = uncalled_unfinished end u;
-        ends = ends_uncalled end key _ _ was old u (rw f.left (served_first key _ f.frame f.more [] ∙ rw came refl));
+        closing = uncalled_closing end (closes key bytes) u;
+        ends = ends_uncalled end key _ _ was old u (rw f.left (served_first key _ f.frame f.more [] ∙ rw came refl))
+            (rw (f.left, asks_first key (packets_of key (take taken (cut bytes).packets)) f.frame f.more, came) (omega arith));
       }
   turned_uncalled was old stream ask slot end (inr n) u = absurd (by_tail (cut bytes).tail n.is)
     where
@@ -308,6 +371,7 @@ module _ (key bytes : List ℕ) (taken : ℕ) where
       makes = makes_none was;
       written = Appends-nil old;
     };
+    stays = stays_open _ _ (rw (serves_turn key _ Silent f.is) refl);
     ready = (closed, free);
     stands = stands;
   }
@@ -321,7 +385,18 @@ module _ (key bytes : List ℕ) (taken : ℕ) where
   pub turned_need : (was : Calling) (old : Option (List ℕ)) (stream : Stream) → IsTurn key bytes taken Need → closed_of stream ≡ false → pending_of stream ≡ None → Stands key stream bytes taken
       → Turned (Ok Rests) key bytes taken was was old old stream
   turned_need was old stream (inl f) closed free stands = absurd (serves_turn key _ Need f.is)
-  turned_need was old stream (inr n) closed free stands = record { left = n.left; same = refl; nothing = Appends-nil old; ready = (closed, free); stands = stands }
+  turned_need was old stream (inr n) closed free stands = record {
+    left = n.left;
+    tail = by_tail (cut bytes).tail n.is;
+    same = refl;
+    nothing = Appends-nil old;
+    ready = (closed, free);
+    stands = stands;
+  }
+    where
+      by_tail : (tail : Tail) → Need ≡ turn_by key (packets_of key (take taken (cut bytes).packets)) [] tail → is_refused tail ≡ false
+      by_tail (open_end rest) e = refl
+      by_tail (fault reason) e = cc
 
   -- the connection closes without a reply
   pub turned_close : (was : Calling) (old : Option (List ℕ)) (stream : Stream) → IsTurn key bytes taken Close → Turned (Err ByProtocol) key bytes taken was was old old stream
@@ -329,14 +404,20 @@ module _ (key bytes : List ℕ) (taken : ℕ) where
       let came = serves_turn key _ Close f.is in
       record {
         unfinished = λ e. cc;
+        closing = closes_at key bytes taken f.frame f.more f.left (closed_next _ _ (rw came refl));
         ends = ends_none ByProtocol key _ _ was old old (rw f.left (asks_first key _ f.frame f.more ∙ rw came refl)) (rw f.left (served_first key _ f.frame f.more [] ∙ rw came refl))
             (Appends-nil old) refl (λ w. w);
       }
   turned_close was old stream (inr n) = record {
     unfinished = λ e. cc;
+    closing = ap (λ (b : Bool). is_closed (packets_of key (cut bytes).packets) || b) (by_tail (cut bytes).tail n.is) ∙ or_true (is_closed (packets_of key (cut bytes).packets));
     ends = ends_none ByProtocol key _ _ was old old (rw n.left (asks_at_end key _)) (rw n.left (served_at_end key _ [])) (Appends-nil old) refl (λ w. w);
   }
+    where
+      by_tail : (tail : Tail) → Close ≡ turn_by key (packets_of key (take taken (cut bytes).packets)) [] tail → is_refused tail ≡ true
+      by_tail (open_end rest) e = cc
+      by_tail (fault reason) e = refl
 
   -- memory ran out for a packet
   pub turned_memory : (was : Calling) (old : Option (List ℕ)) (stream : Stream) → Turned (Err Memory) key bytes taken was was old old stream
-  turned_memory was old stream = record { unfinished = λ e. cc; ends = ends_memory key _ _ was old }
+  turned_memory was old stream = record { unfinished = λ e. cc; closing = tt; ends = ends_memory key _ _ was old }

@@ -1,20 +1,21 @@
 -- A whole connection, one turn after another.
-use Rattle.std.proofs.Common.{◌≡◌, ℕ, zero, suc, List, [], ◌∷◌, ◌++◌, take, drop, Option, Err, refl, sym, ap, subst, ◌∙◌, append-nil}
+use Rattle.std.proofs.Common.{◌≡◌, ℕ, zero, suc, List, [], ◌∷◌, ◌++◌, take, drop, Bool, false, ◌||◌, Option, Err, refl, sym, ap, subst, ◌∙◌, append-nil}
 use Rattle.std.proofs.lemmas.List.{take-append-drop, take-append-le}
 use Rattle.std.specs.Io.KnownBytes.{Appends, Consumes, IsAtEnd}
 use Rattle.std.proofs.KnownBytes.{Appends-nil, Appends-trans, Consumes-nil, Consumes-trans}
 use Rattle.tac_wire.specs.declared.frame.Frame.{Frame}
 use Rattle.tac_wire.specs.Stream.{cut}
 use Rattle.tac_conn.specs.declared.packet.Packet.{Packet}
+use Rattle.tac_conn.specs.History.{is_closed}
 use Rattle.tac_stream.specs.declared.stream.Stream.{Stream}
 use Rattle.tac_stream.specs.Turns.{packets_of}
 use Rattle.tac_stream.specs.Kept.{IsReady, Stands}
 use Rattle.tac_hall.specs.declared.worked.End.{End}
 use Rattle.tac_hall.specs.declared.worked.End.TheVariants.{Finished, ByProtocol, Stopped, LogFull, Memory, ReadFault, WriteFault, Held, NoSeat}
-use Rattle.tac_hall.specs.Served.{served_to, asks_in}
-use Rattle.tac_hall.specs.Worked.{Calling, Leaves, Writes, Ends, IsServed}
+use Rattle.tac_hall.specs.Served.{served_to, asks_in, is_refused, closes}
+use Rattle.tac_hall.specs.Worked.{Calling, Leaves, Closes, Writes, Ends, IsServed}
 use Rattle.tac_hall.specs.Working.{GoesOn, TakesOne, IsAtRest, EndsAt, HearsMore, Heard, Serving}
-use Rattle.tac_hall.proofs.ServedFacts.{goes_none, goes-then, ends-behind}
+use Rattle.tac_hall.proofs.ServedFacts.{packets_of-append, goes_none, goes-then, ends-behind}
 use Rattle.tac_hall.proofs.TurnFacts.{served_at_end, asks_at_end, ends_memory, ends_none}
 
 next_of_list : (n : ℕ) (xs : List Frame) (x : Frame) (more : List Frame) → drop n xs ≡ x ∷ more → take (suc n) xs ≡ take n xs ++ x ∷ []
@@ -23,6 +24,10 @@ next_of_list zero (y ∷ ys) x more e = let here : y ≡ x = cc in ap (λ (f : F
 next_of_list (suc n) [] x more e = absurd cc
 next_of_list (suc n) (y ∷ ys) x more e = ap (λ (fs : List Frame). y ∷ fs) (next_of_list n ys x more e)
 
+closed_none : is_closed [] ≡ false
+unfolding is_closed
+closed_none = refl
+
 -- nothing was read yet
 pub serving_first : (key : List ℕ) (was : Calling) (before old : Option (List ℕ)) (stream : Stream) → IsReady stream → Stands key stream [] 0 → Serving key was was before before old old stream
 serving_first key was before old stream ready stands = record {
@@ -30,6 +35,7 @@ serving_first key was before old stream ready stands = record {
   taken = 0;
   read = Consumes-nil before;
   goes = goes_none key [] was old;
+  stays = closed_none;
   ready = ready;
   stands = stands;
 }
@@ -48,6 +54,7 @@ module _ (key : List ℕ) (was now : Calling) (before after old mid : Option (Li
     goes = rw (next_of_list s.taken (cut s.input).packets t.frame t.more t.left)
         (goes-then key [] (take s.taken (cut s.input).packets) was now old mid s.goes (t.frame ∷ []) next new
         (behind_front (λ h. GoesOn key h (t.frame ∷ []) now next mid new) t.goes));
+    stays = rw (next_of_list s.taken (cut s.input).packets t.frame t.more t.left, packets_of-append key (take s.taken (cut s.input).packets) (t.frame ∷ [])) (t.stays s.stays);
     ready = t.ready;
     stands = t.stands;
   }
@@ -58,6 +65,7 @@ module _ (key : List ℕ) (was now : Calling) (before after old mid : Option (Li
     input = s.input;
     read = s.read;
     finished = λ e. absurd (t.unfinished e);
+    closing = t.closing;
     ends = subst (λ (fs : List Frame). Ends end key (asks_in key [] fs) (served_to key [] fs) was next old new) (take-append-drop s.taken (cut s.input).packets)
         (ends-behind key [] (take s.taken (cut s.input).packets) was now old mid s.goes end (drop s.taken (cut s.input).packets) next new
         (behind_front (λ h. Ends end key (asks_in key h (drop s.taken (cut s.input).packets)) (served_to key h (drop s.taken (cut s.input).packets)) now next mid new) t.ends));
@@ -88,17 +96,23 @@ module _ (key : List ℕ) (was now : Calling) (before after old mid : Option (Li
           taken = s.taken;
           read = Consumes-trans before after left s.input h.piece s.read h.read;
           goes = rw same rests;
+          stays = rw same s.stays;
           ready = (h.closed ∙ r.ready.0, h.pending ∙ r.ready.1);
           stands = h.stands key s.input s.taken r.ready.0 r.stands;
         }
 
+    all_open : closes key s.input ≡ false
+    all_open =
+        ap (λ (fs : List Frame). is_closed (packets_of key fs) || is_refused (cut s.input).tail) all_taken ∙ ap (λ (b : Bool). b || is_refused (cut s.input).tail) s.stays ∙ r.tail
+
     -- nothing was left to do
-    served_whole : (end : End) (left : Option (List ℕ)) → Consumes after left [] → (end ≡ Finished → IsAtEnd left) → Leaves end [] → (Appends new new [] → Writes end key [] [] new new)
+    served_whole : (end : End) (left : Option (List ℕ)) → Consumes after left [] → (end ≡ Finished → IsAtEnd left) → Closes end false → Leaves end [] → (Appends new new [] → Writes end key [] [] new new)
         → IsServed end key was next before left old new
-    served_whole end left read finished leaves writes = record {
+    served_whole end left read finished closing leaves writes = record {
       input = s.input;
       read = rw (append-nil s.input) at (Consumes-trans before after left s.input [] s.read read);
       finished = finished;
+      closing = rw all_open closing;
       ends = subst (λ (fs : List Frame). Ends end key (asks_in key [] fs) (served_to key [] fs) was next old new) (append-nil (take s.taken (cut s.input).packets) ∙ sym all_taken)
           (ends-behind key [] (take s.taken (cut s.input).packets) was next old new rests end [] next new
           (ends_none end key _ _ next new new (asks_at_end key _) (served_at_end key _ []) (Appends-nil new) leaves writes));
@@ -106,7 +120,7 @@ module _ (key : List ℕ) (was now : Calling) (before after old mid : Option (Li
 
     -- the connection ends at a read
     pub served_read : (end : End) (left : Option (List ℕ)) (then : Stream) → Heard (Err end) after left rested then → IsServed end key was next before left old new
-    served_read Finished left then h = served_whole Finished left h.0 (λ e. h.1) refl (λ w. w)
+    served_read Finished left then h = served_whole Finished left h.0 (λ e. h.1) refl refl (λ w. w)
     served_read ByProtocol left then h = absurd h
     served_read Stopped left then h = absurd h
     served_read LogFull left then h = absurd h
@@ -116,11 +130,12 @@ module _ (key : List ℕ) (was now : Calling) (before after old mid : Option (Li
           input = s.input ++ h.0;
           read = Consumes-trans before after left s.input h.0 s.read h.1;
           finished = λ e. absurd cc;
+          closing = tt;
           ends = subst (λ (fs : List Frame). Ends Memory key (asks_in key [] fs) (served_to key [] fs) was next old new)
               (ap (λ (l : List Frame). l ++ more.0) (sym all_taken) ∙ sym more.1)
               (ends-behind key [] (take s.taken (cut s.input).packets) was next old new rests Memory more.0 next new (ends_memory key _ _ next new));
         }
-    served_read ReadFault left then h = served_whole ReadFault left h (λ e. absurd cc) refl (λ w. w)
+    served_read ReadFault left then h = served_whole ReadFault left h (λ e. absurd cc) refl refl (λ w. w)
     served_read WriteFault left then h = absurd h
     served_read Held left then h = absurd h
     served_read NoSeat left then h = absurd h

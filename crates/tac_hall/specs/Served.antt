@@ -1,19 +1,22 @@
--- What is sent on a connection, by the bytes that came on it and a list of answers to what they ask (RFC 8907, section
--- 4). No desk stands here: the answers are taken as they are.
-use Rattle.std.specs.Prelude.{ℕ, List, [], ◌∷◌, flat_map, filter_map, Option, Some, None, if◌then◌else◌}
+-- What is sent on a connection, by the bytes that came on it and a list of answers to what they
+-- ask (RFC 8907, section 4). No desk stands here: the answers are taken as they are.
+use Rattle.std.specs.Prelude.{ℕ, List, [], ◌∷◌, flat_map, filter_map, Bool, true, false, ◌||◌}
+use Rattle.std.specs.Prelude.{Option, Some, None, if◌then◌else◌}
 use Rattle.tac_wire.specs.declared.frame.Frame.{Frame}
-use Rattle.tac_wire.specs.Stream.{cut}
+use Rattle.tac_wire.specs.Stream.{Tail, open_end, fault, cut}
 use Rattle.tac_conn.specs.declared.ask.Answer.{Answer}
 use Rattle.tac_conn.specs.declared.ask.Ask.{Ask}
 use Rattle.tac_conn.specs.declared.ask.Slot.{Slot}
 use Rattle.tac_conn.specs.declared.outcome.Outcome.{Outcome}
-use Rattle.tac_conn.specs.declared.outcome.Outcome.TheVariants.{Question, Reply, Asks, Silent, Close}
+use Rattle.tac_conn.specs.declared.outcome.Outcome.TheVariants.{Question, Reply, Asks}
+use Rattle.tac_conn.specs.declared.outcome.Outcome.TheVariants.{Silent, Close}
 use Rattle.tac_conn.specs.declared.packet.Packet.{Packet}
 use Rattle.tac_conn.specs.declared.reply.Reply.{Reply as ReplyValue}
 use Rattle.tac_conn.specs.Packet.{clear, sent}
 use Rattle.tac_conn.specs.Reply.{packet_of, answer_body}
 use Rattle.tac_conn.specs.Judging.{reply_in}
-use Rattle.tac_conn.specs.History.{outcome}
+use Rattle.tac_conn.specs.History.{outcome, is_closed}
+use Rattle.tac_stream.specs.Turns.{packets_of}
 
 -- a packet that is sent, with the answer that it carries, if it carries one
 pub record Sending : Type 0 where
@@ -28,10 +31,12 @@ plain reply = record { packet = packet_of reply; carries = None }
 
 -- the reply that carries this answer
 abbrev pub carrying : Slot → Answer → Sending
-carrying slot answer = record { packet = packet_of (reply_in slot (answer_body answer)); carries = Some answer }
+carrying slot answer =
+    record { packet = packet_of (reply_in slot (answer_body answer)); carries = Some answer }
 
--- what is sent for a packet that comes to this, and for those behind it by the answers that it leaves: an ask takes the
--- next answer, and where none is left nothing more is sent; nor is it once the connection closes
+-- what is sent for a packet that comes to this, and for those behind it by the answers that it
+-- leaves: an ask takes the next answer, and where none is left nothing more is sent; nor is it once
+-- the connection closes
 abbrev pub served_for : Outcome → List Answer → (List Answer → List Sending) → List Sending
 served_for (Question reply session) answers later = plain reply ∷ later answers
 served_for (Reply reply closes) answers later = plain reply ∷ (if closes then [] else later answers)
@@ -51,7 +56,8 @@ asked_by Close later = []
 
 -- ---- to packets
 
--- the same for these packets, one after another, on a connection on which others came earlier, the latest first
+-- the same for these packets, one after another, on a connection on which others came earlier, the
+-- latest first
 unfoldable pub served_to : List ℕ → List Packet → List Frame → List Answer → List Sending
 served_to key earlier [] answers = []
 served_to key earlier (frame ∷ frames) answers =
@@ -72,6 +78,16 @@ served key bytes answers = served_to key [] (cut bytes).packets answers
 -- what these bytes ask
 abbrev pub asks : List ℕ → List ℕ → List Ask
 asks key bytes = asks_in key [] (cut bytes).packets
+
+-- a header that is refused closes the connection
+abbrev pub is_refused : Tail → Bool
+is_refused (open_end bytes) = false
+is_refused (fault reason) = true
+
+-- whether these bytes close the connection
+abbrev pub closes : List ℕ → List ℕ → Bool
+closes key bytes =
+    let parts = cut bytes in is_closed (packets_of key parts.packets) || is_refused parts.tail
 
 -- the bytes that are sent, under this key
 abbrev pub bytes_sent : List ℕ → List Sending → List ℕ

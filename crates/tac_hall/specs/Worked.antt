@@ -1,5 +1,5 @@
 -- What a worker has done that served one connection by calls at a hall.
-use Rattle.std.specs.Prelude.{◌≡◌, ℕ, List, [], ◌++◌, map, Option}
+use Rattle.std.specs.Prelude.{◌≡◌, ◌<◌, ℕ, List, [], ◌++◌, map, length, Bool, true, false, Option}
 use Rattle.std.specs.Io.KnownBytes.{Appends, Consumes, IsAtEnd}
 use Rattle.tac_conn.specs.declared.ask.Answer.{Answer}
 use Rattle.tac_conn.specs.declared.ask.Ask.{Ask}
@@ -10,9 +10,11 @@ use Rattle.tac_hall.specs.declared.entry.Receipt.{Receipt}
 use Rattle.tac_hall.specs.declared.fault.HallFault.{HallFault}
 use Rattle.tac_hall.specs.declared.fault.HallFault.TheVariants as refusals
 use Rattle.tac_hall.specs.declared.worked.End.{End}
-use Rattle.tac_hall.specs.declared.worked.End.TheVariants.{Finished, ByProtocol, Stopped, LogFull, Memory, ReadFault, WriteFault, Held, NoSeat}
+use Rattle.tac_hall.specs.declared.worked.End.TheVariants.{Finished, ByProtocol, Stopped, LogFull}
+use Rattle.tac_hall.specs.declared.worked.End.TheVariants.{Memory, ReadFault, WriteFault}
+use Rattle.tac_hall.specs.declared.worked.End.TheVariants.{NoSeat}
 use Rattle.tac_hall.specs.Seat.{Sitting}
-use Rattle.tac_hall.specs.Served.{Sending, served, asks, bytes_sent, carried}
+use Rattle.tac_hall.specs.Served.{Sending, served, asks, closes, bytes_sent, carried}
 
 -- ---- its calls
 
@@ -30,19 +32,24 @@ answers_of made = map (λ exchange. exchange.answer) made
 
 -- how a view has it
 abbrev pub in_view : Exchange → Made
-in_view exchange =
-    record { place = exchange.place; call = calls.Ask exchange.ask; answer = answers.Ask exchange.answer }
+in_view exchange = record {
+  place = exchange.place;
+  call = calls.Ask exchange.ask;
+  answer = answers.Ask exchange.answer;
+}
 
 -- its receipt, at this seat
 abbrev pub receipt_for : ℕ → Exchange → Receipt
-receipt_for seat exchange = record { seat = seat; place = exchange.place; answer = answers.Ask exchange.answer }
+receipt_for seat exchange =
+    record { seat = seat; place = exchange.place; answer = answers.Ask exchange.answer }
 
 -- a seat that calls, and the receipts that it got
 pub record Calling : Type 0 where
   pub seat : Sitting
   pub receipts : List Receipt
 
--- these calls were made, one after another, and no others: the view and the receipts have them behind what they had
+-- these calls were made, one after another, and no others: the view and the receipts have them
+-- behind what they had
 pub record Makes (was now : Calling) (made : List Exchange) : Type 0 where
   pub number : now.seat.number ≡ was.seat.number
   pub view : now.seat.view ≡ was.seat.view ++ map in_view made
@@ -51,31 +58,29 @@ pub record Makes (was now : Calling) (made : List Exchange) : Type 0 where
 -- ---- what it wrote
 
 -- whole packets of these, from the first on, and all answers are among them
-pub record WritesSome (key : List ℕ) (sendings : List Sending) (answers : List Answer) (old new : Option (List ℕ)) : Type 0 where
+pub record WritesSome (key : List ℕ) (sendings : List Sending) (answers : List Answer)
+    (old new : Option (List ℕ)) : Type 0 where
   pub first : List Sending
   pub others : List Sending
   pub parts : sendings ≡ first ++ others
   pub carries : carried first ≡ answers
   pub written : Appends old new (bytes_sent key first)
 
--- a beginning of the bytes of these
-pub record WritesBeginning (key : List ℕ) (sendings : List Sending) (old new : Option (List ℕ)) : Type 0 where
+-- a beginning of the bytes of these, and not all
+pub record WritesBeginning (key : List ℕ) (sendings : List Sending) (old new : Option (List ℕ))
+    : Type 0 where
   pub first : List ℕ
   pub others : List ℕ
   pub parts : bytes_sent key sendings ≡ first ++ others
+  pub some_left : 0 < length others
   pub written : Appends old new first
 
 -- all bytes of these, unless memory ran out or the writer failed
-abbrev pub Writes : End → List ℕ → List Sending → List Answer → Option (List ℕ) → Option (List ℕ) → Type 0
-Writes Finished key sendings answers old new = Appends old new (bytes_sent key sendings)
-Writes ByProtocol key sendings answers old new = Appends old new (bytes_sent key sendings)
-Writes Stopped key sendings answers old new = Appends old new (bytes_sent key sendings)
-Writes LogFull key sendings answers old new = Appends old new (bytes_sent key sendings)
+abbrev pub Writes : End → List ℕ → List Sending → List Answer → Option (List ℕ) → Option (List ℕ)
+    → Type 0
 Writes Memory key sendings answers old new = WritesSome key sendings answers old new
-Writes ReadFault key sendings answers old new = Appends old new (bytes_sent key sendings)
 Writes WriteFault key sendings answers old new = WritesBeginning key sendings old new
-Writes Held key sendings answers old new = Appends old new (bytes_sent key sendings)
-Writes NoSeat key sendings answers old new = Appends old new (bytes_sent key sendings)
+Writes end key sendings answers old new = Appends old new (bytes_sent key sendings)
 
 -- ---- how it ended
 
@@ -86,20 +91,26 @@ end_by refusals.Memory = Memory
 end_by refusals.Closed = Stopped
 end_by refusals.NoSeat = NoSeat
 
--- the asks that are left without a call: none, where nothing kept it from calling
+-- the asks that are left without a call: none, where nothing kept it from calling; some, where its
+-- next call wasn't made
 abbrev pub Leaves : End → List Ask → Type 0
 Leaves Finished left = left ≡ []
 Leaves ByProtocol left = left ≡ []
-Leaves Stopped left = Unit {0}
-Leaves LogFull left = Unit {0}
-Leaves Memory left = Unit {0}
 Leaves ReadFault left = left ≡ []
+Leaves Memory left = Unit {0}
 Leaves WriteFault left = Unit {0}
-Leaves Held left = Unit {0}
-Leaves NoSeat left = Unit {0}
+Leaves end left = 0 < length left
+
+-- whether what was read closes the connection
+abbrev pub Closes : End → Bool → Type 0
+Closes Finished closing = closing ≡ false
+Closes ByProtocol closing = closing ≡ true
+Closes ReadFault closing = closing ≡ false
+Closes end closing = Unit {0}
 
 -- of what was asked the first asks were called, and what is sent by their answers was written
-pub record Ends (end : End) (key : List ℕ) (asked : List Ask) (sent_by : List Answer → List Sending) (was now : Calling) (old new : Option (List ℕ)) : Type 0 where
+pub record Ends (end : End) (key : List ℕ) (asked : List Ask) (sent_by : List Answer → List Sending)
+    (was now : Calling) (old new : Option (List ℕ)) : Type 0 where
   pub made : List Exchange
   pub makes : Makes was now made
   pub left : List Ask
@@ -108,8 +119,10 @@ pub record Ends (end : End) (key : List ℕ) (asked : List Ask) (sent_by : List 
   pub writes : Writes end key (sent_by (answers_of made)) (answers_of made) old new
 
 -- a connection was served, on which these bytes were read; it ended so
-pub record IsServed (end : End) (key : List ℕ) (was now : Calling) (before after old new : Option (List ℕ)) : Type 0 where
+pub record IsServed (end : End) (key : List ℕ) (was now : Calling)
+    (before after old new : Option (List ℕ)) : Type 0 where
   pub input : List ℕ
   pub read : Consumes before after input
   pub finished : end ≡ Finished → IsAtEnd after
+  pub closing : Closes end (closes key input)
   pub ends : Ends end key (asks key input) (served key input) was now old new

@@ -1,8 +1,11 @@
-use Rattle.std.proofs.Common.{sym, take, drop}
+use Rattle.std.proofs.Common.{sym, take, drop, length-drop, arith}
 use Rattle.std.proofs.lemmas.List.{take-append-drop}
 use Rattle.tac_hall.proofs.serving.reply.Goals as goal
 
 pub returns-in-Err : goal.returns-in-Err
 returns-in-Err g c =
     let sent = c.send-sent.result.0 in
-    let all = c.args.packet.now in (take sent all, drop sent all, sym (take-append-drop sent all), rw c.as_slice.ensures.value at c.send-sent.ensures.taken)
+    let all = c.args.packet.now in
+    let bytes = rw c.as_slice.ensures.value at c.send-sent.ensures.taken in
+    let some = rw (c.in-Err.is, c.as_slice.ensures.value) at c.send-sent.ensures.some_left in
+    (take sent all, drop sent all, sym (take-append-drop sent all), omega (arith, some, length-drop sent all), bytes)
