@@ -1,5 +1,5 @@
 -- What a read brings.
-use Rattle.std.proofs.Common.{◌≡◌, ℕ, List, [], ◌++◌, Option, Result, Ok, Err, IsErrAnd, refl, sym, ap, ◌∙◌, append-nil}
+use Rattle.std.proofs.Common.{◌≡◌, ℕ, List, [], ◌++◌, length, ◌<◌, Option, Result, Ok, Err, IsErrAnd, refl, sym, ap, ◌∙◌, append-nil}
 use Rattle.std.specs.Io.KnownBytes.{Consumes, Keeps}
 use Rattle.std.proofs.KnownBytes.{Consumes-nil, Consumes-kept}
 use Rattle.tac_wire.specs.declared.frame.Frame.{Frame}
@@ -31,6 +31,6 @@ hears_nothing before after stream kept = record {
 
 -- a piece was read, and there was no memory for it
 pub heard_memory : (result : Result (Unit {0}) End) (before after : Option (List ℕ)) (was now : Stream) (piece : List ℕ) → IsErrAnd result (λ end. end ≡ Memory)
-    → Consumes before after piece → Prolongs piece → Heard result before after was now
-heard_memory (Ok _) before after was now piece is read prolongs = absurd is
-heard_memory (Err end) before after was now piece is read prolongs = rw is (piece, read, prolongs)
+    → 0 < length piece → Consumes before after piece → Prolongs piece → Heard result before after was now
+heard_memory (Ok _) before after was now piece is some read prolongs = absurd is
+heard_memory (Err end) before after was now piece is some read prolongs = rw is (piece, some, read, prolongs)

@@ -1,10 +1,10 @@
 -- What one turn of a worker does.
-use Rattle.std.proofs.Common.{◌≡◌, ℕ, suc, List, [], ◌∷◌, ◌++◌, length, ◌<◌, take, drop, Bool, true, false, not, ◌||◌, Option, None, Result, Ok, Err, IsErrAnd, if◌then◌else◌, inl, inr, refl, sym, ap, subst, ◌∙◌, append_assoc, append-nil, length-append, arith}
+use Rattle.std.proofs.Common.{◌≡◌, ℕ, suc, List, [], ◌∷◌, ◌++◌, length, ◌<◌, take, drop, Bool, true, false, not, ◌||◌, Option, None, Result, Ok, Err, IsErrAnd, if◌then◌else◌, inl, inr, refl, sym, ap, subst, ◌∙◌, append_assoc, append-nil, length-append, length-drop, arith}
 use Rattle.std.proofs.lemmas.List.{take-append-drop}
 use Rattle.std.specs.Io.KnownBytes.{Appends}
 use Rattle.std.proofs.KnownBytes.{Appends-nil}
 use Rattle.tac_wire.specs.declared.frame.Frame.{Frame}
-use Rattle.tac_wire.specs.Stream.{Tail, open_end, fault, cut}
+use Rattle.tac_wire.specs.Stream.{Tail, open_end, fault, cut, cut_within}
 use Rattle.tac_conn.specs.declared.ask.Answer.{Answer}
 use Rattle.tac_conn.specs.declared.ask.Ask.{Ask}
 use Rattle.tac_conn.specs.declared.ask.Slot.{Slot}
@@ -80,6 +80,16 @@ closed_more (packet ∷ more) earlier e = rw (closed_more more earlier e) refl
 or_true : (b : Bool) → (b || true) ≡ true
 or_true true = refl
 or_true false = refl
+
+-- a packet is there only where bytes are
+pub some_bytes : (bytes : List ℕ) (taken : ℕ) → taken < length (cut bytes).packets → 0 < length bytes
+unfolding cut cut_within
+some_bytes [] taken some = absurd (omega (arith, some))
+some_bytes (byte ∷ bytes) taken some = omega arith
+
+some_left : (bytes : List ℕ) (taken : ℕ) (frame : Frame) (more : List Frame) → left_of bytes taken ≡ frame ∷ more → 0 < length bytes
+some_left bytes taken frame more left =
+    let long = length-drop taken (cut bytes).packets in let first = ap length left in some_bytes bytes taken (omega (arith, long, first))
 
 -- the bytes of which some packet closes the connection do
 closes_at : (key bytes : List ℕ) (taken : ℕ) (frame : Frame) (more : List Frame) → left_of bytes taken ≡ frame ∷ more → is_closed (clear key frame ∷ taken_of key bytes taken) ≡ true → closes key bytes ≡ true
@@ -293,6 +303,7 @@ module _ (key bytes : List ℕ) (taken : ℕ) where
     replied (Err ByProtocol) ends s r closed free stands =
         record {
           unfinished = λ e. cc;
+          memory = λ e. absurd cc;
           closing = closes_at key bytes taken frame more left (closed_next _ _ (s.closing ∙ r.0));
           ends = rw left (ends_said key _ frame made sending was now old new makes more (rw r.0 at s) r.1);
         }
@@ -301,7 +312,7 @@ module _ (key bytes : List ℕ) (taken : ℕ) where
     replied (Err Memory) ends s r closed free stands = absurd r
     replied (Err ReadFault) ends s r closed free stands = absurd r
     replied (Err WriteFault) ends s r closed free stands =
-        record { unfinished = λ e. cc; closing = tt; ends = rw left (ends_cut key _ frame made sending was now old new makes more ends s r.0 r.1 r.2 r.3 r.4) }
+        record { unfinished = λ e. cc; memory = λ e. absurd cc; closing = tt; ends = rw left (ends_cut key _ frame made sending was now old new makes more ends s r.0 r.1 r.2 r.3 r.4) }
     replied (Err Held) ends s r closed free stands = absurd r
     replied (Err NoSeat) ends s r closed free stands = absurd r
 
@@ -342,6 +353,7 @@ module _ (key bytes : List ℕ) (taken : ℕ) where
       let came = serves_turn key _ (Asks ask slot) f.is in
       record {
         unfinished = uncalled_unfinished end u;
+        memory = λ e. some_left bytes taken f.frame f.more f.left;
         closing = uncalled_closing end (closes key bytes) u;
         ends = ends_uncalled end key _ _ was old u (rw f.left (served_first key _ f.frame f.more [] ∙ rw came refl))
             (rw (f.left, asks_first key (packets_of key (take taken (cut bytes).packets)) f.frame f.more, came) (omega arith));
@@ -404,12 +416,14 @@ module _ (key bytes : List ℕ) (taken : ℕ) where
       let came = serves_turn key _ Close f.is in
       record {
         unfinished = λ e. cc;
+        memory = λ e. absurd cc;
         closing = closes_at key bytes taken f.frame f.more f.left (closed_next _ _ (rw came refl));
         ends = ends_none ByProtocol key _ _ was old old (rw f.left (asks_first key _ f.frame f.more ∙ rw came refl)) (rw f.left (served_first key _ f.frame f.more [] ∙ rw came refl))
             (Appends-nil old) refl (λ w. w);
       }
   turned_close was old stream (inr n) = record {
     unfinished = λ e. cc;
+    memory = λ e. absurd cc;
     closing = ap (λ (b : Bool). is_closed (packets_of key (cut bytes).packets) || b) (by_tail (cut bytes).tail n.is) ∙ or_true (is_closed (packets_of key (cut bytes).packets));
     ends = ends_none ByProtocol key _ _ was old old (rw n.left (asks_at_end key _)) (rw n.left (served_at_end key _ [])) (Appends-nil old) refl (λ w. w);
   }
@@ -419,5 +433,8 @@ module _ (key bytes : List ℕ) (taken : ℕ) where
       by_tail (fault reason) e = refl
 
   -- memory ran out for a packet
-  pub turned_memory : (was : Calling) (old : Option (List ℕ)) (stream : Stream) → Turned (Err Memory) key bytes taken was was old old stream
-  turned_memory was old stream = record { unfinished = λ e. cc; closing = tt; ends = ends_memory key _ _ was old }
+  pub turned_memory : (was : Calling) (old : Option (List ℕ)) (stream : Stream) (result : Result Went End) → IsErrAnd result (λ told. told ≡ Memory) → taken < length (cut bytes).packets
+      → Turned result key bytes taken was was old old stream
+  turned_memory was old stream (Ok went) told some = absurd told
+  turned_memory was old stream (Err end) told some =
+      rw told (record { unfinished = λ e. cc; memory = λ e. some_bytes bytes taken some; closing = tt; ends = ends_memory key _ _ was old })

@@ -1,5 +1,5 @@
 -- A whole connection, one turn after another.
-use Rattle.std.proofs.Common.{◌≡◌, ℕ, zero, suc, List, [], ◌∷◌, ◌++◌, take, drop, Bool, false, ◌||◌, Option, Err, refl, sym, ap, subst, ◌∙◌, append-nil}
+use Rattle.std.proofs.Common.{◌≡◌, ℕ, zero, suc, List, [], ◌∷◌, ◌++◌, take, drop, Bool, false, ◌||◌, Option, Err, refl, sym, ap, subst, ◌∙◌, append-nil, length-append, arith}
 use Rattle.std.proofs.lemmas.List.{take-append-drop, take-append-le}
 use Rattle.std.specs.Io.KnownBytes.{Appends, Consumes, IsAtEnd}
 use Rattle.std.proofs.KnownBytes.{Appends-nil, Appends-trans, Consumes-nil, Consumes-trans}
@@ -65,6 +65,7 @@ module _ (key : List ℕ) (was now : Calling) (before after old mid : Option (Li
     input = s.input;
     read = s.read;
     finished = λ e. absurd (t.unfinished e);
+    memory = t.memory;
     closing = t.closing;
     ends = subst (λ (fs : List Frame). Ends end key (asks_in key [] fs) (served_to key [] fs) was next old new) (take-append-drop s.taken (cut s.input).packets)
         (ends-behind key [] (take s.taken (cut s.input).packets) was now old mid s.goes end (drop s.taken (cut s.input).packets) next new
@@ -106,12 +107,13 @@ module _ (key : List ℕ) (was now : Calling) (before after old mid : Option (Li
         ap (λ (fs : List Frame). is_closed (packets_of key fs) || is_refused (cut s.input).tail) all_taken ∙ ap (λ (b : Bool). b || is_refused (cut s.input).tail) s.stays ∙ r.tail
 
     -- nothing was left to do
-    served_whole : (end : End) (left : Option (List ℕ)) → Consumes after left [] → (end ≡ Finished → IsAtEnd left) → Closes end false → Leaves end [] → (Appends new new [] → Writes end key [] [] new new)
+    served_whole : (end : End) (left : Option (List ℕ)) → Consumes after left [] → (end ≡ Finished → IsAtEnd left) → (end ≡ Memory → ⊥) → Closes end false → Leaves end [] → (Appends new new [] → Writes end key [] [] new new)
         → IsServed end key was next before left old new
-    served_whole end left read finished closing leaves writes = record {
+    served_whole end left read finished enough closing leaves writes = record {
       input = s.input;
       read = rw (append-nil s.input) at (Consumes-trans before after left s.input [] s.read read);
       finished = finished;
+      memory = λ e. absurd (enough e);
       closing = rw all_open closing;
       ends = subst (λ (fs : List Frame). Ends end key (asks_in key [] fs) (served_to key [] fs) was next old new) (append-nil (take s.taken (cut s.input).packets) ∙ sym all_taken)
           (ends-behind key [] (take s.taken (cut s.input).packets) was next old new rests end [] next new
@@ -120,22 +122,23 @@ module _ (key : List ℕ) (was now : Calling) (before after old mid : Option (Li
 
     -- the connection ends at a read
     pub served_read : (end : End) (left : Option (List ℕ)) (then : Stream) → Heard (Err end) after left rested then → IsServed end key was next before left old new
-    served_read Finished left then h = served_whole Finished left h.0 (λ e. h.1) refl refl (λ w. w)
+    served_read Finished left then h = served_whole Finished left h.0 (λ e. h.1) (λ e. cc) refl refl (λ w. w)
     served_read ByProtocol left then h = absurd h
     served_read Stopped left then h = absurd h
     served_read LogFull left then h = absurd h
     served_read Memory left then h =
-        let more = h.2 s.input in
+        let more = h.3 s.input in
         record {
           input = s.input ++ h.0;
-          read = Consumes-trans before after left s.input h.0 s.read h.1;
+          read = Consumes-trans before after left s.input h.0 s.read h.2;
           finished = λ e. absurd cc;
+          memory = λ e. (let some = h.1 in omega (arith, some, length-append s.input h.0));
           closing = tt;
           ends = subst (λ (fs : List Frame). Ends Memory key (asks_in key [] fs) (served_to key [] fs) was next old new)
               (ap (λ (l : List Frame). l ++ more.0) (sym all_taken) ∙ sym more.1)
               (ends-behind key [] (take s.taken (cut s.input).packets) was next old new rests Memory more.0 next new (ends_memory key _ _ next new));
         }
-    served_read ReadFault left then h = served_whole ReadFault left h (λ e. absurd cc) refl refl (λ w. w)
+    served_read ReadFault left then h = served_whole ReadFault left h (λ e. absurd cc) (λ e. cc) refl refl (λ w. w)
     served_read WriteFault left then h = absurd h
     served_read Held left then h = absurd h
     served_read NoSeat left then h = absurd h

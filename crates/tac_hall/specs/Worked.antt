@@ -124,5 +124,6 @@ pub record IsServed (end : End) (key : List ℕ) (was now : Calling)
   pub input : List ℕ
   pub read : Consumes before after input
   pub finished : end ≡ Finished → IsAtEnd after
+  pub memory : end ≡ Memory → 0 < length input
   pub closing : Closes end (closes key input)
   pub ends : Ends end key (asks key input) (served key input) was now old new

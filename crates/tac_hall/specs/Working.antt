@@ -97,6 +97,7 @@ pub record IsAtRest (key : List ℕ) (bytes : List ℕ) (taken : ℕ) (was now :
 pub record EndsAt (end : End) (key : List ℕ) (bytes : List ℕ) (taken : ℕ) (was now : Calling)
     (old new : Option (List ℕ)) : Type 0 where
   pub unfinished : end ≡ Finished → ⊥
+  pub memory : end ≡ Memory → 0 < length bytes
   pub closing : Closes end (closes key bytes)
   pub ends : Ends end key (asks_in key (taken_of key bytes taken) (left_of bytes taken))
       (served_to key (taken_of key bytes taken) (left_of bytes taken)) was now old new
@@ -134,7 +135,7 @@ Heard (Ok _) before after was now = HearsMore before after was now
 Heard (Err Finished) before after was now = Consumes before after [] × IsAtEnd after
 Heard (Err ReadFault) before after was now = Consumes before after []
 Heard (Err Memory) before after was now =
-    (piece : List ℕ) × Consumes before after piece × Prolongs piece
+    (piece : List ℕ) × (0 < length piece) × Consumes before after piece × Prolongs piece
 Heard (Err end) before after was now = ⊥
 
 -- ---- the whole connection

@@ -7,7 +7,7 @@ returns-in_default-clause-heard g c = hears_nothing _ _ _ (rw c.in_default.is at
 pub returns-in_err-feed-clause-heard : goal.returns-in_err-feed-clause-heard
 returns-in_err-feed-clause-heard g c =
     let read = rw c.in-Some.is at c.in_ok-n.ensures.bytes in
-    heard_memory _ _ _ _ _ _ c.from_residual-in_err-feed.ensures.1 read.0 (prolongs_cut _ c.in_err-feed.ensures.pieces)
+    heard_memory _ _ _ _ _ _ c.from_residual-in_err-feed.ensures.1 c.in_err-feed.ensures.memory read.0 (prolongs_cut _ c.in_err-feed.ensures.pieces)
 
 pub returns-clause-heard : goal.returns-clause-heard
 returns-clause-heard g c =

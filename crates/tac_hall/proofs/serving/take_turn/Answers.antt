@@ -1,5 +1,9 @@
-use Rattle.tac_hall.proofs.TurnFacts.{turned_reply, turned_answer, turned_refusal, turned_silent, turned_close}
+use Rattle.tac_hall.proofs.TurnFacts.{turned_memory, turned_reply, turned_answer, turned_refusal, turned_silent, turned_close}
 use Rattle.tac_hall.proofs.serving.take_turn.Goals as goal
+
+pub returns-in_err-packet : goal.returns-in_err-packet
+returns-in_err-packet g c = λ bytes taken ready s.
+    turned_memory c.args.key.now bytes taken c.args.caller.now _ c.next.new.self c.from_residual.result c.from_residual.ensures.1 (c.in_err-packet.ensures.memory bytes taken s)
 
 pub returns-in-Reply : goal.returns-in-Reply
 returns-in-Reply g c = λ bytes taken ready s.
