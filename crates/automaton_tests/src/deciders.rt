@@ -21,12 +21,15 @@ fn reaches(
     }
 }
 
-// Whether what is said of the automaton is so: `=N` its number of states, `I:TEXT` that entry I
-// decides the text, `-TEXT` that none does, `I@TEXT` that it is the least one of entry I, and `I!`
-// that this decides none.
+// Whether what is said of the automaton is so: `=N` its number of states, `|N` its number of
+// columns, `I:TEXT` that entry I decides the text, `-TEXT` that none does, `I@TEXT` that it is the
+// least one of entry I, and `I!` that this decides none.
 fn is_so(alloc: Global, decider: &Decider, said: &[u8]) -> Result<bool, Fail> {
     match said {
         [b'=', states @ ..] => Ok(str::from_utf8(states)?.parse::<u16>()? == decider.states()),
+        [b'|', columns @ ..] => {
+            Ok(str::from_utf8(columns)?.parse::<usize>()? == decider.columns())
+        }
         [b'-', text @ ..] => Ok(decider.decide(text).is_none()),
         [entry @ b'0'..=b'9', b':', text @ ..] => {
             Ok(decider.decide(text) == Some(usize::from(*entry - b'0')))
@@ -153,6 +156,38 @@ fn sizes(rt: HostRuntime) -> Result<(), Fail> {
     )
 }
 
+// A column for each class of symbols that no pattern tells apart.
+#[test]
+fn columns(rt: HostRuntime) -> Result<(), Fail> {
+    judges_lists(
+        &rt,
+        "
+        /[]
+        |1
+        /
+        |1
+        /[^ -~]
+        |1
+        /.*
+        |1
+        /show .*
+        |6
+        /ping;show .*
+        |10
+        /show .*;show .*
+        |6
+        /[a-m].*;[n-z].*;[a-z]x
+        |4
+        /[a-m]*(b|(c?d)*)
+        |5
+        /[0-9]+;[^0-9]*
+        |2
+        /(x|[ -~])y
+        |3
+        ",
+    )
+}
+
 #[test]
 fn decisions(rt: HostRuntime) -> Result<(), Fail> {
     judges_lists(
@@ -199,6 +234,15 @@ fn decisions(rt: HostRuntime) -> Result<(), Fail> {
         0@
         1@ 
         2!
+
+        # A column stands for its least symbol.
+        /[m-z][5-9]
+        0@m5
+        0:z9
+        -a5
+        /[^ -~a-z]*[^ -9]
+        0@:
+        0:~
 
         # The shorter text comes first, then the lower symbol.
         /zz|aaa|~

@@ -140,6 +140,12 @@ fn least_changes(rt: HostRuntime) -> Result<(), Fail> {
         -A: +.* => -[a-m].*;-[A-Z].*;+.*
         -  : +.* => -[ -m][^!].*;-[!-Z].;+.*
 
+        # Each tells symbols apart that the other doesn't.
+        +n: +[a-m].* => +[a-z].*
+        -5: +[0-9] => +[0-4]
+        +ax: +a[^x] => +a[w-z]
+        -a : +a[^x] => +a[w-z]
+
         # The first rule that matches decides.
         -a: +a;-a => -a;+a
         +a: -a;+a => +a;-a
