@@ -15,4 +15,6 @@ mod policies;
 #[cfg(test)]
 mod reports;
 #[cfg(test)]
+mod sharing;
+#[cfg(test)]
 mod support;
