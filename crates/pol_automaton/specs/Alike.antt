@@ -1,8 +1,9 @@
--- Which symbols are alike: those that no class of symbols in the flat forms of entries tells apart. And how many classes
--- of alike symbols there are.
+-- Which symbols are alike: those that no class of symbols in the flat forms of entries tells apart.
+-- And how many classes of alike symbols there are.
 use Rattle.std.specs.Prelude.{◌≡◌, ℕ, IsTrue, List, length, All, AllPairs, Any}
 use Rattle.basics.specs.Symbol.{is_symbol}
-use Rattle.pol_pattern.specs.Flat.{Class, holds_symbol, Factor, class, group, star, Term, empty, put}
+use Rattle.pol_pattern.specs.Flat.{Class, holds_symbol, Factor, class, group, star, Term, empty}
+use Rattle.pol_pattern.specs.Flat.{put}
 use Rattle.pol_pattern.specs.Flat.{Terms, none, alt}
 use Rattle.pol_pattern.specs.Spelling.{Spells}
 
@@ -30,8 +31,8 @@ abbrev pub AreAlike : List (List ℕ) → ℕ → ℕ → Type 0
 AreAlike entries a b =
     All (λ source. (flat : Terms) → Spells source flat → AllInTerms (HoldsAlike a b) flat) entries
 
--- there are this many classes of alike symbols: so many symbols of which no two are alike, and every symbol is alike to
--- one of them
+-- there are this many classes of alike symbols: so many symbols of which no two are alike, and
+-- every symbol is alike to one of them
 pub record IsClassCount (entries : List (List ℕ)) (count : ℕ) : Type 0 where
   pub symbols : List ℕ
   pub many : length symbols ≡ count

@@ -1,6 +1,7 @@
--- A Decider as contracts see it: an automaton whose states are the residuals of entries, with the first match of each.
--- It doesn't hold its entries: a relation says of which it is the Decider.
-use Rattle.std.specs.Prelude.{◌≡◌, ◌↔◌, ◌<◌, ℕ, Bool, IsTrue, List, length, Option, None, Some, slice_index_or}
+-- A Decider as contracts see it: an automaton whose states are the residuals of entries, with the
+-- first match of each. It doesn't hold its entries: a relation says of which it is the Decider.
+use Rattle.std.specs.Prelude.{◌≡◌, ◌↔◌, ◌<◌, ℕ, Bool, IsTrue, List, length, Option, None, Some}
+use Rattle.std.specs.Prelude.{slice_index_or}
 use Rattle.basics.specs.Symbol.{is_text}
 use Rattle.basics.specs.TextOrder.{IsLeast}
 use Rattle.pol_scan.specs.Alphabet.{Alphabet, IsAlphabet, HasClasses, word_of}
@@ -30,7 +31,8 @@ pub record IsWhole (automaton : Automaton) : Type 0 where
   pub letters : IsAlphabet automaton.alphabet
   pub columns : automaton.table.width ≡ automaton.alphabet.width
   pub firsts : length automaton.firsts ≡ count automaton.table
-  pub within : (word : List ℕ) → IsWord automaton.table.width word → walk automaton.table word < count automaton.table
+  pub within : (word : List ℕ) → IsWord automaton.table.width word
+      → walk automaton.table word < count automaton.table
   pub words : (state : ℕ) → state < count automaton.table
       → IsWord automaton.table.width (found_along automaton.table state)
   pub below : (state i : ℕ) → state < count automaton.table → first_of automaton state ≡ Some i
@@ -41,16 +43,18 @@ pub record IsDecider (automaton : Automaton) (entries : List (List ℕ)) : Type 
   pub many : automaton.entries ≡ length entries
   -- its columns are the classes of alike symbols
   pub classes : HasClasses automaton.alphabet (AreAlike entries)
-  -- its states are the residuals: each is reached, and two texts lead to one state exactly if they have the same
+  -- its states are the residuals: each is reached, and two texts lead to one state exactly if they
+  -- have the same
   pub tells : (text other : List ℕ) → IsTrue (is_text text) → IsTrue (is_text other)
       → (state_of automaton text ≡ state_of automaton other) ↔ SameResiduals entries text other
   pub index : IsResidualCount entries (count automaton.table)
   -- a state knows the first match of the texts that lead there
   pub firsts : (text : List ℕ) → IsTrue (is_text text)
       → IsFirstMatch entries text (first_of automaton (state_of automaton text))
-  -- states are numbered in the order of the least words that lead there: so the first state that passes a test has the
-  -- least word of those that lead to such a state
+  -- states are numbered in the order of the least words that lead there: so the first state that
+  -- passes a test has the least word of those that lead to such a state
   pub leasts : (test : ℕ → Bool) (state : ℕ) → state < count automaton.table → IsTrue (test state)
       → ((k : ℕ) → k < state → ¬ (IsTrue (test k)))
-      → IsLeast (IsWordThat automaton.table.width (λ word. IsTrue (test (walk automaton.table word))))
+      → IsLeast (IsWordThat automaton.table.width (λ word. IsTrue (test
+      (walk automaton.table word))))
       (found_along automaton.table state)

@@ -1,5 +1,7 @@
--- What is decided of a text: by the first entry whose set holds it. And the least texts of which something is decided.
-use Rattle.std.specs.Prelude.{◌≡◌, ◌<◌, ℕ, List, [], length, All, Option, None, Some, slice_get, slice_index_or}
+-- What is decided of a text: by the first entry whose set holds it. And the least texts of which
+-- something is decided.
+use Rattle.std.specs.Prelude.{◌≡◌, ◌<◌, ℕ, List, [], length, All, Option, None, Some, slice_get}
+use Rattle.std.specs.Prelude.{slice_index_or}
 use Rattle.std.specs.Prelude.{unwrap_or}
 use Rattle.basics.specs.TextOrder.{IsLeast}
 use Rattle.pol_pattern.specs.Spelling.{Holds}

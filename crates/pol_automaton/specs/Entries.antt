@@ -1,4 +1,5 @@
--- Entries of which an automaton is to be made, as contracts see them: they don't hold their patterns.
+-- Entries of which an automaton is to be made, as contracts see them: they don't hold their
+-- patterns.
 use Rattle.std.specs.Prelude.{◌≡◌, ◌↔◌, ◌<◌, ℕ, List, [], length, All, refl}
 use Rattle.std.specs.Coded.{Coded, code_by, coded×, coded_ℕ, coded_list}
 use Rattle.pol_pattern.specs.Flat.{Term, Terms}
@@ -13,7 +14,8 @@ use Rattle.pol_automaton.specs.Decision.{entry_at}
 use Rattle.pol_automaton.specs.Alike.{AreAlike}
 use Rattle.pol_automaton.specs.Scanning.{HasTerm, AreResiduals}
 
--- how texts are read; terms under numbers; the residual of each entry by the empty text; how many entries there are
+-- how texts are read; terms under numbers; the residual of each entry by the empty text; how many
+-- entries there are
 pub record Entries : Type 0 where
   pub alphabet : Alphabet
   pub terms : List Term
@@ -54,8 +56,10 @@ pub record AreEntries (collected : Entries) (entries : List (List ℕ)) : Type 0
   -- they are read by the classes of alike symbols
   pub classes : HasClasses collected.alphabet (AreAlike entries)
   pub told : All IsToldByResiduals entries
-  pub spelled : (entry : ℕ) → entry < length entries → (flat : Terms) × Spells (entry_at entries entry) flat
-  pub first : (entry : ℕ) (flat : Terms) → entry < length entries → Spells (entry_at entries entry) flat
+  pub spelled : (entry : ℕ) → entry < length entries → (flat : Terms)
+      × Spells (entry_at entries entry) flat
+  pub first : (entry : ℕ) (flat : Terms) → entry < length entries
+      → Spells (entry_at entries entry) flat
       → (term : Term) → HasTerm collected.terms collected.start entry term ↔ Residual flat [] term
 
 -- ---- more terms

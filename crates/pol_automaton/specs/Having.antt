@@ -1,9 +1,11 @@
 -- Which terms lists of numbers have, in tables that grow.
-use Rattle.std.proofs.Common.{◌≡◌, ◌<◌, ◌+◌, ◌↔◌, ◌⊎◌, inl, inr, ℕ, zero, suc, List, [], ◌∷◌, ◌++◌, Contains, length}
+use Rattle.std.proofs.Common.{◌≡◌, ◌<◌, ◌+◌, ◌↔◌, ◌⊎◌, inl, inr, ℕ, zero, suc, List, [], ◌∷◌, ◌++◌}
+use Rattle.std.proofs.Common.{Contains, length}
 use Rattle.std.proofs.Common.{get_or, take, map, refl, sym, subst, ap, ◌∙◌, arith}
 use Rattle.std.proofs.lemmas.List.{take_more, get_or_default, get_or-map, length-map}
 use Rattle.std.proofs.lemmas.List.Elements.{All-append, All-map, All-contains, Contains-append_left}
-use Rattle.std.proofs.lemmas.List.Elements.{Contains-append_right, Contains-append_cases, Contains-push}
+use Rattle.std.proofs.lemmas.List.Elements.{Contains-append_right, Contains-append_cases}
+use Rattle.std.proofs.lemmas.List.Elements.{Contains-push}
 use Rattle.std.proofs.lemmas.List.Elements.{Contains-push_cases}
 use Rattle.pol_pattern.specs.Flat.{Term}
 use Rattle.pol_deriv.specs.Derivative.{Derivative, Derivatives}
@@ -14,28 +16,33 @@ use Rattle.pol_automaton.specs.Stepping.{AreWithin, AreDerivatives, AddsDerivati
 
 -- ---- numbers
 
-pub meant : (table : List Term) (number : ℕ) → number < length table → (term : Term) × Means table number term
+pub meant : (table : List Term) (number : ℕ) → number < length table → (term : Term)
+    × Means table number term
 meant [] number h = absurd (omega arith)
 meant (term ∷ table) zero h = (term, refl)
 meant (term ∷ table) (suc number) h = meant table number (omega arith)
 
-pub means_within : (table : List Term) (number : ℕ) (term : Term) → Means table number term → number < length table
+pub means_within : (table : List Term) (number : ℕ) (term : Term) → Means table number term
+    → number < length table
 means_within [] number term e = absurd cc
 means_within (own ∷ table) zero term e = omega arith
 means_within (own ∷ table) (suc number) term e = omega (arith, means_within table number term e)
 
-pub means_one : (table : List Term) (number : ℕ) (a b : Term) → Means table number a → Means table number b → a ≡ b
+pub means_one : (table : List Term) (number : ℕ) (a b : Term) → Means table number a
+    → Means table number b → a ≡ b
 means_one table number a b p q = cc
 
 pub grows_by : (a b c : List Term) → Grows a b → Grows b c → Grows a c
 grows_by a b c p q = record { kept = λ n t m. q.kept n t (p.kept n t m); distinct = q.distinct }
 
-pub within_more : (old new : List Term) (number : ℕ) → Keeps old new → number < length old → number < length new
+pub within_more : (old new : List Term) (number : ℕ) → Keeps old new → number < length old
+    → number < length new
 within_more old new number keeps h = let w = meant old number h in means_within new number w.0 (keeps number w.0 w.1)
 
 -- ---- which terms a list has
 
-pub has_kept : (old new : List Term) (items : List EntryTerm) → Keeps old new → (entry : ℕ) (term : Term)
+pub has_kept : (old new : List Term) (items : List EntryTerm) → Keeps old new
+    → (entry : ℕ) (term : Term)
     → HasTerm old items entry term → HasTerm new items entry term
 has_kept old new items keeps entry term h = (h.0, h.1, keeps h.0 term h.2)
 
@@ -46,14 +53,16 @@ has_back old new items keeps within entry term h =
     (All-contains (λ (item : EntryTerm). item.term < length old) items (item_of entry h.0) within h.1) in
     (h.0, h.1, subst (Means old h.0) (means_one new h.0 w.0 term (keeps h.0 w.0 w.1) h.2) w.1)
 
-pub has_members : (table : List Term) (a b : List EntryTerm) → ((x : EntryTerm) → Contains b x ↔ Contains a x)
+pub has_members : (table : List Term) (a b : List EntryTerm) → ((x : EntryTerm) → Contains b x
+    ↔ Contains a x)
     → (entry : ℕ) (term : Term) → HasTerm table b entry term ↔ HasTerm table a entry term
 has_members table a b same entry term = (
   λ h. (h.0, (same (item_of entry h.0)).0 h.1, h.2),
   λ h. (h.0, (same (item_of entry h.0)).1 h.1, h.2),
 )
 
-pub within_members : (table : List Term) (a b : List EntryTerm) → ((x : EntryTerm) → Contains b x ↔ Contains a x)
+pub within_members : (table : List Term) (a b : List EntryTerm) → ((x : EntryTerm)
+    → Contains b x ↔ Contains a x)
     → AreWithin table a → AreWithin table b
 within_members table a b same within = λ k d lt.
     All-contains (λ (item : EntryTerm). item.term < length table) a (get_or b k d) within
@@ -62,7 +71,8 @@ within_members table a b same within = λ k d lt.
     own : (k : ℕ) (d : EntryTerm) → k < length b → get_or b k (get_or b k d) ≡ get_or b k d
     own k d lt = get_or_default b k (get_or b k d) d lt
 
-pub within_kept : (old new : List Term) (items : List EntryTerm) → Keeps old new → AreWithin old items
+pub within_kept : (old new : List Term) (items : List EntryTerm) → Keeps old new
+    → AreWithin old items
     → AreWithin new items
 within_kept old new items keeps within = λ k d lt. within_more old new (get_or items k d).term keeps (within k d lt)
 
@@ -77,7 +87,8 @@ mapped_has entry numbers number c = (
 )
 
 mapped_from : (entry : ℕ) (numbers : List ℕ) (other number : ℕ)
-    → Contains (map (item_of entry) numbers) (item_of other number) → (other ≡ entry) × Contains numbers number
+    → Contains (map (item_of entry) numbers) (item_of other number) → (other ≡ entry)
+    × Contains numbers number
 mapped_from entry numbers other number c =
     let lt : c.0 < length numbers = omega (arith, c.1, length-map numbers (item_of entry)) in
     let same : item_of entry (get_or numbers c.0 number) ≡ item_of other number =
@@ -85,7 +96,8 @@ mapped_from entry numbers other number c =
     (sym (ap (λ (x : EntryTerm). x.entry) same), (c.0, lt, ap (λ (x : EntryTerm). x.term) same))
 
 -- the numbers of a set of terms, added under an entry
-pub adds_set : (old new : List Term) (own : ℕ) (before : List EntryTerm) (numbers : List ℕ) (set : Term → Type 0)
+pub adds_set : (old new : List Term) (own : ℕ) (before : List EntryTerm) (numbers : List ℕ)
+    (set : Term → Type 0)
     → Grows old new → AreWithin old before → IsSetOf new numbers set
     → (entry : ℕ) (term : Term)
     → HasTerm new (before ++ map (item_of own) numbers) entry term
@@ -115,7 +127,8 @@ adds_set old new own before numbers set grows within is entry term = (from, to)
         (mapped_has own numbers w.0 w.1) in
         (w.0, Contains-append_right before (map (item_of own) numbers) (item_of entry w.0) there, w.2)
 
-pub added_within : (old new : List Term) (own : ℕ) (before : List EntryTerm) (numbers : List ℕ) (set : Term → Type 0)
+pub added_within : (old new : List Term) (own : ℕ) (before : List EntryTerm) (numbers : List ℕ)
+    (set : Term → Type 0)
     → Grows old new → AreWithin old before → IsSetOf new numbers set
     → AreWithin new (before ++ map (item_of own) numbers)
 added_within old new own before numbers set grows within is =
@@ -129,7 +142,8 @@ added_within old new own before numbers set grows within is =
         let w = is.members.sound n (k, in_range, get_or_default numbers k n d in_range) in
         means_within new n w.0 w.1
 
-pub adds_derivatives : (old new : List Term) (symbol : ℕ) (item : EntryTerm) (before : List EntryTerm)
+pub adds_derivatives : (old new : List Term) (symbol : ℕ) (item : EntryTerm)
+    (before : List EntryTerm)
     (numbers : List ℕ) → Grows old new → item.term < length old → AreWithin old before
     → ((own : Term) → Means old item.term own → IsSetOf new numbers (Derivative symbol own))
     → AddsDerivatives old new symbol item before (before ++ map (item_of item.entry) numbers)
@@ -143,7 +157,8 @@ adds_derivatives old new symbol item before numbers grows lt within sets =
 
 -- ---- the derivatives of one item more
 
-has_more : (table : List Term) (items : List EntryTerm) (i : ℕ) (item : EntryTerm) → i < length items
+has_more : (table : List Term) (items : List EntryTerm) (i : ℕ) (item : EntryTerm)
+    → i < length items
     → item ≡ get_or items i item → (own : Term) → Means table item.term own
     → (entry : ℕ) (term : Term)
     → HasTerm table (take (i + 1) items) entry term
@@ -183,9 +198,11 @@ has_more table items i item lt is own means entry term = (from, to)
       subst (Means table item.term) (sym h.1) means,
     )
 
-pub derive_more : (old now after : List Term) (symbol : ℕ) (items : List EntryTerm) (i : ℕ) (item : EntryTerm)
+pub derive_more : (old now after : List Term) (symbol : ℕ) (items : List EntryTerm) (i : ℕ)
+    (item : EntryTerm)
     (next more : List EntryTerm) → Grows old now → AreWithin old items
-    → i < length items → item ≡ get_or items i item → AreDerivatives old now symbol (take i items) next
+    → i < length items → item ≡ get_or items i item
+    → AreDerivatives old now symbol (take i items) next
     → AddsDerivatives now after symbol item next more
     → AreDerivatives old after symbol (take (i + 1) items) more
 derive_more old now after symbol items i item next more grows within lt is so_far adds = record {
@@ -208,7 +225,8 @@ derive_more old now after symbol items i item next more grows within lt is so_fa
     from entry term (inr h) =
         (own.0, (has_more old items i item lt is own.0 own.1 entry own.0).1 (inr (h.0, refl)), h.1)
 
-    to : (entry : ℕ) (term : Term) → Derivatives symbol (HasTerm old (take (i + 1) items) entry) term
+    to : (entry : ℕ) (term : Term) → Derivatives symbol (HasTerm old (take
+        (i + 1) items) entry) term
         → HasTerm now next entry term ⊎ ((entry ≡ item.entry) × Derivative symbol own.0 term)
     to entry term w =
         elim ((has_more old items i item lt is own.0 own.1 entry w.0).0 w.1) [
@@ -224,7 +242,8 @@ derive_none table symbol items = record {
 }
 
 -- in order, and over all items
-pub derived_in_order : (old new : List Term) (symbol : ℕ) (items part next ordered : List EntryTerm) → part ≡ items
+pub derived_in_order : (old new : List Term) (symbol : ℕ)
+    (items part next ordered : List EntryTerm) → part ≡ items
     → ((x : EntryTerm) → Contains ordered x ↔ Contains next x)
     → AreDerivatives old new symbol part next → AreDerivatives old new symbol items ordered
 derived_in_order old new symbol items part next ordered all same derived = record {

@@ -1,6 +1,7 @@
--- Lists of terms in order: what `==` and the order say of two terms, and that ordered lists of the same terms are the
--- same.
-use Rattle.std.proofs.Common.{◌≡◌, ◌<◌, ◌↔◌, ◌⊎◌, inl, inr, ℕ, zero, suc, Bool, true, ◌&&◌, ◌==◌, List, [], ◌∷◌}
+-- Lists of terms in order: what `==` and the order say of two terms, and that ordered lists of the
+-- same terms are the same.
+use Rattle.std.proofs.Common.{◌≡◌, ◌<◌, ◌↔◌, ◌⊎◌, inl, inr, ℕ, zero, suc, Bool, true, ◌&&◌, ◌==◌}
+use Rattle.std.proofs.Common.{List, [], ◌∷◌}
 use Rattle.std.proofs.Common.{Contains, Less, refl, sym, ap, ◌∙◌, arith}
 use Rattle.std.specs.Prelude.{slice_index_or}
 use Rattle.std.specs.Cmp.{IsTotalOrder, IsEquivalence, unsigned_ties, tied_then}
@@ -8,7 +9,8 @@ use Rattle.std.specs.Ordering.{eq_by_cmp, ordering_reverse, nat_cmp}
 use Rattle.std.specs.declared.cmp.Ordering.{Ordering}
 use Rattle.std.specs.List.Sorted.{IsStrictlySortedBy}
 use Rattle.std.proofs.lemmas.Bool.{and_parts, eqb-true}
-use Rattle.std.proofs.lemmas.Cmp.{nat_cmp_total, nat_eq_equiv, on_total, then_total, on_equiv, and_equiv}
+use Rattle.std.proofs.lemmas.Cmp.{nat_cmp_total, nat_eq_equiv, on_total, then_total, on_equiv}
+use Rattle.std.proofs.lemmas.Cmp.{and_equiv}
 use Rattle.std.proofs.lemmas.List.Elements.{All-from_recursion, All-contains, Contains-append_right}
 use Rattle.std.proofs.lemmas.List.Elements.{Contains-append_cases}
 use Rattle.std.proofs.lemmas.Map.Keys.{sorted_head, sorted_tail}
@@ -56,7 +58,8 @@ first_contained x xs = (0, omega arith, refl)
 later_contained : {A : Type 0} (x : A) (xs : List A) (y : A) → Contains xs y → Contains (x ∷ xs) y
 later_contained x xs y c = Contains-append_right (x ∷ []) xs y c
 
-contained_cases : {A : Type 0} (x : A) (xs : List A) (y : A) → Contains (x ∷ xs) y → (y ≡ x) ⊎ Contains xs y
+contained_cases : {A : Type 0} (x : A) (xs : List A) (y : A) → Contains (x ∷ xs) y
+    → (y ≡ x) ⊎ Contains xs y
 contained_cases {A} x xs y c = by (Contains-append_cases (x ∷ []) xs y c)
   where
     one : (k : ℕ) → k < 1 → slice_index_or (x ∷ []) k y ≡ y → y ≡ x
@@ -67,15 +70,18 @@ contained_cases {A} x xs y c = by (Contains-append_cases (x ∷ []) xs y c)
     by (inl p) = inl (one p.0 p.1 p.2)
     by (inr q) = inr q
 
-not_both : {A : Type 0} {R : A → A → Ordering} → IsTotalOrder R → (x y : A) → R x y ≡ Less → R y x ≡ Less → ⊥
+not_both : {A : Type 0} {R : A → A → Ordering} → IsTotalOrder R → (x y : A) → R x y ≡ Less
+    → R y x ≡ Less → ⊥
 not_both {R} o x y p q = let e : R x y ≡ ordering_reverse (R y x) = o.antisymm x y in let f = rw (p, q) at e in cc
 
-above_first : {A : Type 0} (R : A → A → Ordering) (x : A) (xs : List A) (y : A) → IsStrictlySortedBy R (x ∷ xs)
+above_first : {A : Type 0} (R : A → A → Ordering) (x : A) (xs : List A) (y : A)
+    → IsStrictlySortedBy R (x ∷ xs)
     → Contains xs y → R x y ≡ Less
 above_first R x xs y sorted c =
     All-contains (λ z. R x z ≡ Less) xs y (All-from_recursion (λ z. R x z ≡ Less) xs (sorted_head R x xs sorted)) c
 
-pub same_sorted : {A : Type 0} {R : A → A → Ordering} → IsTotalOrder R → (a b : List A) → IsStrictlySortedBy R a
+pub same_sorted : {A : Type 0} {R : A → A → Ordering} → IsTotalOrder R → (a b : List A)
+    → IsStrictlySortedBy R a
     → IsStrictlySortedBy R b → ((x : A) → Contains a x ↔ Contains b x) → a ≡ b
 same_sorted o [] [] p q same = refl
 same_sorted o [] (y ∷ b) p q same = absurd (none_contained y ((same y).1 (first_contained y b)))

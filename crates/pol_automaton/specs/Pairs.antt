@@ -1,5 +1,6 @@
 -- Two automata that read one text, side by side.
-use Rattle.std.specs.Prelude.{◌≡◌, ◌↔◌, ◌<◌, ◌&&◌, ◌==◌, ◌+◌, ℕ, Bool, true, false, IsTrue, Option, None, Some, List}
+use Rattle.std.specs.Prelude.{◌≡◌, ◌↔◌, ◌<◌, ◌&&◌, ◌==◌, ◌+◌, ℕ, Bool, true, false, IsTrue, Option}
+use Rattle.std.specs.Prelude.{None, Some, List}
 use Rattle.std.specs.Prelude.{refl}
 use Rattle.std.proofs.Common.{sym, ap, subst, ◌∙◌}
 use Rattle.std.proofs.lemmas.Bool.{and_parts, and_from, eqb-true, eq-eqb}
@@ -48,7 +49,8 @@ pairs alphabet a b = record {
 }
 
 -- the states to which a word's text leads
-pub record ArePair (alphabet : Alphabet) (a b : Automaton) (word : List ℕ) (first second : ℕ) : Type 0 where
+pub record ArePair (alphabet : Alphabet) (a b : Automaton) (word : List ℕ)
+    (first second : ℕ) : Type 0 where
   pub first_is : first ≡ state_of a (text_of alphabet word)
   pub second_is : second ≡ state_of b (text_of alphabet word)
   pub first_within : first < count a.table
@@ -102,8 +104,10 @@ changes_at c first second = is_change c.way (verdict_by c.old_verdicts (first_of
 unfoldable pub changes : Comparison → List ℕ → Bool
 changes c text = changes_at c (state_of c.old text) (state_of c.new text)
 
-pub changes_same : (c : Comparison) (text other : List ℕ) → state_of c.old text ≡ state_of c.old other
-    → state_of c.new text ≡ state_of c.new other → IsTrue (changes c text) → IsTrue (changes c other)
+pub changes_same : (c : Comparison) (text other : List ℕ)
+    → state_of c.old text ≡ state_of c.old other
+    → state_of c.new text ≡ state_of c.new other → IsTrue (changes c text)
+    → IsTrue (changes c other)
 unfolding changes
 changes_same c text other p q h = subst (λ n. IsTrue (changes_at c n (state_of c.new other))) p
     (subst (λ n. IsTrue (changes_at c (state_of c.old text) n)) q h)
@@ -126,7 +130,8 @@ PairKeeps al a b am c d =
     Keeps {S = ℕ × ℕ} (pairs al a b) (λ word state. ArePair al a b word state.0 state.1) (pairs am c d)
     (λ word state. ArePair am c d word state.0 state.1)
 
-pub pairs_kept : (al am : Alphabet) (a b c d : Automaton) → al ≡ am → a ≡ c → b ≡ d → PairKeeps al a b am c d
+pub pairs_kept : (al am : Alphabet) (a b c d : Automaton) → al ≡ am → a ≡ c → b ≡ d
+    → PairKeeps al a b am c d
 pairs_kept al am a b c d p q r =
     subst (λ (x : Automaton). PairKeeps al a b am c x) r
     (subst (λ (x : Automaton). PairKeeps al a b am x b) q
@@ -143,7 +148,8 @@ led_back al am a b c d p q r words states led =
     (subst (λ (x : Automaton). AllZip (λ word s. ArePair am x b word s.0 s.1) words states) (sym q)
     (subst (λ (x : Automaton). AllZip (λ word s. ArePair am c x word s.0 s.1) words states) (sym r) led))
 
-pub comparing_kept : (al am : Alphabet) (c d : Comparison) → al ≡ am → c ≡ d → PairKeeps al c.old c.new am d.old d.new
+pub comparing_kept : (al am : Alphabet) (c d : Comparison) → al ≡ am → c ≡ d
+    → PairKeeps al c.old c.new am d.old d.new
 comparing_kept al am c d p q = pairs_kept al am c.old c.new d.old d.new p (ap (λ (x : Comparison). x.old) q)
     (ap (λ (x : Comparison). x.new) q)
 

@@ -1,5 +1,5 @@
--- The residuals of a list of entries, and how many different ones there are. An entry is a pattern, by its source; its
--- residuals are those of the pattern (pol_deriv, Derivative).
+-- The residuals of a list of entries, and how many different ones there are. An entry is a pattern,
+-- by its source; its residuals are those of the pattern (pol_deriv, Derivative).
 use Rattle.std.specs.Prelude.{◌≡◌, ◌↔◌, ◌<◌, ◌≤◌, ℕ, IsTrue, List, length, All, AllPairs, Any}
 use Rattle.basics.specs.Symbol.{is_text}
 use Rattle.pol_pattern.specs.Flat.{Term, Terms}
@@ -20,7 +20,8 @@ pub record AreDifferent (entries texts : List (List ℕ)) : Type 0 where
   pub all_texts : All (λ text. IsTrue (is_text text)) texts
   pub different : AllPairs (λ text other. ¬ (SameResiduals entries text other)) texts
 
--- there are this many residuals: so many different texts, and every text has the residuals of one of them
+-- there are this many residuals: so many different texts, and every text has the residuals of one
+-- of them
 pub record IsResidualCount (entries : List (List ℕ)) (count : ℕ) : Type 0 where
   pub texts : List (List ℕ)
   pub many : length texts ≡ count

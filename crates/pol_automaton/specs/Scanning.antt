@@ -35,7 +35,8 @@ abbrev pub Behind : Alphabet → List Term → List EntryTerm → List ℕ → �
 Behind alphabet table start word entry term = After (HasTerm table start entry) (text_of alphabet word) term
 
 -- the word leads to the residuals
-pub record LeadsTo (alphabet : Alphabet) (table : List Term) (start : List EntryTerm) (word : List ℕ)
+pub record LeadsTo (alphabet : Alphabet) (table : List Term) (start : List EntryTerm)
+    (word : List ℕ)
     (items : List EntryTerm) : Type 0 where
   pub right : AreResiduals table items
   pub members : (entry : ℕ) (term : Term)
@@ -44,9 +45,11 @@ pub record LeadsTo (alphabet : Alphabet) (table : List Term) (start : List Entry
 -- words are the same if the residuals behind them are
 abbrev pub SameBehind : Alphabet → List Term → List EntryTerm → List ℕ → List ℕ → Type 0
 SameBehind alphabet table start u v =
-    (entry : ℕ) (term : Term) → Behind alphabet table start u entry term ↔ Behind alphabet table start v entry term
+    (entry : ℕ) (term : Term) → Behind alphabet table start u entry term
+    ↔ Behind alphabet table start v entry term
 
-pub behind_longer : (alphabet : Alphabet) (table : List Term) (start : List EntryTerm) (u v : List ℕ) (column : ℕ)
+pub behind_longer : (alphabet : Alphabet) (table : List Term) (start : List EntryTerm)
+    (u v : List ℕ) (column : ℕ)
     → SameBehind alphabet table start u v → (entry : ℕ) (term : Term)
     → Behind alphabet table start (longer u column) entry term
     → Behind alphabet table start (longer v column) entry term

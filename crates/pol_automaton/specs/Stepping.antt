@@ -11,7 +11,8 @@ abbrev pub AreWithin : List Term → List EntryTerm → Type 0
 AreWithin table items = All (λ item. item.term < length table) items
 
 -- the items are the derivatives by the symbol of the items that another table has
-pub record AreDerivatives (old new : List Term) (symbol : ℕ) (items derived : List EntryTerm) : Type 0 where
+pub record AreDerivatives (old new : List Term) (symbol : ℕ)
+    (items derived : List EntryTerm) : Type 0 where
   pub within : AreWithin new derived
   pub members : (entry : ℕ) (term : Term)
       → HasTerm new derived entry term ↔ Derivatives symbol (HasTerm old items entry) term

@@ -1,5 +1,7 @@
--- Entries as a machine: which words lead to one list of residuals, and what more terms leave as it is.
-use Rattle.std.proofs.Common.{◌≡◌, ◌==◌, ◌<◌, ◌↔◌, ℕ, true, List, [], ◌∷◌, ◌++◌, Contains, length, refl, sym, subst}
+-- Entries as a machine: which words lead to one list of residuals, and what more terms leave as it
+-- is.
+use Rattle.std.proofs.Common.{◌≡◌, ◌==◌, ◌<◌, ◌↔◌, ℕ, true, List, [], ◌∷◌, ◌++◌, Contains, length}
+use Rattle.std.proofs.Common.{refl, sym, subst}
 use Rattle.std.proofs.Common.{ap, ◌∙◌}
 use Rattle.std.specs.Cmp.Lexicographic.{pointwise, pointwise_decides}
 use Rattle.std.specs.Bool.{Decides}
@@ -14,7 +16,8 @@ use Rattle.pol_scan.specs.Words.{longer}
 use Rattle.pol_scan.specs.Congruence.{Keeps}
 use Rattle.pol_automaton.specs.declared.entry_term.EntryTerm.{EntryTerm}
 use Rattle.pol_automaton.specs.After.{After, after_same, after_push, derivatives_more}
-use Rattle.pol_automaton.specs.Scanning.{item_of, HasTerm, AreResiduals, Behind, LeadsTo, SameBehind, residuals}
+use Rattle.pol_automaton.specs.Scanning.{item_of, HasTerm, AreResiduals, Behind, LeadsTo}
+use Rattle.pol_automaton.specs.Scanning.{SameBehind, residuals}
 use Rattle.pol_automaton.specs.Entries.{Entries, SameTerms, GrowsTo}
 use Rattle.pol_automaton.specs.Stepping.{AreDerivatives}
 use Rattle.pol_automaton.specs.Order.{same_item, same_is, order_total, same_sorted}
@@ -62,7 +65,8 @@ told_apart alphabet table start u v s t p q = (
 
 -- ---- more terms
 
-pub grown : (old new : List Term) → Grows old new → (items : List EntryTerm) → AreResiduals old items
+pub grown : (old new : List Term) → Grows old new → (items : List EntryTerm)
+    → AreResiduals old items
     → AreResiduals new items × SameTerms old new items
 grown old new grows items right = (
   record {
@@ -75,9 +79,11 @@ grown old new grows items right = (
 )
 
 pub behind_grown : (a b : Entries) → GrowsTo a b → (word : List ℕ) (entry : ℕ) (term : Term)
-    → Behind a.alphabet a.terms a.start word entry term ↔ Behind b.alphabet b.terms b.start word entry term
+    → Behind a.alphabet a.terms a.start word entry term
+    ↔ Behind b.alphabet b.terms b.start word entry term
 behind_grown a b g word entry term =
-    let begun : (t : Term) → HasTerm a.terms a.start entry t ↔ HasTerm b.terms b.start entry t = λ t.
+    let begun : (t : Term) → HasTerm a.terms a.start entry t
+    ↔ HasTerm b.terms b.start entry t = λ t.
     subst (λ (s : List EntryTerm). HasTerm a.terms a.start entry t ↔ HasTerm b.terms s entry t) (sym g.start)
     (g.begins entry t) in
     let same = after_same (HasTerm a.terms a.start entry) (HasTerm b.terms b.start entry)
@@ -154,7 +160,8 @@ pub stepped : (alphabet : Alphabet) (old new : List Term) (start : List EntryTer
 stepped alphabet old new start column items next grows begun right exact word led =
     record { right = right; members = λ entry term. (from entry term, to entry term) }
   where
-    spelled : text_of alphabet (longer word column) ≡ text_of alphabet word ++ least_of alphabet column ∷ []
+    spelled : text_of alphabet
+        (longer word column) ≡ text_of alphabet word ++ least_of alphabet column ∷ []
     spelled = map-append (least_of alphabet) word (column ∷ [])
 
     same : (entry : ℕ) (text : List ℕ) (term : Term)
