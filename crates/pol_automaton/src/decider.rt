@@ -1,6 +1,7 @@
 //! Automata that decide by the first match.
 
-ghost use Rattle.std.specs.Prelude.{◌≡◌, ◌<◌, ◌≤◌, ◌+◌, ℕ, List, [], IsTrue, min, IfOk, IfSome, IfNone, OnOk, OnErr, IsErrOf};
+ghost use Rattle.std.specs.Prelude.{◌≡◌, ◌<◌, ◌≤◌, ◌+◌, ℕ, List, [], IsTrue, min, IfOk, IfSome};
+ghost use Rattle.std.specs.Prelude.{IfNone, OnOk, OnErr, IsErrOf};
 ghost use Rattle.basics.specs.Symbol.{is_symbol};
 ghost use Rattle.pol_scan.specs.Table.{count};
 ghost use Rattle.pol_automaton.specs.Residuals.{HasMoreResiduals, ExcludesLaw, IsResidualCount};

@@ -13,12 +13,12 @@ use std::alloc::{AllocError, Global};
 impl Decider {
     ghost use Rattle.pol_automaton.specs.Automaton.{IsDecider};
 
-    /// The least text of which the decision changed this way between an old automaton and a new one,
-    /// or nothing if there is none. There is a verdict for each entry; what no entry decides is
-    /// denied.
+    /// The least text of which the decision changed this way between an old automaton and a new
+    /// one, or nothing if there is none. There is a verdict for each entry; what no entry decides
+    /// is denied.
     ///
-    /// It reads both side by side, and stops at the first pair of states that differs so. It keeps the
-    /// pairs that it met, and no rows.
+    /// It reads both side by side, by the columns that tell apart what either does, and stops at
+    /// the first pair of states that differs so. It keeps the pairs that it met, and no rows.
     pub fn differ(
         alloc: Global,
         old: &Decider,

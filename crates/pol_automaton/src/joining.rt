@@ -1,6 +1,7 @@
 //! The automaton of entries and others behind them.
 
-ghost use Rattle.std.specs.Prelude.{◌≡◌, ◌<◌, ◌≤◌, ◌+◌, ◌++◌, ℕ, List, All, min, IfOk, OnOk, OnErr, IsErrOf};
+ghost use Rattle.std.specs.Prelude.{◌≡◌, ◌<◌, ◌≤◌, ◌+◌, ◌++◌, ℕ, List, All, min, IfOk, OnOk};
+ghost use Rattle.std.specs.Prelude.{OnErr, IsErrOf};
 ghost use Rattle.std.specs.List.{AllZip};
 ghost use Rattle.pol_scan.specs.Table.{count};
 ghost use Rattle.pol_automaton.specs.Residuals.{HasMoreResiduals, ExcludesLaw, IsResidualCount};

@@ -2,7 +2,8 @@
 use Rattle.std.specs.Prelude.{◌≡◌, ◌↔◌, ◌<◌, ◌≤◌, ◌-◌, ℕ, IsTrue, List, map, slice_index}
 use Rattle.basics.specs.Symbol.{is_symbol, is_text}
 
--- how many columns there are; the column of each symbol, from the space on; the least symbol of each column
+-- how many columns there are; the column of each symbol, from the space on; the least symbol of
+-- each column
 pub record Alphabet : Type 0 where
   pub width : ℕ
   pub columns : List ℕ
@@ -26,7 +27,8 @@ word_of alphabet text = map (column_of alphabet) text
 abbrev pub text_of : Alphabet → List ℕ → List ℕ
 text_of alphabet word = map (least_of alphabet) word
 
--- every symbol has a column, each column has a least symbol, and columns are numbered in the order of these
+-- every symbol has a column, each column has a least symbol, and columns are numbered in the order
+-- of these
 pub record IsAlphabet (alphabet : Alphabet) : Type 0 where
   pub few : alphabet.width ≤ 95
   pub within : (symbol : ℕ) → IsTrue (is_symbol symbol) → column_of alphabet symbol < alphabet.width
@@ -44,7 +46,8 @@ pub record IsAlphabet (alphabet : Alphabet) : Type 0 where
 abbrev pub SameColumn : Alphabet → ℕ → ℕ → Type 0
 SameColumn alphabet a b = column_of alphabet a ≡ column_of alphabet b
 
--- the columns are the classes of a relation: two symbols have one column exactly if they are related
+-- the columns are the classes of a relation: two symbols have one column exactly if they are
+-- related
 abbrev pub HasClasses : Alphabet → (ℕ → ℕ → Type 0) → Type 0
 HasClasses alphabet related = (a b : ℕ) → IsTrue (is_symbol a) → IsTrue (is_symbol b)
     → SameColumn alphabet a b ↔ related a b

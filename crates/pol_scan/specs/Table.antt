@@ -1,5 +1,6 @@
 -- The table of a deterministic automaton without accepting states. State 0 is the first.
-use Rattle.std.specs.Prelude.{◌≡◌, ◌↔◌, ◌<◌, ◌≤◌, ◌+◌, ◌*◌, ℕ, Bool, IsTrue, List, length, fold, slice_index, All, AllPairs}
+use Rattle.std.specs.Prelude.{◌≡◌, ◌↔◌, ◌<◌, ◌≤◌, ◌+◌, ◌*◌, ℕ, Bool, IsTrue, List, length, fold}
+use Rattle.std.specs.Prelude.{slice_index, All, AllPairs}
 use Rattle.basics.specs.TextOrder.{IsBefore, IsLeast}
 use Rattle.pol_scan.specs.Words.{IsWord, IsWordThat, word_at}
 use Rattle.pol_scan.specs.Congruence.{Congruence}
@@ -37,11 +38,16 @@ pub record IsWhole (most : ℕ) (table : Table) : Type 0 where
 pub record IsAutomatonOf (congruence : Congruence) (table : Table) : Type 0 where
   pub columns : table.width ≡ congruence.width
   pub within : (word : List ℕ) → IsWord congruence.width word → walk table word < count table
-  pub tells : (u v : List ℕ) → IsWord congruence.width u → IsWord congruence.width v → (walk table u ≡ walk table v) ↔ congruence.same u v
-  -- each state's word is the least that leads there, and states are numbered in the order of their words
+  pub tells : (u v : List ℕ) → IsWord congruence.width u → IsWord congruence.width v
+      → (walk table u ≡ walk table v) ↔ congruence.same u v
+  -- each state's word is the least that leads there, and states are numbered in the order of their
+  -- words
   pub least : (state : ℕ) → state < count table
-      → IsLeast (IsWordThat congruence.width (λ word. walk table word ≡ state)) (word_of table state)
+      → IsLeast (IsWordThat congruence.width (λ word. walk table word ≡ state))
+      (word_of table state)
   pub rising : AllPairs IsBefore table.words
   -- so the first state that passes a test has the least word of those that lead to such a state
-  pub firsts : (test : ℕ → Bool) (state : ℕ) → state < count table → IsTrue (test state) → ((k : ℕ) → k < state → ¬ (IsTrue (test k)))
-      → IsLeast (IsWordThat congruence.width (λ word. IsTrue (test (walk table word)))) (word_of table state)
+  pub firsts : (test : ℕ → Bool) (state : ℕ) → state < count table → IsTrue (test state)
+      → ((k : ℕ) → k < state → ¬ (IsTrue (test k)))
+      → IsLeast (IsWordThat congruence.width (λ word. IsTrue (test (walk table word))))
+      (word_of table state)
