@@ -4,8 +4,8 @@ use Rattle.std.specs.List.{All, AllPairs, slice_index_or}
 use Rattle.std.proofs.lemmas.Bool.{cases_lt}
 use Rattle.std.proofs.lemmas.List.{get_or_past, get_or_default}
 use Rattle.std.proofs.lemmas.List.Elements.{All-nil}
-use Rattle.indexmap.proofs.IndexTableLemmas.Probe.{pigeonhole}
 use Rattle.pol_scan.specs.Words.{IsWord, word_at}
+use Rattle.pol_scan.proofs.Counting.{at_most}
 use Rattle.pol_scan.specs.Congruence.{Congruence, AreDifferent, HasIndex, HasIndexAbove, HasNumbersBelow, Keeps}
 
 -- past the last word the empty one stands
@@ -43,7 +43,7 @@ module _ (congruence : Congruence) (bound : ℕ) (has : HasNumbersBelow congruen
 
   -- there are no more different words than numbers
   pub no_more : length words ≤ bound
-  no_more = pigeonhole (length words) bound number_at (λ i p. number_below i) one_of_each
+  no_more = at_most (length words) bound number_at (λ i p. number_below i) one_of_each
 
 module _ (congruence : Congruence) (index : ℕ) (has : HasIndex congruence index) where
   in_class : (word : List ℕ) (p : IsWord congruence.width word) → congruence.same word (word_at has.words (has.complete word p).0)

@@ -4,6 +4,7 @@ mod Lists
 mod Finding
 mod Filling
 mod Reaching
+mod Counting
 mod Classes
 mod Completing
 mod Seeking
