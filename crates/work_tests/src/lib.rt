@@ -1,0 +1,11 @@
+//! Tests of workers: how connections end, over readers, writers and gates of the tests' own.
+#![tactic(auto)]
+
+#[cfg(test)]
+mod ends;
+#[cfg(test)]
+mod packet;
+#[cfg(test)]
+mod streams;
+#[cfg(test)]
+mod support;
