@@ -1,7 +1,7 @@
 //! A desk that keeps what it stands for in a way of its own.
 
 ghost use Rattle.std.specs.Prelude.{◌≡◌, true, reverse, Err, IsOk, IfOk, OnOk, OnErr};
-ghost use Rattle.tac_desk.specs.Unless.{UnlessMemory};
+ghost use Rattle.pol_live.specs.Live.{UnlessMemory};
 ghost use Rattle.tac_desk.specs.Asking as asking;
 ghost use Rattle.tac_desk.specs.Reporting as reporting;
 ghost use Rattle.tac_desk.specs.declared.query.QueryFault.TheVariants.{NoSuch};
