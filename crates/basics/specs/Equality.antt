@@ -7,7 +7,8 @@ both true b h = (refl, h)
 both false b h = absurd cc
 
 -- where a test tells equal items, the test of lists item by item tells equal lists
-pub pointwise-identical : {A : Type 0} {E : A → A → Bool} → ((x y : A) → E x y ≡ true → x ≡ y) → (xs ys : List A) → pointwise E xs ys ≡ true → xs ≡ ys
+pub pointwise-identical : {A : Type 0} {E : A → A → Bool} → ((x y : A) → E x y ≡ true → x ≡ y)
+    → (xs ys : List A) → pointwise E xs ys ≡ true → xs ≡ ys
 pointwise-identical tells [] [] h = refl
 pointwise-identical tells [] (y ∷ ys) h = absurd cc
 pointwise-identical tells (x ∷ xs) [] h = absurd cc

@@ -1,5 +1,6 @@
 -- Lines of a text, and the parts round a separator.
-use Rattle.std.specs.Prelude.{◌≡◌, ◌≢◌, ◌⊎◌, ℕ, List, [], ◌∷◌, ◌++◌, ◌==◌, Option, Some, None, if◌then◌else◌}
+use Rattle.std.specs.Prelude.{◌≡◌, ◌≢◌, ◌⊎◌, ℕ, List, [], ◌∷◌, ◌++◌, ◌==◌, Option, Some, None}
+use Rattle.std.specs.Prelude.{if◌then◌else◌}
 use Rattle.std.specs.Option.{option_map}
 
 -- what stands before the first separator, and what stands behind it; nothing where there is none
@@ -17,12 +18,14 @@ onto_first byte (line ∷ lines) = (byte ∷ line) ∷ lines
 -- the lines of a text: each ends in LF, which the last may lack
 abbrev pub lines_of : List ℕ → List (List ℕ)
 lines_of [] = []
-lines_of (byte ∷ bytes) = if byte == 10 then [] ∷ lines_of bytes else onto_first byte (lines_of bytes)
+lines_of (byte ∷ bytes) =
+    if byte == 10 then [] ∷ lines_of bytes else onto_first byte (lines_of bytes)
 
 -- a text without the spaces that it begins with
 abbrev pub without_leading_spaces : List ℕ → List ℕ
 without_leading_spaces [] = []
-without_leading_spaces (byte ∷ bytes) = if byte == 32 then without_leading_spaces bytes else byte ∷ bytes
+without_leading_spaces (byte ∷ bytes) =
+    if byte == 32 then without_leading_spaces bytes else byte ∷ bytes
 
 -- lines that are still to be read, of which the first has this number
 pub record Unread : Type 0 where
@@ -36,4 +39,6 @@ BeginsWith text line rest = (text ≡ line ++ 10 ∷ rest) ⊎ ((text ≡ line) 
 
 -- the same of lines: behind the last there is none
 abbrev pub TakesLine : Unread → List ℕ → Unread → Type 0
-TakesLine old line new = (old.text ≡ line ++ 10 ∷ new.text) ⊎ ((old.text ≡ line) × (new.text ≡ []) × (new.lines ≡ []) × (old.text ≢ []))
+TakesLine old line new =
+    (old.text ≡ line ++ 10 ∷ new.text) ⊎ ((old.text ≡ line) × (new.text ≡ []) × (new.lines ≡ [])
+    × (old.text ≢ []))

@@ -6,8 +6,10 @@ abbrev pub Except : Bool → Type 0 → Type 0
 Except true fact = Unit {0}
 Except false fact = fact
 
--- the answer is the wanted one, unless memory ran out: the fault that says so, which is_memory tells, may stand in place
--- of any answer. A view shows what contracts see of a value
-abbrev pub GivesUnlessMemory : {X Y E : Type 0} → (E → Bool) → (X → Y) → Result X E → Result Y E → Type 0
+-- the answer is the wanted one, unless memory ran out: the fault that says so, which
+-- is_memory tells, may stand in place of any answer. A view shows what contracts see of a
+-- value
+abbrev pub GivesUnlessMemory : {X Y E : Type 0} → (E → Bool) → (X → Y) → Result X E → Result Y E
+    → Type 0
 GivesUnlessMemory is_memory view (Ok value) wanted = wanted ≡ Ok (view value)
 GivesUnlessMemory is_memory view (Err fault) wanted = Except (is_memory fault) (wanted ≡ Err fault)

@@ -1,5 +1,6 @@
 -- Numbers in decimal digits.
-use Rattle.std.specs.Prelude.{ℕ, ◌+◌, ◌-◌, ◌*◌, List, [], ◌∷◌, length, ◌&&◌, nat_lt, nat_le, Option, Some, None, if◌then◌else◌}
+use Rattle.std.specs.Prelude.{ℕ, ◌+◌, ◌-◌, ◌*◌, List, [], ◌∷◌, length, ◌&&◌, nat_lt, nat_le, Option}
+use Rattle.std.specs.Prelude.{Some, None, if◌then◌else◌}
 
 -- the number that has the digits of value in front of these digits
 abbrev pub digits_after : ℕ → List ℕ → Option ℕ
@@ -9,4 +10,5 @@ digits_after value (byte ∷ bytes) =
 
 -- 1 to most digits
 abbrev pub number_of : ℕ → List ℕ → Option ℕ
-number_of most text = if nat_lt 0 (length text) && nat_le (length text) most then digits_after 0 text else None
+number_of most text =
+    if nat_lt 0 (length text) && nat_le (length text) most then digits_after 0 text else None

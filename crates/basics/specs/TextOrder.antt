@@ -5,11 +5,14 @@ use Rattle.std.specs.Prelude.{◌≡◌, ◌⊎◌, ◌<◌, ℕ, List, [], ◌�
 abbrev pub IsLower : List ℕ → List ℕ → Type 0
 IsLower [] others = ⊥
 IsLower (symbol ∷ symbols) [] = ⊥
-IsLower (symbol ∷ symbols) (other ∷ others) = (symbol < other) ⊎ ((symbol ≡ other) × IsLower symbols others)
+IsLower (symbol ∷ symbols) (other ∷ others) =
+    (symbol < other) ⊎ ((symbol ≡ other) × IsLower symbols others)
 
--- the shorter text comes first; of two texts of one length the one with the lower symbol where they differ first
+-- the shorter text comes first; of two texts of one length the one with the lower
+-- symbol where they differ first
 abbrev pub IsBefore : List ℕ → List ℕ → Type 0
-IsBefore text other = (length text < length other) ⊎ ((length text ≡ length other) × IsLower text other)
+IsBefore text other =
+    (length text < length other) ⊎ ((length text ≡ length other) × IsLower text other)
 
 -- the fact holds of the text, and no text of which it holds comes earlier
 abbrev pub IsLeast : (List ℕ → Type 0) → List ℕ → Type 0

@@ -18,12 +18,14 @@ pub after_more : (A B : Term → Type 0) (text : List ℕ) → ((term : Term) �
     → After A text term → After B text term
 after_more A B [] more term h = more term h
 after_more A B (symbol ∷ text) more term h =
-    after_more (Derivatives symbol A) (Derivatives symbol B) text (derivatives_more A B symbol more) term h
+    after_more (Derivatives symbol A) (Derivatives symbol B) text
+    (derivatives_more A B symbol more) term h
 
 pub after_same : (A B : Term → Type 0) (text : List ℕ) → ((term : Term) → A term ↔ B term)
     → (term : Term)
     → After A text term ↔ After B text term
-after_same A B text same term = (after_more A B text (λ t. (same t).0) term, after_more B A text (λ t. (same t).1) term)
+after_same A B text same term =
+    (after_more A B text (λ t. (same t).0) term, after_more B A text (λ t. (same t).1) term)
 
 pub after_push : (set : Term → Type 0) (text : List ℕ) (symbol : ℕ) (term : Term)
     → After set (text ++ symbol ∷ []) term ↔ Derivatives symbol (After set text) term

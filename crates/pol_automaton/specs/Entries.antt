@@ -24,7 +24,8 @@ pub record Entries : Type 0 where
 
 abbrev pub alphabet_code : Coded Alphabet
 alphabet_code =
-    code_by (ℕ × (List ℕ × List ℕ)) (coded× coded_ℕ (coded× (coded_list coded_ℕ) (coded_list coded_ℕ)))
+    code_by (ℕ × (List ℕ × List ℕ))
+    (coded× coded_ℕ (coded× (coded_list coded_ℕ) (coded_list coded_ℕ)))
     (λ a. (a.width, (a.columns, a.least)))
     (λ p. record { width = p.0; columns = p.1.0; least = p.1.1 }) (λ _. refl)
 
@@ -35,7 +36,8 @@ entry_term_code = code_by (ℕ × ℕ) (coded× coded_ℕ coded_ℕ) (λ e. (e.e
 abbrev pub entries_code : Coded Entries
 entries_code =
     code_by (Alphabet × (List Term × (List EntryTerm × ℕ)))
-    (coded× alphabet_code (coded× (coded_list term_code) (coded× (coded_list entry_term_code) coded_ℕ)))
+    (coded× alphabet_code
+    (coded× (coded_list term_code) (coded× (coded_list entry_term_code) coded_ℕ)))
     (λ e. (e.alphabet, (e.terms, (e.start, e.count))))
     (λ p. record { alphabet = p.0; terms = p.1.0; start = p.1.1.0; count = p.1.1.1 }) (λ _. refl)
 
@@ -66,7 +68,8 @@ pub record AreEntries (collected : Entries) (entries : List (List ℕ)) : Type 0
 
 -- the numbers have the same terms in both tables
 abbrev pub SameTerms : List Term → List Term → List EntryTerm → Type 0
-SameTerms old new items = (entry : ℕ) (term : Term) → HasTerm old items entry term ↔ HasTerm new items entry term
+SameTerms old new items =
+    (entry : ℕ) (term : Term) → HasTerm old items entry term ↔ HasTerm new items entry term
 
 -- the second are the first, with more terms known: what was a residual still is, of the same terms
 pub record GrowsTo (old new : Entries) : Type 0 where

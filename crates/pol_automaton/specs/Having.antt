@@ -37,7 +37,8 @@ grows_by a b c p q = record { kept = λ n t m. q.kept n t (p.kept n t m); distin
 
 pub within_more : (old new : List Term) (number : ℕ) → Keeps old new → number < length old
     → number < length new
-within_more old new number keeps h = let w = meant old number h in means_within new number w.0 (keeps number w.0 w.1)
+within_more old new number keeps h =
+    let w = meant old number h in means_within new number w.0 (keeps number w.0 w.1)
 
 -- ---- which terms a list has
 
@@ -50,7 +51,8 @@ pub has_back : (old new : List Term) (items : List EntryTerm) → Keeps old new 
     → (entry : ℕ) (term : Term) → HasTerm new items entry term → HasTerm old items entry term
 has_back old new items keeps within entry term h =
     let w = meant old h.0
-    (All-contains (λ (item : EntryTerm). item.term < length old) items (item_of entry h.0) within h.1) in
+    (All-contains (λ (item : EntryTerm). item.term < length old) items
+    (item_of entry h.0) within h.1) in
     (h.0, h.1, subst (Means old h.0) (means_one new h.0 w.0 term (keeps h.0 w.0 w.1) h.2) w.1)
 
 pub has_members : (table : List Term) (a b : List EntryTerm) → ((x : EntryTerm) → Contains b x
@@ -74,7 +76,8 @@ within_members table a b same within = λ k d lt.
 pub within_kept : (old new : List Term) (items : List EntryTerm) → Keeps old new
     → AreWithin old items
     → AreWithin new items
-within_kept old new items keeps within = λ k d lt. within_more old new (get_or items k d).term keeps (within k d lt)
+within_kept old new items keeps within =
+    λ k d lt. within_more old new (get_or items k d).term keeps (within k d lt)
 
 -- ---- numbers with their entry
 
@@ -124,8 +127,11 @@ adds_set old new own before numbers set grows within is entry term = (from, to)
         let w = is.members.complete term h.1 in
         let there : Contains (map (item_of own) numbers) (item_of entry w.0) =
         subst (λ (e : ℕ). Contains (map (item_of own) numbers) (item_of e w.0)) (sym h.0)
-        (mapped_has own numbers w.0 w.1) in
-        (w.0, Contains-append_right before (map (item_of own) numbers) (item_of entry w.0) there, w.2)
+        (mapped_has own numbers w.0 w.1) in (
+          w.0,
+          Contains-append_right before (map (item_of own) numbers) (item_of entry w.0) there,
+          w.2,
+        )
 
 pub added_within : (old new : List Term) (own : ℕ) (before : List EntryTerm) (numbers : List ℕ)
     (set : Term → Type 0)
@@ -150,7 +156,9 @@ pub adds_derivatives : (old new : List Term) (symbol : ℕ) (item : EntryTerm)
 adds_derivatives old new symbol item before numbers grows lt within sets =
     let own = meant old item.term lt in
     record {
-      within = added_within old new item.entry before numbers (Derivative symbol own.0) grows within (sets own.0 own.1);
+      within =
+          added_within old new item.entry before numbers (Derivative symbol own.0) grows within
+          (sets own.0 own.1);
       members = λ other means entry term. adds_set old new item.entry before numbers
           (Derivative symbol other) grows within (sets other means) entry term;
     }
@@ -178,7 +186,8 @@ has_more table items i item lt is own means entry term = (from, to)
               let number : item.term ≡ h.0 = ap (λ (x : EntryTerm). x.term) e in
               inr (
                 sym (ap (λ (x : EntryTerm). x.entry) e),
-                means_one table h.0 term own h.2 (subst (λ (n : ℕ). Means table n own) number means),
+                means_one table h.0 term own h.2
+                    (subst (λ (n : ℕ). Means table n own) number means),
               )
         ]
 
@@ -214,7 +223,8 @@ derive_more old now after symbol items i item next more grows within lt is so_fa
 }
   where
     own : (term : Term) × Means old item.term term
-    own = meant old item.term (subst (λ (x : EntryTerm). x.term < length old) (sym is) (within i item lt))
+    own = meant old item.term
+        (subst (λ (x : EntryTerm). x.term < length old) (sym is) (within i item lt))
 
     from : (entry : ℕ) (term : Term)
         → HasTerm now next entry term ⊎ ((entry ≡ item.entry) × Derivative symbol own.0 term)
@@ -238,7 +248,8 @@ pub derive_none : (table : List Term) (symbol : ℕ) (items : List EntryTerm)
     → AreDerivatives table table symbol (take 0 items) []
 derive_none table symbol items = record {
   within = λ k d lt. absurd (omega arith);
-  members = λ entry term. (λ h. absurd (omega (arith, h.1.1)), λ w. absurd (omega (arith, w.1.1.1)));
+  members =
+      λ entry term. (λ h. absurd (omega (arith, h.1.1)), λ w. absurd (omega (arith, w.1.1.1)));
 }
 
 -- in order, and over all items
@@ -253,7 +264,8 @@ derived_in_order old new symbol items part next ordered all same derived = recor
       let of_part = derived.members entry term in
       let by_all : (Derivatives symbol (HasTerm old part entry) term
       → Derivatives symbol (HasTerm old items entry) term)
-      × (Derivatives symbol (HasTerm old items entry) term → Derivatives symbol (HasTerm old part entry) term) = (
+      × (Derivatives symbol (HasTerm old items entry) term
+      → Derivatives symbol (HasTerm old part entry) term) = (
         λ w. (w.0, subst (λ (l : List EntryTerm). HasTerm old l entry w.0) all w.1, w.2),
         λ w. (w.0, subst (λ (l : List EntryTerm). HasTerm old l entry w.0) (sym all) w.1, w.2),
       ) in

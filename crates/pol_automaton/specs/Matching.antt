@@ -11,4 +11,5 @@ Accepts table items entry = (term : Term) × HasTerm table items entry term × I
 
 abbrev pub IsFirstAccepted : List Term → List EntryTerm → Option ℕ → Type 0
 IsFirstAccepted table items None = (entry : ℕ) → ¬ (Accepts table items entry)
-IsFirstAccepted table items (Some entry) = Accepts table items entry × ((k : ℕ) → k < entry → ¬ (Accepts table items k))
+IsFirstAccepted table items (Some entry) =
+    Accepts table items entry × ((k : ℕ) → k < entry → ¬ (Accepts table items k))

@@ -72,13 +72,15 @@ contained_cases {A} x xs y c = by (Contains-append_cases (x ∷ []) xs y c)
 
 not_both : {A : Type 0} {R : A → A → Ordering} → IsTotalOrder R → (x y : A) → R x y ≡ Less
     → R y x ≡ Less → ⊥
-not_both {R} o x y p q = let e : R x y ≡ ordering_reverse (R y x) = o.antisymm x y in let f = rw (p, q) at e in cc
+not_both {R} o x y p q =
+    let e : R x y ≡ ordering_reverse (R y x) = o.antisymm x y in let f = rw (p, q) at e in cc
 
 above_first : {A : Type 0} (R : A → A → Ordering) (x : A) (xs : List A) (y : A)
     → IsStrictlySortedBy R (x ∷ xs)
     → Contains xs y → R x y ≡ Less
 above_first R x xs y sorted c =
-    All-contains (λ z. R x z ≡ Less) xs y (All-from_recursion (λ z. R x z ≡ Less) xs (sorted_head R x xs sorted)) c
+    All-contains (λ z. R x z ≡ Less) xs y
+    (All-from_recursion (λ z. R x z ≡ Less) xs (sorted_head R x xs sorted)) c
 
 pub same_sorted : {A : Type 0} {R : A → A → Ordering} → IsTotalOrder R → (a b : List A)
     → IsStrictlySortedBy R a

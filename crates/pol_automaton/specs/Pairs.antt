@@ -27,7 +27,8 @@ pub state_longer : (alphabet : Alphabet) (a : Automaton) (word : List ℕ) (colu
     ≡ behind a (state_of a (text_of alphabet word)) (least_of alphabet column)
 state_longer alphabet a word column =
     ap (λ text. walk a.table (word_of a.alphabet text)) (map_push (least_of alphabet) word column)
-    ∙ ap (walk a.table) (map_push (column_of a.alphabet) (text_of alphabet word) (least_of alphabet column))
+    ∙ ap (walk a.table)
+    (map_push (column_of a.alphabet) (text_of alphabet word) (least_of alphabet column))
     ∙ fold_push (next a.table) 0 (word_of a.alphabet (text_of alphabet word))
     (column_of a.alphabet (least_of alphabet column))
 
@@ -61,8 +62,11 @@ pub told_pairs : (alphabet : Alphabet) (a b : Automaton) (u v : List ℕ) (s t :
     → (((s.0 == t.0) && (s.1 == t.1)) ≡ true) ↔ (pairs alphabet a b).same u v
 told_pairs alphabet a b u v s t p q = (
   λ e.
-      let both = and_parts (s.0 == t.0) (s.1 == t.1) e in
-      (sym p.first_is ∙ eqb-true s.0 t.0 both.0 ∙ q.first_is, sym p.second_is ∙ eqb-true s.1 t.1 both.1 ∙ q.second_is),
+      let both = and_parts (s.0 == t.0) (s.1 == t.1) e in (
+        sym p.first_is ∙ eqb-true s.0 t.0 both.0 ∙ q.first_is,
+        sym p.second_is
+            ∙ eqb-true s.1 t.1 both.1 ∙ q.second_is,
+      ),
   λ same.
       and_from (s.0 == t.0) (s.1 == t.1) (eq-eqb s.0 t.0 (p.first_is ∙ same.0 ∙ sym q.first_is))
       (eq-eqb s.1 t.1 (p.second_is ∙ same.1 ∙ sym q.second_is)),
@@ -123,11 +127,18 @@ changes_here alphabet c word first second p = ap (λ n. changes_at c n second) p
 
 abbrev pub comparison_of : Automaton → List Verdict → Automaton → List Verdict → Way → Comparison
 comparison_of old old_verdicts new new_verdicts way =
-    record { old = old; old_verdicts = old_verdicts; new = new; new_verdicts = new_verdicts; way = way }
+    record {
+      old = old;
+      old_verdicts = old_verdicts;
+      new = new;
+      new_verdicts = new_verdicts;
+      way = way;
+    }
 
 abbrev pub PairKeeps : Alphabet → Automaton → Automaton → Alphabet → Automaton → Automaton → Type 0
 PairKeeps al a b am c d =
-    Keeps {S = ℕ × ℕ} (pairs al a b) (λ word state. ArePair al a b word state.0 state.1) (pairs am c d)
+    Keeps {S = ℕ × ℕ} (pairs al a b) (λ word state. ArePair al a b word state.0 state.1)
+    (pairs am c d)
     (λ word state. ArePair am c d word state.0 state.1)
 
 pub pairs_kept : (al am : Alphabet) (a b c d : Automaton) → al ≡ am → a ≡ c → b ≡ d
@@ -146,11 +157,13 @@ pub led_back : (al am : Alphabet) (a b c d : Automaton) → al ≡ am → a ≡ 
 led_back al am a b c d p q r words states led =
     subst (λ (x : Alphabet). AllZip (λ word s. ArePair x a b word s.0 s.1) words states) (sym p)
     (subst (λ (x : Automaton). AllZip (λ word s. ArePair am x b word s.0 s.1) words states) (sym q)
-    (subst (λ (x : Automaton). AllZip (λ word s. ArePair am c x word s.0 s.1) words states) (sym r) led))
+    (subst (λ (x : Automaton). AllZip (λ word s. ArePair am c x word s.0 s.1) words states)
+    (sym r) led))
 
 pub comparing_kept : (al am : Alphabet) (c d : Comparison) → al ≡ am → c ≡ d
     → PairKeeps al c.old c.new am d.old d.new
-comparing_kept al am c d p q = pairs_kept al am c.old c.new d.old d.new p (ap (λ (x : Comparison). x.old) q)
+comparing_kept al am c d p q =
+    pairs_kept al am c.old c.new d.old d.new p (ap (λ (x : Comparison). x.old) q)
     (ap (λ (x : Comparison). x.new) q)
 
 pub changes_stay : (al am : Alphabet) (c d : Comparison) → al ≡ am → c ≡ d → (word : List ℕ)

@@ -13,7 +13,8 @@ InResidual source text term = (flat : Terms) × Spells source flat × Residual f
 -- each entry has the same residual by the one text as by the other
 abbrev pub SameResiduals : List (List ℕ) → List ℕ → List ℕ → Type 0
 SameResiduals entries text other =
-    All (λ source. (term : Term) → InResidual source text term ↔ InResidual source other term) entries
+    All (λ source. (term : Term) → InResidual source text term
+    ↔ InResidual source other term) entries
 
 -- texts of which no two have the same residuals
 pub record AreDifferent (entries texts : List (List ℕ)) : Type 0 where
@@ -36,5 +37,6 @@ pub record HasMoreResiduals (entries : List (List ℕ)) (limit : ℕ) : Type 0 w
 
 -- it can't be both: at most so many, and more
 abbrev pub ExcludesLaw : Type 0
-ExcludesLaw = (entries : List (List ℕ)) (count limit : ℕ) → IsResidualCount entries count → count ≤ limit
+ExcludesLaw =
+    (entries : List (List ℕ)) (count limit : ℕ) → IsResidualCount entries count → count ≤ limit
     → ¬ (HasMoreResiduals entries limit)

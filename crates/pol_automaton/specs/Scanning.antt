@@ -18,7 +18,8 @@ item_of entry number = record { entry = entry; term = number }
 
 -- the residual of the entry has the term
 abbrev pub HasTerm : List Term → List EntryTerm → ℕ → Term → Type 0
-HasTerm table items entry term = (number : ℕ) × Contains items (item_of entry number) × Means table number term
+HasTerm table items entry term =
+    (number : ℕ) × Contains items (item_of entry number) × Means table number term
 
 -- in the order of the entries, then of the numbers
 abbrev pub order : EntryTerm → EntryTerm → Ordering
@@ -32,7 +33,8 @@ pub record AreResiduals (table : List Term) (items : List EntryTerm) : Type 0 wh
 
 -- behind the residuals at the start, the residual of an entry by the text that a word spells
 abbrev pub Behind : Alphabet → List Term → List EntryTerm → List ℕ → ℕ → Term → Type 0
-Behind alphabet table start word entry term = After (HasTerm table start entry) (text_of alphabet word) term
+Behind alphabet table start word entry term =
+    After (HasTerm table start entry) (text_of alphabet word) term
 
 -- the word leads to the residuals
 pub record LeadsTo (alphabet : Alphabet) (table : List Term) (start : List EntryTerm)
@@ -70,8 +72,10 @@ residuals alphabet table start = record {
   same = SameBehind alphabet table start;
   reflexive = λ u entry term. (λ h. h, λ h. h);
   symmetric = λ u v same entry term. ((same entry term).1, (same entry term).0);
-  transitive = λ u v w one two entry term.
-      (λ h. (two entry term).0 ((one entry term).0 h), λ h. (one entry term).1 ((two entry term).1 h));
+  transitive = λ u v w one two entry term. (
+    λ h. (two entry term).0 ((one entry term).0 h),
+    λ h. (one entry term).1 ((two entry term).1 h),
+  );
   followed = λ u v column in_range same entry term. (
     behind_longer alphabet table start u v column same entry term,
     behind_longer alphabet table start v u column (λ e t. ((same e t).1, (same e t).0)) entry term,

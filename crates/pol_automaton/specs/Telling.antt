@@ -29,8 +29,10 @@ contained_in : (alphabet : Alphabet) (table : List Term) (start : List EntryTerm
     (s t : List EntryTerm) → LeadsTo alphabet table start u s → LeadsTo alphabet table start v t
     → SameBehind alphabet table start u v → (x : EntryTerm) → Contains s x → Contains t x
 contained_in alphabet table start u v s t p q same x c =
-    let m = meant table x.term (All-contains (λ (item : EntryTerm). item.term < length table) s x p.right.within c) in
-    let h = (q.members x.entry m.0).1 ((same x.entry m.0).0 ((p.members x.entry m.0).0 (x.term, c, m.1))) in
+    let m = meant table x.term
+    (All-contains (λ (item : EntryTerm). item.term < length table) s x p.right.within c) in
+    let h = (q.members x.entry m.0).1
+    ((same x.entry m.0).0 ((p.members x.entry m.0).0 (x.term, c, m.1))) in
     let number : h.0 ≡ x.term = p.right.distinct h.0 x.term m.0 h.2 m.1 in
     subst (λ (n : ℕ). Contains t (item_of x.entry n)) number h.1
 
@@ -42,9 +44,11 @@ told_apart alphabet table start u v s t p q = (
       let is : s ≡ t = (pointwise_decides decides s t).0 e in
       λ entry term. (
         λ h. (q.members entry term).0
-            (subst (λ (l : List EntryTerm). HasTerm table l entry term) is ((p.members entry term).1 h)),
+            (subst (λ (l : List EntryTerm). HasTerm table l entry term) is
+            ((p.members entry term).1 h)),
         λ h. (p.members entry term).0
-            (subst (λ (l : List EntryTerm). HasTerm table l entry term) (sym is) ((q.members entry term).1 h)),
+            (subst (λ (l : List EntryTerm). HasTerm table l entry term) (sym is)
+            ((q.members entry term).1 h)),
       ),
   λ same.
       (pointwise_decides decides s t).1
@@ -74,8 +78,10 @@ grown old new grows items right = (
     within = within_kept old new items grows.kept right.within;
     distinct = grows.distinct;
   },
-  λ entry term.
-      (has_kept old new items grows.kept entry term, has_back old new items grows.kept right.within entry term),
+  λ entry term. (
+    has_kept old new items grows.kept entry term,
+    has_back old new items grows.kept right.within entry term,
+  ),
 )
 
 pub behind_grown : (a b : Entries) → GrowsTo a b → (word : List ℕ) (entry : ℕ) (term : Term)
@@ -84,7 +90,8 @@ pub behind_grown : (a b : Entries) → GrowsTo a b → (word : List ℕ) (entry 
 behind_grown a b g word entry term =
     let begun : (t : Term) → HasTerm a.terms a.start entry t
     ↔ HasTerm b.terms b.start entry t = λ t.
-    subst (λ (s : List EntryTerm). HasTerm a.terms a.start entry t ↔ HasTerm b.terms s entry t) (sym g.start)
+    subst (λ (s : List EntryTerm). HasTerm a.terms a.start entry t
+    ↔ HasTerm b.terms s entry t) (sym g.start)
     (g.begins entry t) in
     let same = after_same (HasTerm a.terms a.start entry) (HasTerm b.terms b.start entry)
     (text_of a.alphabet word) begun term in
@@ -106,19 +113,24 @@ leads_grown a b g word items led =
 
 pub kept : (a b : Entries) → GrowsTo a b
     → Keeps {S = Vec EntryTerm} (residuals a.alphabet a.terms a.start)
-    (λ word state. LeadsTo a.alphabet a.terms a.start word state.items) (residuals b.alphabet b.terms b.start)
+    (λ word state. LeadsTo a.alphabet a.terms a.start word state.items)
+    (residuals b.alphabet b.terms b.start)
     (λ word state. LeadsTo b.alphabet b.terms b.start word state.items)
 kept a b g = record {
   columns = ap (λ (al : Alphabet). al.width) g.alphabet;
   alike = λ u v. (
     λ same entry term.
         let at_u = behind_grown a b g u entry term in
-        let at_v = behind_grown a b g v entry term in
-        (λ h. at_v.0 ((same entry term).0 (at_u.1 h)), λ h. at_u.0 ((same entry term).1 (at_v.1 h))),
+        let at_v = behind_grown a b g v entry term in (
+          λ h. at_v.0 ((same entry term).0 (at_u.1 h)),
+          λ h. at_u.0 ((same entry term).1 (at_v.1 h)),
+        ),
     λ same entry term.
         let at_u = behind_grown a b g u entry term in
-        let at_v = behind_grown a b g v entry term in
-        (λ h. at_v.1 ((same entry term).0 (at_u.0 h)), λ h. at_u.1 ((same entry term).1 (at_v.0 h))),
+        let at_v = behind_grown a b g v entry term in (
+          λ h. at_v.1 ((same entry term).0 (at_u.0 h)),
+          λ h. at_u.1 ((same entry term).1 (at_v.0 h)),
+        ),
   );
   known = λ word state led. leads_grown a b g word state.items led;
 }
@@ -138,7 +150,8 @@ grows_on a b c p q = record {
   start = q.start ∙ p.start;
   count = q.count ∙ p.count;
   begins = λ entry term.
-      let then = subst (λ (s : List EntryTerm). SameTerms b.terms c.terms s) p.start q.begins entry term in
+      let then = subst (λ (s : List EntryTerm).
+      SameTerms b.terms c.terms s) p.start q.begins entry term in
       (λ h. then.0 ((p.begins entry term).0 h), λ h. (p.begins entry term).1 (then.1 h));
   known = λ items right.
       let first = p.known items right in
@@ -177,7 +190,8 @@ stepped alphabet old new start column items next grows begun right exact word le
         (λ t. (led.members entry t).0) term
         ((exact.members entry term).0 h) in
         let after = (same entry (text_of alphabet word ++ least_of alphabet column ∷ []) term).0
-        ((after_push (HasTerm old start entry) (text_of alphabet word) (least_of alphabet column) term).1 d) in
+        ((after_push (HasTerm old start entry) (text_of alphabet word)
+        (least_of alphabet column) term).1 d) in
         subst (λ (text : List ℕ). After (HasTerm new start entry) text term) (sym spelled) after
 
     to : (entry : ℕ) (term : Term) → Behind alphabet new start (longer word column) entry term
@@ -185,8 +199,10 @@ stepped alphabet old new start column items next grows begun right exact word le
     to entry term b =
         let after = (same entry (text_of alphabet word ++ least_of alphabet column ∷ []) term).1
         (subst (λ (text : List ℕ). After (HasTerm new start entry) text term) spelled b) in
-        let pushed = after_push (HasTerm old start entry) (text_of alphabet word) (least_of alphabet column) term in
+        let pushed = after_push (HasTerm old start entry) (text_of alphabet word)
+        (least_of alphabet column) term in
         let d = pushed.0 after in
         (exact.members entry term).1
-        (derivatives_more (After (HasTerm old start entry) (text_of alphabet word)) (HasTerm old items entry)
+        (derivatives_more (After (HasTerm old start entry) (text_of alphabet word))
+        (HasTerm old items entry)
         (least_of alphabet column) (λ t. (led.members entry t).1) term d)

@@ -35,10 +35,19 @@ impl Model for Entries {
 
     ghost coded = { entries_code };
 
-    ghost view = { λ e. record { alphabet = e.alphabet; terms = e.terms; start = e.start.items; count = e.count } };
+    ghost view = { λ e. record {
+      alphabet = e.alphabet;
+      terms = e.terms;
+      start = e.start.items;
+      count = e.count;
+    } };
 
-    ghost invariant = { λ e. AreWhole
-        (record { alphabet = e.alphabet; terms = e.terms; start = e.start.items; count = e.count }) };
+    ghost invariant = { λ e. AreWhole (record {
+      alphabet = e.alphabet;
+      terms = e.terms;
+      start = e.start.items;
+      count = e.count;
+    }) };
 }
 
 // Adds the terms of an entry, or none of them.
@@ -117,7 +126,8 @@ impl Entries {
     pub(crate) fn firsts(&self, states: &[Vec<EntryTerm>]) -> Result<Vec<Option<usize>>, AllocError>
         requires { All (λ state. AreResiduals self.now.terms state.items) states.now }
         ensures { IfOk result (λ firsts. AllZip
-            (λ state first. IsFirstAccepted self.now.terms state.items first) states.now firsts.items) }
+            (λ state first. IsFirstAccepted self.now.terms state.items first)
+            states.now firsts.items) }
     {
         let mut firsts = Vec::new(self.alloc);
         for state in states {

@@ -106,7 +106,8 @@ impl<'a> Acceptor for Comparing<'a> {
 
     ghost stays = { λ a b g word. changes_stay a.alphabet b.alphabet
         (comparison_of a.old.now a.old_verdicts.now a.new.now a.new_verdicts.now a.way)
-        (comparison_of b.old.now b.old_verdicts.now b.new.now b.new_verdicts.now b.way) g.0 g.1 word };
+        (comparison_of b.old.now b.old_verdicts.now b.new.now b.new_verdicts.now b.way)
+        g.0 g.1 word };
 }
 
 /// Two automata whose entries are joined.
@@ -126,7 +127,8 @@ impl<'a> Machine for Joining<'a> {
 
     ghost congruence = { λ m. pairs m.alphabet m.first.now m.rest.now };
 
-    ghost leads = { λ m word state. ArePair m.alphabet m.first.now m.rest.now word state.0 state.1 };
+    ghost leads = { λ m word state.
+        ArePair m.alphabet m.first.now m.rest.now word state.0 state.1 };
 
     ghost grows = { λ a b. (a.alphabet ≡ b.alphabet) × (a.first.now ≡ b.first.now)
         × (a.rest.now ≡ b.rest.now) };
@@ -146,8 +148,8 @@ impl<'a> Machine for Joining<'a> {
 
     ghost tells = { λ m u v s t. told_pairs m.alphabet m.first.now m.rest.now u v s t };
 
-    ghost keeps = { λ a b g. pairs_kept a.alphabet b.alphabet a.first.now a.rest.now b.first.now b.rest.now
-        g.0 g.1 g.2 };
+    ghost keeps = { λ a b g. pairs_kept a.alphabet b.alphabet a.first.now a.rest.now
+        b.first.now b.rest.now g.0 g.1 g.2 };
 
     ghost reflexive = { λ m. (refl, refl, refl) };
 

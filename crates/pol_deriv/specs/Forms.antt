@@ -8,11 +8,14 @@ use Rattle.pol_deriv.specs.declared.linear.Monomial.{Monomial}
 
 -- each monomial is the pair of its class and the term of its number
 abbrev pub IsForm : List Term → List Monomial → List (Class × Term) → Type 0
-IsForm table monomials pairs = AllZip (λ monomial pair. (monomial.class ≡ pair.0) × Means table monomial.next pair.1) monomials pairs
+IsForm table monomials pairs =
+    AllZip (λ monomial pair. (monomial.class ≡ pair.0)
+    × Means table monomial.next pair.1) monomials pairs
 
 -- the numbers to which the symbol leads
 abbrev pub reached : ℕ → List Monomial → List ℕ
-reached symbol form = map (λ monomial. monomial.next) (filter (λ monomial. holds_symbol monomial.class symbol) form)
+reached symbol form =
+    map (λ monomial. monomial.next) (filter (λ monomial. holds_symbol monomial.class symbol) form)
 
 -- from this place on stand, for one symbol after another, the numbers to which it leads, in order
 abbrev pub IsRowOf : List Monomial → List (List ℕ) → ℕ → ℕ → Type 0

@@ -1,7 +1,10 @@
--- Linear forms (Antimirov, as in Derivative): the derivatives of a term by all symbols at once, as pairs
--- of a class and a term. A derivative by a symbol is the term of a pair whose class holds the symbol.
-use Rattle.std.specs.Prelude.{◌≡◌, ◌⊎◌, ℕ, Bool, true, false, IsTrue, ◌&&◌, ◌||◌, List, [], ◌∷◌, ◌++◌, if◌then◌else◌}
-use Rattle.pol_pattern.specs.Flat.{Class, holds_symbol, Factor, class, group, star, Term, empty, put, Terms, none, alt, join_term}
+-- Linear forms (Antimirov, as in Derivative): the derivatives of a term by all
+-- symbols at once, as pairs of a class and a term. A derivative by a symbol is the
+-- term of a pair whose class holds the symbol.
+use Rattle.std.specs.Prelude.{◌≡◌, ◌⊎◌, ℕ, Bool, true, false, IsTrue, ◌&&◌, ◌||◌, List, [], ◌∷◌}
+use Rattle.std.specs.Prelude.{◌++◌, if◌then◌else◌}
+use Rattle.pol_pattern.specs.Flat.{Class, holds_symbol, Factor, class, group, star, Term, empty}
+use Rattle.pol_pattern.specs.Flat.{put, Terms, none, alt, join_term}
 
 -- whether a part holds the empty text
 abbrev mutual
@@ -18,7 +21,8 @@ abbrev mutual
   terms_hold_empty none = false
   terms_hold_empty (alt first others) = term_holds_empty first || terms_hold_empty others
 
--- what stands behind each term of a group or a star, where this stands behind the whole: a star goes on
+-- what stands behind each term of a group or a star, where this stands behind the
+-- whole: a star goes on
 abbrev pub continuation : Factor → Term → Term
 continuation (class c) behind = behind
 continuation (group terms) behind = behind
@@ -35,7 +39,8 @@ abbrev mutual
   pub linear : Term → Term → List (Class × Term)
   linear empty behind = []
   linear (put factor rest) behind =
-      factor_linear factor (join_term rest behind) ++ (if factor_holds_empty factor then linear rest behind else [])
+      factor_linear factor (join_term rest behind)
+      ++ (if factor_holds_empty factor then linear rest behind else [])
 
   pub terms_linear : Terms → Term → List (Class × Term)
   terms_linear none behind = []
@@ -44,4 +49,5 @@ abbrev mutual
 -- the term is that of a pair whose class holds the symbol
 abbrev pub Leads : ℕ → List (Class × Term) → Term → Type 0
 Leads symbol [] next = ⊥
-Leads symbol (pair ∷ pairs) next = (IsTrue (holds_symbol pair.0 symbol) × (next ≡ pair.1)) ⊎ Leads symbol pairs next
+Leads symbol (pair ∷ pairs) next =
+    (IsTrue (holds_symbol pair.0 symbol) × (next ≡ pair.1)) ⊎ Leads symbol pairs next

@@ -1,5 +1,6 @@
 -- The terms that nodes stand for, one node after another: the parts of a node stand before it.
-use Rattle.std.specs.Prelude.{◌≡◌, ◌<◌, ℕ, Bool, true, false, IsTrue, List, [], ◌∷◌, ◌++◌, Some, slice_get, unwrap_or, fold}
+use Rattle.std.specs.Prelude.{◌≡◌, ◌<◌, ℕ, Bool, true, false, IsTrue, List, [], ◌∷◌, ◌++◌, Some}
+use Rattle.std.specs.Prelude.{slice_get, unwrap_or, fold}
 use Rattle.pol_pattern.specs.Flat.{Factor, class, group, star, Term, empty, put, Terms, none, alt}
 use Rattle.pol_deriv.specs.Linear.{term_holds_empty}
 use Rattle.pol_deriv.specs.Table.{Means, IsDistinct}
@@ -46,8 +47,8 @@ with_alternative first (put (group terms) rest) = put (group (alt first terms)) 
 with_alternative first (put (star terms) rest) = put (star (alt first terms)) rest
 with_alternative first other = other
 
--- a term without its first part (a class; a group or star of no terms; or the first term of one that
--- has some), and that part in front of another term
+-- a term without its first part (a class; a group or star of no terms; or the first
+-- term of one that has some), and that part in front of another term
 abbrev pub without_part : Term → Term
 without_part empty = empty
 without_part (put (class c) rest) = rest
@@ -75,24 +76,29 @@ node_term table nodes.Empty = empty
 node_term table (nodes.Class c rest) = put (class c) (term_at table rest)
 node_term table (nodes.Group rest) = put (group none) (term_at table rest)
 node_term table (nodes.Star rest mark) = put (star none) (term_at table rest)
-node_term table (nodes.Alternative first rest mark) = with_alternative (term_at table first) (term_at table rest)
+node_term table (nodes.Alternative first rest mark) =
+    with_alternative (term_at table first) (term_at table rest)
 
 -- the terms of nodes, in order
 abbrev pub terms_of : List Node → List Term
 terms_of list = fold (λ table node. table ++ node_term table node ∷ []) [] list
 
--- the node's parts are below its own number, and its mark says whether its term holds the empty text
+-- the node's parts are below its own number, and its mark says whether its term
+-- holds the empty text
 abbrev pub IsRight : List Term → ℕ → Node → Type 0
 IsRight table number nodes.Empty = Unit {0}
 IsRight table number (nodes.Class c rest) = rest < number
 IsRight table number (nodes.Group rest) = rest < number
-IsRight table number (nodes.Star rest mark) = (rest < number) × (mark ≡ term_holds_empty (term_at table rest))
+IsRight table number (nodes.Star rest mark) =
+    (rest < number) × (mark ≡ term_holds_empty (term_at table rest))
 IsRight table number (nodes.Alternative first rest mark) =
     (rest < number) × (first < number) × IsTrue (begins_with_terms (term_at table rest))
     × (mark ≡ term_holds_empty (with_alternative (term_at table first) (term_at table rest)))
 
 -- each node is right, and stands for the term of its number; no two stand for one term
 pub record IsTable (list : List Node) : Type 0 where
-  pub right : (number : ℕ) (node : Node) → slice_get list number ≡ Some node → IsRight (terms_of list) number node
-  pub meant : (number : ℕ) (node : Node) → slice_get list number ≡ Some node → Means (terms_of list) number (node_term (terms_of list) node)
+  pub right : (number : ℕ) (node : Node) → slice_get list number ≡ Some node
+      → IsRight (terms_of list) number node
+  pub meant : (number : ℕ) (node : Node) → slice_get list number ≡ Some node
+      → Means (terms_of list) number (node_term (terms_of list) node)
   pub distinct : IsDistinct (terms_of list)

@@ -7,4 +7,6 @@ lists_of numbers spans = map (λ span. slice_range numbers span.start span.end) 
 
 -- each lies within the whole
 abbrev pub AreWithin : List ℕ → List Span → Type 0
-AreWithin numbers spans = (k : ℕ) (span : Span) → slice_get spans k ≡ Some span → (span.start ≤ span.end) × (span.end ≤ length numbers)
+AreWithin numbers spans =
+    (k : ℕ) (span : Span) → slice_get spans k ≡ Some span
+    → (span.start ≤ span.end) × (span.end ≤ length numbers)

@@ -20,10 +20,13 @@ pub record Grows (old new : List Term) : Type 0 where
   pub kept : Keeps old new
   pub distinct : IsDistinct new
 
--- the numbers stand for the terms of the set: each means one of them, and each of them is meant by one
+-- the numbers stand for the terms of the set: each means one of them, and each of
+-- them is meant by one
 pub record StandsFor (table : List Term) (numbers : List ℕ) (set : Term → Type 0) : Type 0 where
-  pub sound : (number : ℕ) → Contains numbers number → (term : Term) × Means table number term × set term
-  pub complete : (term : Term) → set term → (number : ℕ) × Contains numbers number × Means table number term
+  pub sound : (number : ℕ) → Contains numbers number
+      → (term : Term) × Means table number term × set term
+  pub complete : (term : Term) → set term
+      → (number : ℕ) × Contains numbers number × Means table number term
 
 -- the same of numbers in order, each once
 pub record IsSetOf (table : List Term) (numbers : List ℕ) (set : Term → Type 0) : Type 0 where
@@ -40,5 +43,7 @@ AreNumbers table numbers = (number : ℕ) → Contains numbers number → number
 
 -- numbers in order that mean the same terms are the same numbers
 abbrev pub SameSetLaw : Type 0
-SameSetLaw = (table : List Term) (a b : List ℕ) → IsDistinct table → AreNumbers table a → AreNumbers table b → IsStrictlyIncreasing a → IsStrictlyIncreasing b
+SameSetLaw =
+    (table : List Term) (a b : List ℕ) → IsDistinct table → AreNumbers table a → AreNumbers table b
+    → IsStrictlyIncreasing a → IsStrictlyIncreasing b
     → ((term : Term) → HasTerm table a term ↔ HasTerm table b term) → a ≡ b

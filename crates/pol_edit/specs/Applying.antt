@@ -1,5 +1,7 @@
 -- What an edit makes of a policy: the new policy, or the first refusal.
-use Rattle.std.specs.Prelude.{◌≡◌, ℕ, ◌+◌, ◌-◌, nat_le, List, [], ◌∷◌, ◌++◌, length, Bool, true, false, not, ◌&&◌, is_some, Option, Some, None, Result, Ok, Err, ok_or, if◌then◌else◌}
+use Rattle.std.specs.Prelude.{◌≡◌, ℕ, ◌+◌, ◌-◌, nat_le, List, [], ◌∷◌, ◌++◌, length, Bool, true}
+use Rattle.std.specs.Prelude.{false, not, ◌&&◌, is_some, Option, Some, None, Result, Ok, Err, ok_or}
+use Rattle.std.specs.Prelude.{if◌then◌else◌}
 use Rattle.std.specs.Option.{option_map_or}
 use Rattle.std.specs.Result.{is_ok}
 use Rattle.basics.specs.Memory.{Except}
@@ -9,7 +11,9 @@ use Rattle.pol_names.specs.Secret.{is_secret}
 use Rattle.pol_names.specs.SubjectId.{same_kind, group_id, user_id}
 use Rattle.pol_text.specs.Policy.{find_subject, all_of}
 use Rattle.pol_text.specs.Text.{new_subject}
-use Rattle.pol_text.specs.Change.{with_changed, without, is_parent, has_room_below, chain_fault, with_parent, with_secret, with_priv, with_rule_at, without_rule_at, with_rule_moved}
+use Rattle.pol_text.specs.Change.{with_changed, without, is_parent, has_room_below, chain_fault}
+use Rattle.pol_text.specs.Change.{with_parent, with_secret, with_priv, with_rule_at}
+use Rattle.pol_text.specs.Change.{without_rule_at, with_rule_moved}
 use Rattle.pol_names.specs.declared.secret.Credential.TheVariants.{Login, Enable}
 use Rattle.pol_names.specs.declared.subject_id.Kind.{Kind}
 use Rattle.pol_names.specs.declared.subject_id.Kind.TheVariants.{Group, User}
@@ -19,12 +23,15 @@ use Rattle.pol_text.specs.declared.subject.Subject.{Subject}
 use Rattle.pol_text.specs.declared.fault.ChainFault.{ChainFault}
 use Rattle.pol_text.specs.declared.fault.ChainFault.TheVariants as chains
 use Rattle.pol_edit.specs.declared.edit.Edit.{Edit}
-use Rattle.pol_edit.specs.declared.edit.Edit.TheVariants.{AddGroup, AddUser, Remove, SetParent, SetLogin, SetEnable, SetPriv, InsertRule, RemoveRule, MoveRule}
+use Rattle.pol_edit.specs.declared.edit.Edit.TheVariants.{AddGroup, AddUser, Remove, SetParent}
+use Rattle.pol_edit.specs.declared.edit.Edit.TheVariants.{SetLogin, SetEnable, SetPriv, InsertRule}
+use Rattle.pol_edit.specs.declared.edit.Edit.TheVariants.{RemoveRule, MoveRule}
 use Rattle.pol_edit.specs.declared.fault.EditFault.{EditFault}
 use Rattle.pol_edit.specs.declared.fault.EditFault.TheVariants as faults
 
 infixl 10 ◌>>=◌
-abbrev pub ◌>>=◌ : {A B : Type 0} → Result A EditFault → (A → Result B EditFault) → Result B EditFault
+abbrev pub ◌>>=◌ : {A B : Type 0} → Result A EditFault → (A → Result B EditFault)
+    → Result B EditFault
 (Ok x) >>= f = f x
 (Err e) >>= f = Err e
 
@@ -37,10 +44,12 @@ abbrev pub has_group : Option (List ℕ) → List Subject → Bool
 has_group parent policy = all_of (λ name. is_some (find_subject (group_id name) policy)) parent
 
 -- a new subject goes last
-unfoldable pub added_to : List Subject → Kind → List ℕ → Option (List ℕ) → Result (List Subject) EditFault
+unfoldable pub added_to : List Subject → Kind → List ℕ → Option (List ℕ)
+    → Result (List Subject) EditFault
 added_to policy kind name parent =
     if not (has_group parent policy) then Err faults.NoSuch
-    else if is_some (find_subject (record { kind = kind; name = name }) policy) then Err faults.Exists
+    else if is_some (find_subject (record { kind = kind; name = name }) policy)
+    then Err faults.Exists
     else if not (all_of (λ name. has_room_below name policy) parent) then Err faults.TooDeep
     else if nat_le 1024 (length policy) then Err faults.Limit
     else Ok (policy ++ new_subject kind name parent ∷ [])
@@ -56,13 +65,16 @@ unless_chain None policy = Ok policy
 unless_chain (Some chains.Cycle) policy = Err faults.Cycle
 unless_chain (Some chains.TooDeep) policy = Err faults.TooDeep
 
-unfoldable pub moved_in : List Subject → SubjectId → Option (List ℕ) → Result (List Subject) EditFault
+unfoldable pub moved_in : List Subject → SubjectId → Option (List ℕ)
+    → Result (List Subject) EditFault
 moved_in policy id parent = present id policy >>= λ subject.
     if not (has_group parent policy) then Err faults.NoSuch
-    else unless_chain (chain_fault (with_changed id (with_parent parent) policy)) (with_changed id (with_parent parent) policy)
+    else unless_chain (chain_fault (with_changed id (with_parent parent) policy))
+    (with_changed id (with_parent parent) policy)
 
 -- a setting of a subject, if its value is right
-unfoldable pub set_in : List Subject → SubjectId → Bool → (Subject → Subject) → Result (List Subject) EditFault
+unfoldable pub set_in : List Subject → SubjectId → Bool → (Subject → Subject)
+    → Result (List Subject) EditFault
 set_in policy id is_right change = present id policy >>= λ subject.
     if is_right then Ok (with_changed id change policy) else Err faults.BadValue
 
@@ -74,15 +86,19 @@ pattern_read (Err fault) = Err (faults.BadPattern fault)
 abbrev pub is_number : ℕ → ℕ → Bool
 is_number at count = nat_le 1 at && nat_le at count
 
-unfoldable pub inserted_in : List Subject → SubjectId → ℕ → Verdict → List ℕ → Result (List Subject) EditFault
+unfoldable pub inserted_in : List Subject → SubjectId → ℕ → Verdict → List ℕ
+    → Result (List Subject) EditFault
 inserted_in policy id at verdict text = present id policy >>= λ subject.
     if not (is_number at (length subject.rules + 1)) then Err faults.BadIndex
-    else (pattern_read (pattern_of text) >>= λ pattern. if nat_le 256 (length subject.rules) then Err faults.Limit
-    else Ok (with_changed id (with_rule_at (at - 1) (record { verdict = verdict; pattern = pattern })) policy))
+    else (pattern_read (pattern_of text) >>= λ pattern. if nat_le 256 (length subject.rules)
+    then Err faults.Limit
+    else Ok (with_changed id
+    (with_rule_at (at - 1) (record { verdict = verdict; pattern = pattern })) policy))
 
 unfoldable pub dropped_in : List Subject → SubjectId → ℕ → Result (List Subject) EditFault
 dropped_in policy id at = present id policy >>= λ subject.
-    if is_number at (length subject.rules) then Ok (with_changed id (without_rule_at (at - 1)) policy) else Err faults.BadIndex
+    if is_number at (length subject.rules)
+    then Ok (with_changed id (without_rule_at (at - 1)) policy) else Err faults.BadIndex
 
 unfoldable pub shifted_in : List Subject → SubjectId → ℕ → ℕ → Result (List Subject) EditFault
 shifted_in policy id from to = present id policy >>= λ subject.
@@ -96,10 +112,14 @@ applied policy (AddGroup name parent) = added_to policy Group name parent
 applied policy (AddUser name parent) = added_to policy User name parent
 applied policy (Remove subject) = removed_from policy subject
 applied policy (SetParent subject parent) = moved_in policy subject parent
-applied policy (SetLogin user secret) = set_in policy (user_id user) (all_of is_secret secret) (with_secret Login secret)
-applied policy (SetEnable user secret) = set_in policy (user_id user) (all_of is_secret secret) (with_secret Enable secret)
-applied policy (SetPriv subject level) = set_in policy subject (all_of (λ n. nat_le n 15) level) (with_priv level)
-applied policy (InsertRule subject at verdict pattern) = inserted_in policy subject at verdict pattern
+applied policy (SetLogin user secret) =
+    set_in policy (user_id user) (all_of is_secret secret) (with_secret Login secret)
+applied policy (SetEnable user secret) =
+    set_in policy (user_id user) (all_of is_secret secret) (with_secret Enable secret)
+applied policy (SetPriv subject level) =
+    set_in policy subject (all_of (λ n. nat_le n 15) level) (with_priv level)
+applied policy (InsertRule subject at verdict pattern) =
+    inserted_in policy subject at verdict pattern
 applied policy (RemoveRule subject at) = dropped_in policy subject at
 applied policy (MoveRule subject from to) = shifted_in policy subject from to
 
@@ -112,20 +132,28 @@ is_memory fault = false
 
 -- whether a rule may get this number, from 1 to one behind the last
 abbrev pub has_place : List Subject → SubjectId → ℕ → Bool
-has_place policy id at = option_map_or (λ subject. is_number at (length subject.rules + 1)) (find_subject id policy) false
+has_place policy id at =
+    option_map_or (λ subject. is_number at (length subject.rules + 1))
+    (find_subject id policy) false
 
--- whether the edit takes memory: a subject that is added and a secret that is set do, and a pattern that is read,
--- which it is once its rule has a place. No other edit does, nor one that is refused before
+-- whether the edit takes memory: a subject that is added and a secret that is set
+-- do, and a pattern that is read, which it is once its rule has a place. No other
+-- edit does, nor one that is refused before
 abbrev pub takes_memory : List Subject → Edit → Bool
 takes_memory policy (AddGroup name parent) = is_ok (applied policy (AddGroup name parent))
 takes_memory policy (AddUser name parent) = is_ok (applied policy (AddUser name parent))
-takes_memory policy (SetLogin user secret) = is_some secret && is_ok (applied policy (SetLogin user secret))
-takes_memory policy (SetEnable user secret) = is_some secret && is_ok (applied policy (SetEnable user secret))
+takes_memory policy (SetLogin user secret) =
+    is_some secret && is_ok (applied policy (SetLogin user secret))
+takes_memory policy (SetEnable user secret) =
+    is_some secret && is_ok (applied policy (SetEnable user secret))
 takes_memory policy (InsertRule subject at verdict pattern) = has_place policy subject at
 takes_memory policy edit = false
 
--- the edit was made, or it was refused as wanted, and the policy is as before. Want of memory stands in place of what is
+-- the edit was made, or it was refused as wanted, and the policy is as before. Want of
+-- memory stands in place of what is
 -- wanted only where memory is taken
-abbrev pub Applies : Bool → List Subject → List Subject → Result (Unit {0}) EditFault → Result (List Subject) EditFault → Type 0
+abbrev pub Applies : Bool → List Subject → List Subject → Result (Unit {0}) EditFault
+    → Result (List Subject) EditFault → Type 0
 Applies grows old new (Ok _) wanted = wanted ≡ Ok new
-Applies grows old new (Err fault) wanted = Except (is_memory fault && grows) (wanted ≡ Err fault) × (new ≡ old)
+Applies grows old new (Err fault) wanted =
+    Except (is_memory fault && grows) (wanted ≡ Err fault) × (new ≡ old)

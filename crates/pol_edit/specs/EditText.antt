@@ -11,7 +11,9 @@ use Rattle.pol_names.specs.declared.decision.Verdict.{Verdict}
 use Rattle.pol_names.specs.declared.decision.Verdict.TheVariants.{Permit, Deny}
 use Rattle.pol_names.specs.declared.subject_id.SubjectId.{SubjectId}
 use Rattle.pol_edit.specs.declared.edit.Edit.{Edit}
-use Rattle.pol_edit.specs.declared.edit.Edit.TheVariants.{AddGroup, AddUser, Remove, SetParent, SetLogin, SetEnable, SetPriv, InsertRule, RemoveRule, MoveRule}
+use Rattle.pol_edit.specs.declared.edit.Edit.TheVariants.{AddGroup, AddUser, Remove, SetParent}
+use Rattle.pol_edit.specs.declared.edit.Edit.TheVariants.{SetLogin, SetEnable, SetPriv, InsertRule}
+use Rattle.pol_edit.specs.declared.edit.Edit.TheVariants.{RemoveRule, MoveRule}
 
 infixl 10 ◌>>=◌
 abbrev pub ◌>>=◌ : {A B : Type 0} → Option A → (A → Option B) → Option B
@@ -25,10 +27,14 @@ parted text = split_at_first 32 text
 -- ---- fields
 
 abbrev pub kind_of : List ℕ → Option Kind
-kind_of word = if bytes_eq word (codes "group") then Some Group else if bytes_eq word (codes "user") then Some User else None
+kind_of word =
+    if bytes_eq word (codes "group") then Some Group
+    else if bytes_eq word (codes "user") then Some User else None
 
 abbrev pub verdict_of : List ℕ → Option Verdict
-verdict_of word = if bytes_eq word (codes "permit") then Some Permit else if bytes_eq word (codes "deny") then Some Deny else None
+verdict_of word =
+    if bytes_eq word (codes "permit") then Some Permit
+    else if bytes_eq word (codes "deny") then Some Deny else None
 
 -- the number of a rule, or a level
 abbrev pub count_of : List ℕ → Option ℕ
@@ -66,11 +72,14 @@ add_edit User name parent = AddUser name parent
 -- `NAME`, or `NAME in PARENT`, split at its first space
 abbrev pub added : Kind → List ℕ → Option (List ℕ × List ℕ) → Option Edit
 added kind text None = option_map (λ name. add_edit kind name None) (name_of text)
-added kind text (Some parts) = name_of parts.0 >>= λ name. option_map (λ parent. add_edit kind name (Some parent)) (parent_of_text parts.1)
+added kind text (Some parts) =
+    name_of parts.0
+    >>= λ name. option_map (λ parent. add_edit kind name (Some parent)) (parent_of_text parts.1)
 
 -- `KIND NAME` or `KIND NAME in PARENT`
 unfoldable pub add_of : List ℕ → Option Edit
-add_of rest = parted rest >>= λ parts. kind_of parts.0 >>= λ kind. added kind parts.1 (parted parts.1)
+add_of rest =
+    parted rest >>= λ parts. kind_of parts.0 >>= λ kind. added kind parts.1 (parted parts.1)
 
 -- `KIND NAME in PARENT` or `KIND NAME out`
 unfoldable pub move_of : List ℕ → Option Edit
@@ -80,19 +89,25 @@ move_of rest = subject_before rest >>= λ front.
 
 -- `NAME TEXT`: the text is the whole rest
 unfoldable pub secret_for : (List ℕ → Option (List ℕ) → Edit) → List ℕ → Option Edit
-secret_for setting rest = parted rest >>= λ parts. option_map (λ user. setting user (Some parts.1)) (name_of parts.0)
+secret_for setting rest =
+    parted rest >>= λ parts. option_map (λ user. setting user (Some parts.1)) (name_of parts.0)
 
 -- `login NAME`, `enable NAME` or `priv KIND NAME`
 unfoldable pub clear_of : List ℕ → Option Edit
 clear_of rest = parted rest >>= λ parts.
-    if bytes_eq parts.0 (codes "login") then option_map (λ user. SetLogin user None) (name_of parts.1)
-    else if bytes_eq parts.0 (codes "enable") then option_map (λ user. SetEnable user None) (name_of parts.1)
-    else if bytes_eq parts.0 (codes "priv") then option_map (λ subject. SetPriv subject None) (subject_of parts.1)
+    if bytes_eq parts.0 (codes "login")
+    then option_map (λ user. SetLogin user None) (name_of parts.1)
+    else if bytes_eq parts.0 (codes "enable")
+    then option_map (λ user. SetEnable user None) (name_of parts.1)
+    else if bytes_eq parts.0 (codes "priv")
+    then option_map (λ subject. SetPriv subject None) (subject_of parts.1)
     else None
 
 -- `KIND NAME LEVEL`
 unfoldable pub priv_of : List ℕ → Option Edit
-priv_of rest = subject_before rest >>= λ front. option_map (λ level. SetPriv front.0 (Some level)) (count_of front.1)
+priv_of rest =
+    subject_before rest >>= λ front.
+    option_map (λ level. SetPriv front.0 (Some level)) (count_of front.1)
 
 -- `KIND NAME AT permit PATTERN` or `KIND NAME AT deny PATTERN`: the pattern is the whole rest
 unfoldable pub insert_of : List ℕ → Option Edit
@@ -106,7 +121,8 @@ insert_of rest = do
 
 -- `KIND NAME AT`
 unfoldable pub drop_of : List ℕ → Option Edit
-drop_of rest = subject_before rest >>= λ front. option_map (λ at. RemoveRule front.0 at) (count_of front.1)
+drop_of rest =
+    subject_before rest >>= λ front. option_map (λ at. RemoveRule front.0 at) (count_of front.1)
 
 -- `KIND NAME FROM TO`
 unfoldable pub shift_of : List ℕ → Option Edit

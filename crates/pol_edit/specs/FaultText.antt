@@ -3,7 +3,10 @@ use Rattle.std.specs.Prelude.{ℕ, List, ◌++◌, codes}
 use Rattle.pol_pattern.specs.FaultText.{fault_text as pattern_fault_text}
 use Rattle.pol_names.specs.SubjectId.{subject_text}
 use Rattle.pol_edit.specs.declared.fault.EditFault.{EditFault}
-use Rattle.pol_edit.specs.declared.fault.EditFault.TheVariants.{BadEdit, NoSuch, Exists, InUse, Cycle, TooDeep, BadIndex, BadPattern, BadValue, Limit, TooManyStates, Memory}
+use Rattle.pol_edit.specs.declared.fault.EditFault.TheVariants.{BadEdit, NoSuch, Exists, InUse}
+use Rattle.pol_edit.specs.declared.fault.EditFault.TheVariants.{Cycle, TooDeep, BadIndex}
+use Rattle.pol_edit.specs.declared.fault.EditFault.TheVariants.{BadPattern, BadValue, Limit}
+use Rattle.pol_edit.specs.declared.fault.EditFault.TheVariants.{TooManyStates, Memory}
 
 -- the kind's number and name; a bad pattern adds what is wrong with it, too many states whose
 abbrev pub fault_text : EditFault → List ℕ

@@ -24,7 +24,9 @@ use Rattle.pol_text.specs.Policy.{all_of}
 use Rattle.pol_names.specs.SubjectId.{subject_text}
 use Rattle.pol_names.specs.Decision.{verdict_word}
 use Rattle.pol_edit.specs.declared.edit.Edit.{Edit}
-use Rattle.pol_edit.specs.declared.edit.Edit.TheVariants.{AddGroup, AddUser, Remove, SetParent, SetLogin, SetEnable, SetPriv, InsertRule, RemoveRule, MoveRule}
+use Rattle.pol_edit.specs.declared.edit.Edit.TheVariants.{AddGroup, AddUser, Remove, SetParent}
+use Rattle.pol_edit.specs.declared.edit.Edit.TheVariants.{SetLogin, SetEnable, SetPriv, InsertRule}
+use Rattle.pol_edit.specs.declared.edit.Edit.TheVariants.{RemoveRule, MoveRule}
 
 abbrev pub IsName : List ℕ → Type 0
 IsName name = IsTrue (is_name name)
@@ -42,25 +44,37 @@ parent_text parent none = option_map_or (λ name. codes " in " ++ name) parent n
 
 -- the words of each edit
 abbrev pub SpellsWords : List ℕ → Edit → Type 0
-SpellsWords line (AddGroup name parent) = (line ≡ codes "add group " ++ name ++ parent_text parent []) × IsName name × IsParent parent
-SpellsWords line (AddUser name parent) = (line ≡ codes "add user " ++ name ++ parent_text parent []) × IsName name × IsParent parent
-SpellsWords line (Remove subject) = (line ≡ codes "remove " ++ subject_text subject) × IsName subject.name
+SpellsWords line (AddGroup name parent) =
+    (line ≡ codes "add group " ++ name ++ parent_text parent []) × IsName name × IsParent parent
+SpellsWords line (AddUser name parent) =
+    (line ≡ codes "add user " ++ name ++ parent_text parent []) × IsName name × IsParent parent
+SpellsWords line (Remove subject) =
+    (line ≡ codes "remove " ++ subject_text subject) × IsName subject.name
 SpellsWords line (SetParent subject parent) =
-    (line ≡ codes "move " ++ subject_text subject ++ parent_text parent (codes " out")) × IsName subject.name × IsParent parent
-SpellsWords line (SetLogin user (Some text)) = (line ≡ codes "login " ++ user ++ codes " " ++ text) × IsName user
+    (line ≡ codes "move " ++ subject_text subject ++ parent_text parent (codes " out"))
+    × IsName subject.name × IsParent parent
+SpellsWords line (SetLogin user (Some text)) =
+    (line ≡ codes "login " ++ user ++ codes " " ++ text) × IsName user
 SpellsWords line (SetLogin user None) = (line ≡ codes "clear login " ++ user) × IsName user
-SpellsWords line (SetEnable user (Some text)) = (line ≡ codes "enable " ++ user ++ codes " " ++ text) × IsName user
+SpellsWords line (SetEnable user (Some text)) =
+    (line ≡ codes "enable " ++ user ++ codes " " ++ text) × IsName user
 SpellsWords line (SetEnable user None) = (line ≡ codes "clear enable " ++ user) × IsName user
 SpellsWords line (SetPriv subject (Some level)) =
-    (digits : List ℕ) × (line ≡ codes "priv " ++ subject_text subject ++ codes " " ++ digits) × IsName subject.name × SpellsNumber digits level
-SpellsWords line (SetPriv subject None) = (line ≡ codes "clear priv " ++ subject_text subject) × IsName subject.name
+    (digits : List ℕ) × (line ≡ codes "priv " ++ subject_text subject ++ codes " " ++ digits)
+    × IsName subject.name × SpellsNumber digits level
+SpellsWords line (SetPriv subject None) =
+    (line ≡ codes "clear priv " ++ subject_text subject) × IsName subject.name
 SpellsWords line (InsertRule subject at verdict pattern) =
-    (digits : List ℕ) × (line ≡ codes "insert " ++ subject_text subject ++ codes " " ++ digits ++ codes " " ++ verdict_word verdict ++ pattern)
+    (digits : List ℕ)
+    × (line ≡ codes "insert " ++ subject_text subject ++ codes " " ++ digits ++ codes " "
+    ++ verdict_word verdict ++ pattern)
     × IsName subject.name × SpellsNumber digits at
 SpellsWords line (RemoveRule subject at) =
-    (digits : List ℕ) × (line ≡ codes "drop " ++ subject_text subject ++ codes " " ++ digits) × IsName subject.name × SpellsNumber digits at
+    (digits : List ℕ) × (line ≡ codes "drop " ++ subject_text subject ++ codes " " ++ digits)
+    × IsName subject.name × SpellsNumber digits at
 SpellsWords line (MoveRule subject from to) =
-    (here there : List ℕ) × (line ≡ codes "shift " ++ subject_text subject ++ codes " " ++ here ++ codes " " ++ there)
+    (here there : List ℕ)
+    × (line ≡ codes "shift " ++ subject_text subject ++ codes " " ++ here ++ codes " " ++ there)
     × IsName subject.name × SpellsNumber here from × SpellsNumber there to
 
 -- all of the line are symbols

@@ -1,5 +1,6 @@
 -- Secrets: what users log in and enable with.
-use Rattle.std.specs.Prelude.{ℕ, List, length, codes, Bool, ◌&&◌, nat_lt, nat_le, Option, Some, None, if◌then◌else◌}
+use Rattle.std.specs.Prelude.{ℕ, List, length, codes, Bool, ◌&&◌, nat_lt, nat_le, Option, Some}
+use Rattle.std.specs.Prelude.{None, if◌then◌else◌}
 use Rattle.basics.specs.Symbol.{is_text}
 use Rattle.pol_names.specs.declared.secret.Credential.{Credential}
 use Rattle.pol_names.specs.declared.secret.Credential.TheVariants.{Login, Enable}

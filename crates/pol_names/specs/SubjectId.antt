@@ -27,13 +27,16 @@ same_kind-Decides User User = (λ e. refl, λ e. refl)
 
 named_so : (a b : SubjectId) → (a.kind ≡ b.kind) × (a.name ≡ b.name) → a ≡ b
 named_so a b same =
-    ap (λ (kind : Kind). record { kind = kind; name = a.name }) same.0 ∙ ap (λ (name : List ℕ). record { kind = b.kind; name = name }) same.1
+    ap (λ (kind : Kind). record { kind = kind; name = a.name }) same.0
+    ∙ ap (λ (name : List ℕ). record { kind = b.kind; name = name }) same.1
 
 -- it is the same subject exactly if kind and name are the same
 pub same_id-Decides : (a b : SubjectId) → Decides (same_id a b) (a ≡ b)
 same_id-Decides a b =
-    Decides-like (same_id a b) (named_so a b) (λ (e : a ≡ b). (ap (λ (id : SubjectId). id.kind) e, ap (λ (id : SubjectId). id.name) e))
-    (Decides-and (same_kind a.kind b.kind) (bytes_eq a.name b.name) (same_kind-Decides a.kind b.kind) (bytes_eq-Decides a.name b.name))
+    Decides-like (same_id a b) (named_so a b)
+    (λ (e : a ≡ b). (ap (λ (id : SubjectId). id.kind) e, ap (λ (id : SubjectId). id.name) e))
+    (Decides-and (same_kind a.kind b.kind) (bytes_eq a.name b.name)
+    (same_kind-Decides a.kind b.kind) (bytes_eq-Decides a.name b.name))
 
 abbrev pub group_id : List ℕ → SubjectId
 group_id name = record { kind = Group; name = name }

@@ -2,7 +2,11 @@
 use Rattle.std.specs.Prelude.{ℕ, List, ◌++◌, codes}
 use Rattle.std.specs.Fmt.{decimal}
 use Rattle.pol_pattern.specs.declared.fault.PatternFault.{PatternFault}
-use Rattle.pol_pattern.specs.declared.fault.PatternFault.TheVariants.{TooLong, Unprintable, Unclosed, Unopened, NothingToRepeat, BadClass, BadEscape, TooDeep, TooLarge, Memory}
+use Rattle.pol_pattern.specs.declared.fault.PatternFault.TheVariants.{TooLong, Unprintable}
+use Rattle.pol_pattern.specs.declared.fault.PatternFault.TheVariants.{Unclosed, Unopened}
+use Rattle.pol_pattern.specs.declared.fault.PatternFault.TheVariants.{NothingToRepeat, BadClass}
+use Rattle.pol_pattern.specs.declared.fault.PatternFault.TheVariants.{BadEscape, TooDeep, TooLarge}
+use Rattle.pol_pattern.specs.declared.fault.PatternFault.TheVariants.{Memory}
 
 -- the kind's number and name, and the place where it has one
 abbrev pub fault_text : PatternFault → List ℕ

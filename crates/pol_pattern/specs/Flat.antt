@@ -1,13 +1,15 @@
 -- The flat form of a pattern: its alternatives are terms, and a term is factors one after another
 -- (docs/DEFINITIONS.md, "Patterns").
-use Rattle.std.specs.Prelude.{ℕ, zero, suc, ◌+◌, ◌-◌, Bool, ◌&&◌, false, List, [], ◌∷◌, map, slice_index_or}
+use Rattle.std.specs.Prelude.{ℕ, zero, suc, ◌+◌, ◌-◌, Bool, ◌&&◌, false, List, [], ◌∷◌, map}
+use Rattle.std.specs.Prelude.{slice_index_or}
 use Rattle.std.specs.Global.{Vec}
 use Rattle.basics.specs.Symbol.{is_symbol}
 use Rattle.pol_pattern.specs.declared.flat.Factor.{Factor as FactorValue}
 use Rattle.pol_pattern.specs.declared.flat.Factor.TheOpen.{Factor-F}
 use Rattle.pol_pattern.specs.declared.flat.Factor.TheFolds.{fold-Factor}
 
--- ---- classes: a class is a set of symbols, and says of each of the 95, in order, whether it holds it
+-- ---- classes: a class is a set of symbols, and says of each of the 95, in order,
+-- whether it holds it
 
 abbrev pub Class : Type 0
 Class = List Bool

@@ -1,10 +1,12 @@
 -- Patterns that are put together of patterns, and the sets of texts that they hold, in the words of
 -- automata theory.
-use Rattle.std.specs.Prelude.{◌≡◌, ℕ, Bool, true, not, if◌then◌else◌, List, [], ◌∷◌, ◌++◌, ◌⊎◌, ◌↔◌, IsOk, IsTrue, IsFalse}
+use Rattle.std.specs.Prelude.{◌≡◌, ℕ, Bool, true, not, if◌then◌else◌, List, [], ◌∷◌, ◌++◌, ◌⊎◌, ◌↔◌}
+use Rattle.std.specs.Prelude.{IsOk, IsTrue, IsFalse}
 use Rattle.std.specs.List.{list_any}
 use Rattle.basics.specs.Symbol.{is_symbol}
 use Rattle.pol_pattern.specs.Sets.{Joins}
-use Rattle.pol_pattern.specs.Spelling.{Item, bracket, atom_bytes, is_special, is_right_atom, names, Holds}
+use Rattle.pol_pattern.specs.Spelling.{Item, bracket, atom_bytes, is_special, is_right_atom, names}
+use Rattle.pol_pattern.specs.Spelling.{Holds}
 use Rattle.pol_pattern.specs.Reading.{reading}
 
 -- ---- sets of texts
@@ -24,7 +26,8 @@ Empty text = text ≡ []
 
 -- the texts of one symbol for which the test is true
 abbrev pub OneSymbol : (ℕ → Bool) → List ℕ → Type 0
-OneSymbol test text = (symbol : ℕ) × (text ≡ symbol ∷ []) × IsTrue (is_symbol symbol) × IsTrue (test symbol)
+OneSymbol test text =
+    (symbol : ℕ) × (text ≡ symbol ∷ []) × IsTrue (is_symbol symbol) × IsTrue (test symbol)
 
 -- ---- patterns put together
 
@@ -37,27 +40,38 @@ grouped source = 40 ∷ (source ++ 41 ∷ [])
 
 -- p|q
 abbrev pub UnionLaw : Type 0
-UnionLaw = (p q text : List ℕ) → IsPattern p → IsPattern q → IsPattern (p ++ 124 ∷ q) → Holds (p ++ 124 ∷ q) text ↔ Union (Holds p) (Holds q) text
+UnionLaw =
+    (p q text : List ℕ) → IsPattern p → IsPattern q → IsPattern (p ++ 124 ∷ q)
+    → Holds (p ++ 124 ∷ q) text ↔ Union (Holds p) (Holds q) text
 
 -- (p)(q)
 abbrev pub ConcatenationLaw : Type 0
-ConcatenationLaw = (p q text : List ℕ) → IsPattern p → IsPattern q → IsPattern (grouped p ++ grouped q) → Holds (grouped p ++ grouped q) text ↔ Concatenation (Holds p) (Holds q) text
+ConcatenationLaw =
+    (p q text : List ℕ) → IsPattern p → IsPattern q → IsPattern (grouped p ++ grouped q)
+    → Holds (grouped p ++ grouped q) text ↔ Concatenation (Holds p) (Holds q) text
 
 -- (p)*
 abbrev pub StarLaw : Type 0
-StarLaw = (p text : List ℕ) → IsPattern p → IsPattern (grouped p ++ 42 ∷ []) → Holds (grouped p ++ 42 ∷ []) text ↔ Star (Holds p) text
+StarLaw =
+    (p text : List ℕ) → IsPattern p → IsPattern (grouped p ++ 42 ∷ [])
+    → Holds (grouped p ++ 42 ∷ []) text ↔ Star (Holds p) text
 
 -- (p)+
 abbrev pub PlusLaw : Type 0
-PlusLaw = (p text : List ℕ) → IsPattern p → IsPattern (grouped p ++ 43 ∷ []) → Holds (grouped p ++ 43 ∷ []) text ↔ Concatenation (Holds p) (Star (Holds p)) text
+PlusLaw =
+    (p text : List ℕ) → IsPattern p → IsPattern (grouped p ++ 43 ∷ [])
+    → Holds (grouped p ++ 43 ∷ []) text ↔ Concatenation (Holds p) (Star (Holds p)) text
 
 -- (p)?
 abbrev pub QuestionLaw : Type 0
-QuestionLaw = (p text : List ℕ) → IsPattern p → IsPattern (grouped p ++ 63 ∷ []) → Holds (grouped p ++ 63 ∷ []) text ↔ Union (Holds p) Empty text
+QuestionLaw =
+    (p text : List ℕ) → IsPattern p → IsPattern (grouped p ++ 63 ∷ [])
+    → Holds (grouped p ++ 63 ∷ []) text ↔ Union (Holds p) Empty text
 
 -- (p)
 abbrev pub GroupLaw : Type 0
-GroupLaw = (p text : List ℕ) → IsPattern p → IsPattern (grouped p) → Holds (grouped p) text ↔ Holds p text
+GroupLaw =
+    (p text : List ℕ) → IsPattern p → IsPattern (grouped p) → Holds (grouped p) text ↔ Holds p text
 
 -- ---- patterns of no parts
 
@@ -67,11 +81,15 @@ EmptyLaw = (text : List ℕ) → Holds [] text ↔ Empty text
 
 -- a symbol that stands for itself
 abbrev pub LiteralLaw : Type 0
-LiteralLaw = (symbol : ℕ) (text : List ℕ) → IsTrue (is_symbol symbol) → IsFalse (is_special symbol) → Holds (symbol ∷ []) text ↔ (text ≡ symbol ∷ [])
+LiteralLaw =
+    (symbol : ℕ) (text : List ℕ) → IsTrue (is_symbol symbol) → IsFalse (is_special symbol)
+    → Holds (symbol ∷ []) text ↔ (text ≡ symbol ∷ [])
 
 -- a `\` and a symbol
 abbrev pub EscapedLaw : Type 0
-EscapedLaw = (symbol : ℕ) (text : List ℕ) → IsTrue (is_symbol symbol) → Holds (92 ∷ symbol ∷ []) text ↔ (text ≡ symbol ∷ [])
+EscapedLaw =
+    (symbol : ℕ) (text : List ℕ) → IsTrue (is_symbol symbol) → Holds (92 ∷ symbol ∷ []) text
+    ↔ (text ≡ symbol ∷ [])
 
 -- .
 abbrev pub DotLaw : Type 0
@@ -79,12 +97,17 @@ DotLaw = (text : List ℕ) → Holds (46 ∷ []) text ↔ OneSymbol (λ symbol. 
 
 -- the symbol is one that the class names, or, in a negated class, one that it doesn't name
 abbrev pub is_in_bracket : Bool → List Item → ℕ → Bool
-is_in_bracket negated items symbol = if negated then not (list_any (names symbol) items) else list_any (names symbol) items
+is_in_bracket negated items symbol =
+    if negated then not (list_any (names symbol) items) else list_any (names symbol) items
 
 -- a class with its items
 abbrev pub ClassLaw : Type 0
-ClassLaw = (negated : Bool) (first : Item) (others : List Item) (text : List ℕ) → IsTrue (is_right_atom (bracket negated first others)) → IsPattern (atom_bytes (bracket negated first others))
-    → Holds (atom_bytes (bracket negated first others)) text ↔ OneSymbol (is_in_bracket negated (first ∷ others)) text
+ClassLaw =
+    (negated : Bool) (first : Item) (others : List Item) (text : List ℕ)
+    → IsTrue (is_right_atom (bracket negated first others))
+    → IsPattern (atom_bytes (bracket negated first others))
+    → Holds (atom_bytes (bracket negated first others)) text
+    ↔ OneSymbol (is_in_bracket negated (first ∷ others)) text
 
 -- ---- all of them
 

@@ -1,10 +1,15 @@
--- Reading bytes from the left, with the first fault that is met. What a pattern is, and its flat form,
--- say the trees of Spelling; that both agree stands on the contract of `Pattern::read`.
-use Rattle.std.specs.Prelude.{ℕ, zero, suc, ◌+◌, ◌-◌, Bool, true, false, ◌==◌, ◌&&◌, ◌||◌, not, nat_lt, nat_le, if◌then◌else◌, List, [], ◌∷◌, length, drop, slice_index, Option, Some, None, Result, Ok, Err, position, option_map, slice_get}
+-- Reading bytes from the left, with the first fault that is met. What a pattern is,
+-- and its flat form, say the trees of Spelling; that both agree stands on the
+-- contract of `Pattern::read`.
+use Rattle.std.specs.Prelude.{ℕ, zero, suc, ◌+◌, ◌-◌, Bool, true, false, ◌==◌, ◌&&◌, ◌||◌, not}
+use Rattle.std.specs.Prelude.{nat_lt, nat_le, if◌then◌else◌, List, [], ◌∷◌, length, drop}
+use Rattle.std.specs.Prelude.{slice_index, Option, Some, None, Result, Ok, Err, position}
+use Rattle.std.specs.Prelude.{option_map, slice_get}
 use Rattle.std.specs.Option.{option_and_then, option_map_or}
 use Rattle.std.specs.List.{list_any}
 use Rattle.basics.specs.Symbol.{is_symbol}
-use Rattle.pol_pattern.specs.Flat.{Class, class_where, class, group, Term, empty, put, Terms, none, alt, join_terms, join_term, terms_size}
+use Rattle.pol_pattern.specs.Flat.{Class, class_where, class, group, Term, empty, put, Terms, none}
+use Rattle.pol_pattern.specs.Flat.{alt, join_terms, join_term, terms_size}
 use Rattle.pol_pattern.specs.Spelling.{only, any_symbol, repeat_factors}
 use Rattle.pol_pattern.specs.declared.token.Repeat.{Repeat}
 use Rattle.pol_pattern.specs.declared.token.Repeat.TheVariants.{Star, Plus, Question}
@@ -14,7 +19,8 @@ use Rattle.pol_pattern.specs.declared.fault.PatternFault.{PatternFault}
 use Rattle.pol_pattern.specs.declared.fault.PatternFault.TheVariants as faults
 
 infixl 10 ◌>>=◌
-abbrev pub ◌>>=◌ : {A B : Type 0} → Result A PatternFault → (A → Result B PatternFault) → Result B PatternFault
+abbrev pub ◌>>=◌ : {A B : Type 0} → Result A PatternFault → (A → Result B PatternFault)
+    → Result B PatternFault
 (Ok x) >>= f = f x
 (Err e) >>= f = Err e
 
@@ -31,7 +37,9 @@ class_symbol_at bytes =
 unfoldable pub item_at : List ℕ → Option ((ℕ × ℕ) × ℕ)
 item_at bytes = option_and_then (λ first.
     if slice_index bytes first.1 == 45
-    then option_and_then (λ last. if nat_le first.0 last.0 then Some ((first.0, last.0), first.1 + 1 + last.1) else None) (class_symbol_at (drop (first.1 + 1) bytes))
+    then option_and_then (λ last. if nat_le first.0 last.0
+    then Some ((first.0, last.0), first.1 + 1 + last.1)
+    else None) (class_symbol_at (drop (first.1 + 1) bytes))
     else Some ((first.0, first.0), first.1))
     (class_symbol_at bytes)
 
@@ -40,21 +48,25 @@ abbrev pub with_item : ℕ × ℕ → Option (List (ℕ × ℕ) × ℕ) → Opti
 with_item item None = None
 with_item item (Some rest) = Some (item ∷ rest.0, rest.1)
 
--- the items up to the `]`, after these many bytes are passed over, and the place behind the `]`, where
+-- the items up to the `]`, after these many bytes are passed over, and the place
+-- behind the `]`, where
 -- the first byte has this place
 unfoldable pub items_from : ℕ → ℕ → List ℕ → Option (List (ℕ × ℕ) × ℕ)
 items_from place skip [] = None
 items_from place (suc skip) (byte ∷ rest) = items_from (place + 1) skip rest
 items_from place zero (byte ∷ rest) =
     if byte == 93 then Some ([], place + 1)
-    else option_and_then (λ item. with_item item.0 (items_from (place + 1) (item.1 - 1) rest)) (item_at (byte ∷ rest))
+    else option_and_then (λ item. with_item item.0 (items_from (place + 1) (item.1 - 1) rest))
+    (item_at (byte ∷ rest))
 
 -- one of the items has the symbol
 abbrev pub is_among : List (ℕ × ℕ) → ℕ → Bool
 is_among items byte = list_any (λ item. nat_le item.0 byte && nat_le byte item.1) items
 
 abbrev pub class_of_items : Bool → List (ℕ × ℕ) → Class
-class_of_items negated items = if negated then class_where (λ byte. not (is_among items byte)) else class_where (is_among items)
+class_of_items negated items =
+    if negated then class_where (λ byte. not (is_among items byte))
+    else class_where (is_among items)
 
 abbrev pub class_unless_empty : Bool → List (ℕ × ℕ) × ℕ → Option (Class × ℕ)
 class_unless_empty negated ([], end) = None
@@ -63,7 +75,8 @@ class_unless_empty negated (item ∷ items, end) = Some (class_of_items negated 
 -- a class, behind its `[`
 unfoldable pub class_at : List ℕ → Option (Class × ℕ)
 class_at bytes =
-    if slice_index bytes 0 == 94 then option_and_then (class_unless_empty true) (items_from 1 0 (drop 1 bytes))
+    if slice_index bytes 0 == 94
+    then option_and_then (class_unless_empty true) (items_from 1 0 (drop 1 bytes))
     else option_and_then (class_unless_empty false) (items_from 0 0 bytes)
 
 -- ---- tokens
@@ -78,8 +91,12 @@ token_at place byte rest =
     else if byte == 43 then Ok (tokens.Repeat Plus, 1)
     else if byte == 63 then Ok (tokens.Repeat Question, 1)
     else if byte == 46 then Ok (tokens.Atom any_symbol, 1)
-    else if byte == 91 then option_map_or (λ found. Ok (tokens.Atom found.0, found.1 + 1)) (class_at rest) (Err (faults.BadClass place))
-    else if byte == 92 then option_map_or (λ symbol. Ok (tokens.Atom (only symbol), 2)) (slice_get rest 0) (Err (faults.BadEscape place))
+    else if byte == 91
+    then option_map_or (λ found. Ok (tokens.Atom found.0, found.1 + 1)) (class_at rest)
+    (Err (faults.BadClass place))
+    else if byte == 92
+    then option_map_or (λ symbol. Ok (tokens.Atom (only symbol), 2)) (slice_get rest 0)
+    (Err (faults.BadEscape place))
     else Ok (tokens.Atom (only byte), 1)
 
 -- what has to be known of the tokens before a place: where the parentheses that are open stand, the
@@ -98,7 +115,8 @@ closed place (last ∷ others) = Ok (record { opened = others; has_atom = true }
 -- the context behind a token at this place
 unfoldable pub context_after : ℕ → Token → Context → Result Context PatternFault
 context_after place (tokens.Atom c) context = Ok (record context { has_atom = true })
-context_after place (tokens.Repeat repeat) context = if context.has_atom then Ok context else Err (faults.NothingToRepeat place)
+context_after place (tokens.Repeat repeat) context =
+    if context.has_atom then Ok context else Err (faults.NothingToRepeat place)
 context_after place tokens.Bar context = Ok (record context { has_atom = false })
 context_after place tokens.Open context =
     if nat_le 32 (length context.opened) then Err faults.TooDeep
@@ -120,7 +138,8 @@ tokens_from place zero context (byte ∷ rest) =
 
 -- ---- the flat form
 
--- what was read of some alternatives: those that are done, and of the present one the factors before its
+-- what was read of some alternatives: those that are done, and of the present one
+-- the factors before its
 -- last repetition, and those of that
 pub record Level : Type 0 where
   pub done : Terms
@@ -153,7 +172,8 @@ build level outer (tokens.Repeat repeat ∷ rest) = build (with_repeat level rep
 build level outer (tokens.Bar ∷ rest) = build (with_bar level) outer rest
 build level outer (tokens.Open ∷ rest) = build fresh (level ∷ outer) rest
 build level [] (tokens.Close ∷ rest) = finished level
-build level (around ∷ outer) (tokens.Close ∷ rest) = build (with_atom around (put (group (finished level)) empty)) outer rest
+build level (around ∷ outer) (tokens.Close ∷ rest) =
+    build (with_atom around (put (group (finished level)) empty)) outer rest
 
 -- ---- patterns
 

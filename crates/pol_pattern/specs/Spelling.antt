@@ -10,10 +10,12 @@
 --   class   = "[" [ "^" ] item { item } "]"
 --   item    = csym | csym "-" csym
 --   csym    = any symbol but ] \ -  | "\" symbol
-use Rattle.std.specs.Prelude.{◌≡◌, ◌≤◌, ℕ, ◌+◌, ◌==◌, max, nat_le, Bool, true, false, ◌&&◌, ◌||◌, not, IsTrue, List, [], ◌∷◌, ◌++◌, length, codes}
+use Rattle.std.specs.Prelude.{◌≡◌, ◌≤◌, ℕ, ◌+◌, ◌==◌, max, nat_le, Bool, true, false, ◌&&◌, ◌||◌}
+use Rattle.std.specs.Prelude.{not, IsTrue, List, [], ◌∷◌, ◌++◌, length, codes}
 use Rattle.std.specs.List.{list_any, list_all}
 use Rattle.basics.specs.Symbol.{is_symbol}
-use Rattle.pol_pattern.specs.Flat.{Class, class_where, class, group, star, Term, empty, put, Terms, none, alt, join_term, terms_size}
+use Rattle.pol_pattern.specs.Flat.{Class, class_where, class, group, star, Term, empty, put, Terms}
+use Rattle.pol_pattern.specs.Flat.{none, alt, join_term, terms_size}
 use Rattle.pol_pattern.specs.Sets.{InTerms}
 use Rattle.pol_pattern.specs.declared.token.Repeat.{Repeat}
 use Rattle.pol_pattern.specs.declared.token.Repeat.TheVariants.{Star, Plus, Question}
@@ -77,7 +79,8 @@ repeat_byte Question = 63
 abbrev mutual
   pub alternatives_bytes : Alternatives → List ℕ
   alternatives_bytes (single sequence) = sequence_bytes sequence
-  alternatives_bytes (or sequence others) = sequence_bytes sequence ++ 124 ∷ alternatives_bytes others
+  alternatives_bytes (or sequence others) =
+      sequence_bytes sequence ++ 124 ∷ alternatives_bytes others
 
   pub sequence_bytes : Sequence → List ℕ
   sequence_bytes nothing = []
@@ -90,7 +93,8 @@ abbrev mutual
   pub atom_bytes : Atom → List ℕ
   atom_bytes (literal symbol) = symbol ∷ []
   atom_bytes dot = 46 ∷ []
-  atom_bytes (bracket negated first others) = 91 ∷ (negation_bytes negated ++ item_bytes first ++ items_bytes others ++ 93 ∷ [])
+  atom_bytes (bracket negated first others) =
+      91 ∷ (negation_bytes negated ++ item_bytes first ++ items_bytes others ++ 93 ∷ [])
   atom_bytes (parentheses inner) = 40 ∷ (alternatives_bytes inner ++ 41 ∷ [])
   atom_bytes (escaped symbol) = 92 ∷ symbol ∷ []
 
@@ -102,7 +106,8 @@ is_special byte = list_any (λ special. byte == special) (codes "|*+?.[()\\")
 
 -- a `]`, a `\` or a `-` stands in a class only behind a `\`
 abbrev pub is_right_class_symbol : ClassSymbol → Bool
-is_right_class_symbol (plain symbol) = is_symbol symbol && not (symbol == 93 || symbol == 92 || symbol == 45)
+is_right_class_symbol (plain symbol) =
+    is_symbol symbol && not (symbol == 93 || symbol == 92 || symbol == 45)
 is_right_class_symbol (quoted symbol) = is_symbol symbol
 
 abbrev pub class_symbol : ClassSymbol → ℕ
@@ -112,7 +117,9 @@ class_symbol (quoted symbol) = symbol
 -- a range doesn't end before it begins
 abbrev pub is_right_item : Item → Bool
 is_right_item (one symbol) = is_right_class_symbol symbol
-is_right_item (range first final) = is_right_class_symbol first && is_right_class_symbol final && nat_le (class_symbol first) (class_symbol final)
+is_right_item (range first final) =
+    is_right_class_symbol first && is_right_class_symbol final
+    && nat_le (class_symbol first) (class_symbol final)
 
 abbrev pub begins_with_caret : Item → Bool
 begins_with_caret (one (plain symbol)) = symbol == 94
@@ -124,7 +131,8 @@ begins_with_caret (range (quoted symbol) final) = false
 abbrev mutual
   pub is_right_alternatives : Alternatives → Bool
   is_right_alternatives (single sequence) = is_right_sequence sequence
-  is_right_alternatives (or sequence others) = is_right_sequence sequence && is_right_alternatives others
+  is_right_alternatives (or sequence others) =
+      is_right_sequence sequence && is_right_alternatives others
 
   pub is_right_sequence : Sequence → Bool
   is_right_sequence nothing = true
@@ -138,7 +146,8 @@ abbrev mutual
   is_right_atom (literal symbol) = is_symbol symbol && not (is_special symbol)
   is_right_atom dot = true
   is_right_atom (bracket negated first others) =
-      (is_right_item first && list_all is_right_item others) && (negated || not (begins_with_caret first))
+      (is_right_item first && list_all is_right_item others)
+      && (negated || not (begins_with_caret first))
   is_right_atom (parentheses inner) = is_right_alternatives inner
   is_right_atom (escaped symbol) = is_symbol symbol
 
@@ -146,7 +155,8 @@ abbrev mutual
 abbrev mutual
   pub alternatives_depth : Alternatives → ℕ
   alternatives_depth (single sequence) = sequence_depth sequence
-  alternatives_depth (or sequence others) = max (sequence_depth sequence) (alternatives_depth others)
+  alternatives_depth (or sequence others) =
+      max (sequence_depth sequence) (alternatives_depth others)
 
   pub sequence_depth : Sequence → ℕ
   sequence_depth nothing = 0
@@ -168,7 +178,8 @@ abbrev mutual
 -- the item names the symbol
 abbrev pub names : ℕ → Item → Bool
 names byte (one symbol) = byte == class_symbol symbol
-names byte (range first final) = nat_le (class_symbol first) byte && nat_le byte (class_symbol final)
+names byte (range first final) =
+    nat_le (class_symbol first) byte && nat_le byte (class_symbol final)
 
 -- a class is the symbols that its items name, or, negated, those that they don't
 abbrev pub bracket_class : Bool → List Item → Class
@@ -196,11 +207,13 @@ repeat_factors Question factors = put (group (alt factors (alt empty none))) emp
 abbrev mutual
   pub alternatives_terms : Alternatives → Terms
   alternatives_terms (single sequence) = alt (sequence_factors sequence) none
-  alternatives_terms (or sequence others) = alt (sequence_factors sequence) (alternatives_terms others)
+  alternatives_terms (or sequence others) =
+      alt (sequence_factors sequence) (alternatives_terms others)
 
   pub sequence_factors : Sequence → Term
   sequence_factors nothing = empty
-  sequence_factors (next first others) = join_term (repetition_factors first) (sequence_factors others)
+  sequence_factors (next first others) =
+      join_term (repetition_factors first) (sequence_factors others)
 
   pub repetition_factors : Repetition → Term
   repetition_factors (once atom) = atom_factors atom
@@ -209,7 +222,8 @@ abbrev mutual
   pub atom_factors : Atom → Term
   atom_factors (literal symbol) = put (class (only symbol)) empty
   atom_factors dot = put (class any_symbol) empty
-  atom_factors (bracket negated first others) = put (class (bracket_class negated (first ∷ others))) empty
+  atom_factors (bracket negated first others) =
+      put (class (bracket_class negated (first ∷ others))) empty
   atom_factors (parentheses inner) = put (group (alternatives_terms inner)) empty
   atom_factors (escaped symbol) = put (class (only symbol)) empty
 
@@ -218,7 +232,8 @@ abbrev mutual
 -- at most 200 bytes, 32 parentheses open at once and 400 factors
 abbrev pub Spells : List ℕ → Terms → Type 0
 Spells bytes flat =
-    (tree : Alternatives) × IsTrue (is_right_alternatives tree) × (alternatives_bytes tree ≡ bytes) × (alternatives_terms tree ≡ flat)
+    (tree : Alternatives) × IsTrue (is_right_alternatives tree) × (alternatives_bytes tree ≡ bytes)
+    × (alternatives_terms tree ≡ flat)
     × (length bytes ≤ 200) × (alternatives_depth tree ≤ 32) × (terms_size flat ≤ 400)
 
 -- the pattern that the source spells holds the text

@@ -5,7 +5,8 @@ use Rattle.pol_scan.specs.declared.words.Branch.{Branch}
 
 -- the words along the branches, behind these
 abbrev pub words_from : List (List ℕ) → List Branch → List (List ℕ)
-words_from words branches = fold (λ known branch. with_longer known branch.parent branch.column) words branches
+words_from words branches =
+    fold (λ known branch. with_longer known branch.parent branch.column) words branches
 
 -- the first word is the empty one
 abbrev pub words_along : List Branch → List (List ℕ)
@@ -13,4 +14,5 @@ words_along branches = words_from ([] ∷ []) branches
 
 -- each branch goes on from a word before its own
 abbrev pub AreRooted : List Branch → Type 0
-AreRooted branches = (k : ℕ) (d : Branch) → k < length branches → (slice_index_or branches k d).parent ≤ k
+AreRooted branches =
+    (k : ℕ) (d : Branch) → k < length branches → (slice_index_or branches k d).parent ≤ k

@@ -48,4 +48,5 @@ pub record Keeps {S : Type 0} (old : Congruence) (led : List ℕ → S
 -- as of a machine that learns nothing
 pub keeps_itself : {S : Type 0} (congruence : Congruence) (leads : List ℕ → S → Type 0)
     → Keeps congruence leads congruence leads
-keeps_itself congruence leads = record { columns = refl; alike = λ u v. (λ h. h, λ h. h); known = λ word state h. h }
+keeps_itself congruence leads =
+    record { columns = refl; alike = λ u v. (λ h. h, λ h. h); known = λ word state h. h }

@@ -28,7 +28,8 @@ pub record AreFound {S : Type 0} (congruence : Congruence) (leads : List ℕ →
 
 -- each found word comes before the one at which the scan stands
 abbrev pub AreBehind : List (List ℕ) → ℕ → ℕ → Type 0
-AreBehind words state column = All (λ word. IsBefore word (longer (word_at words state) column)) words
+AreBehind words state column =
+    All (λ word. IsBefore word (longer (word_at words state) column)) words
 
 -- A column was followed from a found state: the scan stands at the next place of the row. A new
 -- state has the last word

@@ -1,5 +1,6 @@
 -- What a change makes of a policy.
-use Rattle.std.specs.Prelude.{ℕ, List, [], ◌∷◌, length, map, insert, remove, slice_get, Bool, false, not, Option, Some, None, if◌then◌else◌}
+use Rattle.std.specs.Prelude.{ℕ, List, [], ◌∷◌, length, map, insert, remove, slice_get, Bool, false}
+use Rattle.std.specs.Prelude.{not, Option, Some, None, if◌then◌else◌}
 use Rattle.std.specs.Option.{option_map_or}
 use Rattle.std.specs.List.{list_any, list_all}
 use Rattle.std.specs.Str.{bytes_eq}
@@ -15,20 +16,24 @@ use Rattle.pol_text.specs.declared.fault.ChainFault.TheVariants as chains
 
 -- the subject of this kind and name is changed in its place
 abbrev pub with_changed : SubjectId → (Subject → Subject) → List Subject → List Subject
-with_changed id change policy = map (λ subject. if same_id id (id_of subject) then change subject else subject) policy
+with_changed id change policy =
+    map (λ subject. if same_id id (id_of subject) then change subject else subject) policy
 
 -- the subject of this kind and name goes, and the list closes up
 abbrev pub without : SubjectId → List Subject → List Subject
 without id [] = []
-without id (subject ∷ rest) = if same_id id (id_of subject) then without id rest else subject ∷ without id rest
+without id (subject ∷ rest) =
+    if same_id id (id_of subject) then without id rest else subject ∷ without id rest
 
 -- whether a subject has the group of this name as its parent
 abbrev pub is_parent : List ℕ → List Subject → Bool
-is_parent name policy = list_any (λ subject. option_map_or (bytes_eq name) subject.parent false) policy
+is_parent name policy =
+    list_any (λ subject. option_map_or (bytes_eq name) subject.parent false) policy
 
 -- whether the group is there, and one more subject may stand below it: its chain has at most 7
 abbrev pub has_room_below : List ℕ → List Subject → Bool
-has_room_below name policy = option_map_or (ends_within 7 policy) (find_subject (group_id name) policy) false
+has_room_below name policy =
+    option_map_or (ends_within 7 policy) (find_subject (group_id name) policy) false
 
 -- what is wrong with the chains: one that doesn't end comes before one of more than 8 subjects
 abbrev pub chain_fault : List Subject → Option ChainFault
@@ -57,4 +62,7 @@ without_rule_at at subject = record subject { rules = remove subject.rules at }
 -- the rule at one place is taken out, and put so that it stands at the other
 abbrev pub with_rule_moved : ℕ → ℕ → Subject → Subject
 with_rule_moved from to subject =
-    record subject { rules = option_map_or (insert (remove subject.rules from) to) (slice_get subject.rules from) subject.rules }
+    record subject {
+      rules = option_map_or (insert (remove subject.rules from) to)
+          (slice_get subject.rules from) subject.rules;
+    }

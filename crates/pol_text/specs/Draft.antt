@@ -1,5 +1,6 @@
 -- A draft that chains are judged of, and what a line's function returned, against what was wanted.
-use Rattle.std.specs.Prelude.{◌≡◌, ℕ, ◌+◌, ◌≤◌, Bool, true, List, [], ◌∷◌, length, map, Option, Some, None, Result, Ok, Err, if◌then◌else◌}
+use Rattle.std.specs.Prelude.{◌≡◌, ℕ, ◌+◌, ◌≤◌, Bool, true, List, [], ◌∷◌, length, map, Option}
+use Rattle.std.specs.Prelude.{Some, None, Result, Ok, Err, if◌then◌else◌}
 use Rattle.std.specs.List.{list_all}
 use Rattle.pol_text.specs.declared.subject.Subject.{Subject}
 use Rattle.pol_text.specs.Policy.{id_of, all_distinct, is_right_subject}
@@ -34,4 +35,5 @@ pub record RightDraft (draft : Draft) : Type 0 where
 -- the place of the first subject that fails the test, of subjects whose first has this place
 abbrev pub first_failing : ℕ → (Subject → Bool) → List Subject → Option ℕ
 first_failing place test [] = None
-first_failing place test (subject ∷ rest) = if test subject then first_failing (place + 1) test rest else Some place
+first_failing place test (subject ∷ rest) =
+    if test subject then first_failing (place + 1) test rest else Some place

@@ -3,7 +3,10 @@ use Rattle.std.specs.Prelude.{ℕ, List, ◌++◌, codes}
 use Rattle.std.specs.Fmt.{decimal}
 use Rattle.pol_pattern.specs.FaultText as patterns
 use Rattle.pol_text.specs.declared.fault.PolicyRefusal.{PolicyRefusal}
-use Rattle.pol_text.specs.declared.fault.PolicyRefusal.TheVariants.{BadLine, BadName, Repeated, NoSubject, BadPattern, BadValue, NoSuchParent, Cycle, TooDeep, Limit}
+use Rattle.pol_text.specs.declared.fault.PolicyRefusal.TheVariants.{BadLine, BadName, Repeated}
+use Rattle.pol_text.specs.declared.fault.PolicyRefusal.TheVariants.{NoSubject, BadPattern, BadValue}
+use Rattle.pol_text.specs.declared.fault.PolicyRefusal.TheVariants.{NoSuchParent, Cycle, TooDeep}
+use Rattle.pol_text.specs.declared.fault.PolicyRefusal.TheVariants.{Limit}
 use Rattle.pol_text.specs.declared.fault.PolicyFault.{PolicyFault}
 use Rattle.pol_text.specs.declared.fault.PolicyFault.TheVariants.{Refused, Memory}
 
@@ -22,5 +25,6 @@ refusal_text Limit = codes "10 Limit"
 
 -- the line comes before what is wrong there
 abbrev pub fault_text : PolicyFault → List ℕ
-fault_text (Refused line refusal) = codes "line " ++ decimal line ++ codes ": " ++ refusal_text refusal
+fault_text (Refused line refusal) =
+    codes "line " ++ decimal line ++ codes ": " ++ refusal_text refusal
 fault_text Memory = codes "11 Memory"

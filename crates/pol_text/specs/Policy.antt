@@ -1,5 +1,8 @@
--- The policy: groups and users in order, the chain of each, and the decision (docs/DEFINITIONS.md, "The policy").
-use Rattle.std.specs.Prelude.{◌≡◌, ◌↔◌, ◌≤◌, ℕ, zero, suc, nat_le, List, [], ◌∷◌, ◌++◌, length, map, Contains, Bool, true, false, not, ◌&&◌, ◌||◌, is_some, IsTrue, Option, Some, None, option_map, if◌then◌else◌}
+-- The policy: groups and users in order, the chain of each, and the decision
+-- (docs/DEFINITIONS.md, "The policy").
+use Rattle.std.specs.Prelude.{◌≡◌, ◌↔◌, ◌≤◌, ℕ, zero, suc, nat_le, List, [], ◌∷◌, ◌++◌, length, map}
+use Rattle.std.specs.Prelude.{Contains, Bool, true, false, not, ◌&&◌, ◌||◌, is_some, IsTrue, Option}
+use Rattle.std.specs.Prelude.{Some, None, option_map, if◌then◌else◌}
 use Rattle.std.specs.Option.{option_and_then, option_map_or, option_or}
 use Rattle.std.specs.Result.{is_ok}
 use Rattle.std.specs.List.{list_any, list_all}
@@ -24,23 +27,27 @@ id_of subject = record { kind = subject.kind; name = subject.name }
 -- the subject of this kind and name
 abbrev pub find_subject : SubjectId → List Subject → Option Subject
 find_subject id [] = None
-find_subject id (subject ∷ rest) = if same_id id (id_of subject) then Some subject else find_subject id rest
+find_subject id (subject ∷ rest) =
+    if same_id id (id_of subject) then Some subject else find_subject id rest
 
 -- ---- chains
 
 -- the group that a subject belongs to
 abbrev pub parent_of : List Subject → Subject → Option Subject
-parent_of policy subject = option_and_then (λ name. find_subject (group_id name) policy) subject.parent
+parent_of policy subject =
+    option_and_then (λ name. find_subject (group_id name) policy) subject.parent
 
 -- whether the subject, its parent, that one's parent and so on are at most so many
 unfoldable pub ends_within : ℕ → List Subject → Subject → Bool
 ends_within zero policy subject = false
-ends_within (suc most) policy subject = option_map_or (ends_within most policy) (parent_of policy subject) true
+ends_within (suc most) policy subject =
+    option_map_or (ends_within most policy) (parent_of policy subject) true
 
 -- the subject, its parent, that one's parent and so on, at most so many
 unfoldable pub chain_within : ℕ → List Subject → Subject → List Subject
 chain_within zero policy subject = []
-chain_within (suc most) policy subject = subject ∷ option_map_or (chain_within most policy) (parent_of policy subject) []
+chain_within (suc most) policy subject =
+    subject ∷ option_map_or (chain_within most policy) (parent_of policy subject) []
 
 -- the chain of a subject; in a well-formed policy all chains end within 8
 abbrev pub chain : List Subject → Subject → List Subject
@@ -48,7 +55,8 @@ chain policy subject = chain_within 8 policy subject
 
 -- the kinds and names along the chain of the subject, none for a subject that isn't there
 abbrev pub chain_ids : List Subject → SubjectId → List SubjectId
-chain_ids policy id = option_map_or (λ subject. map id_of (chain policy subject)) (find_subject id policy) []
+chain_ids policy id =
+    option_map_or (λ subject. map id_of (chain policy subject)) (find_subject id policy) []
 
 -- the chain of a subject doesn't end: it has more subjects than any number
 abbrev pub IsEndless : List Subject → Subject → Type 0
@@ -57,11 +65,13 @@ IsEndless policy subject = (most : ℕ) → ends_within most policy subject ≡ 
 -- as many steps as there are subjects tell which chains don't end
 abbrev pub TellsEndless : List Subject → Type 0
 TellsEndless policy =
-    (subject : Subject) → Contains policy subject → (ends_within (length policy) policy subject ≡ false) ↔ IsEndless policy subject
+    (subject : Subject) → Contains policy subject
+    → (ends_within (length policy) policy subject ≡ false) ↔ IsEndless policy subject
 
 -- a chain is the subject, and then the chain of its parent
 abbrev pub FollowsParent : List Subject → Subject → Type 0
-FollowsParent policy subject = chain policy subject ≡ subject ∷ option_map_or (chain policy) (parent_of policy subject) []
+FollowsParent policy subject =
+    chain policy subject ≡ subject ∷ option_map_or (chain policy) (parent_of policy subject) []
 
 -- ---- decisions
 
@@ -73,7 +83,8 @@ pub record Entry : Type 0 where
 
 abbrev pub numbered : SubjectId → ℕ → List Rule → List Entry
 numbered owner n [] = []
-numbered owner n (rule ∷ rules) = record { owner = owner; number = n; rule = rule } ∷ numbered owner (suc n) rules
+numbered owner n (rule ∷ rules) =
+    record { owner = owner; number = n; rule = rule } ∷ numbered owner (suc n) rules
 
 abbrev pub own_entries : Subject → List Entry
 own_entries subject = numbered (id_of subject) 1 subject.rules
@@ -89,16 +100,20 @@ entries policy subject = entries_along (chain policy subject)
 -- the entries of a subject are its own rules, and then the entries of its parent
 abbrev pub InheritsEntries : List Subject → Subject → Type 0
 InheritsEntries policy subject =
-    entries policy subject ≡ own_entries subject ++ option_map_or (entries policy) (parent_of policy subject) []
+    entries policy subject ≡ own_entries subject
+    ++ option_map_or (entries policy) (parent_of policy subject) []
 
--- the first entry whose pattern's set holds the whole line decides; where none does, the line is denied
+-- the first entry whose pattern's set holds the whole line decides; where none
+-- does, the line is denied
 abbrev pub first_entry : List Entry → List ℕ → Decision
 first_entry [] line = record { verdict = Deny; by = by.Default }
 first_entry (entry ∷ rest) line =
-    if matches entry.rule.pattern line then record { verdict = entry.rule.verdict; by = by.Rule entry.owner entry.number }
+    if matches entry.rule.pattern line
+    then record { verdict = entry.rule.verdict; by = by.Rule entry.owner entry.number }
     else first_entry rest line
 
--- what the first of a subject's own rules that matches decides, where the first rule has the number n
+-- what the first of a subject's own rules that matches decides, where the first
+-- rule has the number n
 abbrev pub first_match : SubjectId → ℕ → List Rule → List ℕ → Option Decision
 first_match owner n [] line = None
 first_match owner n (rule ∷ rules) line =
@@ -110,7 +125,8 @@ decision policy subject line = first_entry (entries policy subject) line
 
 -- what the policy says of a user's line; nothing where there is no such user
 abbrev pub decide : List Subject → List ℕ → List ℕ → Option Decision
-decide policy name line = option_map (λ user. decision policy user line) (find_subject (user_id name) policy)
+decide policy name line =
+    option_map (λ user. decision policy user line) (find_subject (user_id name) policy)
 
 -- ---- levels
 
@@ -121,7 +137,8 @@ first_level (subject ∷ rest) = option_or subject.priv_lvl (first_level rest)
 
 -- the level of a subject's shells: its own, or that of the nearest of its chain that has one
 abbrev pub level_of : List Subject → SubjectId → Option ℕ
-level_of policy id = option_and_then (λ subject. first_level (chain policy subject)) (find_subject id policy)
+level_of policy id =
+    option_and_then (λ subject. first_level (chain policy subject)) (find_subject id policy)
 
 -- ---- well-formed policies
 
@@ -138,17 +155,20 @@ is_right_rule rule = is_ok (pattern_of rule.pattern)
 
 -- a group has no secrets
 abbrev pub has_right_secrets : Subject → Bool
-has_right_secrets subject = same_kind subject.kind User || not (is_some subject.login || is_some subject.enable)
+has_right_secrets subject =
+    same_kind subject.kind User || not (is_some subject.login || is_some subject.enable)
 
 abbrev pub is_right_subject : Subject → Bool
 is_right_subject subject =
-    is_name subject.name && all_of is_name subject.parent && all_of is_secret subject.login && all_of is_secret subject.enable
+    is_name subject.name && all_of is_name subject.parent && all_of is_secret subject.login
+    && all_of is_secret subject.enable
     && has_right_secrets subject && all_of (λ level. nat_le level 15) subject.priv_lvl
     && nat_le (length subject.rules) 256 && list_all is_right_rule subject.rules
 
 -- the parent, if there is one, is a group of the policy
 abbrev pub has_parent : List Subject → Subject → Bool
-has_parent policy subject = all_of (λ name. is_some (find_subject (group_id name) policy)) subject.parent
+has_parent policy subject =
+    all_of (λ name. is_some (find_subject (group_id name) policy)) subject.parent
 
 pub record WellFormed (policy : List Subject) : Type 0 where
   pub few : length policy ≤ 1024

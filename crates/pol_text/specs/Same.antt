@@ -53,10 +53,16 @@ ruled_so a b same =
 -- it is the same rule exactly if verdict and pattern are the same
 pub same_rule-Decides : (a b : Rule) → Decides (same_rule a b) (a ≡ b)
 same_rule-Decides a b =
-    Decides-like (same_rule a b) (ruled_so a b) (λ (e : a ≡ b). (ap (λ (rule : Rule). rule.verdict) e, ap (λ (rule : Rule). rule.pattern) e))
-    (Decides-and (same_verdict a.verdict b.verdict) (bytes_eq a.pattern b.pattern) (same_verdict-Decides a.verdict b.verdict) (bytes_eq-Decides a.pattern b.pattern))
+    Decides-like (same_rule a b) (ruled_so a b)
+    (λ (e : a ≡ b). (
+      ap (λ (rule : Rule). rule.verdict) e,
+      ap (λ (rule : Rule). rule.pattern) e,
+    ))
+    (Decides-and (same_verdict a.verdict b.verdict) (bytes_eq a.pattern b.pattern)
+    (same_verdict-Decides a.verdict b.verdict) (bytes_eq-Decides a.pattern b.pattern))
 
-option-Decides : {A : Type 0} (E : A → A → Bool) → ((x y : A) → Decides (E x y) (x ≡ y)) → (a b : Option A) → Decides (option_eq E a b) (a ≡ b)
+option-Decides : {A : Type 0} (E : A → A → Bool) → ((x y : A) → Decides (E x y) (x ≡ y))
+    → (a b : Option A) → Decides (option_eq E a b) (a ≡ b)
 option-Decides E tells None None = (λ e. refl, λ e. refl)
 option-Decides E tells None (Some y) = (λ e. absurd cc, λ e. absurd cc)
 option-Decides E tells (Some x) None = (λ e. absurd cc, λ e. absurd cc)
@@ -64,19 +70,35 @@ option-Decides E tells (Some x) (Some y) = (λ e. ap Some ((tells x y).0 e), λ 
 
 abbrev AreSame : Subject → Subject → Type 0
 AreSame a b =
-    (a.kind ≡ b.kind) × ((a.name ≡ b.name) × ((a.parent ≡ b.parent) × ((a.login ≡ b.login) × ((a.enable ≡ b.enable) × ((a.priv_lvl ≡ b.priv_lvl) × (a.rules ≡ b.rules))))))
+    (a.kind ≡ b.kind)
+    × ((a.name ≡ b.name)
+    × ((a.parent ≡ b.parent)
+    × ((a.login ≡ b.login)
+    × ((a.enable ≡ b.enable) × ((a.priv_lvl ≡ b.priv_lvl) × (a.rules ≡ b.rules))))))
 
-abbrev of_parts : Kind → List ℕ → Option (List ℕ) → Option (List ℕ) → Option (List ℕ) → Option ℕ → List Rule → Subject
+abbrev of_parts : Kind → List ℕ → Option (List ℕ) → Option (List ℕ) → Option (List ℕ) → Option ℕ
+    → List Rule → Subject
 of_parts kind name parent login enable level rules =
-    record { kind = kind; name = name; parent = parent; login = login; enable = enable; priv_lvl = level; rules = rules }
+    record {
+      kind = kind;
+      name = name;
+      parent = parent;
+      login = login;
+      enable = enable;
+      priv_lvl = level;
+      rules = rules;
+    }
 
 made_so : (a b : Subject) → AreSame a b → a ≡ b
 made_so a b (kind, (name, (parent, (login, (enable, (level, rules)))))) =
     ap (λ (x : Kind). of_parts x a.name a.parent a.login a.enable a.priv_lvl a.rules) kind
     ∙ ap (λ (x : List ℕ). of_parts b.kind x a.parent a.login a.enable a.priv_lvl a.rules) name
-    ∙ ap (λ (x : Option (List ℕ)). of_parts b.kind b.name x a.login a.enable a.priv_lvl a.rules) parent
-    ∙ ap (λ (x : Option (List ℕ)). of_parts b.kind b.name b.parent x a.enable a.priv_lvl a.rules) login
-    ∙ ap (λ (x : Option (List ℕ)). of_parts b.kind b.name b.parent b.login x a.priv_lvl a.rules) enable
+    ∙ ap (λ (x : Option (List ℕ)).
+    of_parts b.kind b.name x a.login a.enable a.priv_lvl a.rules) parent
+    ∙ ap (λ (x : Option (List ℕ)).
+    of_parts b.kind b.name b.parent x a.enable a.priv_lvl a.rules) login
+    ∙ ap (λ (x : Option (List ℕ)).
+    of_parts b.kind b.name b.parent b.login x a.priv_lvl a.rules) enable
     ∙ ap (λ (x : Option ℕ). of_parts b.kind b.name b.parent b.login b.enable x a.rules) level
     ∙ ap (λ (x : List Rule). of_parts b.kind b.name b.parent b.login b.enable b.priv_lvl x) rules
 
@@ -111,7 +133,8 @@ same_subject-Decides a b =
     (Decides-and _ _ (option-Decides bytes_eq bytes_eq-Decides a.login b.login)
     (Decides-and _ _ (option-Decides bytes_eq bytes_eq-Decides a.enable b.enable)
     (Decides-and _ _ (option-Decides (λ m n. m == n) unsigned_Decides a.priv_lvl b.priv_lvl)
-    (slice_eq-Decides same_rule-Decides a.rules b.rules (pointwise same_rule a.rules b.rules) refl)))))))
+    (slice_eq-Decides same_rule-Decides a.rules b.rules
+    (pointwise same_rule a.rules b.rules) refl)))))))
 
 pub same_rule-identical : (a b : Rule) → same_rule a b ≡ true → a ≡ b
 same_rule-identical a b e = (same_rule-Decides a b).0 e

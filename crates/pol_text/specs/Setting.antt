@@ -22,7 +22,8 @@ secret_for credentials.Enable subject = subject.enable
 abbrev pub secret_given : Credential → List ℕ → Subject → Result Subject PolicyRefusal
 secret_given credential text subject =
     if same_kind subject.kind Group then Err BadLine
-    else set_once (secret_for credential subject) (secret_of text) (λ secret. with_secret credential (Some secret) subject)
+    else set_once (secret_for credential subject) (secret_of text)
+    (λ secret. with_secret credential (Some secret) subject)
 
 abbrev pub changed_by : Setting → Subject → Result Subject PolicyRefusal
 changed_by (Secret credential text) = secret_given credential text.now

@@ -1,6 +1,8 @@
 -- The text of a policy: which policy its lines make, or the first refusal and its line
 -- (docs/POLICY.md).
-use Rattle.std.specs.Prelude.{◌≡◌, ℕ, ◌+◌, List, [], ◌∷◌, ◌++◌, length, map, find, codes, Bool, true, not, ◌&&◌, nat_le, nat_eq, is_some, ok_or, Option, Some, None, Result, Ok, Err, if◌then◌else◌}
+use Rattle.std.specs.Prelude.{◌≡◌, ℕ, ◌+◌, List, [], ◌∷◌, ◌++◌, length, map, find, codes, Bool}
+use Rattle.std.specs.Prelude.{true, not, ◌&&◌, nat_le, nat_eq, is_some, ok_or, Option, Some, None}
+use Rattle.std.specs.Prelude.{Result, Ok, Err, if◌then◌else◌}
 use Rattle.std.specs.Option.{option_and_then, option_map_or}
 use Rattle.std.specs.Str.{bytes_eq}
 use Rattle.std.specs.Fmt.{decimal}
@@ -21,7 +23,10 @@ use Rattle.pol_names.specs.declared.decision.Verdict.TheVariants.{Permit, Deny}
 use Rattle.pol_text.specs.declared.subject.Rule.{Rule}
 use Rattle.pol_text.specs.declared.subject.Subject.{Subject}
 use Rattle.pol_text.specs.declared.fault.PolicyRefusal.{PolicyRefusal}
-use Rattle.pol_text.specs.declared.fault.PolicyRefusal.TheVariants.{BadLine, BadName, Repeated, NoSubject, BadPattern, BadValue, NoSuchParent, Cycle, TooDeep, Limit}
+use Rattle.pol_text.specs.declared.fault.PolicyRefusal.TheVariants.{BadLine, BadName, Repeated}
+use Rattle.pol_text.specs.declared.fault.PolicyRefusal.TheVariants.{NoSubject, BadPattern, BadValue}
+use Rattle.pol_text.specs.declared.fault.PolicyRefusal.TheVariants.{NoSuchParent, Cycle, TooDeep}
+use Rattle.pol_text.specs.declared.fault.PolicyRefusal.TheVariants.{Limit}
 use Rattle.pol_text.specs.declared.fault.PolicyFault.{PolicyFault}
 use Rattle.pol_text.specs.declared.fault.PolicyFault.TheVariants.{Refused, Memory}
 
@@ -50,21 +55,34 @@ is_field text = not (is_some (split_at_first 32 text))
 unfoldable pub with_parent : List ℕ → List ℕ → Result (List ℕ × Option (List ℕ)) PolicyRefusal
 with_parent name rest = do
   parts ← ok_or (split_at_first 32 rest) BadLine
-  if bytes_eq parts.0 (codes "in") && is_field parts.1 then (named name >>= λ name. named parts.1 >>= λ parent. Ok (name, Some parent)) else Err BadLine
+  if bytes_eq parts.0 (codes "in") && is_field parts.1
+      then (named name >>= λ name. named parts.1 >>= λ parent. Ok (name, Some parent))
+      else Err BadLine
 
 -- `NAME` or `NAME in PARENT`, split at its first space
-unfoldable pub heading : List ℕ → Option (List ℕ × List ℕ) → Result (List ℕ × Option (List ℕ)) PolicyRefusal
+unfoldable pub heading : List ℕ → Option (List ℕ × List ℕ)
+    → Result (List ℕ × Option (List ℕ)) PolicyRefusal
 heading rest None = named rest >>= λ name. Ok (name, None)
 heading rest (Some parts) = with_parent parts.0 parts.1
 
 abbrev pub new_subject : Kind → List ℕ → Option (List ℕ) → Subject
 new_subject kind name parent =
-    record { kind = kind; name = name; parent = parent; login = None; enable = None; priv_lvl = None; rules = [] }
+    record {
+      kind = kind;
+      name = name;
+      parent = parent;
+      login = None;
+      enable = None;
+      priv_lvl = None;
+      rules = [];
+    }
 
 -- a new subject goes last; a policy has at most 1,024
-unfoldable pub with_subject : ℕ → Kind → List ℕ → Option (List ℕ) → Draft → Result Draft PolicyRefusal
+unfoldable pub with_subject : ℕ → Kind → List ℕ → Option (List ℕ) → Draft
+    → Result Draft PolicyRefusal
 with_subject line kind name parent draft =
-    if is_some (find_subject (record { kind = kind; name = name }) (subjects_of draft)) then Err Repeated
+    if is_some (find_subject (record { kind = kind; name = name }) (subjects_of draft))
+    then Err Repeated
     else if nat_le 1024 (length draft) then Err Limit
     else Ok (draft ++ (line, new_subject kind name parent) ∷ [])
 
@@ -81,14 +99,16 @@ split_last [] = None
 split_last (x ∷ xs) = behind_first x (split_last xs)
 
 -- what a line makes of the present subject
-unfoldable pub with_present : (Subject → Result Subject PolicyRefusal) → Draft → Result Draft PolicyRefusal
+unfoldable pub with_present : (Subject → Result Subject PolicyRefusal) → Draft
+    → Result Draft PolicyRefusal
 with_present change draft = do
   parts ← ok_or (split_last draft) NoSubject
   subject ← change parts.1.1
   Ok (parts.0 ++ (parts.1.0, subject) ∷ [])
 
 -- a setting that isn't there yet
-abbrev pub set_once : {A : Type 0} → Option A → Option A → (A → Subject) → Result Subject PolicyRefusal
+abbrev pub set_once : {A : Type 0} → Option A → Option A → (A → Subject)
+    → Result Subject PolicyRefusal
 set_once (Some old) value change = Err Repeated
 set_once None None change = Err BadValue
 set_once None (Some value) change = Ok (change value)
@@ -101,14 +121,17 @@ with_login text subject =
 abbrev pub with_enable : List ℕ → Subject → Result Subject PolicyRefusal
 with_enable text subject =
     if same_kind subject.kind Group then Err BadLine
-    else set_once subject.enable (secret_of text) (λ secret. record subject { enable = Some secret })
+    else set_once subject.enable (secret_of text)
+    (λ secret. record subject { enable = Some secret })
 
 -- 1 to 4 digits, 0 to 15
 abbrev pub level_of : List ℕ → Option ℕ
-level_of text = option_and_then (λ level. if nat_le level 15 then Some level else None) (number_of 4 text)
+level_of text =
+    option_and_then (λ level. if nat_le level 15 then Some level else None) (number_of 4 text)
 
 abbrev pub with_priv : List ℕ → Subject → Result Subject PolicyRefusal
-with_priv text subject = set_once subject.priv_lvl (level_of text) (λ level. record subject { priv_lvl = Some level })
+with_priv text subject =
+    set_once subject.priv_lvl (level_of text) (λ level. record subject { priv_lvl = Some level })
 
 abbrev pub pattern_read : List ℕ → Result (List ℕ) PolicyRefusal
 pattern_read text = refusing (pattern_of text)
@@ -121,18 +144,26 @@ pattern_read text = refusing (pattern_of text)
 unfoldable pub with_rule : Verdict → List ℕ → Subject → Result Subject PolicyRefusal
 with_rule verdict text subject =
     pattern_read text >>= λ pattern. if nat_le 256 (length subject.rules) then Err Limit
-    else Ok (record subject { rules = subject.rules ++ record { verdict = verdict; pattern = pattern } ∷ [] })
+    else Ok (record subject {
+      rules = subject.rules
+          ++ record { verdict = verdict; pattern = pattern } ∷ [];
+    })
 
 -- ---- lines
 
 -- the policy after a line of this first word, which a space follows
 unfoldable pub with_words : ℕ → List ℕ → List ℕ → Draft → Result Draft PolicyRefusal
 with_words number word rest draft =
-    if bytes_eq word (codes "group") then (heading rest (split_at_first 32 rest) >>= λ ids. with_subject number Group ids.0 ids.1 draft)
-    else if bytes_eq word (codes "user") then (heading rest (split_at_first 32 rest) >>= λ ids. with_subject number User ids.0 ids.1 draft)
+    if bytes_eq word (codes "group")
+    then (heading rest (split_at_first 32 rest)
+    >>= λ ids. with_subject number Group ids.0 ids.1 draft)
+    else if bytes_eq word (codes "user")
+    then (heading rest (split_at_first 32 rest)
+    >>= λ ids. with_subject number User ids.0 ids.1 draft)
     else if bytes_eq word (codes "login") then with_present (with_login rest) draft
     else if bytes_eq word (codes "enable") then with_present (with_enable rest) draft
-    else if bytes_eq word (codes "priv") then (if is_field rest then with_present (with_priv rest) draft else Err BadLine)
+    else if bytes_eq word (codes "priv")
+    then (if is_field rest then with_present (with_priv rest) draft else Err BadLine)
     else if bytes_eq word (codes "permit") then with_present (with_rule Permit rest) draft
     else if bytes_eq word (codes "deny") then with_present (with_rule Deny rest) draft
     else Err BadLine
@@ -145,11 +176,13 @@ is_blank (byte ∷ bytes) = nat_eq byte 35
 unfoldable pub with_trimmed : ℕ → List ℕ → Draft → Result Draft PolicyRefusal
 with_trimmed number line draft =
     if is_blank line then Ok draft
-    else (ok_or (split_at_first 32 line) BadLine >>= λ parts. with_words number parts.0 parts.1 draft)
+    else (ok_or (split_at_first 32 line) BadLine
+    >>= λ parts. with_words number parts.0 parts.1 draft)
 
 -- the policy after one more line: it has symbols alone, and its leading spaces are dropped
 unfoldable pub with_line : ℕ → List ℕ → Draft → Result Draft PolicyRefusal
-with_line number line draft = if is_text line then with_trimmed number (without_leading_spaces line) draft else Err BadLine
+with_line number line draft =
+    if is_text line then with_trimmed number (without_leading_spaces line) draft else Err BadLine
 
 -- a refusal with the line that it is at
 abbrev pub at_line : {A : Type 0} → ℕ → Result A PolicyRefusal → Result A PolicyFault
@@ -159,17 +192,19 @@ at_line number (Err refusal) = Err (Refused number refusal)
 -- the policy after these lines, of which the first has this number; the first faulty line decides
 unfoldable pub with_lines : ℕ → List (List ℕ) → Draft → Result Draft PolicyFault
 with_lines number [] draft = Ok draft
-with_lines number (line ∷ lines) draft = at_line number (with_line number line draft) >>= λ next. with_lines (number + 1) lines next
+with_lines number (line ∷ lines) draft =
+    at_line number (with_line number line draft) >>= λ next. with_lines (number + 1) lines next
 
 -- ---- whole texts
 
 -- the first subject that fails a test is refused, at its line
 unfoldable pub checked : (Subject → Bool) → PolicyRefusal → Draft → Result Draft PolicyFault
 checked test refusal draft =
-    option_map_or (λ entry. Err (Refused entry.0 refusal)) (find (λ entry. not (test entry.1)) draft) (Ok draft)
+    option_map_or (λ entry. Err (Refused entry.0 refusal))
+    (find (λ entry. not (test entry.1)) draft) (Ok draft)
 
--- each over all subjects in order: its parent is a group of the policy; its chain ends, and so has no
--- subject twice; its chain ends within 8
+-- each over all subjects in order: its parent is a group of the policy; its chain
+-- ends, and so has no subject twice; its chain ends within 8
 unfoldable pub with_right_chains : Draft → Result (List Subject) PolicyFault
 with_right_chains draft =
     checked (has_parent (subjects_of draft)) NoSuchParent draft
@@ -184,7 +219,9 @@ policy_of text = with_lines 1 (lines_of text) [] >>= with_right_chains
 -- ---- the printed form
 
 abbrev pub heading_line : Subject → List ℕ
-heading_line subject = kind_word subject.kind ++ subject.name ++ option_map_or (λ parent. codes " in " ++ parent) subject.parent []
+heading_line subject =
+    kind_word subject.kind ++ subject.name
+    ++ option_map_or (λ parent. codes " in " ++ parent) subject.parent []
 
 -- a line where there is a value
 abbrev pub line_for : {A : Type 0} → (A → List ℕ) → Option A → List (List ℕ)
@@ -222,6 +259,7 @@ FailsUnlessMemory Memory wanted = Unit {0}
 FailsUnlessMemory (Refused line refusal) wanted = wanted ≡ Err (Refused line refusal)
 
 -- the result, seen by view, is the wanted one, unless memory ran out
-abbrev pub IsUnlessMemory : {X Y : Type 0} → (X → Y) → Result X PolicyFault → Result Y PolicyFault → Type 0
+abbrev pub IsUnlessMemory : {X Y : Type 0} → (X → Y) → Result X PolicyFault → Result Y PolicyFault
+    → Type 0
 IsUnlessMemory view (Ok x) wanted = wanted ≡ Ok (view x)
 IsUnlessMemory view (Err fault) wanted = FailsUnlessMemory fault wanted

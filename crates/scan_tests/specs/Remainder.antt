@@ -15,7 +15,8 @@ behind n remainder digit = (remainder * n.base + digit) % n.divisor
 abbrev pub remainder : Numerals → List ℕ → ℕ
 remainder n word = fold (behind n) 0 word
 
-pub remainder-longer : (n : Numerals) (word : List ℕ) (digit : ℕ) → remainder n (longer word digit) ≡ behind n (remainder n word) digit
+pub remainder-longer : (n : Numerals) (word : List ℕ) (digit : ℕ)
+    → remainder n (longer word digit) ≡ behind n (remainder n word) digit
 remainder-longer n word digit = fold_push (behind n) 0 word digit
 
 -- words are the same if their remainders are
@@ -33,12 +34,16 @@ remainders n = record {
 abbrev pub LeadsTo : Numerals → List ℕ → ℕ → Type 0
 LeadsTo n word state = state ≡ remainder n word
 
-pub told_apart : (n : Numerals) (u v : List ℕ) (s t : ℕ) → LeadsTo n u s → LeadsTo n v t → (nat_eq s t ≡ true) ↔ (remainder n u ≡ remainder n v)
+pub told_apart : (n : Numerals) (u v : List ℕ) (s t : ℕ) → LeadsTo n u s → LeadsTo n v t
+    → (nat_eq s t ≡ true) ↔ (remainder n u ≡ remainder n v)
 told_apart n u v s t p q = (λ h. sym p ∙ eqb-true s t h ∙ q, λ e. eq-eqb s t (p ∙ e ∙ sym q))
 
 pub kept : (n m : Numerals) → n ≡ m → Keeps (remainders n) (LeadsTo n) (remainders m) (LeadsTo m)
-kept n m e = subst (λ k. Keeps (remainders n) (LeadsTo n) (remainders k) (LeadsTo k)) e (keeps_itself (remainders n) (LeadsTo n))
+kept n m e =
+    subst (λ k. Keeps (remainders n) (LeadsTo n) (remainders k) (LeadsTo k)) e
+    (keeps_itself (remainders n) (LeadsTo n))
 
-pub accepted_kept : (n m : Numerals) (target other : ℕ) → n ≡ m → target ≡ other → (word : List ℕ) → (remainder n word ≡ target) ↔ (remainder m word ≡ other)
+pub accepted_kept : (n m : Numerals) (target other : ℕ) → n ≡ m → target ≡ other → (word : List ℕ)
+    → (remainder n word ≡ target) ↔ (remainder m word ≡ other)
 accepted_kept n m target other e f word =
     (λ h. sym (ap (λ k. remainder k word) e) ∙ h ∙ f, λ h. ap (λ k. remainder k word) e ∙ h ∙ sym f)

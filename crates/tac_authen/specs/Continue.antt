@@ -1,5 +1,6 @@
 -- Answers of the client within an authentication as bytes (RFC 8907, section 5.3).
-use Rattle.std.specs.Prelude.{ℕ, ◌+◌, List, [], ◌∷◌, ◌++◌, length, take, drop, slice_index, Result, Ok, Err, nat_lt, ◌==◌, if◌then◌else◌}
+use Rattle.std.specs.Prelude.{ℕ, ◌+◌, List, [], ◌∷◌, ◌++◌, length, take, drop, slice_index, Result}
+use Rattle.std.specs.Prelude.{Ok, Err, nat_lt, ◌==◌, if◌then◌else◌}
 use Rattle.std.specs.Int.{w16, to_be_bytes, from_be_bytes}
 use Rattle.tac_wire.specs.declared.body.BodyFault.{BodyFault}
 use Rattle.tac_wire.specs.declared.body.BodyFault.TheVariants.{Short, LengthSum}
@@ -8,7 +9,8 @@ use Rattle.tac_authen.specs.declared.continuation.Continue.{Continue}
 -- user_msg_len, data_len, flags; user_msg, data
 abbrev pub continue_bytes : Continue → List ℕ
 continue_bytes answer =
-    to_be_bytes w16 (length answer.user_msg) ++ to_be_bytes w16 (length answer.extra) ++ (answer.flags ∷ [])
+    to_be_bytes w16 (length answer.user_msg) ++ to_be_bytes w16 (length answer.extra)
+    ++ (answer.flags ∷ [])
     ++ answer.user_msg ++ answer.extra
 
 abbrev pub user_msg_len : List ℕ → ℕ

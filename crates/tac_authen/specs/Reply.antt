@@ -1,5 +1,6 @@
 -- Authentication replies as bytes (RFC 8907, section 5.2): those that this server sends.
-use Rattle.std.specs.Prelude.{ℕ, ◌+◌, Bool, true, false, List, [], ◌∷◌, ◌++◌, length, take, drop, slice_index, Result, Ok, Err, ◌||◌, nat_lt, ◌==◌, if◌then◌else◌}
+use Rattle.std.specs.Prelude.{ℕ, ◌+◌, Bool, true, false, List, [], ◌∷◌, ◌++◌, length, take, drop}
+use Rattle.std.specs.Prelude.{slice_index, Result, Ok, Err, ◌||◌, nat_lt, ◌==◌, if◌then◌else◌}
 use Rattle.std.specs.Int.{w16, to_be_bytes, from_be_bytes}
 use Rattle.tac_wire.specs.declared.body.BodyFault.{BodyFault}
 use Rattle.tac_wire.specs.declared.body.BodyFault.TheVariants.{Short, LengthSum, TooLong}
@@ -18,7 +19,8 @@ flags_of false = 0
 -- a reply with these flags: status, flags, server_msg_len, data_len; server_msg, no data
 abbrev pub bytes_with : ℕ → AuthenReply → List ℕ
 bytes_with flags reply =
-    (reply.status.0 ∷ flags ∷ []) ++ to_be_bytes w16 (length reply.msg.items) ++ to_be_bytes w16 0 ++ reply.msg.items
+    (reply.status.0 ∷ flags ∷ []) ++ to_be_bytes w16 (length reply.msg.items) ++ to_be_bytes w16 0
+    ++ reply.msg.items
 
 abbrev pub reply_bytes : AuthenReply → List ℕ
 reply_bytes reply = bytes_with (flags_of reply.noecho) reply

@@ -1,11 +1,13 @@
 -- Starts of an authentication as bytes (RFC 8907, section 5.1).
-use Rattle.std.specs.Prelude.{ℕ, ◌+◌, List, [], ◌∷◌, ◌++◌, length, sum, drop, slice_index, slice_index_or, Result, Ok, Err, nat_lt, ◌==◌, if◌then◌else◌}
+use Rattle.std.specs.Prelude.{ℕ, ◌+◌, List, [], ◌∷◌, ◌++◌, length, sum, drop, slice_index}
+use Rattle.std.specs.Prelude.{slice_index_or, Result, Ok, Err, nat_lt, ◌==◌, if◌then◌else◌}
 use Rattle.tac_wire.specs.declared.body.BodyFault.{BodyFault}
 use Rattle.tac_wire.specs.declared.body.BodyFault.TheVariants.{Short, LengthSum}
 use Rattle.tac_wire.specs.Cut.{cut}
 use Rattle.tac_authen.specs.declared.start.Start.{Start}
 
--- action, priv_lvl, authen_type, authen_service, user_len, port_len, rem_addr_len, data_len; user, port, rem_addr, data
+-- action, priv_lvl, authen_type, authen_service, user_len, port_len, rem_addr_len,
+-- data_len; user, port, rem_addr, data
 abbrev pub start_bytes : Start → List ℕ
 start_bytes start =
     (start.action.0 ∷ start.priv_lvl ∷ start.authen_type.0 ∷ start.service.0
@@ -14,7 +16,8 @@ start_bytes start =
 
 -- the lengths of user, port, rem_addr and data
 abbrev pub lengths_of : List ℕ → List ℕ
-lengths_of body = slice_index body 4 ∷ slice_index body 5 ∷ slice_index body 6 ∷ slice_index body 7 ∷ []
+lengths_of body =
+    slice_index body 4 ∷ slice_index body 5 ∷ slice_index body 6 ∷ slice_index body 7 ∷ []
 
 -- the fields that a body with these lengths has
 abbrev pub fields_of : List ℕ → List (List ℕ)

@@ -2,9 +2,11 @@
 use Rattle.tac_conn.specs.declared.ask.Ask.{Ask}
 use Rattle.tac_conn.specs.declared.ask.Ask.TheVariants.{Authenticate, Authorise, Account}
 use Rattle.tac_conn.specs.declared.ask.Answer.{Answer}
-use Rattle.tac_conn.specs.declared.ask.Answer.TheVariants.{Pass, Fail, UnknownUser, Unprintable, Denied, Permitted, Stored, BookFull}
+use Rattle.tac_conn.specs.declared.ask.Answer.TheVariants.{Pass, Fail, UnknownUser, Unprintable}
+use Rattle.tac_conn.specs.declared.ask.Answer.TheVariants.{Denied, Permitted, Stored, BookFull}
 use Rattle.tac_conn.specs.declared.ask.AskKind.{AskKind}
-use Rattle.tac_conn.specs.declared.ask.AskKind.TheVariants.{Authentication, Authorisation, Accounting}
+use Rattle.tac_conn.specs.declared.ask.AskKind.TheVariants.{Authentication, Authorisation}
+use Rattle.tac_conn.specs.declared.ask.AskKind.TheVariants.{Accounting}
 use Rattle.tac_conn.specs.declared.ask.Slot.{Slot}
 
 -- what an ask is about

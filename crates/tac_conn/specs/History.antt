@@ -1,6 +1,8 @@
--- What the packets that came before make of a connection (RFC 8907, sections 4.1 to 4.4). Lists of packets have the
+-- What the packets that came before make of a connection (RFC 8907, sections 4.1 to
+-- 4.4). Lists of packets have the
 -- latest first.
-use Rattle.std.specs.Prelude.{ℕ, ◌*◌, List, [], ◌∷◌, length, count_by, Bool, true, false, not, ◌&&◌, ◌||◌, ◌==◌, Option, Some, None, if◌then◌else◌}
+use Rattle.std.specs.Prelude.{ℕ, ◌*◌, List, [], ◌∷◌, length, count_by, Bool, true, false, not, ◌&&◌}
+use Rattle.std.specs.Prelude.{◌||◌, ◌==◌, Option, Some, None, if◌then◌else◌}
 use Rattle.std.specs.List.{list_any}
 use Rattle.std.specs.Option.{option_map_or, option_and_then}
 use Rattle.std.specs.Result.{result_ok}
@@ -33,18 +35,25 @@ service_of [] = record { 0 = 0 }
 service_of (start ∷ []) = option_map_or (λ start. start.service) (started start) (record { 0 = 0 })
 service_of (packet ∷ before ∷ earlier) = service_of (before ∷ earlier)
 
--- whose password a session asks for: the user whom its START names, or else its last packet; of neither, the name
+-- whose password a session asks for: the user whom its START names, or else its last
+-- packet; of neither, the name
 abbrev pub user_of : List Packet → Option (List ℕ)
 user_of [] = None
 user_of (start ∷ []) = option_and_then (λ start. given start.user) (started start)
-user_of (packet ∷ before ∷ earlier) = Some (option_map_or (λ answer. answer.user_msg) (continued packet) [])
+user_of (packet ∷ before ∷ earlier) =
+    Some (option_map_or (λ answer. answer.user_msg) (continued packet) [])
 
 -- an open session, by its trail: each packet of it was replied to
 abbrev pub session_of : ℕ → List Packet → Option Session
 session_of id [] = None
 session_of id (packet ∷ earlier) =
     let trail = packet ∷ earlier in
-    Some (record { id = id; last_seq = 2 * length trail; service = service_of trail; user = user_of trail })
+    Some (record {
+      id = id;
+      last_seq = 2 * length trail;
+      service = service_of trail;
+      user = user_of trail;
+    })
 
 -- ---- a connection
 
@@ -82,14 +91,17 @@ open_count trail packets = count_by (λ id. is_open (trail id)) (session_ids pac
 abbrev pub judged_by : (ℕ → List Packet) → List Packet → Packet → Outcome
 judged_by trail earlier packet =
     let id = packet.header.session in
-    judged (is_single (packet ∷ earlier)) (open_count trail earlier) (session_of id (trail id)) packet
+    judged (is_single (packet ∷ earlier)) (open_count trail earlier)
+    (session_of id (trail id)) packet
 
--- the trail of a session: its packets after the last that ended it or, coming while it wasn't open, opened none
+-- the trail of a session: its packets after the last that ended it or, coming while
+-- it wasn't open, opened none
 unfoldable pub trail_of : List Packet → ℕ → List Packet
 trail_of [] id = []
 trail_of (packet ∷ earlier) id =
     if packet.header.session == id
-    then (if leaves_open (judged_by (trail_of earlier) earlier packet) then packet ∷ trail_of earlier id else [])
+    then (if leaves_open (judged_by (trail_of earlier) earlier packet)
+    then packet ∷ trail_of earlier id else [])
     else trail_of earlier id
 
 -- the session of this id, if it is open after these packets

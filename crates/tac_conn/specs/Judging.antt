@@ -1,5 +1,7 @@
 -- What one packet comes to, by its session (RFC 8907, sections 4.1 to 4.4, and 5 to 7).
-use Rattle.std.specs.Prelude.{ℕ, ◌+◌, ◌-◌, ◌%◌, List, [], ◌∷◌, length, drop, codes, slice_index, slice_range, Bool, true, false, not, ◌&&◌, ◌||◌, ◌==◌, nat_lt, nat_le, Option, Some, None, is_ok, if◌then◌else◌}
+use Rattle.std.specs.Prelude.{ℕ, ◌+◌, ◌-◌, ◌%◌, List, [], ◌∷◌, length, drop, codes, slice_index}
+use Rattle.std.specs.Prelude.{slice_range, Bool, true, false, not, ◌&&◌, ◌||◌, ◌==◌, nat_lt, nat_le}
+use Rattle.std.specs.Prelude.{Option, Some, None, is_ok, if◌then◌else◌}
 use Rattle.std.specs.Option.{option_map_or}
 use Rattle.std.specs.Result.{result_ok}
 use Rattle.tac_wire.specs.Flag.{has_flag}
@@ -18,7 +20,8 @@ use Rattle.tac_request.specs.Line.{line_of}
 use Rattle.tac_request.specs.declared.record.AcctKind.{AcctKind}
 use Rattle.tac_request.specs.Record.{kind_of as acct_kind_of, record_of}
 use Rattle.tac_conn.specs.declared.ask.AskKind.{AskKind}
-use Rattle.tac_conn.specs.declared.ask.AskKind.TheVariants.{Authentication, Authorisation, Accounting}
+use Rattle.tac_conn.specs.declared.ask.AskKind.TheVariants.{Authentication, Authorisation}
+use Rattle.tac_conn.specs.declared.ask.AskKind.TheVariants.{Accounting}
 use Rattle.tac_conn.specs.declared.ask.Ask.TheVariants.{Authenticate, Authorise, Account}
 use Rattle.tac_conn.specs.declared.ask.Answer.{Answer}
 use Rattle.tac_conn.specs.declared.ask.Proof.{Proof}
@@ -30,8 +33,10 @@ use Rattle.tac_conn.specs.declared.reply.ReplyBody.{ReplyBody}
 use Rattle.tac_conn.specs.declared.reply.ReplyBody.TheVariants.{Empty}
 use Rattle.tac_conn.specs.declared.session.Session.{Session}
 use Rattle.tac_conn.specs.declared.outcome.Outcome.{Outcome}
-use Rattle.tac_conn.specs.declared.outcome.Outcome.TheVariants.{Question, Reply, Asks, Silent, Close}
-use Rattle.tac_conn.specs.Reply.{fail, authen_error, question_to, secret_question, refusal, acct_error, bad_body, answer_body}
+use Rattle.tac_conn.specs.declared.outcome.Outcome.TheVariants.{Question, Reply, Asks, Silent}
+use Rattle.tac_conn.specs.declared.outcome.Outcome.TheVariants.{Close}
+use Rattle.tac_conn.specs.Reply.{fail, authen_error, question_to, secret_question, refusal}
+use Rattle.tac_conn.specs.Reply.{acct_error, bad_body, answer_body}
 
 -- ---- what a packet comes to
 
@@ -58,7 +63,8 @@ abbrev pub reply_flags : Bool → ℕ
 reply_flags true = 0x04
 reply_flags false = 0
 
--- the place of the reply to a packet: it has the packet's version, type and session_id, and the next seq_no
+-- the place of the reply to a packet: it has the packet's version, type and
+-- session_id, and the next seq_no
 abbrev pub slot_for : Header → AskKind → Bool → Slot
 slot_for header kind single =
     record {
@@ -80,7 +86,9 @@ breaks slot = Reply (reply_in slot (bad_body slot.kind)) true
 
 -- a type that isn't served: the header again, with the next seq_no and no body
 abbrev pub unserved : Header → Outcome
-unserved header = Reply (record { header = record header { seq = header.seq + 1; length = 0 }; body = Empty }) true
+unserved header =
+    Reply (record { header = record header { seq = header.seq + 1; length = 0 }; body = Empty })
+    true
 
 -- the reply to a packet, by the desk's answer where it is asked; none where nothing is sent
 abbrev pub reply_of : Outcome → Answer → Option ReplyValue
@@ -104,7 +112,12 @@ given (byte ∷ name) = Some (byte ∷ name)
 -- the session that a START opens
 abbrev pub session_begun : Slot → Start → Session
 session_begun slot start =
-    record { id = slot.header.session; last_seq = slot.header.seq; service = start.service; user = given start.user }
+    record {
+      id = slot.header.session;
+      last_seq = slot.header.seq;
+      service = start.service;
+      user = given start.user;
+    }
 
 -- ASCII: the name is asked for, or the password
 abbrev pub ascii_outcome : ℕ → Slot → Start → Outcome
@@ -136,7 +149,8 @@ at_once_outcome slot start =
 -- LOGIN, by ASCII, PAP or CHAP
 abbrev pub is_supported : Start → Bool
 is_supported start =
-    start.action.0 == 1 && (start.authen_type.0 == 1 || start.authen_type.0 == 2 || start.authen_type.0 == 3)
+    start.action.0 == 1 && (start.authen_type.0 == 1 || start.authen_type.0 == 2
+    || start.authen_type.0 == 3)
 
 abbrev pub start_outcome : ℕ → Slot → Start → Outcome
 start_outcome count slot start =
@@ -167,11 +181,13 @@ name_outcome slot session (byte ∷ name) =
 -- what was typed, where the session waits for a name, or for the password of this user
 abbrev pub typed_outcome : Slot → Session → Option (List ℕ) → List ℕ → Outcome
 typed_outcome slot session None typed = name_outcome slot session typed
-typed_outcome slot session (Some user) typed = Asks (Authenticate user session.service (Plain typed)) slot
+typed_outcome slot session (Some user) typed =
+    Asks (Authenticate user session.service (Plain typed)) slot
 
 abbrev pub continue_outcome : Slot → Session → Continue → Outcome
 continue_outcome slot session answer =
-    if has_flag 0x01 answer.flags then aborted slot else typed_outcome slot session session.user answer.user_msg
+    if has_flag 0x01 answer.flags then aborted slot
+    else typed_outcome slot session session.user answer.user_msg
 
 abbrev pub continue_read : Slot → Session → Option Continue → Outcome
 continue_read slot session None = breaks slot
@@ -209,8 +225,9 @@ kind_of header =
     else if header.kind.0 == 3 then Some Accounting
     else None
 
--- a packet of an open session is one of authentication, and has the seq_no after the last reply's. Any other begins a
--- session: it has seq_no 1, and on a connection that isn't single no session is open
+-- a packet of an open session is one of authentication, and has the seq_no after the
+-- last reply's. Any other begins a session: it has seq_no 1, and on a connection that
+-- isn't single no session is open
 abbrev pub is_in_turn : Bool → ℕ → Option Session → AskKind → Header → Bool
 is_in_turn single count (Some session) Authentication header = header.seq == session.last_seq + 1
 is_in_turn single count (Some session) Authorisation header = false
@@ -220,12 +237,14 @@ is_in_turn single count None kind header = header.seq == 1 && (single || count =
 -- the body of a packet that begins a session, by how many are open
 abbrev pub opening_outcome : AskKind → ℕ → Slot → List ℕ → Outcome
 opening_outcome Authentication count slot body = start_read count slot (result_ok (start_of body))
-opening_outcome Authorisation count slot body = request_read slot (result_ok (author_request_of body))
+opening_outcome Authorisation count slot body =
+    request_read slot (result_ok (author_request_of body))
 opening_outcome Accounting count slot body = acct_read slot (result_ok (acct_request_of body))
 
 -- the body of a packet that comes in its turn
 abbrev pub body_outcome : ℕ → Option Session → Slot → List ℕ → Outcome
-body_outcome count (Some session) slot body = continue_read slot session (result_ok (continue_of body))
+body_outcome count (Some session) slot body =
+    continue_read slot session (result_ok (continue_of body))
 body_outcome count None slot body = opening_outcome slot.kind count slot body
 
 abbrev pub kind_outcome : Bool → ℕ → Option Session → Packet → Option AskKind → Outcome
@@ -235,8 +254,8 @@ kind_outcome single count session packet (Some kind) =
     then body_outcome count session (slot_for packet.header kind single) packet.body
     else Close
 
--- what a packet comes to on a connection that is single or isn't, by how many sessions are open, and by its own, if that
--- is open. After seq_no 255 there is none for a reply
+-- what a packet comes to on a connection that is single or isn't, by how many sessions are
+-- open, and by its own, if that is open. After seq_no 255 there is none for a reply
 unfoldable pub judged : Bool → ℕ → Option Session → Packet → Outcome
 judged single count session packet =
     if packet.header.seq == 255 then Close
@@ -254,9 +273,11 @@ abbrev pub is_body : Option Session → AskKind → List ℕ → Bool
 is_body (Some session) kind body = is_ok (continue_of body)
 is_body None kind body = is_first_body kind body
 
--- whether a packet is read: it is of a type that is served, comes in its turn, and its body is one of its kind. All
+-- whether a packet is read: it is of a type that is served, comes in its turn, and its
+-- body is one of its kind. All
 -- others are refused as they stand
 abbrev pub is_read : Bool → ℕ → Option Session → Packet → Bool
 is_read single count session packet =
-    option_map_or (λ kind. is_in_turn single count session kind packet.header && is_body session kind packet.body)
+    option_map_or (λ kind. is_in_turn single count session kind packet.header
+    && is_body session kind packet.body)
     (kind_of packet.header) false

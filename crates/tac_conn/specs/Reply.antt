@@ -1,5 +1,6 @@
 -- The replies of the server (RFC 8907, sections 5.2, 6.2 and 7.2).
-use Rattle.std.specs.Prelude.{◌≡◌, ℕ, ◌+◌, List, [], ◌++◌, ◌∷◌, length, codes, Bool, true, false, ◌==◌, Option, None}
+use Rattle.std.specs.Prelude.{◌≡◌, ℕ, ◌+◌, List, [], ◌++◌, ◌∷◌, length, codes, Bool, true, false}
+use Rattle.std.specs.Prelude.{◌==◌, Option, None}
 use Rattle.std.specs.Fmt.{decimal}
 use Rattle.pol_names.specs.SubjectId.{kind_word}
 use Rattle.pol_names.specs.declared.decision.By.{By}
@@ -11,13 +12,15 @@ use Rattle.tac_request.specs.declared.author_reply.AuthorStatus.{AuthorStatus}
 use Rattle.tac_request.specs.AuthorReply.{author_reply}
 use Rattle.tac_request.specs.AcctReply.{acct_reply}
 use Rattle.tac_conn.specs.declared.ask.Answer.{Answer}
-use Rattle.tac_conn.specs.declared.ask.Answer.TheVariants.{Pass, Fail, UnknownUser, Unprintable, Denied, Permitted, Stored, BookFull}
+use Rattle.tac_conn.specs.declared.ask.Answer.TheVariants.{Pass, Fail, UnknownUser, Unprintable}
+use Rattle.tac_conn.specs.declared.ask.Answer.TheVariants.{Denied, Permitted, Stored, BookFull}
 use Rattle.tac_conn.specs.declared.ask.AskKind.{AskKind}
 use Rattle.tac_conn.specs.declared.ask.AskKind.TheVariants as about
 use Rattle.tac_conn.specs.declared.packet.Packet.{Packet}
 use Rattle.tac_conn.specs.declared.reply.Reply.{Reply}
 use Rattle.tac_conn.specs.declared.reply.ReplyBody.{ReplyBody}
-use Rattle.tac_conn.specs.declared.reply.ReplyBody.TheVariants.{Authentication, Authorisation, Accounting, Empty}
+use Rattle.tac_conn.specs.declared.reply.ReplyBody.TheVariants.{Authentication, Authorisation}
+use Rattle.tac_conn.specs.declared.reply.ReplyBody.TheVariants.{Accounting, Empty}
 
 -- ---- a reply as a packet
 
@@ -30,7 +33,8 @@ body_bytes Empty = []
 -- the packet of a reply: the length in its header is that of its body
 abbrev pub packet_of : Reply → Packet
 packet_of reply =
-    let body = body_bytes reply.body in record { header = record reply.header { length = length body }; body = body }
+    let body = body_bytes reply.body
+    in record { header = record reply.header { length = length body }; body = body }
 
 -- whether a reply grants what was asked for: PASS, PASS_ADD or SUCCESS
 abbrev pub is_success : ReplyBody → Bool
@@ -50,7 +54,8 @@ pub record IsReplyTo (header : Header) (reply : Reply) : Type 0 where
 
 -- a reply that shows what the user types, if it asks for anything
 abbrev pub authen : AuthenStatus → List ℕ → ReplyBody
-authen status text = Authentication (record { status = status; noecho = false; msg = record { items = text } })
+authen status text =
+    Authentication (record { status = status; noecho = false; msg = record { items = text } })
 
 abbrev pub pass : ReplyBody
 pass = authen (record { 0 = 1 }) []
@@ -68,7 +73,11 @@ name_question = authen (record { 0 = 4 }) (codes "Username: ")
 -- GETPASS, with NOECHO
 abbrev pub secret_question : ReplyBody
 secret_question =
-    Authentication (record { status = record { 0 = 5 }; noecho = true; msg = record { items = codes "Password: " } })
+    Authentication (record {
+      status = record { 0 = 5 };
+      noecho = true;
+      msg = record { items = codes "Password: " };
+    })
 
 -- what a user of this name is asked for: the empty name is none
 abbrev pub question_to : List ℕ → ReplyBody
@@ -79,7 +88,8 @@ question_to (byte ∷ name) = secret_question
 
 -- a reply without a level
 abbrev pub author : AuthorStatus → List ℕ → ReplyBody
-author status text = Authorisation (record { status = status; msg = record { items = text }; priv_lvl = None })
+author status text =
+    Authorisation (record { status = status; msg = record { items = text }; priv_lvl = None })
 
 -- FAIL
 abbrev pub refusal : List ℕ → ReplyBody
@@ -88,7 +98,11 @@ refusal text = author (record { 0 = 0x10 }) text
 -- PASS_ADD without text, perhaps with a level
 abbrev pub permission : Option ℕ → ReplyBody
 permission level =
-    Authorisation (record { status = record { 0 = 0x01 }; msg = record { items = [] }; priv_lvl = level })
+    Authorisation (record {
+      status = record { 0 = 0x01 };
+      msg = record { items = [] };
+      priv_lvl = level;
+    })
 
 -- ERROR
 abbrev pub author_error : List ℕ → ReplyBody

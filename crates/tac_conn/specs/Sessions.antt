@@ -13,7 +13,8 @@ place_in sessions id = position (λ session. session.id == id) sessions
 -- the sessions without the first of this id
 abbrev pub without : ℕ → List Session → List Session
 without id [] = []
-without id (session ∷ sessions) = if session.id == id then sessions else session ∷ without id sessions
+without id (session ∷ sessions) =
+    if session.id == id then sessions else session ∷ without id sessions
 
 -- the sessions with this one in place of the one of its id
 abbrev pub with_session : Session → List Session → List Session

@@ -1,5 +1,6 @@
 -- What the code keeps of a connection, and which packets that stands for.
-use Rattle.std.specs.Prelude.{◌≡◌, ◌≤◌, ℕ, List, [], ◌∷◌, length, Bool, true, false, not, Option, Some, None}
+use Rattle.std.specs.Prelude.{◌≡◌, ◌≤◌, ℕ, List, [], ◌∷◌, length, Bool, true, false, not, Option}
+use Rattle.std.specs.Prelude.{Some, None}
 use Rattle.tac_wire.specs.declared.header.Header.{Header}
 use Rattle.tac_conn.specs.declared.ask.Slot.{Slot}
 use Rattle.tac_conn.specs.declared.packet.Packet.{Packet}
@@ -13,7 +14,8 @@ use Rattle.tac_conn.specs.Ask.{kind_of_ask}
 use Rattle.tac_conn.specs.Packet.{sent}
 use Rattle.tac_conn.specs.Reply.{packet_of, is_success}
 use Rattle.tac_conn.specs.Judging.{closes, judged, is_read, max_sessions}
-use Rattle.tac_conn.specs.History.{asks_single, is_single, open_session, open_sessions, is_closed, outcome}
+use Rattle.tac_conn.specs.History.{asks_single, is_single, open_session, open_sessions, is_closed}
+use Rattle.tac_conn.specs.History.{outcome}
 use Rattle.tac_conn.specs.Sessions.{session_in, settled, HasEachOnce}
 
 -- ---- a step
@@ -117,7 +119,8 @@ IsLast None packets = Unit {0}
 IsLast (Some slot) [] = ⊥
 IsLast (Some slot) (packet ∷ earlier) = slot_in (step_of [] (outcome earlier packet)) ≡ Some slot
 
--- what is kept stands for a connection on which these packets came; of a closed one no session matters
+-- what is kept stands for a connection on which these packets came; of a closed one
+-- no session matters
 pub record Stands (conn : Conn) (packets : List Packet) : Type 0 where
   pub closed : conn.closed ≡ is_closed packets
   pub single : conn.closed ≡ false → conn.single ≡ known_single packets

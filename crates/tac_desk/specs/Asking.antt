@@ -1,6 +1,8 @@
--- What is asked for the packets of connections, and what the desk answers: what the policy says of who a user is and of
--- what a user may do, and whether a record is kept (RFC 8907, sections 5.4, 6.1 and 7.1).
-use Rattle.std.specs.Prelude.{◌≡◌, ℕ, List, [], ◌∷◌, ◌++◌, length, Bool, false, not, ◌==◌, Option, Some, None, if◌then◌else◌}
+-- What is asked for the packets of connections, and what the desk answers: what the policy
+-- says of who a user is and of what a user may do, and whether a record is kept (RFC 8907,
+-- sections 5.4, 6.1 and 7.1).
+use Rattle.std.specs.Prelude.{◌≡◌, ℕ, List, [], ◌∷◌, ◌++◌, length, Bool, false, not, ◌==◌, Option}
+use Rattle.std.specs.Prelude.{Some, None, if◌then◌else◌}
 use Rattle.std.specs.Option.{option_and_then}
 use Rattle.std.specs.Str.{bytes_eq}
 use Rattle.basics.specs.Symbol.{is_text}
@@ -20,7 +22,8 @@ use Rattle.tac_conn.specs.declared.ask.Proof.TheVariants.{Plain, Chap}
 use Rattle.tac_conn.specs.declared.ask.Ask.{Ask}
 use Rattle.tac_conn.specs.declared.ask.Ask.TheVariants.{Authenticate, Authorise, Account}
 use Rattle.tac_conn.specs.declared.ask.Answer.{Answer}
-use Rattle.tac_conn.specs.declared.ask.Answer.TheVariants.{Pass, Fail, UnknownUser, Unprintable, Denied, Permitted, Stored, BookFull}
+use Rattle.tac_conn.specs.declared.ask.Answer.TheVariants.{Pass, Fail, UnknownUser, Unprintable}
+use Rattle.tac_conn.specs.declared.ask.Answer.TheVariants.{Denied, Permitted, Stored, BookFull}
 use Rattle.tac_desk.specs.Meaning.{Meaning}
 
 -- the user of this name; what is no name names none
@@ -36,7 +39,8 @@ secret_for service user = if service.0 == 2 then user.enable else user.login
 -- the password itself, or the response that it gives to the challenge (RFC 1994)
 abbrev pub is_proof_of : List ℕ → Proof → Bool
 is_proof_of secret (Plain password) = bytes_eq password secret
-is_proof_of secret (Chap id challenge response) = bytes_eq response (response_to id secret challenge)
+is_proof_of secret (Chap id challenge response) =
+    bytes_eq response (response_to id secret challenge)
 
 -- nobody knows a secret that isn't there
 abbrev pub authenticated : Option (List ℕ) → Proof → Answer
@@ -44,15 +48,18 @@ authenticated None proof = Fail
 authenticated (Some secret) proof = if is_proof_of secret proof then Pass else Fail
 
 abbrev pub authentication : List Subject → List ℕ → Service → Proof → Answer
-authentication policy name service proof = authenticated (option_and_then (secret_for service) (user_named policy name)) proof
+authentication policy name service proof =
+    authenticated (option_and_then (secret_for service) (user_named policy name)) proof
 
 -- the same as a fact: the proof is one of this secret
 abbrev pub Proves : List ℕ → Proof → Type 0
 Proves secret (Plain password) = password ≡ secret
 Proves secret (Chap id challenge response) = response ≡ response_to id secret challenge
 
--- the policy has the user, the user has the secret that the service names, and the proof is one of it
-pub record LogsIn (policy : List Subject) (name : List ℕ) (service : Service) (proof : Proof) : Type 0 where
+-- the policy has the user, the user has the secret that the service names, and the
+-- proof is one of it
+pub record LogsIn (policy : List Subject) (name : List ℕ) (service : Service) (proof : Proof) :
+    Type 0 where
   pub user : Subject
   pub secret : List ℕ
   pub known : user_named policy name ≡ Some user
@@ -71,12 +78,14 @@ by_verdict Permit level owner = Permitted level
 by_verdict Deny level owner = Denied owner
 
 abbrev pub decided : List Subject → List ℕ → List ℕ → Decision → Answer
-decided policy name line decision = by_verdict decision.verdict (level_for policy name line) decision.by
+decided policy name line decision =
+    by_verdict decision.verdict (level_for policy name line) decision.by
 
 -- an unknown user comes before a line that can't be printed
 abbrev pub authorised : List Subject → List ℕ → List ℕ → Option Subject → Answer
 authorised policy name line None = UnknownUser
-authorised policy name line (Some user) = if is_text line then decided policy name line (decision policy user line) else Unprintable
+authorised policy name line (Some user) =
+    if is_text line then decided policy name line (decision policy user line) else Unprintable
 
 abbrev pub authorisation : List Subject → List ℕ → List ℕ → Answer
 authorisation policy name line = authorised policy name line (user_named policy name)
@@ -98,12 +107,17 @@ pub record Answered : Type 0 where
 abbrev pub stored : Meaning → Record → Answered
 stored meaning item =
     if is_full meaning then record { answer = BookFull; meaning = meaning }
-    else record { answer = Stored; meaning = record meaning { records = meaning.records ++ item ∷ [] } }
+    else record {
+      answer = Stored;
+      meaning = record meaning { records = meaning.records ++ item ∷ [] };
+    }
 
 -- the answer to what is asked, and what the desk stands for from then on
 abbrev pub asked : Meaning → Ask → Answered
-asked meaning (Authenticate user service proof) = record { answer = authentication meaning.policy user service proof; meaning = meaning }
-asked meaning (Authorise user line) = record { answer = authorisation meaning.policy user line; meaning = meaning }
+asked meaning (Authenticate user service proof) =
+    record { answer = authentication meaning.policy user service proof; meaning = meaning }
+asked meaning (Authorise user line) =
+    record { answer = authorisation meaning.policy user line; meaning = meaning }
 asked meaning (Account item) = stored meaning item
 
 -- whether a record is to be stored, and there is room: nothing else that is asked takes memory

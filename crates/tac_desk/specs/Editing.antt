@@ -9,8 +9,9 @@ use Rattle.pol_report.specs.Changes.{AreChanges}
 use Rattle.pol_report.specs.declared.Changed.{Changed}
 use Rattle.tac_desk.specs.Meaning.{Meaning, with_policy}
 
--- an edit that the policy takes makes this policy of it: where that may stand, the answer is what changes for users;
--- else the first subject that is too large is named, and nothing changes
+-- an edit that the policy takes makes this policy of it: where that may stand, the
+-- answer is what changes for users; else the first subject that is too large is named,
+-- and nothing changes
 abbrev pub Takes : Meaning → List Subject → Result (List Changed) EditFault → Meaning → Type 0
 Takes before policy (Ok changes) after =
     IsSmall policy × AreChanges before.policy policy changes × (after ≡ with_policy policy before)
@@ -20,15 +21,18 @@ Takes before policy (Err fault) after = IsRefusedFor policy fault × (after ≡ 
 abbrev pub Refuses : Meaning → EditFault → Result (List Changed) EditFault → Meaning → Type 0
 Refuses before fault answer after = (answer ≡ Err fault) × (after ≡ before)
 
-abbrev pub EditsTo : Meaning → Result (List Subject) EditFault → Result (List Changed) EditFault → Meaning → Type 0
+abbrev pub EditsTo : Meaning → Result (List Subject) EditFault → Result (List Changed) EditFault
+    → Meaning → Type 0
 EditsTo before (Ok policy) answer after = Takes before policy answer after
 EditsTo before (Err fault) answer after = Refuses before fault answer after
 
--- the desk answers the edit so, and stands for this from then on; the edit's own refusals come first
+-- the desk answers the edit so, and stands for this from then on; the edit's own
+-- refusals come first
 abbrev pub Edits : Meaning → Edit → Result (List Changed) EditFault → Meaning → Type 0
 Edits before edit answer after = EditsTo before (applied before.policy edit) answer after
 
 -- no other answer is right, and it leaves nothing else
 abbrev pub IsOnly : Meaning → Edit → Result (List Changed) EditFault → Meaning → Type 0
 IsOnly before edit answer after =
-    (other : Result (List Changed) EditFault) (later : Meaning) → Edits before edit other later → (answer ≡ other) × (after ≡ later)
+    (other : Result (List Changed) EditFault) (later : Meaning) → Edits before edit other later
+    → (answer ≡ other) × (after ≡ later)

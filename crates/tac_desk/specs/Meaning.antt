@@ -1,9 +1,11 @@
--- What a desk stands for. How it keeps that (marks, counts, automata, what it remembers) shows in no answer.
+-- What a desk stands for. How it keeps that (marks, counts, automata, what it
+-- remembers) shows in no answer.
 use Rattle.std.specs.Prelude.{ℕ, List, []}
 use Rattle.pol_text.specs.declared.subject.Subject.{Subject}
 use Rattle.tac_request.specs.declared.record.Record.{Record}
 
--- the present policy, the accepted accounting records in the order in which they came, and the most that are accepted
+-- the present policy, the accepted accounting records in the order in which they came,
+-- and the most that are accepted
 pub record Meaning : Type 0 where
   pub policy : List Subject
   pub records : List Record

@@ -1,4 +1,5 @@
--- What a desk that keeps automata and marks stands for, how much building the automata made, and what holds of the marks.
+-- What a desk that keeps automata and marks stands for, how much building the automata made,
+-- and what holds of the marks.
 use Rattle.std.specs.Prelude.{◌≡◌, ℕ, List, map, Result, Ok, Err}
 use Rattle.pol_text.specs.declared.subject.Subject.{Subject}
 use Rattle.pol_edit.specs.declared.fault.EditFault.{EditFault}

@@ -12,4 +12,5 @@ Opens policy limit (Err fault) = IsRefusedFor policy fault
 
 -- no other answer is right
 abbrev pub IsOnlyOpened : List Subject → ℕ → Result Meaning EditFault → Type 0
-IsOnlyOpened policy limit answer = (other : Result Meaning EditFault) → Opens policy limit other → answer ≡ other
+IsOnlyOpened policy limit answer =
+    (other : Result Meaning EditFault) → Opens policy limit other → answer ≡ other

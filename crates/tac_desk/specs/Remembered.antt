@@ -8,4 +8,5 @@ use Rattle.tac_desk.specs.declared.remembering.Command.{Command}
 -- each is what this policy says of that user's line
 abbrev pub AreDecisionsBy : List Subject → List (Command × Decision) → Type 0
 AreDecisionsBy policy kept =
-    (entry : Command × Decision) → Contains kept entry → decide policy entry.0.user entry.0.line.items ≡ Some entry.1
+    (entry : Command × Decision) → Contains kept entry
+    → decide policy entry.0.user entry.0.line.items ≡ Some entry.1

@@ -1,5 +1,6 @@
 -- What a question to the desk is answered.
-use Rattle.std.specs.Prelude.{◌≡◌, ℕ, List, Bool, true, false, is_some, Option, Some, None, Result, Ok, Err, if◌then◌else◌}
+use Rattle.std.specs.Prelude.{◌≡◌, ℕ, List, Bool, true, false, is_some, Option, Some, None, Result}
+use Rattle.std.specs.Prelude.{Ok, Err, if◌then◌else◌}
 use Rattle.pol_text.specs.Policy.{find_subject, Entry, decision, decide}
 use Rattle.pol_names.specs.declared.subject_id.Kind.{Kind}
 use Rattle.pol_names.specs.declared.subject_id.Kind.TheVariants.{Group, User}
@@ -82,13 +83,16 @@ abbrev pub Reports : Meaning → Query → Result Report QueryFault → Type 0
 Reports meaning queries.Policy answer = answer ≡ Ok (reports.Policy meaning.policy)
 Reports meaning queries.Shadow answer = IsShadowReport meaning.policy answer
 Reports meaning (queries.Reach subject) answer = IsReachOf meaning.policy subject answer
-Reports meaning (queries.Tally subject) answer = answer ≡ tally_report (tally_at meaning subject.kind subject.name)
-Reports meaning (queries.Why user line) answer = answer ≡ Ok (reports.Why (decide meaning.policy user line))
+Reports meaning (queries.Tally subject) answer =
+    answer ≡ tally_report (tally_at meaning subject.kind subject.name)
+Reports meaning (queries.Why user line) answer =
+    answer ≡ Ok (reports.Why (decide meaning.policy user line))
 Reports meaning queries.Records answer = answer ≡ Ok (reports.Records meaning.records)
 
 -- no other answer is right
 abbrev pub IsOnly : Meaning → Query → Result Report QueryFault → Type 0
-IsOnly meaning query answer = (other : Result Report QueryFault) → Reports meaning query other → answer ≡ other
+IsOnly meaning query answer =
+    (other : Result Report QueryFault) → Reports meaning query other → answer ≡ other
 
 -- whether the report is one to this question
 abbrev pub is_report_to : Query → Report → Bool

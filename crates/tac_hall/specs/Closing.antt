@@ -1,14 +1,18 @@
 -- What the views of seats have to be for a hall to be closed.
-use Rattle.std.specs.Prelude.{◌≡◌, ℕ, zero, suc, ◌==◌, List, [], ◌∷◌, Bool, true, false, ◌&&◌, ◌||◌, if◌then◌else◌}
+use Rattle.std.specs.Prelude.{◌≡◌, ℕ, zero, suc, ◌==◌, List, [], ◌∷◌, Bool, true, false, ◌&&◌, ◌||◌}
+use Rattle.std.specs.Prelude.{if◌then◌else◌}
 use Rattle.tac_hall.specs.declared.entry.Entry.{Entry}
 use Rattle.tac_hall.specs.declared.entry.Made.{Made}
 use Rattle.tac_hall.specs.Seat.{Sitting}
 
--- the calls of the log that the seat of this number made, as a view has them; the first of the log stands at this place
+-- the calls of the log that the seat of this number made, as a view has them; the first of
+-- the log stands at this place
 abbrev pub view_of : ℕ → ℕ → List Entry → List Made
 view_of number place [] = []
 view_of number place (entry ∷ log) =
-    if entry.seat == number then record { place = place; call = entry.call; answer = entry.answer } ∷ view_of number (suc place) log
+    if entry.seat == number
+    then record { place = place; call = entry.call; answer = entry.answer }
+    ∷ view_of number (suc place) log
     else view_of number (suc place) log
 
 -- each seat's view is exactly what the log has of it

@@ -1,5 +1,6 @@
 -- The history of a hall: the calls that its desk took, one after another, each with its answer.
-use Rattle.std.specs.Prelude.{◌≡◌, List, [], ◌∷◌, ◌++◌, Bool, true, false, ◌||◌, Result, Ok, Err, OnErr, IsTrue}
+use Rattle.std.specs.Prelude.{◌≡◌, List, [], ◌∷◌, ◌++◌, Bool, true, false, ◌||◌, Result, Ok, Err}
+use Rattle.std.specs.Prelude.{OnErr, IsTrue}
 use Rattle.pol_edit.specs.declared.edit.Edit.{Edit}
 use Rattle.pol_edit.specs.declared.fault.EditFault.{EditFault}
 use Rattle.pol_report.specs.declared.Changed.{Changed}
@@ -22,16 +23,20 @@ use Rattle.tac_hall.specs.declared.entry.Entry.{Entry}
 
 -- an edit was answered so; for want of memory it may be refused, which changes nothing
 abbrev pub AnswersEdit : Meaning → Edit → Result (List Changed) EditFault → Meaning → Type 0
-AnswersEdit was edit answer now = UnlessMemory is_memory answer (editing.Edits was edit answer now) × OnErr answer (now ≡ was)
+AnswersEdit was edit answer now =
+    UnlessMemory is_memory answer (editing.Edits was edit answer now) × OnErr answer (now ≡ was)
 
 -- a question was answered so, or memory ran out
 abbrev pub AnswersQuery : Meaning → Query → Result Report QueryFault → Meaning → Type 0
-AnswersQuery was query answer now = UnlessMemory reporting.is_memory answer (reporting.Reports was query answer) × (now ≡ was)
+AnswersQuery was query answer now =
+    UnlessMemory reporting.is_memory answer (reporting.Reports was query answer) × (now ≡ was)
 
--- a desk that stood for the one meaning answers the call so, and stands for the other from then on; an answer is of
+-- a desk that stood for the one meaning answers the call so, and stands for the other
+-- from then on; an answer is of
 -- its call's kind
 abbrev pub Answers : Meaning → Call → CallAnswer → Meaning → Type 0
-Answers was (calls.Ask ask) (answers.Ask answer) now = (answer ≡ (asked was ask).answer) × (now ≡ (asked was ask).meaning)
+Answers was (calls.Ask ask) (answers.Ask answer) now =
+    (answer ≡ (asked was ask).answer) × (now ≡ (asked was ask).meaning)
 Answers was (calls.Edit edit) (answers.Edit answer) now = AnswersEdit was edit answer now
 Answers was (calls.Query query) (answers.Query answer) now = AnswersQuery was query answer now
 Answers was calls.Stop answers.Stopped now = now ≡ was
@@ -68,9 +73,11 @@ abbrev pub is_closed : List Entry → Bool
 is_closed [] = false
 is_closed (entry ∷ entries) = is_stop entry.call || is_closed entries
 
--- a desk that stood for the base took these calls, answered each by what it stood for then, and stands for this after
+-- a desk that stood for the base took these calls, answered each by what it stood for
+-- then, and stands for this after
 -- the last of them; a Stop is the last
 pub data Legal (base : Meaning) : List Entry → Meaning → Type 0 where
   at_first : Legal base [] base
-  and_then : {log : List Entry} {was now : Meaning} (entry : Entry) → Legal base log was → is_closed log ≡ false
+  and_then : {log : List Entry} {was now : Meaning} (entry : Entry) → Legal base log was
+      → is_closed log ≡ false
       → Answers was entry.call entry.answer now → Legal base (log ++ entry ∷ []) now

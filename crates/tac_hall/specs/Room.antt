@@ -1,5 +1,6 @@
 -- What lies under the lock of a hall, and what one step does to it.
-use Rattle.std.specs.Prelude.{◌≡◌, ◌<◌, ◌≤◌, ℕ, suc, List, [], ◌∷◌, ◌++◌, length, true, false, Result, Ok, Err}
+use Rattle.std.specs.Prelude.{◌≡◌, ◌<◌, ◌≤◌, ℕ, suc, List, [], ◌∷◌, ◌++◌, length, true, false}
+use Rattle.std.specs.Prelude.{Result, Ok, Err}
 use Rattle.tac_desk.specs.Meaning.{Meaning}
 use Rattle.tac_hall.specs.declared.call.Call.{Call}
 use Rattle.tac_hall.specs.declared.entry.Entry.{Entry}
@@ -12,7 +13,8 @@ use Rattle.tac_hall.specs.declared.laws.Done.{Done}
 use Rattle.tac_hall.specs.declared.laws.Done.TheVariants as done
 use Rattle.tac_hall.specs.History.{Answers, IsOfKind, is_closed, Legal}
 
--- what the desk stood for at first, the calls since then, what it stands for now, how many calls the log takes, and how
+-- what the desk stood for at first, the calls since then, what it stands for now, how many
+-- calls the log takes, and how
 -- many seats were made
 pub record Contents : Type 0 where
   pub base : Meaning
@@ -22,7 +24,8 @@ pub record Contents : Type 0 where
   pub seats : ℕ
 
 abbrev pub contents : Meaning → List Entry → Meaning → ℕ → ℕ → Contents
-contents base log meaning limit seats = record { base = base; log = log; meaning = meaning; limit = limit; seats = seats }
+contents base log meaning limit seats =
+    record { base = base; log = log; meaning = meaning; limit = limit; seats = seats }
 
 -- no more seats are made
 abbrev pub most_seats : ℕ
@@ -38,7 +41,8 @@ pub record IsLawful (room : Contents) : Type 0 where
 
 -- a seat is made, under the next number, unless there are as many as there may be
 abbrev pub Sits : Contents → Result ℕ HallFault → Contents → Type 0
-Sits was (Ok number) now = (was.seats < most_seats) × (number ≡ was.seats) × (now ≡ record was { seats = suc was.seats })
+Sits was (Ok number) now =
+    (was.seats < most_seats) × (number ≡ was.seats) × (now ≡ record was { seats = suc was.seats })
 Sits was (Err NoSeat) now = (was.seats ≡ most_seats) × (now ≡ was)
 Sits was (Err fault) now = ⊥
 
@@ -49,8 +53,10 @@ Judges room (Err Closed) = is_closed room.log ≡ true
 Judges room (Err LogFull) = (is_closed room.log ≡ false) × (length room.log ≡ room.limit)
 Judges room (Err fault) = ⊥
 
--- a call was answered: it is the last of the log, and nothing else has changed but what the desk stands for
-pub record IsCalled (was : Contents) (seat : ℕ) (call : Call) (done : Called) (now : Contents) : Type 0 where
+-- a call was answered: it is the last of the log, and nothing else has changed but
+-- what the desk stands for
+pub record IsCalled (was : Contents) (seat : ℕ) (call : Call) (done : Called) (now : Contents) :
+    Type 0 where
   pub goes_on : is_closed was.log ≡ false
   pub room : length was.log < was.limit
   pub place : done.place ≡ length was.log
@@ -62,12 +68,15 @@ pub record IsCalled (was : Contents) (seat : ℕ) (call : Call) (done : Called) 
   pub limit : now.limit ≡ was.limit
   pub seats : now.seats ≡ was.seats
 
--- a call is refused after a Stop, else where the log is full, else perhaps for want of memory; that changes nothing
+-- a call is refused after a Stop, else where the log is full, else perhaps for want of
+-- memory; that changes nothing
 abbrev pub Calls : Contents → ℕ → Call → Result Called HallFault → Contents → Type 0
 Calls was seat call (Ok done) now = IsCalled was seat call done now
 Calls was seat call (Err Closed) now = (is_closed was.log ≡ true) × (now ≡ was)
-Calls was seat call (Err LogFull) now = (is_closed was.log ≡ false) × (length was.log ≡ was.limit) × (now ≡ was)
-Calls was seat call (Err Memory) now = (is_closed was.log ≡ false) × (length was.log < was.limit) × (now ≡ was)
+Calls was seat call (Err LogFull) now =
+    (is_closed was.log ≡ false) × (length was.log ≡ was.limit) × (now ≡ was)
+Calls was seat call (Err Memory) now =
+    (is_closed was.log ≡ false) × (length was.log < was.limit) × (now ≡ was)
 Calls was seat call (Err NoSeat) now = ⊥
 
 -- what a step does, of either kind

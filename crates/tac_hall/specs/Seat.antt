@@ -24,7 +24,8 @@ AreBelow place (made ∷ view) = (made.place < place) × AreBelow place view
 abbrev pub made_of : Call → Receipt → Made
 made_of call receipt = record { place = receipt.place; call = call; answer = receipt.answer }
 
--- a call was made, and nothing else: it stands behind all that the seat made before, also in the log
+-- a call was made, and nothing else: it stands behind all that the seat made
+-- before, also in the log
 pub record IsMade (was : Sitting) (call : Call) (receipt : Receipt) (now : Sitting) : Type 0 where
   pub seat : receipt.seat ≡ was.number
   pub above : AreBelow receipt.place was.view
@@ -38,12 +39,17 @@ pub record IsMade (was : Sitting) (call : Call) (receipt : Receipt) (now : Sitti
 abbrev pub IsKnown : Contents → ℕ → ℕ → Type 0
 IsKnown room number next = (number < room.seats) × (next ≤ length room.log)
 
--- a seat that the room doesn't know is refused before all else, else a call is made there as a step does
+-- a seat that the room doesn't know is refused before all else, else a call is made
+-- there as a step does
 abbrev pub CallsBy : Contents → Sitting → Call → Result Receipt HallFault → Contents → Type 0
 CallsBy was seat call (Ok receipt) now =
     IsKnown was seat.number seat.next
-    × IsCalled was seat.number call (record { place = receipt.place; kept = receipt.answer; given = receipt.answer }) now
+    × IsCalled was seat.number call
+    (record { place = receipt.place; kept = receipt.answer; given = receipt.answer }) now
 CallsBy was seat call (Err NoSeat) now = (IsKnown was seat.number seat.next → ⊥) × (now ≡ was)
-CallsBy was seat call (Err LogFull) now = IsKnown was seat.number seat.next × Calls was seat.number call (Err LogFull) now
-CallsBy was seat call (Err Memory) now = IsKnown was seat.number seat.next × Calls was seat.number call (Err Memory) now
-CallsBy was seat call (Err Closed) now = IsKnown was seat.number seat.next × Calls was seat.number call (Err Closed) now
+CallsBy was seat call (Err LogFull) now =
+    IsKnown was seat.number seat.next × Calls was seat.number call (Err LogFull) now
+CallsBy was seat call (Err Memory) now =
+    IsKnown was seat.number seat.next × Calls was seat.number call (Err Memory) now
+CallsBy was seat call (Err Closed) now =
+    IsKnown was seat.number seat.next × Calls was seat.number call (Err Closed) now

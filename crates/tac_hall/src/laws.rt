@@ -41,7 +41,8 @@ impl<D: Desk> Model for Room<D> {
 
     ghost Value = { Contents };
 
-    ghost view = { λ room. contents room.base room.log.items (D.meaning room.desk) room.limit room.seats };
+    ghost view = { λ room.
+        contents room.base room.log.items (D.meaning room.desk) room.limit room.seats };
 
     ghost invariant = { λ room.
         IsLawful (contents room.base room.log.items (D.meaning room.desk) room.limit room.seats)

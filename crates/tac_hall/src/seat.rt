@@ -54,7 +54,8 @@ impl Model for Seat {
 
     ghost Value = { Sitting };
 
-    ghost view = { λ seat. record { number = seat.number; next = seat.next; view = seat.view.items } };
+    ghost view = { λ seat.
+        record { number = seat.number; next = seat.next; view = seat.view.items } };
 
     ghost invariant = { λ seat. AreBelow seat.next seat.view.items };
 }

@@ -1,5 +1,6 @@
 -- Accounting replies as bytes (RFC 8907, section 7.2): those that this server sends.
-use Rattle.std.specs.Prelude.{ℕ, ◌+◌, List, [], ◌∷◌, ◌++◌, length, take, drop, slice_index, Result, Ok, Err, ◌||◌, nat_lt, ◌==◌, if◌then◌else◌}
+use Rattle.std.specs.Prelude.{ℕ, ◌+◌, List, [], ◌∷◌, ◌++◌, length, take, drop, slice_index, Result}
+use Rattle.std.specs.Prelude.{Ok, Err, ◌||◌, nat_lt, ◌==◌, if◌then◌else◌}
 use Rattle.std.specs.Int.{w16, to_be_bytes, from_be_bytes}
 use Rattle.tac_wire.specs.declared.body.BodyFault.{BodyFault}
 use Rattle.tac_wire.specs.declared.body.BodyFault.TheVariants.{Short, LengthSum, TooLong}
@@ -8,7 +9,8 @@ use Rattle.tac_request.specs.declared.acct_reply.AcctReply.{AcctReply}
 -- server_msg_len, data_len, status; server_msg, no data
 abbrev pub acct_reply : AcctReply → List ℕ
 acct_reply reply =
-    to_be_bytes w16 (length reply.msg.items) ++ to_be_bytes w16 0 ++ (reply.status.0 ∷ []) ++ reply.msg.items
+    to_be_bytes w16 (length reply.msg.items) ++ to_be_bytes w16 0 ++ (reply.status.0 ∷ [])
+    ++ reply.msg.items
 
 abbrev pub msg_len : List ℕ → ℕ
 msg_len body = from_be_bytes w16 (take 2 body)

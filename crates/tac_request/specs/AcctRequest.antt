@@ -7,13 +7,16 @@ use Rattle.tac_request.specs.declared.author_request.AuthorRequest.{AuthorReques
 use Rattle.tac_request.specs.declared.acct_request.AcctRequest.{AcctRequest}
 use Rattle.tac_request.specs.AuthorRequest.{author_request_of}
 
--- flags, authen_method, priv_lvl, authen_type, authen_service, user_len, port_len, rem_addr_len, arg_cnt; the lengths
--- of the arguments; user, port, rem_addr, the arguments
+-- flags, authen_method, priv_lvl, authen_type, authen_service, user_len, port_len,
+-- rem_addr_len, arg_cnt; the lengths of the arguments; user, port, rem_addr, the arguments
 abbrev pub acct_request : AcctRequest → List ℕ
 acct_request request =
-    (request.flags ∷ request.authen_method ∷ request.priv_lvl ∷ request.authen_type ∷ request.authen_service
-    ∷ length request.user ∷ length request.port ∷ length request.rem_addr ∷ length request.args ∷ [])
-    ++ map length request.args ++ request.user ++ request.port ++ request.rem_addr ++ concat request.args
+    (request.flags ∷ request.authen_method ∷ request.priv_lvl ∷ request.authen_type
+    ∷ request.authen_service
+    ∷ length request.user ∷ length request.port ∷ length request.rem_addr ∷ length request.args
+    ∷ [])
+    ++ map length request.args ++ request.user ++ request.port ++ request.rem_addr
+    ++ concat request.args
 
 -- an accounting request of these flags, whose other fields are those of an authorisation request
 abbrev pub with_flags : ℕ → AuthorRequest → AcctRequest
@@ -33,7 +36,8 @@ abbrev pub flagged : ℕ → Result AuthorRequest BodyFault → Result AcctReque
 flagged flags (Ok fields) = Ok (with_flags flags fields)
 flagged flags (Err fault) = Err fault
 
--- the request that a body spells, or the first fault: behind the flags it is that of an authorisation request
+-- the request that a body spells, or the first fault: behind the flags it is that
+-- of an authorisation request
 abbrev pub acct_request_of : List ℕ → Result AcctRequest BodyFault
 acct_request_of [] = Err Short
 acct_request_of (flags ∷ fields) = flagged flags (author_request_of fields)

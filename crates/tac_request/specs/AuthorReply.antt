@@ -1,5 +1,7 @@
 -- Authorisation replies as bytes (RFC 8907, section 6.2): those that this server sends.
-use Rattle.std.specs.Prelude.{ℕ, ◌+◌, List, [], ◌∷◌, ◌++◌, length, map, sum, take, drop, slice_index, Option, Some, None, Result, Err, ◌&&◌, ◌||◌, nat_lt, ◌==◌, if◌then◌else◌, codes}
+use Rattle.std.specs.Prelude.{ℕ, ◌+◌, List, [], ◌∷◌, ◌++◌, length, map, sum, take, drop}
+use Rattle.std.specs.Prelude.{slice_index, Option, Some, None, Result, Err, ◌&&◌, ◌||◌, nat_lt}
+use Rattle.std.specs.Prelude.{◌==◌, if◌then◌else◌, codes}
 use Rattle.std.specs.Option.{ok_or, option_map}
 use Rattle.std.specs.List.{concat}
 use Rattle.std.specs.Int.{w16, to_be_bytes, from_be_bytes}
@@ -20,20 +22,24 @@ abbrev pub level_arguments : Option ℕ → List (List ℕ)
 level_arguments None = []
 level_arguments (Some level) = level_argument level ∷ []
 
--- status, arg_cnt, server_msg_len, data_len; the lengths of the arguments; server_msg, no data, the arguments
+-- status, arg_cnt, server_msg_len, data_len; the lengths of the arguments;
+-- server_msg, no data, the arguments
 abbrev pub author_reply : AuthorReply → List ℕ
 author_reply reply =
     let args = level_arguments reply.priv_lvl in
-    (reply.status.0 ∷ length args ∷ []) ++ to_be_bytes w16 (length reply.msg.items) ++ to_be_bytes w16 0
+    (reply.status.0 ∷ length args ∷ []) ++ to_be_bytes w16 (length reply.msg.items)
+    ++ to_be_bytes w16 0
     ++ map length args ++ reply.msg.items ++ concat args
 
--- the level up to 255 that an argument carries: the number of the digits after its name, if it is spelled by them
+-- the level up to 255 that an argument carries: the number of the digits after its
+-- name, if it is spelled by them
 abbrev pub level_of : List ℕ → Option ℕ
 level_of argument =
     let level = digits_value 10 (drop 9 argument) in
     if nat_lt level 256 && bytes_eq argument (level_argument level) then Some level else None
 
--- what the arguments of a reply carry: none no level, one its level; other arguments are none of this server's
+-- what the arguments of a reply carry: none no level, one its level; other
+-- arguments are none of this server's
 abbrev pub level_among : List (List ℕ) → Option (Option ℕ)
 level_among [] = Some None
 level_among (argument ∷ []) = option_map (λ level. Some level) (level_of argument)
@@ -57,7 +63,8 @@ fields_of body = drop (slice_index body 1) (drop 6 body)
 abbrev pub author_reply_of : List ℕ → Result AuthorReply BodyFault
 author_reply_of body =
     if nat_lt (length body) (6 + slice_index body 1) then Err Short
-    else (if length body == 6 + slice_index body 1 + msg_len body + data_len body + sum (lengths_of body)
+    else (if length body == 6 + slice_index body 1 + msg_len body + data_len body
+    + sum (lengths_of body)
     then (if nat_lt 64 (msg_len body) || nat_lt 0 (data_len body) then Err TooLong
     else ok_or
     (option_map

@@ -1,5 +1,6 @@
 -- The command line that a request's arguments make (RFC 8907, section 6.1).
-use Rattle.std.specs.Prelude.{ℕ, Bool, List, ◌∷◌, ◌++◌, Option, Some, None, is_some, slice_get, option_and_then, if◌then◌else◌, codes}
+use Rattle.std.specs.Prelude.{ℕ, Bool, List, ◌∷◌, ◌++◌, Option, Some, None, is_some, slice_get}
+use Rattle.std.specs.Prelude.{option_and_then, if◌then◌else◌, codes}
 use Rattle.std.specs.List.{filter_map, flat_map, list_all}
 use Rattle.std.specs.Str.{bytes_eq}
 use Rattle.tac_request.specs.Argument.{argument_of}
@@ -11,7 +12,9 @@ has_sign arg = is_some (argument_of arg)
 
 -- the value of an argument, if it has this name
 abbrev pub value_under : List ℕ → List ℕ → Option (List ℕ)
-value_under name arg = option_and_then (λ argument. if bytes_eq argument.name name then Some argument.value else None) (argument_of arg)
+value_under name arg =
+    option_and_then (λ argument. if bytes_eq argument.name name then Some argument.value
+    else None) (argument_of arg)
 
 -- the values of the arguments with this name, in order
 abbrev pub values_under : List ℕ → List (List ℕ) → List (List ℕ)
@@ -32,7 +35,8 @@ shell_line (Some service) (Some cmd) words =
 abbrev pub line_of : List (List ℕ) → LineOf
 line_of args =
     if list_all has_sign args
-    then shell_line (slice_get (values_under (codes "service") args) 0) (slice_get (values_under (codes "cmd") args) 0) (values_under (codes "cmd-arg") args)
+    then shell_line (slice_get (values_under (codes "service") args) 0)
+    (slice_get (values_under (codes "cmd") args) 0) (values_under (codes "cmd-arg") args)
     else BadArgument
 
 -- the arguments make a line

@@ -1,5 +1,7 @@
 -- What is recorded of an accounting request (RFC 8907, sections 7.1 and 8.3).
-use Rattle.std.specs.Prelude.{ℕ, ◌^◌, Bool, true, false, List, [], length, ◌&&◌, nat_lt, Option, Some, None, slice_get, unwrap_or, option_and_then, if◌then◌else◌, codes}
+use Rattle.std.specs.Prelude.{ℕ, ◌^◌, Bool, true, false, List, [], length, ◌&&◌, nat_lt, Option}
+use Rattle.std.specs.Prelude.{Some, None, slice_get, unwrap_or, option_and_then, if◌then◌else◌}
+use Rattle.std.specs.Prelude.{codes}
 use Rattle.std.specs.Char.{is_ascii_digit}
 use Rattle.std.specs.List.{list_all}
 use Rattle.std.specs.Str.Parse.{digits_value}
@@ -33,7 +35,8 @@ first_under name args = slice_get (values_under name args) 0
 abbrev pub seconds_of : List ℕ → Option ℕ
 seconds_of digits =
     let seconds = digits_value 10 digits in
-    if nat_lt 0 (length digits) && list_all is_ascii_digit digits && nat_lt seconds (2 ^ 32) then Some seconds else None
+    if nat_lt 0 (length digits) && list_all is_ascii_digit digits && nat_lt seconds (2 ^ 32)
+    then Some seconds else None
 
 abbrev pub task_of : List (List ℕ) → List ℕ
 task_of args = unwrap_or (first_under (codes "task_id") args) []

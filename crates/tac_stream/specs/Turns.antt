@@ -1,5 +1,6 @@
 -- What is to be done next on a connection, by all bytes that came on it (RFC 8907, section 4).
-use Rattle.std.specs.Prelude.{◌≡◌, ◌⊎◌, ℕ, List, [], ◌∷◌, map, reverse, take, drop, Bool, true, false, Option, Some, None}
+use Rattle.std.specs.Prelude.{◌≡◌, ◌⊎◌, ℕ, List, [], ◌∷◌, map, reverse, take, drop, Bool, true}
+use Rattle.std.specs.Prelude.{false, Option, Some, None}
 use Rattle.tac_wire.specs.declared.frame.Frame.{Frame}
 use Rattle.tac_wire.specs.Stream.{Tail, open_end, fault, cut}
 use Rattle.tac_conn.specs.declared.packet.Packet.{Packet}
@@ -24,24 +25,30 @@ turn_of (steps.Asks ask slot) = Asks ask slot
 turn_of steps.Silent = Silent
 turn_of steps.Close = Close
 
--- what is done for the first of these packets, where others came earlier, the latest first; behind the packets stands
--- the tail, and a header that is refused closes the connection
+-- what is done for the first of these packets, where others came earlier, the latest
+-- first; behind the packets stands the tail, and a header that is refused closes the
+-- connection
 abbrev pub turn_by : List ℕ → List Packet → List Frame → Tail → Turn
-turn_by key earlier (frame ∷ frames) tail = turn_of (step_of key (outcome earlier (clear key frame)))
+turn_by key earlier (frame ∷ frames) tail =
+    turn_of (step_of key (outcome earlier (clear key frame)))
 turn_by key earlier [] (open_end bytes) = Need
 turn_by key earlier [] (fault reason) = Close
 
 -- what is to be done where so many of the packets in these bytes were taken
 unfoldable pub next_turn : List ℕ → List ℕ → ℕ → Turn
 next_turn key bytes taken =
-    let parts = cut bytes in turn_by key (packets_of key (take taken parts.packets)) (drop taken parts.packets) parts.tail
+    let parts = cut bytes
+    in turn_by key (packets_of key (take taken parts.packets))
+    (drop taken parts.packets) parts.tail
 
 -- the turn is the one for the first of the packets that are left
 pub record IsForFirst (key bytes : List ℕ) (taken : ℕ) (turn : Turn) : Type 0 where
   pub frame : Frame
   pub more : List Frame
   pub left : drop taken (cut bytes).packets ≡ frame ∷ more
-  pub is : turn ≡ turn_of (step_of key (outcome (packets_of key (take taken (cut bytes).packets)) (clear key frame)))
+  pub is :
+      turn ≡ turn_of
+      (step_of key (outcome (packets_of key (take taken (cut bytes).packets)) (clear key frame)))
 
 -- no packet is left, and the turn is the one for what stands behind them
 pub record IsForTail (key bytes : List ℕ) (taken : ℕ) (turn : Turn) : Type 0 where

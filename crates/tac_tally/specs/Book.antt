@@ -22,7 +22,8 @@ IsFull book = length book.entries ≡ book.limit
 
 -- the book with one more entry, behind the others
 abbrev pub with_entry : Record → Bool → Contents → Contents
-with_entry item denied book = record book { entries = book.entries ++ record { item = item; denied = denied } ∷ [] }
+with_entry item denied book =
+    record book { entries = book.entries ++ record { item = item; denied = denied } ∷ [] }
 
 -- records, and beside each its mark
 abbrev pub beside : List Record → List Bool → List Entry

@@ -1,5 +1,6 @@
 -- One step of a count: what one more record of a user changes, and another mark of one.
-use Rattle.std.specs.Prelude.{◌≡◌, ℕ, ◌+◌, ◌-◌, Bool, false, not, ◌&&◌, ◌||◌, is_some, List, [], ◌∷◌, if◌then◌else◌}
+use Rattle.std.specs.Prelude.{◌≡◌, ℕ, ◌+◌, ◌-◌, Bool, false, not, ◌&&◌, ◌||◌, is_some, List, []}
+use Rattle.std.specs.Prelude.{◌∷◌, if◌then◌else◌}
 use Rattle.std.specs.Global.{Vec}
 use Rattle.std.specs.List.{list_any}
 use Rattle.std.specs.Str.{bytes_eq}
@@ -32,11 +33,13 @@ abbrev pub recounted : Record → Bool → Bool → Tally → Tally
 recounted item was denied tally =
     record tally { drift = tally.drift + drift_of item denied - drift_of item was }
 
--- whether a task of the user is open: a record that begins it has no later one that begins or stops it
+-- whether a task of the user is open: a record that begins it has no later one that
+-- begins or stops it
 abbrev pub is_open : List ℕ → List ℕ → List Entry → Bool
 is_open user task [] = false
 is_open user task (entry ∷ later) =
-    (is_of user Begin entry && bytes_eq entry.item.task task && not (list_any (turns user task) later)) || is_open user task later
+    (is_of user Begin entry && bytes_eq entry.item.task task
+    && not (list_any (turns user task) later)) || is_open user task later
 
 -- whether the set has the text
 abbrev pub has_text : BTreeSet (Vec ℕ) → List ℕ → Bool

@@ -1,5 +1,6 @@
 -- Marks that are worked out anew.
-use Rattle.std.specs.Prelude.{◌≡◌, ℕ, Bool, false, List, [], ◌∷◌, map, set, replicate, slice_get, Option, Some, None, unwrap_or, Result, IfOk, if◌then◌else◌}
+use Rattle.std.specs.Prelude.{◌≡◌, ℕ, Bool, false, List, [], ◌∷◌, map, set, replicate, slice_get}
+use Rattle.std.specs.Prelude.{Option, Some, None, unwrap_or, Result, IfOk, if◌then◌else◌}
 use Rattle.std.specs.Option.{option_map_or}
 use Rattle.std.specs.List.{list_any, fold}
 use Rattle.std.specs.Str.{bytes_eq}
@@ -31,11 +32,14 @@ recount_of denies users records = map (mark_of denies users) records
 abbrev pub settled : List (Option Bool) → List Entry → List Entry
 settled [] entries = entries
 settled (mark ∷ marks) [] = []
-settled (mark ∷ marks) (entry ∷ rest) = record entry { denied = unwrap_or mark entry.denied } ∷ settled marks rest
+settled (mark ∷ marks) (entry ∷ rest) =
+    record entry { denied = unwrap_or mark entry.denied } ∷ settled marks rest
 
 -- the entry with its mark anew, if it is of one of these users
 abbrev pub with_mark : (List ℕ → List ℕ → Bool) → List (List ℕ) → Entry → Entry
-with_mark denies users entry = if is_one_of users entry.item.user then record entry { denied = is_denied denies entry.item } else entry
+with_mark denies users entry =
+    if is_one_of users entry.item.user then record entry { denied = is_denied denies entry.item }
+    else entry
 
 -- the entries of these users with their marks anew, and the others as they were
 abbrev pub remarked : (List ℕ → List ℕ → Bool) → List (List ℕ) → List Entry → List Entry
@@ -45,8 +49,11 @@ remarked denies users entries = map (with_mark denies users) entries
 abbrev pub marked : (List ℕ → List ℕ → Bool) → List Record → List Entry
 marked denies records = map (λ item. record { item = item; denied = is_denied denies item }) records
 
--- each call from f on, at a user and a line, that doesn't run out of memory answers what denies gives
-abbrev pub Computes : {F : Type 0} → Mut F (Bor (List ℕ) × (Bor (List ℕ) × Unit {0})) (Result Bool AllocError) → (List ℕ → List ℕ → Bool) → F → Type 0
+-- each call from f on, at a user and a line, that doesn't run out of memory answers
+-- what denies gives
+abbrev pub Computes : {F : Type 0}
+    → Mut F (Bor (List ℕ) × (Bor (List ℕ) × Unit {0})) (Result Bool AllocError)
+    → (List ℕ → List ℕ → Bool) → F → Type 0
 Computes g denies = AlwaysReturns g (λ a r. IfOk r (λ denied. denied ≡ denies a.0.now a.1.0.now))
 
 -- ---- what is kept of a recount: marks, each with the place of its record
@@ -63,7 +70,10 @@ with_marks marks entries = fold (λ all mark. with_mark_at mark.place mark.denie
 -- the mark anew of the record at a place
 abbrev pub mark_at : (List ℕ → List ℕ → Bool) → List Record → ℕ → Mark
 mark_at denies records place =
-    record { place = place; denied = option_map_or (is_denied denies) (slice_get records place) false }
+    record {
+      place = place;
+      denied = option_map_or (is_denied denies) (slice_get records place) false;
+    }
 
 -- these marks anew
 abbrev pub marks_at : (List ℕ → List ℕ → Bool) → List Record → List ℕ → List Mark

@@ -1,5 +1,6 @@
 -- What a tally counts (RFC 8907, section 7), over all entries, also of a user that is in no policy.
-use Rattle.std.specs.Prelude.{ℕ, ◌+◌, ◌<◌, Bool, true, false, not, ◌&&◌, ◌||◌, is_some, List, [], ◌∷◌, map, filter, fold, count_by, sum_by, if◌then◌else◌}
+use Rattle.std.specs.Prelude.{ℕ, ◌+◌, ◌<◌, Bool, true, false, not, ◌&&◌, ◌||◌, is_some, List, []}
+use Rattle.std.specs.Prelude.{◌∷◌, map, filter, fold, count_by, sum_by, if◌then◌else◌}
 use Rattle.std.specs.List.{list_any}
 use Rattle.std.specs.Str.{bytes_eq}
 use Rattle.tac_request.specs.declared.record.AcctKind.{AcctKind}
@@ -26,14 +27,16 @@ is_of user kind entry = bytes_eq entry.item.user user && same_acct entry.item.ki
 
 -- whether the entry begins or stops this task of the user
 abbrev pub turns : List ℕ → List ℕ → Entry → Bool
-turns user task entry = (is_of user Begin entry || is_of user Stop entry) && bytes_eq entry.item.task task
+turns user task entry =
+    (is_of user Begin entry || is_of user Stop entry) && bytes_eq entry.item.task task
 
 -- how many records that begin a task of the user have no later one that begins or stops it: so each
 -- task that the user's last such record begins is counted once
 abbrev pub open_tasks : List ℕ → List Entry → ℕ
 open_tasks user [] = 0
 open_tasks user (entry ∷ later) =
-    (if is_of user Begin entry && not (list_any (turns user entry.item.task) later) then 1 else 0) + open_tasks user later
+    (if is_of user Begin entry && not (list_any (turns user entry.item.task) later) then 1
+    else 0) + open_tasks user later
 
 -- the seconds that the user's stops tell
 abbrev pub elapsed_of : List ℕ → List Entry → ℕ
@@ -59,10 +62,20 @@ tally_of user entries = record {
 -- whether the subject is a user whose chain holds the group
 abbrev pub is_user_below : List Subject → List ℕ → Subject → Bool
 is_user_below policy group subject =
-    same_kind subject.kind User && list_any (λ id. same_id id (group_id group)) (chain_ids policy (id_of subject))
+    same_kind subject.kind User
+    && list_any (λ id. same_id id (group_id group)) (chain_ids policy (id_of subject))
 
 abbrev pub no_tally : Tally
-no_tally = record { starts = 0; stops = 0; watchdogs = 0; updates = 0; open_tasks = 0; elapsed = 0; drift = 0 }
+no_tally =
+    record {
+      starts = 0;
+      stops = 0;
+      watchdogs = 0;
+      updates = 0;
+      open_tasks = 0;
+      elapsed = 0;
+      drift = 0;
+    }
 
 abbrev pub plus : Tally → Tally → Tally
 plus a b = record {
@@ -78,7 +91,8 @@ plus a b = record {
 -- the sum of the tallies of the policy's users whose chain holds the group
 abbrev pub group_tally_of : List Subject → List ℕ → List Entry → Tally
 group_tally_of policy group entries =
-    fold plus no_tally (map (λ user. tally_of user.name entries) (filter (is_user_below policy group) policy))
+    fold plus no_tally
+    (map (λ user. tally_of user.name entries) (filter (is_user_below policy group) policy))
 
 -- each number of the tally is below n
 pub record IsBelow (n : ℕ) (tally : Tally) : Type 0 where

@@ -8,7 +8,8 @@ use Rattle.tac_wire.specs.declared.header.Header.{Header}
 abbrev pub seed : Header → List ℕ → List ℕ
 seed header key = to_be_bytes w32 header.session ++ key ++ header.version ∷ header.seq ∷ []
 
--- MD5_1 is the digest of the seed, MD5_n that of the seed and MD5_(n-1). They are counted from 0 here.
+-- MD5_1 is the digest of the seed, MD5_n that of the seed and MD5_(n-1). They are
+-- counted from 0 here.
 unfoldable pub digest : List ℕ → ℕ → List ℕ
 digest seed zero = md5 seed
 digest seed (suc n) = md5 (seed ++ digest seed n)
@@ -18,7 +19,8 @@ unfoldable pub digests : List ℕ → ℕ → List ℕ
 digests seed zero = []
 digests seed (suc n) = digests seed n ++ digest seed n
 
--- the pad of a body of so many bytes: the joined digests, of which no more than one a byte are wanted, cut to the length
+-- the pad of a body of so many bytes: the joined digests, of which no more than one a byte
+-- are wanted, cut to the length
 abbrev pub pad : Header → List ℕ → ℕ → List ℕ
 pad header key len = take len (digests (seed header key) len)
 

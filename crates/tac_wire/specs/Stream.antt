@@ -1,6 +1,9 @@
--- The stream of packets (RFC 8907, section 4): each a header of twelve bytes and a body of the header's length.
--- A stream is all its bytes: nothing here knows of the pieces in which they come.
-use Rattle.std.specs.Prelude.{◌≡◌, ℕ, zero, suc, ◌+◌, ◌/◌, ◌%◌, ◌^◌, ◌<◌, ◌==◌, Bool, not, ◌&&◌, nat_lt, nat_le, List, [], ◌∷◌, ◌++◌, length, take, drop, Option, Some, None, if◌then◌else◌}
+-- The stream of packets (RFC 8907, section 4): each a header of twelve bytes and a
+-- body of the header's length. A stream is all its bytes: nothing here knows of the
+-- pieces in which they come.
+use Rattle.std.specs.Prelude.{◌≡◌, ℕ, zero, suc, ◌+◌, ◌/◌, ◌%◌, ◌^◌, ◌<◌, ◌==◌, Bool, not, ◌&&◌}
+use Rattle.std.specs.Prelude.{nat_lt, nat_le, List, [], ◌∷◌, ◌++◌, length, take, drop, Option, Some}
+use Rattle.std.specs.Prelude.{None, if◌then◌else◌}
 use Rattle.tac_wire.specs.Flag.{has_flag}
 use Rattle.tac_wire.specs.Header.{header_bytes, header_of}
 use Rattle.tac_wire.specs.declared.header.Header.{Header}
@@ -20,8 +23,8 @@ is_served_version version = version / 16 == 0xc && nat_le (version % 16) 1
 abbrev pub is_unencrypted : ℕ → Bool
 is_unencrypted flags = has_flag 0x01 flags
 
--- why a header is refused: the first fault that it has. The longest body is that of an authentication CONTINUE: five
--- bytes, and two fields of at most 65535
+-- why a header is refused: the first fault that it has. The longest body is that of an
+-- authentication CONTINUE: five bytes, and two fields of at most 65535
 abbrev pub header_fault : Header → Option FrameFault
 header_fault header =
     if not (is_served_version header.version)
@@ -34,7 +37,8 @@ header_fault header =
 abbrev pub frame_bytes : Frame → List ℕ
 frame_bytes frame = header_bytes frame.header ++ frame.body
 
--- what a stream begins with: a whole packet, with what is behind it; a header that is refused; or neither yet
+-- what a stream begins with: a whole packet, with what is behind it; a header that
+-- is refused; or neither yet
 pub data Item : Type 0 where
   whole : Frame → List ℕ → Item
   refused : FrameFault → Item
@@ -44,7 +48,8 @@ pub data Item : Type 0 where
 abbrev pub packet_item : Header → List ℕ → Item
 packet_item header rest =
     if nat_le header.length (length rest)
-    then whole (record { header = header; body = take header.length rest }) (drop header.length rest)
+    then whole (record { header = header; body = take header.length rest })
+    (drop header.length rest)
     else unfinished
 
 -- the item of a header, with its fault if it has one, and what is behind it
@@ -60,9 +65,12 @@ first_item bytes =
     then header_item (header_fault header) header (drop 12 bytes)
     else unfinished
 
--- a packet that is taken: no fault, a body of the header's length, and a session number of four bytes
+-- a packet that is taken: no fault, a body of the header's length, and a session
+-- number of four bytes
 abbrev pub IsTaken : Frame → Type 0
-IsTaken frame = (header_fault frame.header ≡ None) × (length frame.body ≡ frame.header.length) × (frame.header.session < 2 ^ 32)
+IsTaken frame =
+    (header_fault frame.header ≡ None) × (length frame.body ≡ frame.header.length)
+    × (frame.header.session < 2 ^ 32)
 
 -- ---- a whole stream
 
@@ -147,7 +155,9 @@ left_of ended = ended
 
 -- a packet that is told is written at the head of these bytes
 abbrev pub BeginsWith : Next → List ℕ → Type 0
-BeginsWith (Packet frame) bytes = (bytes ≡ frame_bytes frame ++ drop (12 + length frame.body) bytes) × (length frame.body ≡ frame.header.length)
+BeginsWith (Packet frame) bytes =
+    (bytes ≡ frame_bytes frame ++ drop (12 + length frame.body) bytes)
+    × (length frame.body ≡ frame.header.length)
 BeginsWith Need bytes = Unit {0}
 BeginsWith (Fault reason) bytes = Unit {0}
 BeginsWith Ended bytes = Unit {0}
@@ -157,9 +167,11 @@ abbrev pub in_front : List ℕ → Pending → Pending
 in_front bytes (unread others) = unread (bytes ++ others)
 in_front bytes ended = ended
 
--- a packet that is told was written in front of what is left, and its body has the length that its header says
+-- a packet that is told was written in front of what is left, and its body has the
+-- length that its header says
 abbrev pub WasInFront : Next → Pending → Pending → Type 0
-WasInFront (Packet frame) before left = (before ≡ in_front (frame_bytes frame) left) × (length frame.body ≡ frame.header.length)
+WasInFront (Packet frame) before left =
+    (before ≡ in_front (frame_bytes frame) left) × (length frame.body ≡ frame.header.length)
 WasInFront Need before left = Unit {0}
 WasInFront (Fault reason) before left = Unit {0}
 WasInFront Ended before left = Unit {0}

@@ -70,7 +70,8 @@ impl Status {
 
     /// The status of a command line that asks for help or is refused.
     pub(crate) fn of_command_line(kind: ErrorKind) -> Status
-        ensures shown { (kind ≡ ErrorKind.DisplayHelp) ⊎ (kind ≡ ErrorKind.DisplayVersion) → result ≡ Status.Done }
+        ensures shown { (kind ≡ ErrorKind.DisplayHelp) ⊎ (kind ≡ ErrorKind.DisplayVersion)
+            → result ≡ Status.Done }
         ensures memory { kind ≡ ErrorKind.OutOfMemory → result ≡ Status.OutOfMemory }
         ensures mistake { (kind ≢ ErrorKind.DisplayHelp) × (kind ≢ ErrorKind.DisplayVersion)
             × (kind ≢ ErrorKind.OutOfMemory) → result ≡ Status.BadCommandLine }

@@ -14,4 +14,5 @@ is_deny Deny = true
 -- whether the policy denies the user's line; one who isn't there is denied every line
 abbrev pub denied_by : List Subject → List ℕ → List ℕ → Bool
 denied_by policy user line =
-    option_map_or (λ decision. is_deny decision.verdict) (option_and_then (λ name. decide policy name line) (name_of user)) true
+    option_map_or (λ decision. is_deny decision.verdict)
+    (option_and_then (λ name. decide policy name line) (name_of user)) true

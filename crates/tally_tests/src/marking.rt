@@ -41,7 +41,8 @@ pub fn recount_by(
     users: &[Bytes],
     policy: &Policy,
 ) -> Result<Recount, AllocError>
-    ensures { IfOk result (λ recount. recount ≡ recount_of (denied_by policy.now) users.now (items book.now.entries)) }
+    ensures { IfOk result (λ recount.
+        recount ≡ recount_of (denied_by policy.now) users.now (items book.now.entries)) }
 {
     let recount = book.recount(alloc, users, |user, line| Ok(denies(policy, user, line)))?;
     Ok(recount)
