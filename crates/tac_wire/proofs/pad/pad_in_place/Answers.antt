@@ -1,49 +1,51 @@
-use Rattle.std.proofs.Common.{◌≡◌, ◌≢◌, ℕ, ◌+◌, ◌%◌, ◌/◌, ◌<◌, ◌≤◌, ◌++◌, List, length, get_or, take, arith, refl, sym, ap, ◌∙◌, append-nil, get_or-set_other, get_or-set_same, below_more, bit_xor, suc}
+use Rattle.std.proofs.Common.{◌≡◌, ℕ, ◌+◌, ◌-◌, ◌*◌, ◌/◌, ◌%◌, ◌<◌, ◌≤◌, ◌++◌, List, length, get_or, take, arith, refl, sym, ap, ◌∙◌, append-nil, bit_xor, suc, inl, inr}
+use Rattle.std.proofs.lemmas.Bool.{cases_lt}
 use Rattle.std.proofs.lemmas.List.{ext_get_or}
 use Rattle.md5.specs.Md5.{md5}
 use Rattle.tac_wire.specs.Pad.{seed, digest, digests, xored}
 use Rattle.tac_wire.proofs.PadFacts.{pad_at, length-pad, length-xored, xored_at, xored-xored}
 use Rattle.tac_wire.proofs.pad.pad_in_place.Goals as goal
-use Rattle.tac_wire.proofs.pad.pad_in_place.Goals.{then-next-len+then-next-eq0, else-next-len, else-next-len-via-then-next-len+else-next-eq0, else-next-len-via-else-next-len}
+use Rattle.tac_wire.proofs.pad.pad_in_place.Goals.{then-n-len, else-n-len}
 
-pub loop-i-init : goal.loop-i-init
+pub digests-init : goal.digests-init
 unfolding digest
-loop-i-init c = record {
-  done = λ k h. absurd (omega arith);
+digests-init c = record {
+  done = λ k lt h. absurd (omega arith);
   rest = λ k h. refl;
-  present = λ h. c.digest_after-digest.ensures ∙ ap md5 (append-nil (seed c.args.header.now c.args.key.now));
+  present = λ h. c.digest_after-digest.ensures _ c.seeded-seeded.ensures ∙ ap md5 (append-nil (seed c.args.header.now c.args.key.now));
 }
 
--- the digest after the one of a place, where the next place has another
-next_digest : (s now : List ℕ) (i : ℕ) → now ≡ digest s (i / 16) → (i + 1) % 16 ≡ 0 → md5 (s ++ now) ≡ digest s ((i + 1) / 16)
+-- a byte under the digest of the present place
+masked : (s bytes body masks : List ℕ) (n k new : ℕ) → k < length bytes → 16 * n ≤ k → k < 16 * n + 16 → masks ≡ digest s n → get_or body k 0 ≡ get_or bytes k 0
+    → new ≡ bit_xor (get_or body k 0) (get_or masks (k - 16 * n) 0)
+    → new ≡ bit_xor (get_or bytes k 0) (get_or (take (length bytes) (digests s (length bytes))) k 0)
+masked s bytes body masks n k new lt from below is same e =
+    let quotient : k / 16 ≡ n = omega arith in
+    let remainder : k % 16 ≡ k - 16 * n = omega arith in
+    e ∙ rw (same, is, pad_at s (length bytes) k lt, quotient, remainder) refl
+
+next_digest : (s now : List ℕ) (n : ℕ) → now ≡ digest s n → md5 (s ++ now) ≡ digest s (n + 1)
 unfolding digest
-next_digest s now i e h =
-    let place : (i + 1) / 16 ≡ suc (i / 16) = omega arith in
+next_digest s now n e =
+    let place : n + 1 ≡ suc n = omega arith in
     ap (λ (d : List ℕ). md5 (s ++ d)) e ∙ sym (ap (digest s) place)
 
-same_digest : (s now : List ℕ) (i : ℕ) → now ≡ digest s (i / 16) → ((i + 1) % 16 ≢ 0) → now ≡ digest s ((i + 1) / 16)
-same_digest s now i e h =
-    let place : i / 16 ≡ (i + 1) / 16 = omega arith in
-    e ∙ ap (digest s) place
-
-pub loop-i-preserved : goal.loop-i-preserved
-loop-i-preserved c =
+pub digests-preserved : goal.digests-preserved
+digests-preserved c =
     let s = seed c.args.header.now c.args.key.now in
-    let i = c.loop-i.i in
-    let inv = c.loop-i.invariant in
-    let here : i < length c.loop-i.body = omega arith in
-    let now = inv.present (omega arith) in
+    let n = c.digests.n in
+    let inv = c.digests.invariant in
+    let here : 16 * n < length c.args.body.now = omega (arith, c.digests-test.true, c.div_ceil-n-end.ensures) in
+    let now = inv.present here in
     record {
-      done = below_more _ _
-          (λ k h. let ne : k ≢ i = omega arith in rw get_or-set_other (inv.done k h))
-          (rw (get_or-set_same, inv.rest i (omega arith), pad_at s (length c.args.body.now) i (omega arith), now) refl);
-      rest = λ k h. let ne : k ≢ i = omega arith in rw get_or-set_other (inv.rest k (omega arith));
-      present = λ h. elim c.if-next-len.branch [
-        | then-next-len+then-next-eq0 w ↦ w.digest-is ∙ w.digest_after-digest-then-next-eq0.ensures ∙ next_digest s c.loop-i.digest i now w.if-next-eq0.true
-        | else-next-len w ↦ w.digest-is ∙ same_digest s c.loop-i.digest i now (elim w.else-next-len.branch [
-          | else-next-len-via-then-next-len+else-next-eq0 v ↦ v.if-next-eq0.false
-          | else-next-len-via-else-next-len v ↦ absurd (omega (arith, h, v.if-next-len.false))
-        ])
+      done = λ k lt h. elim (cases_lt k (16 * n)) [
+        | inl below ↦ c.xor_at.ensures.before k below ∙ inv.done k lt below
+        | inr from ↦ masked s c.args.body.now c.digests.body c.digests.digest n k _ lt from (omega arith) now (inv.rest k from) (c.xor_at.ensures.inside k from (omega arith) (omega arith))
+      ];
+      rest = λ k h. c.xor_at.ensures.behind k (omega arith) ∙ inv.rest k (omega arith);
+      present = λ h. elim c.if-n-len.branch [
+        | then-n-len w ↦ w.digest-is ∙ w.digest_after-digest-then-n-len.ensures _ c.seeded-seeded.ensures ∙ next_digest s c.digests.digest n now
+        | else-n-len w ↦ absurd (omega (arith, h, w.if-n-len.false))
       ];
     }
 
@@ -55,7 +57,8 @@ whole s bytes body len h =
 
 pub returns-clause-value : goal.returns-clause-value
 returns-clause-value c =
-    whole (seed c.args.header.now c.args.key.now) c.args.body.now c.loop-i.body (omega arith) (λ k lt. c.loop-i.invariant.done k (omega arith))
+    whole (seed c.args.header.now c.args.key.now) c.args.body.now c.digests.body (omega arith)
+    (λ k lt. c.digests.invariant.done k lt (omega (arith, lt, c.digests-test.false, c.div_ceil-n-end.ensures)))
 
 -- bytes are as many with the pad of a seed
 length-padded : (s bytes : List ℕ) → length (xored bytes (take (length bytes) (digests s (length bytes)))) ≡ length bytes
