@@ -1,8 +1,9 @@
 -- Splitting at a place, and the lines of a text.
-use Rattle.std.proofs.Common.{◌≡◌, ◌≢◌, ℕ, ◌+◌, ◌<◌, Bool, true, false, cond, eqb, List, [], ◌∷◌, ◌++◌, length, get_or, take, drop, Option, None, Some, refl, sym, ap, ◌∙◌, append-nil, append_assoc, arith, eq-eqb}
+use Rattle.std.proofs.Common.{◌≡◌, ◌≢◌, ℕ, zero, suc, ◌+◌, ◌<◌, ◌≤◌, Bool, true, false, cond, eqb, List, [], ◌∷◌, ◌++◌, length, get_or, take, drop, Option, None, Some, refl, sym, ap, ◌∙◌, append-nil, append_assoc, arith, eq-eqb, eqb-true}
 use Rattle.std.specs.Option.{option_map}
 use Rattle.std.proofs.lemmas.Bool.Decides.{nat_tests}
-use Rattle.std.proofs.lemmas.List.{take_more, drop_more}
+use Rattle.std.proofs.lemmas.List.{take_more, drop_more, drop_all}
+use Rattle.memchr.specs.Find.{IsFirstByte, is_byte}
 use Rattle.basics.specs.Lines.{split_at_first, onto_first, lines_of}
 
 -- parts with this before the first of them
@@ -39,6 +40,28 @@ pub behind_found : (separator byte at : ℕ) (bytes : List ℕ) → at < length 
 behind_found separator byte at bytes lt is e =
     let here : drop at bytes ≡ byte ∷ drop (at + 1) bytes = drop_more bytes at 0 lt ∙ ap (λ (b : ℕ). b ∷ drop (at + 1) bytes) (sym is) in
     rw (here, at_separator separator byte (drop (at + 1) bytes) e, append-nil (take at bytes)) refl
+
+-- past so many bytes, none of which is a separator
+pub behind_others : (separator at : ℕ) (bytes : List ℕ) → at ≤ length bytes → ((k : ℕ) → k < at → get_or bytes k 0 ≢ separator)
+    → behind (take at bytes) (split_at_first separator (drop at bytes)) ≡ split_at_first separator bytes
+behind_others separator zero bytes le others = behind-nil (split_at_first separator bytes)
+behind_others separator (suc at) bytes le others =
+    let next : suc at ≡ at + 1 = omega arith in
+    let last = behind_step separator (get_or bytes at 0) at bytes (omega arith) refl (others at (omega arith)) in
+    ap (λ (n : ℕ). behind (take n bytes) (split_at_first separator (drop n bytes))) next ∙ last ∙ behind_others separator at bytes (omega arith) (λ k lt. others k (omega arith))
+
+-- where the first separator stands
+pub parts_at : (separator : ℕ) (bytes : List ℕ) (at : ℕ) → IsFirstByte (is_byte separator) bytes (Some at) → Some (take at bytes, drop (at + 1) bytes) ≡ split_at_first separator bytes
+parts_at separator bytes at first =
+    sym (behind_found separator (get_or bytes at 0) at bytes first.0.high refl (eqb-true _ _ first.1))
+    ∙ behind_others separator at bytes (omega (arith, first.0.high)) (λ k lt is. first.0.before k (omega arith) lt (eq-eqb _ _ is))
+
+pub no_parts : (separator : ℕ) (bytes : List ℕ) → IsFirstByte (is_byte separator) bytes None → None ≡ split_at_first separator bytes
+no_parts separator bytes nowhere =
+    let past = behind_others separator (length bytes) bytes (omega arith) (λ k lt is. nowhere k (omega arith) lt (eq-eqb _ _ is)) in
+    let all : drop (length bytes) bytes ≡ [] = drop_all (length bytes) bytes (omega arith) in
+    let none : behind (take (length bytes) bytes) (split_at_first separator (drop (length bytes) bytes)) ≡ None = rw all refl in
+    sym none ∙ past
 
 same_parts : (a b : List ℕ × List ℕ) → Some a ≡ Some b → a ≡ b
 same_parts a b e = cc

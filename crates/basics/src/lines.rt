@@ -5,6 +5,7 @@ ghost use Rattle.std.specs.Option.{option_map};
 ghost use Rattle.basics.specs.Lines.{split_at_first, lines_of, BeginsWith, TakesLine};
 ghost use Rattle.basics.specs.Lines.{without_leading_spaces as trimmed};
 
+use memchr::memchr;
 use std::marker::Model;
 
 /// What stands before the first separator, and what stands behind it.
@@ -14,12 +15,8 @@ pub fn split_once(bytes: &[u8], separator: u8) -> Option<(&[u8], &[u8])>
     ensures sizes { IfSome result
         (λ parts. length parts.0.now + length parts.1.now + 1 ≡ length bytes.now) }
 {
-    for (at, byte) in bytes.iter().enumerate() {
-        if *byte == separator {
-            return Some((&bytes[..at], &bytes[at + 1..]));
-        }
-    }
-    None
+    let at = memchr(separator, bytes)?;
+    Some((&bytes[..at], &bytes[at + 1..]))
 }
 
 pub fn without_leading_spaces(text: &[u8]) -> &[u8]
