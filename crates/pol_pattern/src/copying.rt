@@ -21,7 +21,7 @@ impl Factor {
 
 /// A copy of alternatives.
 #[cycle(copy)]
-pub(crate) fn copy_terms(alloc: Global, terms: &[Term]) -> Result<Vec<Term>, AllocError>
+fn copy_terms(alloc: Global, terms: &[Term]) -> Result<Vec<Term>, AllocError>
     ensures { IfOk result (λ copies. terms_value copies.items ≡ terms_value terms.now) }
 {
     let mut copies = Vec::new(alloc);

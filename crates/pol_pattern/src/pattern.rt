@@ -14,7 +14,6 @@ ghost use Rattle.pol_pattern.specs.Languages.{LanguageLaws};
 ghost use Rattle.pol_pattern.specs.Matching.{matches, MatchLaw};
 ghost use Rattle.pol_pattern.specs.Reading.{reading as reading_of, pattern_of, is_unprintable};
 
-use crate::copying::copy_terms;
 use crate::fault::PatternFault;
 use crate::flat::Term;
 use crate::reading::BYTES;
@@ -22,24 +21,33 @@ use crate::{matching, reading};
 use basics::Bytes;
 use std::alloc::{AllocError, Global};
 use std::marker::Model;
+use std::sync::Arc;
 
-/// A pattern as it was read. A contract sees its source.
+/// What was read, and the flat form that it spells.
 #[derive(Debug, Drop)]
-pub struct Pattern {
+struct Whole {
     source: Bytes,
     terms: Vec<Term>,
 }
 
+/// A pattern as it was read, which its copies share. A contract sees its source.
+#[derive(Debug, Drop)]
+pub struct Pattern {
+    whole: Arc<Whole>,
+}
+
 impl Model for Pattern {
     ghost use Rattle.std.specs.Prelude.{◌≡◌, ℕ, List, Ok};
+    ghost use Rattle.std.specs.Arc.{arc_value};
     ghost use Rattle.pol_pattern.specs.Flat.{terms_value};
     ghost use Rattle.pol_pattern.specs.Reading.{reading};
 
     ghost Value = { List ℕ };
 
-    ghost view = { λ p. p.source };
+    ghost view = { λ p. (arc_value p.whole).source };
 
-    ghost invariant = { λ p. reading p.source ≡ Ok (terms_value p.terms.items) };
+    ghost invariant = { λ p. let whole = arc_value p.whole in
+        reading whole.source ≡ Ok (terms_value whole.terms.items) };
 }
 
 // Patterns are equal if their sources are.
@@ -49,7 +57,7 @@ impl PartialEq for Pattern {
     ghost laws = { Prim.search (comparing, rules) };
 
     fn eq(&self, other: &Pattern) -> bool {
-        self.source.as_slice() == other.source.as_slice()
+        self.source() == other.source()
     }
 }
 
@@ -77,7 +85,8 @@ impl Pattern {
     {
         let terms = reading::flat(alloc, bytes)?;
         let source = Bytes::from_slice(alloc, bytes)?;
-        Ok(Pattern { source, terms })
+        let whole = Arc::new(alloc, Whole { source, terms })?;
+        Ok(Pattern { whole })
     }
 
     /// The bytes that spell the pattern.
@@ -87,7 +96,7 @@ impl Pattern {
         // They are read again as what they are.
         ensures again { pattern_of self.now ≡ Ok self.now }
     {
-        self.source.as_slice()
+        self.whole.source.as_slice()
     }
 
     /// The flat form: the alternatives, each its factors in order.
@@ -101,16 +110,16 @@ impl Pattern {
         // The test that definitions use is the set's, and a set holds texts alone.
         ensures law { MatchLaw }
     {
-        &self.terms
+        &self.whole.terms
     }
 
-    /// A copy of the pattern.
+    /// A copy of the pattern, which shares what was read: no memory is taken. It is refused only
+    /// where the pattern has 2^63 copies.
     pub fn copy(&self, alloc: Global) -> Result<Pattern, AllocError>
         ensures { IfOk result (λ p. p ≡ self.now) }
     {
-        let source = Bytes::from_slice(alloc, self.source.as_slice())?;
-        let terms = copy_terms(alloc, &self.terms)?;
-        Ok(Pattern { source, terms })
+        let whole = self.whole.clone()?;
+        Ok(Pattern { whole })
     }
 
     /// Whether the pattern holds the text. Takes no memory, and time by the text's length, the
@@ -129,6 +138,6 @@ impl Pattern {
         // The sets in the words of formal languages: union, concatenation, star.
         ensures languages { LanguageLaws }
     {
-        matching::holds(&self.terms, text)
+        matching::holds(&self.whole.terms, text)
     }
 }

@@ -1,4 +1,5 @@
 use Rattle.std.proofs.Common.{◌≤◌, sym, arith}
+use Rattle.std.specs.Arc.{arc_value}
 use Rattle.pol_pattern.specs.Flat.{terms_value, terms_size}
 use Rattle.pol_pattern.proofs.Soundness.{reading_spells}
 use Rattle.pol_pattern.proofs.Languages.{union_law, concatenation_law, star_law, plus_law, question_law, group_law}
@@ -10,18 +11,23 @@ use Rattle.pol_pattern.proofs.pattern.Pattern.contains.Goals as goal
 
 pub holds-requires : goal.holds-requires
 holds-requires c =
-    let flat = terms_value c.self.inside.terms.items in
-    let spelled = reading_spells c.self.inside.source flat c.self.invariant in
+    let whole = arc_value c.self.inside.whole in
+    let flat = terms_value whole.terms.items in
+    let spelled = reading_spells whole.source flat c.self.invariant in
     let small : terms_size flat ≤ 400 = spelled.6 in
-    rw c.deref.ensures.value (omega (arith, small, terms_positions-le_size flat))
+    rw (c.deref-2.ensures.value, c.deref.ensures) (omega (arith, small, terms_positions-le_size flat))
 
 pub returns-clause-set : goal.returns-clause-set
 returns-clause-set c =
-    rw (c.holds.ensures, c.deref.ensures.value, ← c.self.view_is) (holds_text matches_holds c.self.inside.source (terms_value c.self.inside.terms.items) c.args.text.now c.self.invariant)
+    let whole = arc_value c.self.inside.whole in
+    rw (c.holds.ensures, c.deref-2.ensures.value, c.deref.ensures, ← c.self.view_is)
+    (holds_text matches_holds whole.source (terms_value whole.terms.items) c.args.text.now c.self.invariant)
 
 pub returns-clause-test : goal.returns-clause-test
 returns-clause-test c =
-    rw (c.holds.ensures, c.deref.ensures.value, ← c.self.view_is) (sym (matches_is c.self.inside.source (terms_value c.self.inside.terms.items) c.args.text.now c.self.invariant))
+    let whole = arc_value c.self.inside.whole in
+    rw (c.holds.ensures, c.deref-2.ensures.value, c.deref.ensures, ← c.self.view_is)
+    (sym (matches_is whole.source (terms_value whole.terms.items) c.args.text.now c.self.invariant))
 
 pub returns-clause-law : goal.returns-clause-law
 returns-clause-law c = test_is_set matches_holds

@@ -1,4 +1,4 @@
-use Rattle.std.proofs.Common.{ℕ, List, Ok, sym, ap, ◌∙◌}
+use Rattle.std.proofs.Common.{Ok}
 use Rattle.std.proofs.lemmas.Result.{err_from_is_err_and}
 use Rattle.pol_pattern.specs.Flat.{terms_value}
 use Rattle.pol_pattern.proofs.Front.{pattern_is, pattern_fails}
@@ -17,8 +17,9 @@ returns-in_err-terms-clause-only c = λ flat spelled.
     rw (p.1, p.2) (refused_for_memory c.in_err-terms.field-0.0 c.args.bytes.now flat spelled c.in_err-terms.ensures.exact)
 
 pub returns-clause-exact : goal.returns-clause-exact
-returns-clause-exact c = pattern_is c.args.bytes.now (terms_value c.in_ok-terms.terms.items) c.in_ok-terms.ensures.exact ∙ ap (λ (s : List ℕ). Ok s) (sym c.in_ok-source.ensures)
+returns-clause-exact c =
+    rw (c.in_ok-whole.ensures.ok, c.in_ok-source.ensures) (pattern_is c.args.bytes.now (terms_value c.in_ok-terms.terms.items) c.in_ok-terms.ensures.exact)
 
 pub returns-clause-found : goal.returns-clause-found
 returns-clause-found c =
-    (terms_value c.in_ok-terms.terms.items, rw c.in_ok-source.ensures (reading_spells c.args.bytes.now (terms_value c.in_ok-terms.terms.items) c.in_ok-terms.ensures.exact))
+    (terms_value c.in_ok-terms.terms.items, rw (c.in_ok-whole.ensures.ok, c.in_ok-source.ensures) (reading_spells c.args.bytes.now (terms_value c.in_ok-terms.terms.items) c.in_ok-terms.ensures.exact))
