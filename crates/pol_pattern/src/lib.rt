@@ -5,6 +5,7 @@ mod building;
 mod copying;
 mod fault;
 mod flat;
+mod law;
 mod lexing;
 mod matching;
 mod pattern;
@@ -14,4 +15,5 @@ mod token;
 
 pub use fault::PatternFault;
 pub use flat::{Class, Factor, Term};
+pub use law::match_law;
 pub use pattern::Pattern;
