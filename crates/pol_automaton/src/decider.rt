@@ -3,6 +3,7 @@
 ghost use Rattle.std.specs.Prelude.{◌≡◌, ◌<◌, ◌≤◌, ◌+◌, ℕ, List, [], IsTrue, min, IfOk, IfSome};
 ghost use Rattle.std.specs.Prelude.{IfNone, OnOk, OnErr, IsErrOf};
 ghost use Rattle.basics.specs.Symbol.{is_symbol};
+ghost use Rattle.pol_pattern.specs.Matching.{MatchLaw};
 ghost use Rattle.pol_scan.specs.Table.{count};
 ghost use Rattle.pol_automaton.specs.Residuals.{HasMoreResiduals, ExcludesLaw, IsResidualCount};
 ghost use Rattle.pol_automaton.specs.Entries.{AreEntries};
@@ -12,7 +13,7 @@ ghost use Rattle.pol_automaton.specs.Alike.{IsClassCount};
 use crate::entries::Entries;
 use crate::fault::DeciderFault;
 use crate::meter::Meter;
-use pol_pattern::Pattern;
+use pol_pattern::{Pattern, match_law};
 use pol_scan::{Alphabet, Automaton, StateNumber, Table, scan};
 use std::alloc::{AllocError, Global};
 use std::marker::Model;
@@ -113,9 +114,14 @@ impl Decider {
 
     /// The first entry whose pattern holds the text. Two look-ups for each symbol, and no memory.
     pub fn decide(&self, text: &[u8]) -> Option<usize>
-        ensures { (entries : List (List ℕ)) → IsDecider self.now entries
+        ensures first { (entries : List (List ℕ)) → IsDecider self.now entries
             → IsFirstMatch entries text.now result }
+
+        // What a pattern holds is what the test of definitions says.
+        ensures law { MatchLaw }
     {
+        // the call is for its clause
+        match_law();
         let Some(state) = self.table.run_text(&self.alphabet, text) else {
             return None;
         };
