@@ -3,12 +3,12 @@ use Rattle.std.proofs.Common.{◌≡◌, Bool, true, false, List, [], ◌∷◌,
 use Rattle.basics.specs.Memory.{Except}
 use Rattle.pol_names.specs.declared.subject_id.SubjectId.{SubjectId}
 use Rattle.pol_text.specs.declared.subject.Subject.{Subject}
-use Rattle.pol_edit.specs.Applying.{applied}
+use Rattle.pol_edit.specs.Applying.{applied, is_memory}
 use Rattle.pol_edit.specs.declared.edit.Edit.{Edit}
 use Rattle.pol_edit.specs.declared.fault.EditFault.{EditFault}
 use Rattle.pol_edit.specs.declared.fault.EditFault.TheVariants.{BadEdit, NoSuch, Exists, InUse, Cycle, TooDeep, BadIndex, BadPattern, BadValue, Limit, TooManyStates, Memory}
 use Rattle.pol_live.specs.Sizes.{AreSmall, IsFirstLarge, IsRefusedFor}
-use Rattle.pol_live.specs.Live.{Builds, Step, PreparesTo, Prepares, UnlessMemory, is_memory}
+use Rattle.pol_live.specs.Live.{Builds, Step, PreparesTo, Prepares, UnlessMemory}
 
 -- what can't be refused but for want of memory is that
 memory_alone : {X : Type 0} (fault : EditFault) → ¬ X → Except (is_memory fault) X → fault ≡ Memory

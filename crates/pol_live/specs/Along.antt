@@ -1,9 +1,6 @@
 -- The rules along the chain of a subject, as a decider sees them.
-use Rattle.std.specs.Prelude.{◌↔◌, ℕ, List, [], map, IsTrue}
+use Rattle.std.specs.Prelude.{ℕ, List, [], map}
 use Rattle.std.specs.Option.{option_map_or}
-use Rattle.basics.specs.Symbol.{is_text}
-use Rattle.pol_pattern.specs.Matching.{matches}
-use Rattle.pol_pattern.specs.Spelling.{Holds}
 use Rattle.pol_names.specs.declared.decision.Decision.{Decision}
 use Rattle.pol_names.specs.declared.decision.By.TheVariants as by
 use Rattle.pol_names.specs.declared.decision.Verdict.TheVariants.{Deny}
@@ -35,8 +32,3 @@ decision_by rule = record { verdict = rule.verdict; by = by.Rule rule.owner rule
 -- where no rule matches, the line is denied
 abbrev pub unmatched : Decision
 unmatched = record { verdict = Deny; by = by.Default }
-
--- whether a pattern matches a line is whether its set holds it, and that holds texts alone
-pub record MatchLaw : Type 0 where
-  pub same : (source line : List ℕ) → IsTrue (matches source line) ↔ Holds source line
-  pub texts : (source line : List ℕ) → Holds source line → IsTrue (is_text line)

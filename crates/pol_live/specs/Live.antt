@@ -1,12 +1,11 @@
 -- What is kept of a policy that decides, and of a change of it that is ready to be made.
-use Rattle.std.specs.Prelude.{◌≡◌, List, Result, Ok, Err, Bool, true, false, Option, Some, None}
+use Rattle.std.specs.Prelude.{◌≡◌, List, Result, Ok, Err, Bool, Option, Some, None}
 use Rattle.basics.specs.Memory.{Except}
 use Rattle.pol_automaton.specs.Automaton.{Automaton, IsDecider}
 use Rattle.pol_text.specs.declared.subject.Subject.{Subject}
 use Rattle.pol_edit.specs.Applying.{applied}
 use Rattle.pol_edit.specs.declared.edit.Edit.{Edit}
 use Rattle.pol_edit.specs.declared.fault.EditFault.{EditFault}
-use Rattle.pol_edit.specs.declared.fault.EditFault.TheVariants.{Memory}
 use Rattle.pol_live.specs.Along.{patterns_along}
 use Rattle.pol_live.specs.Sizes.{IsSmall, IsRefusedFor}
 
@@ -51,8 +50,3 @@ IsDeciderFor policy _ _ = ⊥
 abbrev pub UnlessMemory : {X E : Type 0} → (E → Bool) → Result X E → Type 0 → Type 0
 UnlessMemory is_memory (Ok value) fact = fact
 UnlessMemory is_memory (Err fault) fact = Except (is_memory fault) fact
-
--- whether the fault is want of memory
-abbrev pub is_memory : EditFault → Bool
-is_memory Memory = true
-is_memory _ = false

@@ -4,11 +4,11 @@ ghost use Rattle.std.specs.Prelude.{◌≡◌, ◌<◌, ℕ, length, slice_get, 
 ghost use Rattle.std.specs.Prelude.{IfOk, IfErr, OnOk, OnErr, true};
 ghost use Rattle.basics.specs.Memory.{Except};
 ghost use Rattle.pol_text.specs.Policy.{ends_within, id_of};
+ghost use Rattle.pol_edit.specs.Applying.{is_memory};
 ghost use Rattle.pol_edit.specs.declared.fault.EditFault.TheVariants.{TooManyStates};
 ghost use Rattle.pol_live.specs.Sizes.{IsLarge, IsSmall, IsRefusedFor};
 ghost use Rattle.pol_live.specs.Kept.{AreParts, AreAll, HaveKeepers, Grows, is_keeper, slot};
 ghost use Rattle.pol_live.specs.Counting.{Counts, NotLowered, states_of};
-ghost use Rattle.pol_live.specs.Live.{is_memory};
 
 use crate::filling::fill;
 use crate::parts::{Parts, blank};

@@ -3,14 +3,15 @@
 ghost use Rattle.std.specs.Prelude.{◌≡◌, ◌≤◌, length, IfOk, IfErr, IfNone, IfSome, OnOk, OnErr};
 ghost use Rattle.std.specs.Prelude.{None, Some, Ok};
 ghost use Rattle.std.specs.Option.{option_copied};
+ghost use Rattle.pol_pattern.specs.Matching.{MatchLaw};
 ghost use Rattle.pol_automaton.specs.Automaton.{IsDecider};
 ghost use Rattle.pol_text.specs.Policy.{WellFormed, find_subject, decide};
 ghost use Rattle.pol_edit.specs.declared.fault.EditFault.TheVariants.{Memory};
-ghost use Rattle.pol_edit.specs.Applying.{applied};
-ghost use Rattle.pol_live.specs.Along.{patterns_along as patterns, MatchLaw};
+ghost use Rattle.pol_edit.specs.Applying.{applied, is_memory};
+ghost use Rattle.pol_live.specs.Along.{patterns_along as patterns};
 ghost use Rattle.pol_live.specs.Sizes.{IsSmall};
 ghost use Rattle.pol_live.specs.Rise.{IsBuildRise, IsEditRise, Rises};
-ghost use Rattle.pol_live.specs.Live.{Builds, IsOnlyBuilt, IsDeciderFor, UnlessMemory, is_memory};
+ghost use Rattle.pol_live.specs.Live.{Builds, IsOnlyBuilt, IsDeciderFor, UnlessMemory};
 
 use crate::building::{complete, no_parts};
 use crate::deciding::decided;
@@ -19,6 +20,7 @@ use crate::reusing::kept_parts;
 use pol_automaton::{Decider, Meter};
 use pol_edit::{Edit, EditFault};
 use pol_names::{Decision, Name, SubjectId};
+use pol_pattern::match_law;
 use pol_text::{Policy, Subject};
 use std::alloc::Global;
 use std::marker::Model;
@@ -150,6 +152,8 @@ impl Live {
         // What an automaton holds a text to be is what the policy does.
         ensures law { MatchLaw }
     {
+        // the call is for its clause
+        match_law();
         let Some((_, decider)) = self.part(subject) else {
             return None;
         };

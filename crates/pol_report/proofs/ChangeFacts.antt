@@ -2,7 +2,7 @@
 use Rattle.std.proofs.Common.{◌≡◌, ◌<◌, ℕ, zero, suc, Bool, true, false, true≢false, cond, IsTrue, List, [], ◌∷◌, ◌++◌, filter, append-nil, length, map, Option, Some, None, refl, sym, ap, subst, ◌∙◌, arith, slice_index_or}
 use Rattle.std.specs.Option.{option_map, option_map_or}
 use Rattle.basics.specs.Symbol.{is_text}
-use Rattle.pol_pattern.specs.Matching.{matches}
+use Rattle.pol_pattern.specs.Matching.{matches, MatchLaw}
 use Rattle.pol_pattern.specs.Spelling.{Holds}
 use Rattle.pol_names.specs.SubjectId.{user_id}
 use Rattle.pol_names.specs.declared.subject_id.SubjectId.{SubjectId}
@@ -15,7 +15,7 @@ use Rattle.pol_text.specs.Policy.{find_subject, Entry, entries, first_entry, dec
 use Rattle.pol_automaton.specs.Automaton.{Automaton, IsDecider}
 use Rattle.pol_automaton.specs.Decision.{IsFirstMatch, verdict_by, IsDecided, IsChanged}
 use Rattle.pol_automaton.specs.declared.way.Way.TheVariants.{NowPermitted, NowDenied}
-use Rattle.pol_live.specs.Along.{MatchLaw, patterns_of, chain_rule, entries_of}
+use Rattle.pol_live.specs.Along.{patterns_of, chain_rule, entries_of}
 use Rattle.pol_live.specs.Live.{IsDeciderFor}
 use Rattle.pol_report.specs.Reach.{IsLeastIfAny}
 use Rattle.pol_report.specs.Changes.{is_permit, permits, IsGained, IsChangeOf, is_change}

@@ -2,13 +2,13 @@
 use Rattle.std.proofs.Common.{Result, Ok, Err, IfOk, ◌≡◌, ◌⊎◌, ◌<◌, ◌+◌, ℕ, zero, suc, Bool, true, false, List, [], ◌∷◌, ◌++◌, length, map, Option, Some, None, IfSome, refl, sym, ap, subst, ◌∙◌, inl, inr, arith, slice_get, get_or, length-append}
 use Rattle.std.specs.Prelude.{IfNone}
 use Rattle.std.specs.Option.{option_map}
-use Rattle.pol_pattern.specs.Matching.{matches}
+use Rattle.pol_pattern.specs.Matching.{matches, MatchLaw}
 use Rattle.pol_pattern.specs.Spelling.{Holds}
 use Rattle.pol_names.specs.declared.subject_id.SubjectId.{SubjectId}
 use Rattle.pol_text.specs.Policy.{Entry}
 use Rattle.pol_automaton.specs.Decision.{entry_at, IsFirstMatch, Decides, IsReachText}
 use Rattle.pol_live.specs.declared.along.ChainRule.{ChainRule}
-use Rattle.pol_live.specs.Along.{MatchLaw, patterns_of, chain_rule}
+use Rattle.pol_live.specs.Along.{patterns_of, chain_rule}
 use Rattle.pol_report.specs.Reach.{IsDecidedAt, IsLeastIfAny, IsReached, AreReached}
 use Rattle.pol_report.specs.declared.Reached.{Reached}
 use Rattle.pol_report.proofs.Leasts.{least_same, if_any_unique, get_push, get_within, has_at, same_places}

@@ -1,9 +1,10 @@
 //! By which lines rules are reached.
 
 ghost use Rattle.std.specs.Prelude.{◌≡◌, ◌++◌, List, length, map, IfOk, IfSome, IfNone, OnOk};
+ghost use Rattle.pol_pattern.specs.Matching.{MatchLaw};
 ghost use Rattle.pol_automaton.specs.Automaton.{IsDecider};
 ghost use Rattle.pol_text.specs.declared.subject.Subject.{Subject as SubjectValue};
-ghost use Rattle.pol_live.specs.Along.{MatchLaw, patterns_of, entries_of};
+ghost use Rattle.pol_live.specs.Along.{patterns_of, entries_of};
 ghost use Rattle.pol_report.specs.Reach.{AreReached, shadowed_row, unreached};
 ghost use Rattle.pol_report.specs.declared.Reached.{Reached as ReachedValue};
 

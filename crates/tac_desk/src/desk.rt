@@ -2,7 +2,8 @@
 
 ghost use Rattle.std.specs.Prelude.{◌≡◌, ◌↔◌, false, Err, IsOk, IsTrue, IfOk, OnOk, OnErr};
 ghost use Rattle.tac_conn.specs.Ask.{kind_of_ask, kind_of_answer};
-ghost use Rattle.pol_live.specs.Live.{UnlessMemory, is_memory};
+ghost use Rattle.pol_edit.specs.Applying.{is_memory};
+ghost use Rattle.pol_live.specs.Live.{UnlessMemory};
 ghost use Rattle.tac_desk.specs.Meaning.{Meaning};
 ghost use Rattle.tac_desk.specs.Asking.{asked, stores, Passes};
 ghost use Rattle.tac_desk.specs.Editing as editing;

@@ -1,7 +1,8 @@
 //! Making an edit of a policy that has its automata.
 
 ghost use Rattle.std.specs.Prelude.{◌≡◌, OnErr};
-ghost use Rattle.pol_live.specs.Live.{UnlessMemory, is_memory};
+ghost use Rattle.pol_edit.specs.Applying.{is_memory};
+ghost use Rattle.pol_live.specs.Live.{UnlessMemory};
 ghost use Rattle.tac_desk.specs.Meaning.{Meaning as MeaningValue, with_policy};
 ghost use Rattle.tac_desk.specs.Editing as editing;
 

@@ -2,7 +2,8 @@
 
 ghost use Rattle.std.specs.Prelude.{◌≡◌, ◌≤◌, ◌↔◌, true, false, Ok, Err, IsOk, IsTrue};
 ghost use Rattle.std.specs.Prelude.{IfOk, OnOk, OnErr};
-ghost use Rattle.pol_live.specs.Live.{UnlessMemory, is_memory};
+ghost use Rattle.pol_edit.specs.Applying.{is_memory};
+ghost use Rattle.pol_live.specs.Live.{UnlessMemory};
 ghost use Rattle.pol_live.specs.Rise.{IsBuildRise, IsEditRise, Rises};
 ghost use Rattle.tac_conn.specs.Ask.{kind_of_ask, kind_of_answer};
 ghost use Rattle.tac_conn.specs.declared.ask.Answer.TheVariants as answers;

@@ -1,7 +1,8 @@
 //! Making an edit of a policy that has its automata, beside records that have their marks.
 
 ghost use Rattle.std.specs.Prelude.{◌≡◌, ◌≤◌, length, OnOk, OnErr};
-ghost use Rattle.pol_live.specs.Live.{UnlessMemory, is_memory};
+ghost use Rattle.pol_edit.specs.Applying.{is_memory};
+ghost use Rattle.pol_live.specs.Live.{UnlessMemory};
 ghost use Rattle.pol_live.specs.Rise.{IsEditRise, Rises};
 ghost use Rattle.tac_tally.specs.Recount.{settled};
 ghost use Rattle.tac_desk.specs.Meaning.{with_policy};

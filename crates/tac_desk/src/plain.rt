@@ -1,7 +1,8 @@
 //! The desk that searches and counts each time.
 
 ghost use Rattle.std.specs.Prelude.{◌≡◌, true, Err, IsOk, IfOk, OnOk, OnErr};
-ghost use Rattle.pol_live.specs.Live.{UnlessMemory, is_memory};
+ghost use Rattle.pol_edit.specs.Applying.{is_memory};
+ghost use Rattle.pol_live.specs.Live.{UnlessMemory};
 ghost use Rattle.tac_desk.specs.Opening.{Opens, IsOnlyOpened};
 ghost use Rattle.tac_desk.specs.Asking as asking;
 ghost use Rattle.tac_desk.specs.Reporting as reporting;

@@ -1,6 +1,7 @@
 -- The history of a hall: the calls that its desk took, one after another, each with its answer.
 use Rattle.std.specs.Prelude.{◌≡◌, List, [], ◌∷◌, ◌++◌, Bool, true, false, ◌||◌, Result, Ok, Err}
 use Rattle.std.specs.Prelude.{OnErr, IsTrue}
+use Rattle.pol_edit.specs.Applying.{is_memory}
 use Rattle.pol_edit.specs.declared.edit.Edit.{Edit}
 use Rattle.pol_edit.specs.declared.fault.EditFault.{EditFault}
 use Rattle.pol_report.specs.declared.Changed.{Changed}
@@ -10,7 +11,7 @@ use Rattle.tac_desk.specs.declared.query.QueryFault.{QueryFault}
 use Rattle.tac_desk.specs.declared.query.Report.{Report}
 use Rattle.tac_desk.specs.Meaning.{Meaning}
 use Rattle.tac_desk.specs.Asking.{asked}
-use Rattle.pol_live.specs.Live.{UnlessMemory, is_memory}
+use Rattle.pol_live.specs.Live.{UnlessMemory}
 use Rattle.tac_desk.specs.Editing as editing
 use Rattle.tac_desk.specs.Reporting as reporting
 use Rattle.tac_hall.specs.declared.call.Call.{Call}

@@ -2,7 +2,7 @@ use Rattle.std.proofs.Common.{◌≡◌, ◌<◌, Some, length, get_or, sym, ref
 use Rattle.std.proofs.lemmas.Option.{slice_get_read}
 use Rattle.std.proofs.lemmas.Result.{err_from_is_err_and}
 use Rattle.pol_text.specs.Policy.{id_of}
-use Rattle.pol_live.specs.Live.{is_memory}
+use Rattle.pol_edit.specs.Applying.{is_memory}
 use Rattle.pol_live.proofs.BuildFacts.{first_large, more_small, except_so}
 use Rattle.pol_live.proofs.FillFacts.{small_there}
 use Rattle.pol_live.proofs.SlotFacts.{grows_on, more_there, more_keepers}

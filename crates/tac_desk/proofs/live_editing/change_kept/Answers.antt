@@ -1,5 +1,5 @@
 use Rattle.std.proofs.lemmas.Result.{err_from_is_err_and}
-use Rattle.pol_live.specs.Live.{is_memory}
+use Rattle.pol_edit.specs.Applying.{is_memory}
 use Rattle.tac_desk.specs.Kept.{meaning_of}
 use Rattle.tac_desk.proofs.Edits.{accepted_only, refused_only, except_so}
 use Rattle.tac_desk.proofs.live_editing.change_kept.Goals as goal

@@ -1,4 +1,4 @@
-use Rattle.pol_live.specs.Live.{is_memory}
+use Rattle.pol_edit.specs.Applying.{is_memory}
 use Rattle.pol_live.proofs.OnlyFacts.{only_prepared, unless_so}
 use Rattle.pol_live.proofs.live.Live.prepare.Goals as goal
 
