@@ -1,3 +1,2 @@
 pub mod LineFacts
 pub mod NumberFacts
-pub mod OrderFacts

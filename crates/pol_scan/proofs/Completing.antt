@@ -6,7 +6,7 @@ use Rattle.std.proofs.lemmas.List.{get_or_default}
 use Rattle.std.proofs.lemmas.Nat.{mul-add-lt}
 use Rattle.std.proofs.lemmas.List.Sums.{fold_push}
 use Rattle.basics.specs.TextOrder.{IsBefore}
-use Rattle.basics.proofs.OrderFacts.{before_irreflexive, before_transitive}
+use Rattle.pol_scan.proofs.OrderFacts.{before_irreflexive, before_transitive}
 use Rattle.pol_scan.specs.Words.{IsWord, word_at, longer}
 use Rattle.pol_scan.specs.Congruence.{Congruence, AreDifferent, HasIndex, Keeps}
 use Rattle.pol_scan.specs.Table.{Table, next, walk, count, IsWhole, IsAutomatonOf}

@@ -6,7 +6,7 @@ use Rattle.std.proofs.lemmas.List.{get_or_append_left, get_or_push}
 use Rattle.std.proofs.lemmas.List.Elements.{All-push, All-weaker}
 use Rattle.std.proofs.lemmas.Nat.{same_from_place}
 use Rattle.basics.specs.TextOrder.{IsBefore}
-use Rattle.basics.proofs.OrderFacts.{before_push, before_transitive}
+use Rattle.pol_scan.proofs.OrderFacts.{before_push, before_transitive}
 use Rattle.pol_scan.specs.Words.{word_at, longer}
 use Rattle.pol_scan.specs.Congruence.{Congruence, HasIndexAbove, Keeps}
 use Rattle.pol_scan.specs.Discovery.{IsCell, AreFound, AreBehind, IsFilled, StandsAt, Advances}

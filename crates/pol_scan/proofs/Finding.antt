@@ -6,7 +6,7 @@ use Rattle.std.proofs.lemmas.List.Elements.{All-push}
 use Rattle.std.proofs.lemmas.List.Quantifiers.{all_pairs_push}
 use Rattle.std.proofs.lemmas.List.Folds.{list_any_at}
 use Rattle.basics.specs.TextOrder.{IsBefore}
-use Rattle.basics.proofs.OrderFacts.{push_before}
+use Rattle.pol_scan.proofs.OrderFacts.{push_before}
 use Rattle.pol_scan.specs.Words.{IsWord, word_at, longer, with_longer}
 use Rattle.pol_scan.specs.Congruence.{Congruence, Keeps}
 use Rattle.pol_scan.specs.Discovery.{IsUpTo, IsCell, AreFound, AreBehind, Advances}

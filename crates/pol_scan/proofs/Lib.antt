@@ -1,4 +1,5 @@
 mod WordFacts
+mod OrderFacts
 mod OrderUp
 mod Lists
 mod Finding

@@ -1,7 +1,7 @@
 -- A word, or one after it.
 use Rattle.std.proofs.Common.{ℕ, List, sym, ap, subst, inl, inr}
 use Rattle.basics.specs.TextOrder.{IsBefore}
-use Rattle.basics.proofs.OrderFacts.{before_irreflexive, before_transitive, before_total, before_push}
+use Rattle.pol_scan.proofs.OrderFacts.{before_irreflexive, before_transitive, before_total, before_push}
 use Rattle.pol_scan.specs.Words.{longer}
 use Rattle.pol_scan.specs.Discovery.{IsUpTo}
 

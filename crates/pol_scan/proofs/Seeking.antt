@@ -4,7 +4,7 @@ use Rattle.std.specs.List.{All, AllPairs}
 use Rattle.std.proofs.lemmas.Bool.{cases_lt}
 use Rattle.std.proofs.lemmas.List.Elements.{All-nil, All-push, All-weaker}
 use Rattle.basics.specs.TextOrder.{IsBefore, IsLeast}
-use Rattle.basics.proofs.OrderFacts.{before_irreflexive, before_transitive, before_pushed}
+use Rattle.pol_scan.proofs.OrderFacts.{before_irreflexive, before_transitive, before_pushed}
 use Rattle.pol_scan.specs.Words.{IsWord, IsWordThat, word_at, longer, with_longer}
 use Rattle.pol_scan.specs.Congruence.{Congruence, Keeps}
 use Rattle.pol_scan.specs.Discovery.{IsCell, AreFound, AreBehind, Advances, IsEarlier, SeeksAt}

@@ -111,7 +111,3 @@ before_pushed t u a b (inr h) = by e (lower_pushed t u a b e h.1)
     by : length t ≡ length u → IsLower t u ⊎ ((t ≡ u) × (a < b)) → IsBefore t u ⊎ ((t ≡ u) × (a < b))
     by q (inl k) = inl (inr (q, k))
     by q (inr k) = inr k
-
--- a text comes before what goes on behind it
-pub before_append : (t : List ℕ) (a : ℕ) (u : List ℕ) → IsBefore t (t ++ a ∷ u)
-before_append t a u = inl (simp length-append (omega arith))
