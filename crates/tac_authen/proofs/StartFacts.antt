@@ -9,8 +9,7 @@ use Rattle.tac_wire.specs.declared.body.BodyFault.{BodyFault}
 use Rattle.tac_wire.specs.declared.body.BodyFault.TheVariants.{Short, LengthSum}
 use Rattle.basics.specs.Memory.{GivesUnlessMemory}
 use Rattle.tac_wire.specs.Body.{is_memory}
-use Rattle.tac_wire.specs.Cut.{cut}
-use Rattle.tac_wire.proofs.CutFacts.{concat-cut, lengths-cut, cut-concat}
+use Rattle.tac_wire.specs.Cut.{cut, CutLaws}
 use Rattle.tac_authen.specs.declared.start.Start.{Start}
 use Rattle.tac_authen.specs.Start.{start_bytes, start_of}
 
@@ -38,8 +37,8 @@ same_spelling user port rem_addr extra rest u p a d lens all =
     ap (λ (l : List ℕ). l ++ rest) (sym lens) ∙ ap (λ (r : List ℕ). length user ∷ length port ∷ length rem_addr ∷ length extra ∷ r) (sym all ∙ sym (joined user port rem_addr extra))
 
 -- a start that is read is spelled so
-pub start-found : (body : List ℕ) (start : Start) → start_of body ≡ Ok start → body ≡ start_bytes start
-start-found (b0 ∷ b1 ∷ b2 ∷ b3 ∷ u ∷ p ∷ a ∷ d ∷ rest) start e =
+pub start-found : CutLaws → (body : List ℕ) (start : Start) → start_of body ≡ Ok start → body ≡ start_bytes start
+start-found laws (b0 ∷ b1 ∷ b2 ∷ b3 ∷ u ∷ p ∷ a ∷ d ∷ rest) start e =
     let body = b0 ∷ b1 ∷ b2 ∷ b3 ∷ u ∷ p ∷ a ∷ d ∷ rest in
     let lens = u ∷ p ∷ a ∷ d ∷ [] in
     let fields = cut lens rest in
@@ -47,13 +46,13 @@ start-found (b0 ∷ b1 ∷ b2 ∷ b3 ∷ u ∷ p ∷ a ∷ d ∷ rest) start e =
     let tests = passed (ltb (length body) 8) (eqb (length body) (8 + sum lens)) Short LengthSum made start e in
     let whole = eqb-true _ _ tests.1 in
     let fits : sum lens ≡ length rest = omega arith in
-    let same = same_spelling (get_or fields 0 []) (get_or fields 1 []) (get_or fields 2 []) (get_or fields 3 []) rest u p a d (lengths-cut lens rest (omega arith)) (concat-cut lens rest fits) in
+    let same = same_spelling (get_or fields 0 []) (get_or fields 1 []) (get_or fields 2 []) (get_or fields 3 []) rest u p a d (laws.lengths lens rest (omega arith)) (laws.joined lens rest fits) in
     subst (λ (s : Start). body ≡ start_bytes s) tests.2 (ap (λ (r : List ℕ). b0 ∷ b1 ∷ b2 ∷ b3 ∷ r) same)
-start-found body start e = absurd cc
+start-found laws body start e = absurd cc
 
 -- a start is read from the body that spells it
-pub start_of-start_bytes : (start : Start) → start_of (start_bytes start) ≡ Ok start
-start_of-start_bytes start =
+pub start_of-start_bytes : CutLaws → (start : Start) → start_of (start_bytes start) ≡ Ok start
+start_of-start_bytes laws start =
     let parts = start.user ∷ start.port ∷ start.rem_addr ∷ start.extra ∷ [] in
     let lens = map length parts in
     let all = start.user ++ start.port ++ start.rem_addr ++ start.extra in
@@ -62,12 +61,12 @@ start_of-start_bytes start =
     let total : sum lens ≡ length all = sum-lengths parts ∙ ap length (sym same) in
     let long : ltb (length body) 8 ≡ false = le-ltb _ _ (omega arith) in
     let whole : eqb (length body) (8 + sum lens) ≡ true = eq-eqb _ _ (omega arith) in
-    let again : cut lens all ≡ parts = ap (cut lens) same ∙ cut-concat parts in
+    let again : cut lens all ≡ parts = ap (cut lens) same ∙ laws.again parts in
     let made : List (List ℕ) → Start = λ fields. record start { user = get_or fields 0 []; port = get_or fields 1 []; rem_addr = get_or fields 2 []; extra = get_or fields 3 [] } in
     let answer : List (List ℕ) → Result Start BodyFault = λ fields. cond (ltb (length body) 8) (Err Short) (cond (eqb (length body) (8 + sum lens)) (Ok (made fields)) (Err LengthSum)) in
     let fielded : answer (cut lens all) ≡ answer parts = ap answer again in
     fielded ∙ rw (long, whole) refl
 
-pub is_found : (body : List ℕ) (r : Result Start BodyFault) → GivesUnlessMemory is_memory (λ body. body) r (start_of body) → IfOk r (λ start. body ≡ start_bytes start)
-is_found body (Ok start) e = start-found body start e
-is_found body (Err fault) e = tt
+pub is_found : CutLaws → (body : List ℕ) (r : Result Start BodyFault) → GivesUnlessMemory is_memory (λ body. body) r (start_of body) → IfOk r (λ start. body ≡ start_bytes start)
+is_found laws body (Ok start) e = start-found laws body start e
+is_found laws body (Err fault) e = tt

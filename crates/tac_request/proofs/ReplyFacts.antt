@@ -16,8 +16,7 @@ use Rattle.std.proofs.lemmas.Slice.Eq.{bytes_eq-Decides}
 use Rattle.std.proofs.lemmas.Fmt.{decimal_is_IsNumeral}
 use Rattle.tac_wire.specs.declared.body.BodyFault.{BodyFault}
 use Rattle.tac_wire.specs.declared.body.BodyFault.TheVariants.{Short, LengthSum, TooLong}
-use Rattle.tac_wire.specs.Cut.{cut}
-use Rattle.tac_wire.proofs.CutFacts.{concat-cut, lengths-cut, length-cut, cut-concat}
+use Rattle.tac_wire.specs.Cut.{cut, CutLaws}
 use Rattle.tac_request.specs.declared.author_reply.AuthorReply.{AuthorReply}
 use Rattle.tac_request.specs.AuthorReply.{level_argument, level_arguments, level_of, level_among, msg_len, data_len, lengths_of, fields_of, author_reply, author_reply_of}
 use Rattle.tac_request.proofs.RequestFacts.{sum-cons, sum-lengths}
@@ -132,10 +131,10 @@ same_parts status n n' text text' nothing nothing' lens msg joined rest e0 e1 e2
     ap (λ (after : List ℕ). status ∷ n' ∷ after) (regroup text nothing lens msg joined) ∙ rw (e0, e1, e2, e3) refl
 
 -- what is cut from a body without data is the body again
-spelled : (status n m0 m1 d0 d1 : ℕ) (rest : List ℕ) → m0 < 256 → m1 < 256 → d0 < 256 → d1 < 256 → n ≤ length rest → from_be_bytes w16 (d0 ∷ d1 ∷ []) ≡ 0
+spelled : CutLaws → (status n m0 m1 d0 d1 : ℕ) (rest : List ℕ) → m0 < 256 → m1 < 256 → d0 < 256 → d1 < 256 → n ≤ length rest → from_be_bytes w16 (d0 ∷ d1 ∷ []) ≡ 0
     → length rest ≡ n + from_be_bytes w16 (m0 ∷ m1 ∷ []) + sum (take n rest)
     → spelling status (cut (take n rest) (drop (from_be_bytes w16 (m0 ∷ m1 ∷ [])) (drop n rest))) (take (from_be_bytes w16 (m0 ∷ m1 ∷ [])) (drop n rest)) ≡ status ∷ n ∷ m0 ∷ m1 ∷ d0 ∷ d1 ∷ rest
-spelled status n m0 m1 d0 d1 rest f0 f1 g0 g1 long none whole =
+spelled laws status n m0 m1 d0 d1 rest f0 f1 g0 g1 long none whole =
     let m = from_be_bytes w16 (m0 ∷ m1 ∷ []) in
     let lens = take n rest in
     let fields = drop n rest in
@@ -144,10 +143,10 @@ spelled status n m0 m1 d0 d1 rest f0 f1 g0 g1 long none whole =
     let args = cut lens last in
     let l0 = length-drop n rest in
     let l1 = length-drop m fields in
-    let count : length args ≡ n = omega (arith, length-cut lens last, length-take n rest) in
+    let count : length args ≡ n = omega (arith, laws.many lens last, length-take n rest) in
     let size : length msg ≡ m = omega (arith, length-take m fields) in
-    let args_len : map length args ≡ lens = lengths-cut lens last (omega arith) in
-    let joined : concat args ≡ last = concat-cut lens last (omega arith) in
+    let args_len : map length args ≡ lens = laws.lengths lens last (omega arith) in
+    let joined : concat args ≡ last = laws.joined lens last (omega arith) in
     let text : to_be_bytes w16 (length msg) ≡ m0 ∷ m1 ∷ [] = ap (to_be_bytes w16) size ∙ two_back m0 m1 m f0 f1 refl in
     let nothing : to_be_bytes w16 0 ≡ d0 ∷ d1 ∷ [] = two_back d0 d1 0 g0 g1 (sym none) in
     let after : map length args ++ msg ++ concat args ≡ rest = rw (args_len, joined) (simp (append_assoc, take-append-drop)) in
@@ -182,25 +181,25 @@ all_passed body reply e =
     }
 
 -- a reply that is read is spelled so
-pub author_reply-found : (body : List ℕ) (reply : AuthorReply) → ((i : ℕ) → get_or body i 0 < 256) → author_reply_of body ≡ Ok reply → body ≡ author_reply reply
+pub author_reply-found : CutLaws → (body : List ℕ) (reply : AuthorReply) → ((i : ℕ) → get_or body i 0 < 256) → author_reply_of body ≡ Ok reply → body ≡ author_reply reply
 unfolding made
-author_reply-found (status ∷ n ∷ m0 ∷ m1 ∷ d0 ∷ d1 ∷ rest) reply fits e =
+author_reply-found laws (status ∷ n ∷ m0 ∷ m1 ∷ d0 ∷ d1 ∷ rest) reply fits e =
     let body = status ∷ n ∷ m0 ∷ m1 ∷ d0 ∷ d1 ∷ rest in
     let p = all_passed body reply e in
     let m = from_be_bytes w16 (m0 ∷ m1 ∷ []) in
     let msg = take m (drop n rest) in
-    let again = spelled status n m0 m1 d0 d1 rest (fits 2) (fits 3) (fits 4) (fits 5) (omega (arith, p.long)) p.no_data (omega (arith, p.whole, p.no_data)) in
+    let again = spelled laws status n m0 m1 d0 d1 rest (fits 2) (fits 3) (fits 4) (fits 5) (omega (arith, p.long)) p.no_data (omega (arith, p.whole, p.no_data)) in
     let args = level_among-some (cut (take n rest) (drop m (drop n rest))) p.level p.carried in
     sym again ∙ ap (λ (a : List (List ℕ)). spelling status a msg) args ∙ ap author_reply p.is
-author_reply-found body reply fits e = absurd (omega (arith, (all_passed body reply e).long))
+author_reply-found laws body reply fits e = absurd (omega (arith, (all_passed body reply e).long))
 
-pub is_found : (body : List ℕ) (r : Result AuthorReply BodyFault) → ((i : ℕ) → get_or body i 0 < 256) → r ≡ author_reply_of body → IfOk r (λ reply. body ≡ author_reply reply)
-is_found body (Ok reply) fits e = author_reply-found body reply fits (sym e)
-is_found body (Err fault) fits e = tt
+pub is_found : CutLaws → (body : List ℕ) (r : Result AuthorReply BodyFault) → ((i : ℕ) → get_or body i 0 < 256) → r ≡ author_reply_of body → IfOk r (λ reply. body ≡ author_reply reply)
+is_found laws body (Ok reply) fits e = author_reply-found laws body reply fits (sym e)
+is_found laws body (Err fault) fits e = tt
 
 -- a reply is read from the body that spells it
-pub author_reply_of-author_reply : (reply : AuthorReply) → length reply.msg.items ≤ 64 → IfSome reply.priv_lvl (λ level. level < 256) → author_reply_of (author_reply reply) ≡ Ok reply
-author_reply_of-author_reply reply short small =
+pub author_reply_of-author_reply : CutLaws → (reply : AuthorReply) → length reply.msg.items ≤ 64 → IfSome reply.priv_lvl (λ level. level < 256) → author_reply_of (author_reply reply) ≡ Ok reply
+author_reply_of-author_reply laws reply short small =
     let body = author_reply reply in
     let msg = reply.msg.items in
     let args = level_arguments reply.priv_lvl in
@@ -229,5 +228,5 @@ author_reply_of-author_reply reply short small =
     let three = ap (λ (f : List ℕ). answer size (sum lens) (take size f) (cut lens (drop size f))) back in
     let four = ap (λ (t : List ℕ). answer size (sum lens) t (cut lens (drop size fields))) (take_at msg (concat args) size refl) in
     let five = ap (λ (f : List ℕ). answer size (sum lens) msg (cut lens f)) (drop_at msg (concat args) size refl) in
-    let six = ap (answer size (sum lens) msg) (cut-concat args) in
+    let six = ap (answer size (sum lens) msg) (laws.again args) in
     one ∙ two ∙ three ∙ four ∙ five ∙ six ∙ rw (long, whole, fits, level_among-level_arguments reply.priv_lvl small) refl

@@ -9,8 +9,7 @@ use Rattle.tac_wire.specs.declared.body.BodyFault.{BodyFault}
 use Rattle.tac_wire.specs.declared.body.BodyFault.TheVariants.{Short, LengthSum}
 use Rattle.basics.specs.Memory.{GivesUnlessMemory}
 use Rattle.tac_wire.specs.Body.{is_memory}
-use Rattle.tac_wire.specs.Cut.{cut}
-use Rattle.tac_wire.proofs.CutFacts.{concat-cut, lengths-cut, length-cut, cut-concat}
+use Rattle.tac_wire.specs.Cut.{cut, CutLaws}
 use Rattle.tac_request.specs.declared.author_request.AuthorRequest.{AuthorRequest}
 use Rattle.tac_request.specs.AuthorRequest.{author_request, author_request_of}
 
@@ -38,9 +37,9 @@ record IsSpelled (u p a n : ℕ) (user port rem_addr : List ℕ) (args : List (L
   arg_cnt : length args ≡ n
   all : tail user port rem_addr args ≡ rest
 
-spelled : (u p a n : ℕ) (rest : List ℕ) → n ≤ length rest → length rest ≡ n + sum (u ∷ p ∷ a ∷ take n rest)
+spelled : CutLaws → (u p a n : ℕ) (rest : List ℕ) → n ≤ length rest → length rest ≡ n + sum (u ∷ p ∷ a ∷ take n rest)
     → IsSpelled u p a n (take u (drop n rest)) (take p (drop u (drop n rest))) (take a (drop p (drop u (drop n rest)))) (cut (take n rest) (drop a (drop p (drop u (drop n rest))))) rest
-spelled u p a n rest long whole =
+spelled laws u p a n rest long whole =
     let lens = take n rest in
     let first = drop n rest in
     let second = drop u first in
@@ -52,13 +51,13 @@ spelled u p a n rest long whole =
     let l2 = length-drop p second in
     let l3 = length-drop a third in
     let fits : sum lens ≡ length last = omega arith in
-    let args_len = lengths-cut lens last (omega arith) in
-    let joined = concat-cut lens last fits in
+    let args_len = laws.lengths lens last (omega arith) in
+    let joined = laws.joined lens last fits in
     record {
       user_len = omega (arith, length-take u first);
       port_len = omega (arith, length-take p second);
       rem_addr_len = omega (arith, length-take a third);
-      arg_cnt = omega (arith, length-cut lens last, length-take n rest);
+      arg_cnt = omega (arith, laws.many lens last, length-take n rest);
       all = rw (args_len, joined) (simp (append_assoc, take-append-drop));
     }
 
@@ -67,30 +66,30 @@ same_cells : (b0 b1 b2 b3 u p a n u' p' a' n' : ℕ) (rest rest' : List ℕ) →
 same_cells b0 b1 b2 b3 u p a n u' p' a' n' rest rest' e0 e1 e2 e3 e4 = cc
 
 -- a request that is read is spelled so
-pub author_request-found : (body : List ℕ) (request : AuthorRequest) → author_request_of body ≡ Ok request → body ≡ author_request request
-author_request-found (b0 ∷ b1 ∷ b2 ∷ b3 ∷ u ∷ p ∷ a ∷ n ∷ rest) request e =
+pub author_request-found : CutLaws → (body : List ℕ) (request : AuthorRequest) → author_request_of body ≡ Ok request → body ≡ author_request request
+author_request-found laws (b0 ∷ b1 ∷ b2 ∷ b3 ∷ u ∷ p ∷ a ∷ n ∷ rest) request e =
     let body = b0 ∷ b1 ∷ b2 ∷ b3 ∷ u ∷ p ∷ a ∷ n ∷ rest in
     let fields = cut (u ∷ p ∷ a ∷ take n rest) (drop n rest) in
     let made : AuthorRequest = record { authen_method = b0; priv_lvl = b1; authen_type = b2; authen_service = b3; user = get_or fields 0 []; port = get_or fields 1 []; rem_addr = get_or fields 2 []; args = drop 3 fields } in
     let tests = passed (ltb (length body) (8 + n)) (eqb (length body) (8 + n + sum (u ∷ p ∷ a ∷ take n rest))) Short LengthSum made request e in
     let long = ltb-false _ _ tests.0 in
     let whole = eqb-true _ _ tests.1 in
-    let s = spelled u p a n rest (omega arith) (omega arith) in
+    let s = spelled laws u p a n rest (omega arith) (omega arith) in
     subst (λ (r : AuthorRequest). body ≡ author_request r) tests.2
     (same_cells b0 b1 b2 b3 u p a n _ _ _ _ rest _ s.user_len s.port_len s.rem_addr_len s.arg_cnt s.all)
-author_request-found body request e = absurd cc
+author_request-found laws body request e = absurd cc
 
 -- what was joined is cut again
-recut : (user port rem_addr : List ℕ) (args : List (List ℕ)) → cut (length user ∷ length port ∷ length rem_addr ∷ map length args) (user ++ (port ++ (rem_addr ++ concat args))) ≡ user ∷ port ∷ rem_addr ∷ args
-recut user port rem_addr args = cut-concat (user ∷ port ∷ rem_addr ∷ args)
+recut : CutLaws → (user port rem_addr : List ℕ) (args : List (List ℕ)) → cut (length user ∷ length port ∷ length rem_addr ∷ map length args) (user ++ (port ++ (rem_addr ++ concat args))) ≡ user ∷ port ∷ rem_addr ∷ args
+recut laws user port rem_addr args = laws.again (user ∷ port ∷ rem_addr ∷ args)
 
 pub sum-lengths : (fields : List (List ℕ)) → sum (map length fields) ≡ length (concat fields)
 sum-lengths [] = refl
 sum-lengths (field ∷ fields) = omega (arith, sum-cons (length field) (map length fields), sum-lengths fields, length-append field (concat fields))
 
 -- a request is read from the body that spells it
-pub author_request_of-author_request : (request : AuthorRequest) → author_request_of (author_request request) ≡ Ok request
-author_request_of-author_request request =
+pub author_request_of-author_request : CutLaws → (request : AuthorRequest) → author_request_of (author_request request) ≡ Ok request
+author_request_of-author_request laws request =
     let user = request.user in
     let port = request.port in
     let rem_addr = request.rem_addr in
@@ -113,11 +112,11 @@ author_request_of-author_request request =
     let lens_of = take (length args) all in
     let parts = cut (three lens_of) (drop (length args) all) in
     let sums : sum (three lens_of) ≡ length fields = ap (λ (l : List ℕ). sum (three l)) front ∙ total in
-    let again : parts ≡ user ∷ port ∷ rem_addr ∷ args = ap (λ (l : List ℕ). cut (three l) (drop (length args) all)) front ∙ ap (cut (three lens)) back ∙ recut user port rem_addr args in
+    let again : parts ≡ user ∷ port ∷ rem_addr ∷ args = ap (λ (l : List ℕ). cut (three l) (drop (length args) all)) front ∙ ap (cut (three lens)) back ∙ recut laws user port rem_addr args in
     let summed : answer (sum (three lens_of)) parts ≡ answer (length fields) parts = ap (λ (k : ℕ). answer k parts) sums in
     let fielded : answer (length fields) parts ≡ answer (length fields) (user ∷ port ∷ rem_addr ∷ args) = ap (answer (length fields)) again in
     summed ∙ fielded ∙ rw (long, whole) refl
 
-pub is_found : (body : List ℕ) (r : Result AuthorRequest BodyFault) → GivesUnlessMemory is_memory (λ body. body) r (author_request_of body) → IfOk r (λ request. body ≡ author_request request)
-is_found body (Ok request) e = author_request-found body request e
-is_found body (Err fault) e = tt
+pub is_found : CutLaws → (body : List ℕ) (r : Result AuthorRequest BodyFault) → GivesUnlessMemory is_memory (λ body. body) r (author_request_of body) → IfOk r (λ request. body ≡ author_request request)
+is_found laws body (Ok request) e = author_request-found laws body request e
+is_found laws body (Err fault) e = tt

@@ -6,7 +6,7 @@ ghost use Rattle.basics.specs.Memory.{GivesUnlessMemory};
 ghost use Rattle.tac_wire.specs.declared.body.BodyFault.{BodyFault as Fault};
 ghost use Rattle.tac_wire.specs.declared.body.BodyFault.TheVariants.{Memory};
 ghost use Rattle.tac_wire.specs.Body.{is_memory};
-ghost use Rattle.tac_wire.specs.Cut.{cut as fields_of};
+ghost use Rattle.tac_wire.specs.Cut.{cut as fields_of, CutLaws};
 
 use arrayvec::ArrayVec;
 use basics::{Bytes, Sequence};
@@ -82,3 +82,8 @@ pub fn cut(alloc: Global, lengths: &[u8], bytes: &[u8]) -> Result<Sequence<Bytes
     }
     Ok(fields)
 }
+
+/// Does nothing. The clause is so of all fields that are cut, for callers that don't call [`cut`].
+pub fn cut_laws()
+    ensures { CutLaws }
+{}

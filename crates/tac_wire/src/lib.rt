@@ -11,7 +11,9 @@ mod header;
 mod key;
 mod pad;
 
-pub use body::{BodyFault, MESSAGE_MAX, Message, REPLY_MAX, cut, message_of, well_formed};
+pub use body::{
+    BodyFault, MESSAGE_MAX, Message, REPLY_MAX, cut, cut_laws, message_of, well_formed,
+};
 pub use chap::chap_response;
 pub use decimal::decimal_digits;
 pub use frame::{Frame, FrameFault};

@@ -6,7 +6,7 @@ use Rattle.tac_authen.proofs.StartFacts.{start_of-start_bytes, is_found}
 use Rattle.tac_authen.proofs.start.read_start.Goals as goal
 
 pub returns-clause-found : goal.returns-clause-found
-returns-clause-found c = is_found c.args.body.now c.read_fields.result c.read_fields.ensures.exact
+returns-clause-found c = is_found c.cut_laws.ensures c.args.body.now c.read_fields.result c.read_fields.ensures.exact
 
 pub returns-clause-only : goal.returns-clause-only
-returns-clause-only c = λ start e. subst (GivesUnlessMemory is_memory (λ body. body) c.read_fields.result) (ap start_of e ∙ start_of-start_bytes start) c.read_fields.ensures.exact
+returns-clause-only c = λ start e. subst (GivesUnlessMemory is_memory (λ body. body) c.read_fields.result) (ap start_of e ∙ start_of-start_bytes c.cut_laws.ensures start) c.read_fields.ensures.exact

@@ -4,7 +4,7 @@ use Rattle.tac_request.proofs.ReplyFacts.{is_found, author_reply_of-author_reply
 use Rattle.tac_request.proofs.author_reply.read_author_reply.Goals as goal
 
 pub returns-clause-found : goal.returns-clause-found
-returns-clause-found c = is_found c.args.body.now c.read_fields.result (λ i. omega (arith, c.type_inv.body i)) c.read_fields.ensures
+returns-clause-found c = is_found c.cut_laws.ensures c.args.body.now c.read_fields.result (λ i. omega (arith, c.type_inv.body i)) c.read_fields.ensures
 
 pub returns-clause-only : goal.returns-clause-only
-returns-clause-only c = λ reply short small e. c.read_fields.ensures ∙ ap author_reply_of e ∙ author_reply_of-author_reply reply short small
+returns-clause-only c = λ reply short small e. c.read_fields.ensures ∙ ap author_reply_of e ∙ author_reply_of-author_reply c.cut_laws.ensures reply short small

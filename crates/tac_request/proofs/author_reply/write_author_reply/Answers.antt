@@ -5,4 +5,4 @@ use Rattle.tac_request.proofs.author_reply.write_author_reply.Goals as goal
 
 pub returns-clause-again : goal.returns-clause-again
 returns-clause-again c =
-    ap author_reply_of c.spelled.ensures.value ∙ author_reply_of-author_reply c.args.reply.now c.spelled.ensures.short c.spelled.ensures.small
+    ap author_reply_of c.spelled.ensures.value ∙ author_reply_of-author_reply c.cut_laws.ensures c.args.reply.now c.spelled.ensures.short c.spelled.ensures.small
