@@ -1,9 +1,11 @@
 -- What a line of the present subject makes of it.
-use Rattle.std.specs.Prelude.{ℕ, List, Option, Some, Result, Err, if◌then◌else◌}
+use Rattle.std.specs.Prelude.{ℕ, List, Option, Some, None, Result, Err, if◌then◌else◌}
+use Rattle.basics.specs.Lines.{split_at_first}
 use Rattle.pol_names.specs.Secret.{secret_of}
 use Rattle.pol_names.specs.SubjectId.{same_kind}
 use Rattle.pol_names.specs.declared.secret.Credential.{Credential}
 use Rattle.pol_names.specs.declared.secret.Credential.TheVariants as credentials
+use Rattle.pol_names.specs.declared.subject_id.Kind.{Kind}
 use Rattle.pol_names.specs.declared.subject_id.Kind.TheVariants.{Group}
 use Rattle.pol_text.specs.declared.fault.PolicyRefusal.{PolicyRefusal}
 use Rattle.pol_text.specs.declared.fault.PolicyRefusal.TheVariants.{BadLine}
@@ -11,7 +13,8 @@ use Rattle.pol_text.specs.declared.subject.Subject.{Subject}
 use Rattle.pol_text.specs.declared.setting.Setting.{Setting}
 use Rattle.pol_text.specs.declared.setting.Setting.TheVariants.{Secret, Priv, Rule}
 use Rattle.pol_text.specs.Change.{with_secret}
-use Rattle.pol_text.specs.Text.{set_once, with_priv, with_rule}
+use Rattle.pol_text.specs.Text.{◌>>=◌, Draft, heading, with_subject, with_present, set_once}
+use Rattle.pol_text.specs.Text.{with_priv, with_rule}
 
 -- the secret that a subject logs in with, or enables with
 abbrev pub secret_for : Credential → Subject → Option (List ℕ)
@@ -29,3 +32,14 @@ abbrev pub changed_by : Setting → Subject → Result Subject PolicyRefusal
 changed_by (Secret credential text) = secret_given credential text.now
 changed_by (Priv text) = with_priv text.now
 changed_by (Rule verdict text) = with_rule verdict text.now
+
+-- the draft after a line that begins a subject, behind its first word
+abbrev pub with_heading : ℕ → Kind → List ℕ → Draft → Result Draft PolicyRefusal
+with_heading number kind rest draft =
+    heading rest (split_at_first 32 rest)
+    >>= λ ids. with_subject number kind ids.0 ids.1 draft
+
+-- the draft after a line that sets this, or that sets nothing
+abbrev pub with_setting : Option Setting → Draft → Result Draft PolicyRefusal
+with_setting None draft = Err BadLine
+with_setting (Some setting) draft = with_present (changed_by setting) draft

@@ -1,8 +1,11 @@
 //! Reading a policy's text: its lines, and then whether its chains are right.
 
-ghost use Rattle.std.specs.Prelude.{◌≡◌, ◌≤◌, ℕ, List, [], length, Ok, Err, IfOk};
+ghost use Rattle.std.specs.Prelude.{◌≡◌, ◌≤◌, ℕ, List, [], length, false, Ok, Err, IfOk, codes};
+ghost use Rattle.std.specs.Prelude.{bytes_eq};
 ghost use Rattle.basics.specs.Lines.{split_at_first, lines_of};
 ghost use Rattle.pol_text.specs.Draft.{LineGives, at_place};
+ghost use Rattle.pol_text.specs.Setting.{with_heading, with_setting};
+ghost use Rattle.pol_text.specs.Text.{Draft as DraftValue};
 ghost use Rattle.pol_text.specs.Policy.{WellFormed, TellsEndless};
 ghost use Rattle.pol_text.specs.Spelling.{Spells};
 ghost use Rattle.pol_text.specs.Text.{IsUnlessMemory, named as name_wanted, is_field as field_test};
@@ -66,6 +69,50 @@ fn heading(rest: &[u8]) -> Result<(Name, Option<Name>), PolicyRefusal>
     }
 }
 
+// A line that begins a subject, behind its first word.
+fn add_subject(
+    alloc: Global,
+    draft: Draft,
+    number: usize,
+    kind: Kind,
+    rest: &[u8],
+) -> Result<Draft, LineFault>
+    ensures { LineGives result (with_heading number kind rest.now draft) }
+{
+    let (name, parent) = heading(rest)?;
+    draft.with_subject(alloc, number, kind, name, parent)
+}
+
+// What a line of this first word sets: nothing for a word that none begins with.
+#[tactic(auto, unfolding(crate::specs::Text::with_words))]
+fn setting_of<'a>(word: &[u8], rest: &'a [u8]) -> Option<Setting<'a>>
+    requires group { bytes_eq word.now (codes "group") ≡ false }
+    requires user { bytes_eq word.now (codes "user") ≡ false }
+    ensures { (number : ℕ) (draft : DraftValue) →
+        with_words number word.now rest.now draft ≡ with_setting result draft }
+{
+    if word == b"login".as_slice() {
+        return Some(Setting::Secret(Credential::Login, rest));
+    }
+    if word == b"enable".as_slice() {
+        return Some(Setting::Secret(Credential::Enable, rest));
+    }
+    if word == b"priv".as_slice() {
+        return if is_field(rest) {
+            Some(Setting::Priv(rest))
+        } else {
+            None
+        };
+    }
+    if word == b"permit".as_slice() {
+        return Some(Setting::Rule(Verdict::Permit, rest));
+    }
+    if word == b"deny".as_slice() {
+        return Some(Setting::Rule(Verdict::Deny, rest));
+    }
+    None
+}
+
 // A line of this first word, which a space follows.
 #[tactic(auto, unfolding(crate::specs::Text::with_words))]
 fn add_words(
@@ -78,32 +125,15 @@ fn add_words(
     ensures { LineGives result (with_words number word.now rest.now draft) }
 {
     if word == b"group".as_slice() {
-        let (name, parent) = heading(rest)?;
-        return draft.with_subject(alloc, number, Kind::Group, name, parent);
+        return add_subject(alloc, draft, number, Kind::Group, rest);
     }
     if word == b"user".as_slice() {
-        let (name, parent) = heading(rest)?;
-        return draft.with_subject(alloc, number, Kind::User, name, parent);
+        return add_subject(alloc, draft, number, Kind::User, rest);
     }
-    if word == b"login".as_slice() {
-        return draft.with_present(alloc, Setting::Secret(Credential::Login, rest));
+    match setting_of(word, rest) {
+        Some(setting) => draft.with_present(alloc, setting),
+        None => Err(LineFault::Refused(PolicyRefusal::BadLine)),
     }
-    if word == b"enable".as_slice() {
-        return draft.with_present(alloc, Setting::Secret(Credential::Enable, rest));
-    }
-    if word == b"priv".as_slice() {
-        if !is_field(rest) {
-            return Err(LineFault::Refused(PolicyRefusal::BadLine));
-        }
-        return draft.with_present(alloc, Setting::Priv(rest));
-    }
-    if word == b"permit".as_slice() {
-        return draft.with_present(alloc, Setting::Rule(Verdict::Permit, rest));
-    }
-    if word == b"deny".as_slice() {
-        return draft.with_present(alloc, Setting::Rule(Verdict::Deny, rest));
-    }
-    Err(LineFault::Refused(PolicyRefusal::BadLine))
 }
 
 #[tactic(auto, unfolding(crate::specs::Text::with_trimmed))]
