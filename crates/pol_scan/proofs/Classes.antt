@@ -78,3 +78,12 @@ above_before old new led leads keeps limit above = record {
   many = above.many;
   different = different_before old new led leads keeps above.words above.different;
 }
+
+-- numbers of the classes stay numbers of the same classes
+pub numbers_now : {S : Type 0} (old new : Congruence) (led leads : List ℕ → S → Type 0) → Keeps old led new leads
+    → (bound : ℕ) → HasNumbersBelow old bound → HasNumbersBelow new bound
+numbers_now old new led leads keeps bound has = record {
+  number = λ word p. has.number word (subst (λ w. IsWord w word) keeps.columns p);
+  below = λ word p. has.below word (subst (λ w. IsWord w word) keeps.columns p);
+  tells = λ u v p q e. (keeps.alike u v).0 (has.tells u v (subst (λ w. IsWord w u) keeps.columns p) (subst (λ w. IsWord w v) keeps.columns q) e);
+}

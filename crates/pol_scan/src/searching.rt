@@ -43,6 +43,36 @@ fn seek_in_row<A: Acceptor>(
     Ok(None)
 }
 
+// Follows the found states in order, up to the first new state that accepts.
+fn seek<A: Acceptor>(
+    alloc: Global,
+    machine: &mut A,
+    found: &mut Found<A::State>,
+    width: Column,
+    bound: usize,
+) -> Result<Option<Vec<Column>>, AllocError>
+    requires bound { HasNumbersBelow (A.congruence machine.old) bound }
+    requires width { width ≡ (A.congruence machine.old).width }
+    requires seeks { SeeksAt (A.congruence machine.old) (A.leads machine.old)
+        (A.accepted machine.old) found.old.words found.old.states.keys 0 0 }
+    ensures least { IfOk result (λ r. IfSome r (λ word. IsLeast
+        (IsWordThat (A.congruence machine.old).width (A.accepted machine.old)) word.items)) }
+    ensures none { IfOk result (λ r. IfNone r ((word : List ℕ)
+        → ¬ (IsWordThat (A.congruence machine.old).width (A.accepted machine.old) word))) }
+    ensures grows { A.grows machine.old machine.new }
+{
+    'rows: for number in 0..bound {
+        if number >= found.states.len() {
+            return Ok(None);
+        }
+        if let Some(at) = seek_in_row(machine, found, number, width)? {
+            let word = found.words.word_of(alloc, at)?;
+            return Ok(Some(word));
+        }
+    }
+    Ok(None)
+}
+
 /// The least word that a machine accepts, or nothing if it accepts none. There are at most `bound`
 /// states.
 ///
@@ -67,14 +97,5 @@ pub fn search<A: Acceptor>(
     if machine.accepts(found.state(0)) {
         return Ok(Some(Vec::new(alloc)));
     }
-    'rows: for number in 0..bound {
-        if number >= found.states.len() {
-            return Ok(None);
-        }
-        if let Some(at) = seek_in_row(machine, &mut found, number, width)? {
-            let word = found.words.word_of(alloc, at)?;
-            return Ok(Some(word));
-        }
-    }
-    Ok(None)
+    seek(alloc, machine, &mut found, width, bound)
 }

@@ -1,6 +1,6 @@
 use Rattle.std.proofs.Common.{◌≡◌, ◌≤◌, length}
 use Rattle.pol_scan.specs.Discovery.{SeeksAt}
-use Rattle.pol_scan.proofs.searching.search.Given as goal
+use Rattle.pol_scan.proofs.searching.seek.Given as goal
 
 abbrev pub invariant-rows : goal.invariant-rows
 invariant-rows g l =
