@@ -1,4 +1,4 @@
-//! Tests of automata, of policies that decide by them and of their reports, against answers that
+//! Tests of residuals, of automata, of policies that decide by them and of their reports, against answers that
 //! were worked out by hand.
 #![tactic(auto)]
 
@@ -14,6 +14,8 @@ mod meters;
 mod policies;
 #[cfg(test)]
 mod reports;
+#[cfg(test)]
+mod residuals;
 #[cfg(test)]
 mod sharing;
 #[cfg(test)]

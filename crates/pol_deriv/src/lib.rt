@@ -10,8 +10,6 @@ mod rows;
 mod table;
 mod term_set;
 mod terms;
-#[cfg(test)]
-mod tests;
 
 pub use node::Number;
 pub use term_set::TermSet;
