@@ -7,3 +7,5 @@ mod calls;
 mod seats;
 #[cfg(test)]
 mod support;
+#[cfg(test)]
+mod threads;

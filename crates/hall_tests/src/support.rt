@@ -118,8 +118,8 @@ fn exchanges<R: Wait + AllocGlobal>(
     }
 }
 
-// All lines of a conversation.
-fn talks<R: Wait + AllocGlobal>(
+/// Each line is `SEAT CALL = PLACE ANSWER`, or `SEAT CALL = REFUSAL`.
+pub(crate) fn talks<R: Wait + AllocGlobal>(
     rt: &R,
     hall: &Hall<PlainDesk>,
     seats: &mut [Seat],
