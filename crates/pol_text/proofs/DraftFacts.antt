@@ -1,7 +1,6 @@
 -- Subjects that come into a draft, and changes of the last.
-use Rattle.std.proofs.Common.{◌≡◌, ℕ, ◌+◌, Bool, true, false, not, cond, ◌||◌, List, [], ◌∷◌, ◌++◌, length, map, nat_le, Option, Some, Result, Ok, Err, is_some, refl, sym, ap, ◌∙◌, arith, ◌<◌, ◌≤◌}
+use Rattle.std.proofs.Common.{◌≡◌, ℕ, ◌+◌, Bool, true, false, cond, ◌||◌, List, [], ◌∷◌, ◌++◌, length, map, nat_le, Option, Some, Result, Ok, Err, is_some, refl, sym, ap, ◌∙◌}
 use Rattle.std.specs.List.{list_any}
-use Rattle.std.proofs.lemmas.Bool.Decides.{nat_tests}
 use Rattle.std.proofs.lemmas.List.{map-append}
 use Rattle.pol_names.specs.declared.subject_id.Kind.{Kind}
 use Rattle.pol_names.specs.declared.subject_id.SubjectId.{SubjectId}
@@ -13,7 +12,7 @@ use Rattle.pol_text.specs.declared.fault.LineFault.{LineFault}
 use Rattle.pol_text.specs.declared.fault.LineFault.TheVariants as lines
 use Rattle.pol_names.specs.SubjectId.{same_id}
 use Rattle.pol_text.specs.Policy.{id_of, find_subject}
-use Rattle.pol_text.specs.Draft.{LineFails, at_place}
+use Rattle.pol_text.specs.Draft.{LineFails, at_place, place_given}
 use Rattle.pol_text.specs.Text.{Draft, subjects_of, new_subject, with_subject, with_present, behind_first, split_last, ◌>>=◌, with_line, with_lines, FailsUnlessMemory}
 
 any_found : (id : SubjectId) (subjects : List Subject) → list_any (same_id id) (map id_of subjects) ≡ is_some (find_subject id subjects)
@@ -24,47 +23,36 @@ any_found id (subject ∷ rest) = rw (any_found id rest) (by (same_id id (id_of 
     by true = refl
     by false = refl
 
--- whether there is such a subject is what the set says of its id
-there_is : (id : SubjectId) (draft : Draft) (keys : List SubjectId) (added : Bool) → keys ≡ map id_of (subjects_of draft) → added ≡ not (list_any (same_id id) keys)
-    → added ≡ not (is_some (find_subject id (subjects_of draft)))
-there_is id draft keys added e is = is ∙ ap (λ (ids : List SubjectId). not (list_any (same_id id) ids)) e ∙ ap not (any_found id (subjects_of draft))
+LineFails-bind : {A B : Type 0} (fault : LineFault) (r : Result A PolicyRefusal) (f : A → Result B PolicyRefusal) → LineFails fault r → LineFails fault (r >>= f)
+LineFails-bind lines.Memory r f h = tt
+LineFails-bind (lines.Refused refusal) r f h = rw h refl
 
-not_false : (b : Bool) → false ≡ not b → b ≡ true
-not_false true h = refl
-not_false false h = h
+-- a subject is added where its place is given
+placed : (there : Bool) (count : ℕ) (draft added : Draft) → cond there (Err Repeated) (cond (nat_le 1024 count) (Err Limit) (Ok added)) ≡ (place_given there count >>= λ _. Ok added)
+placed true count draft added = refl
+placed false count draft added = by (nat_le 1024 count)
+  where
+    by : (b : Bool) → cond b (Err Limit) (Ok added) ≡ (cond {A = Result Unit PolicyRefusal} b (Err Limit) (Ok (tt {0})) >>= λ _. Ok added)
+    by true = refl
+    by false = refl
 
-not_true : (b : Bool) → true ≡ not b → b ≡ false
-not_true true h = h
-not_true false h = refl
+module _ (line : ℕ) (kind : Kind) (name : List ℕ) (parent : Option (List ℕ)) (draft : Draft) (keys : List SubjectId) (count : ℕ)
+    (e : keys ≡ map id_of (subjects_of draft)) (many : count ≡ length draft) where
+  place_first : with_subject line kind name parent draft
+      ≡ (place_given (list_any (same_id (record { kind = kind; name = name })) keys) count >>= λ _. Ok (draft ++ (line, new_subject kind name parent) ∷ []))
+  unfolding with_subject
+  place_first =
+      let there : list_any (same_id (record { kind = kind; name = name })) keys ≡ is_some (find_subject (record { kind = kind; name = name }) (subjects_of draft)) =
+      ap (list_any (same_id (record { kind = kind; name = name }))) e ∙ any_found (record { kind = kind; name = name }) (subjects_of draft) in
+      rw (there, many) (placed (is_some (find_subject (record { kind = kind; name = name }) (subjects_of draft))) (length draft) draft (draft ++ (line, new_subject kind name parent) ∷ []))
 
-pub subject_repeated : (line : ℕ) (kind : Kind) (name : List ℕ) (parent : Option (List ℕ)) (draft : Draft) (keys : List SubjectId) (added : Bool)
-    → keys ≡ map id_of (subjects_of draft) → added ≡ not (list_any (same_id (record { kind = kind; name = name })) keys) → added ≡ false
-    → with_subject line kind name parent draft ≡ Err Repeated
-unfolding with_subject
-subject_repeated line kind name parent draft keys added e is old =
-    let there : is_some (find_subject (record { kind = kind; name = name }) (subjects_of draft)) ≡ true = not_false _ (sym old ∙ there_is (record { kind = kind; name = name }) draft keys added e is) in
-    rw there refl
+  pub subject_refused : (fault : LineFault) → LineFails fault (place_given (list_any (same_id (record { kind = kind; name = name })) keys) count)
+      → LineFails fault (with_subject line kind name parent draft)
+  subject_refused fault h = rw place_first (LineFails-bind fault _ _ h)
 
-absent : (kind : Kind) (name : List ℕ) (draft : Draft) (keys : List SubjectId) (added : Bool)
-    → keys ≡ map id_of (subjects_of draft) → added ≡ not (list_any (same_id (record { kind = kind; name = name })) keys) → added ≡ true
-    → is_some (find_subject (record { kind = kind; name = name }) (subjects_of draft)) ≡ false
-absent kind name draft keys added e is new = not_true _ (sym new ∙ there_is (record { kind = kind; name = name }) draft keys added e is)
-
-pub subject_over : (line : ℕ) (kind : Kind) (name : List ℕ) (parent : Option (List ℕ)) (draft : Draft) (keys : List SubjectId) (added : Bool)
-    → keys ≡ map id_of (subjects_of draft) → added ≡ not (list_any (same_id (record { kind = kind; name = name })) keys) → added ≡ true → 1024 ≤ length draft
-    → with_subject line kind name parent draft ≡ Err Limit
-unfolding with_subject
-subject_over line kind name parent draft keys added e is new full =
-    let test : nat_le 1024 (length draft) ≡ true = grind (arith, nat_tests) in
-    rw (absent kind name draft keys added e is new, test) refl
-
-pub subject_added : (line : ℕ) (kind : Kind) (name : List ℕ) (parent : Option (List ℕ)) (draft : Draft) (keys : List SubjectId) (added : Bool)
-    → keys ≡ map id_of (subjects_of draft) → added ≡ not (list_any (same_id (record { kind = kind; name = name })) keys) → added ≡ true → length draft < 1024
-    → with_subject line kind name parent draft ≡ Ok (draft ++ (line, new_subject kind name parent) ∷ [])
-unfolding with_subject
-subject_added line kind name parent draft keys added e is new room =
-    let test : nat_le 1024 (length draft) ≡ false = grind (arith, nat_tests) in
-    rw (absent kind name draft keys added e is new, test) refl
+  pub subject_added : place_given (list_any (same_id (record { kind = kind; name = name })) keys) count ≡ Ok tt
+      → with_subject line kind name parent draft ≡ Ok (draft ++ (line, new_subject kind name parent) ∷ [])
+  subject_added h = place_first ∙ rw h refl
 
 -- ---- the last subject
 
@@ -76,10 +64,6 @@ pub present_is : (change : Subject → Result Subject PolicyRefusal) (front : Dr
     → with_present change (front ++ (line, subject) ∷ []) ≡ (change subject >>= λ next. Ok (front ++ (line, next) ∷ []))
 unfolding with_present
 present_is change front line subject = rw (split_last-push front (line, subject)) refl
-
-LineFails-bind : {A B : Type 0} (fault : LineFault) (r : Result A PolicyRefusal) (f : A → Result B PolicyRefusal) → LineFails fault r → LineFails fault (r >>= f)
-LineFails-bind lines.Memory r f h = tt
-LineFails-bind (lines.Refused refusal) r f h = rw h refl
 
 pub present_fails : (fault : LineFault) (change : Subject → Result Subject PolicyRefusal) (draft front : Draft) (line : ℕ) (subject : Subject)
     → draft ≡ front ++ (line, subject) ∷ [] → LineFails fault (change subject) → LineFails fault (with_present change draft)

@@ -1,10 +1,7 @@
 -- The lines and the subjects of a draft, side by side.
-use Rattle.std.proofs.Common.{◌≡◌, Bool, true, false, not, ℕ, zero, suc, ◌+◌, ◌-◌, ◌<◌, List, [], ◌∷◌, ◌++◌, length, map, remove, slice_get, Some, refl, sym, ap, ◌∙◌, arith, length-append}
-use Rattle.std.specs.List.{zip, list_any}
-use Rattle.std.proofs.lemmas.Bool.{cond-false, not-true}
+use Rattle.std.proofs.Common.{◌≡◌, ℕ, zero, suc, ◌+◌, ◌-◌, ◌<◌, List, [], ◌∷◌, ◌++◌, length, map, remove, slice_get, Some, refl, sym, ap, ◌∙◌, arith, length-append}
+use Rattle.std.specs.List.{zip}
 use Rattle.std.proofs.lemmas.List.{map_push}
-use Rattle.indexmap.specs.IndexSet.{insert_key}
-use Rattle.pol_names.specs.SubjectId.{same_id}
 use Rattle.pol_names.specs.declared.subject_id.SubjectId.{SubjectId}
 use Rattle.pol_text.specs.declared.subject.Subject.{Subject}
 use Rattle.pol_text.specs.Policy.{id_of}
@@ -55,12 +52,10 @@ module _ (lines more : List ℕ) (subjects next : List Subject) (line : ℕ) (su
       ∙ ap (λ (d : Draft). d ++ (line, subject) ∷ []) view ∙ ap (λ s. draft ++ (line, s) ∷ []) same
 
 -- the kinds and names grow by the new one
-pub ids_grown : (keys new : List SubjectId) (added : Bool) (subjects next : List Subject) (subject y : Subject) → keys ≡ map id_of subjects
-    → added ≡ not (list_any (same_id (id_of y)) keys) → added ≡ true → new ≡ insert_key same_id keys (id_of y) → next ≡ subjects ++ subject ∷ [] → subject ≡ y → new ≡ map id_of next
-ids_grown keys new added subjects next subject y is told fresh e grown same =
-    let none : list_any (same_id (id_of y)) keys ≡ false = not-true _ (sym told ∙ fresh) in
-    e ∙ cond-false (list_any (same_id (id_of y)) keys) keys (keys ++ id_of y ∷ []) none
-    ∙ ap (λ ids. ids ++ id_of y ∷ []) is ∙ sym (map_push id_of subjects y)
+pub ids_grown : (keys new : List SubjectId) (subjects next : List Subject) (subject y : Subject) → keys ≡ map id_of subjects
+    → new ≡ keys ++ id_of y ∷ [] → next ≡ subjects ++ subject ∷ [] → subject ≡ y → new ≡ map id_of next
+ids_grown keys new subjects next subject y is e grown same =
+    e ∙ ap (λ ids. ids ++ id_of y ∷ []) is ∙ sym (map_push id_of subjects y)
     ∙ ap (λ s. map id_of (subjects ++ s ∷ [])) (sym same) ∙ ap (map id_of) (sym grown)
 
 -- ---- the last of them

@@ -1,11 +1,12 @@
 -- A draft that chains are judged of, and what a line's function returned, against what was wanted.
 use Rattle.std.specs.Prelude.{◌≡◌, ℕ, ◌+◌, ◌≤◌, Bool, true, List, [], ◌∷◌, length, map, Option}
-use Rattle.std.specs.Prelude.{Some, None, Result, Ok, Err, if◌then◌else◌}
+use Rattle.std.specs.Prelude.{Some, None, Result, Ok, Err, if◌then◌else◌, nat_le}
 use Rattle.std.specs.List.{list_all}
 use Rattle.pol_text.specs.declared.subject.Subject.{Subject}
 use Rattle.pol_text.specs.Policy.{id_of, all_distinct, is_right_subject}
 use Rattle.pol_text.specs.Text.{Draft, subjects_of}
 use Rattle.pol_text.specs.declared.fault.PolicyRefusal.{PolicyRefusal}
+use Rattle.pol_text.specs.declared.fault.PolicyRefusal.TheVariants.{Repeated, Limit}
 use Rattle.pol_text.specs.declared.fault.PolicyFault.{PolicyFault}
 use Rattle.pol_text.specs.declared.fault.PolicyFault.TheVariants as faults
 use Rattle.pol_text.specs.declared.fault.LineFault.{LineFault}
@@ -37,3 +38,8 @@ abbrev pub first_failing : ℕ → (Subject → Bool) → List Subject → Optio
 first_failing place test [] = None
 first_failing place test (subject ∷ rest) =
     if test subject then first_failing (place + 1) test rest else Some place
+
+-- whether a subject goes behind so many, of which one has its kind and name or none has
+abbrev pub place_given : Bool → ℕ → Result Unit PolicyRefusal
+place_given there count =
+    if there then Err Repeated else if nat_le 1024 count then Err Limit else Ok tt

@@ -1,7 +1,9 @@
 //! A policy while it is read.
 
-ghost use Rattle.std.specs.Prelude.{◌≡◌, []};
-ghost use Rattle.pol_text.specs.Draft.{LineGives};
+ghost use Rattle.std.specs.Prelude.{◌≡◌, ◌++◌, ◌∷◌, [], OnOk};
+ghost use Rattle.std.specs.List.{list_any};
+ghost use Rattle.pol_names.specs.SubjectId.{same_id};
+ghost use Rattle.pol_text.specs.Draft.{LineGives, place_given};
 ghost use Rattle.pol_text.specs.Setting.{changed_by};
 ghost use Rattle.pol_text.specs.Text.{with_subject, with_present};
 
@@ -40,6 +42,20 @@ impl Model for Draft {
         × (draft.places.keys ≡ map id_of draft.subjects) };
 }
 
+// Adds the place of a subject behind so many.
+fn add_place(places: &mut IndexSet<SubjectId>, count: usize, id: SubjectId) -> Result<(), LineFault>
+    ensures given { LineGives result (place_given (list_any (same_id id) places.old.keys) count) }
+    ensures keys { OnOk result (places.new.keys ≡ places.old.keys ++ id ∷ []) }
+{
+    if !places.insert(id)? {
+        return Err(LineFault::Refused(PolicyRefusal::Repeated));
+    }
+    if count >= Policy::MAX_SUBJECTS {
+        return Err(LineFault::Refused(PolicyRefusal::Limit));
+    }
+    Ok(())
+}
+
 impl Draft {
     /// No subjects. Takes no memory.
     pub(crate) fn new(alloc: Global) -> Draft
@@ -69,12 +85,7 @@ impl Draft {
             mut subjects,
             mut places,
         } = self;
-        if !places.insert(SubjectId { kind, name })? {
-            return Err(LineFault::Refused(PolicyRefusal::Repeated));
-        }
-        if subjects.len() >= Policy::MAX_SUBJECTS {
-            return Err(LineFault::Refused(PolicyRefusal::Limit));
-        }
+        add_place(&mut places, subjects.len(), SubjectId { kind, name })?;
         lines.push(line)?;
         subjects.push(Subject::new(alloc, kind, name, parent))?;
         Ok(Draft {
