@@ -40,10 +40,10 @@ pub Factor-sync : IsSync Factor.the_row
 Factor-sync = search (knot, crosses, sendable) depth 60
 
 pub Pattern-send : IsSend Pattern.the_row
-Pattern-send = search (Factor-send, crosses, sendable) depth 60
+Pattern-send = search (Factor-send, Factor-sync, crosses, sendable) depth 60
 
 pub Pattern-sync : IsSync Pattern.the_row
-Pattern-sync = search (Factor-sync, crosses, sendable) depth 60
+Pattern-sync = search (Factor-send, Factor-sync, crosses, sendable) depth 60
 
 pub Rule-send : IsSend Rule.the_row
 Rule-send = search (Pattern-send, crosses, sendable) depth 60
