@@ -1,4 +1,4 @@
-//! Reading the whole of an input, up to a bound, and writing what it is answered.
+//! Reading an input, a piece at a time or the whole up to a bound, and writing what it is answered.
 #![tactic(auto)]
 
 mod answering;
@@ -7,4 +7,4 @@ mod reading;
 mod tests;
 
 pub use answering::{AnswerFault, write_answer};
-pub use reading::{InputFault, read_whole};
+pub use reading::{InputFault, read_piece, read_whole};

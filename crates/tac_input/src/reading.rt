@@ -52,15 +52,19 @@ impl<T: Drop> From<AllocFailed<T>> for InputFault {
     }
 }
 
-// One read into the chunk; nothing where it was interrupted.
-fn read_piece<R: Read>(reader: &mut R, chunk: &mut [u8]) -> Result<Option<usize>, InputFault>
+/// Reads once into the chunk, and answers how many bytes came: none at the end, and nothing where
+/// the read was interrupted. The only fault is Failed, at which nothing was read.
+pub fn read_piece<R: Read>(reader: &mut R, chunk: &mut [u8]) -> Result<Option<usize>, InputFault>
+    // Of a chunk without room no read would tell the end.
     requires { 0 < length chunk.old }
     ensures bound { IfOk result (λ piece. IfSome piece (λ n. n ≤ length chunk.new)) }
     ensures bytes { IfOk result (λ piece. MatchOption piece
         (Keeps (R.remaining reader.old) (R.remaining reader.new))
         (λ n. Consumes (R.remaining reader.old) (R.remaining reader.new) (take n chunk.new)
         × (n ≡ 0 → IsAtEnd (R.remaining reader.new)))) }
-    ensures fault { IfErr result (λ fault. fault ≡ InputFault.Failed) }
+    ensures fault { IfErr result (λ fault. (fault ≡ InputFault.Failed)
+        × Keeps (R.remaining reader.old) (R.remaining reader.new)) }
+    ensures len { length chunk.new ≡ length chunk.old }
 {
     match reader.read(chunk) {
         Ok(n) => Ok(Some(n)),

@@ -1,0 +1,11 @@
+//! Tests of the console of a hall: conversations with it, and inputs and outputs that fail.
+#![tactic(auto)]
+
+#[cfg(test)]
+mod ends;
+#[cfg(test)]
+mod lines;
+#[cfg(test)]
+mod streams;
+#[cfg(test)]
+mod support;

@@ -1,0 +1,10 @@
+//! The console of a hall: an operator's lines, each of which is a call of one seat.
+#![tactic(auto)]
+
+mod answering;
+mod fault;
+mod operating;
+mod operator;
+
+pub use fault::OperatorFault;
+pub use operating::operate;
