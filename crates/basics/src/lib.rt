@@ -6,8 +6,6 @@ mod equality;
 mod lines;
 mod number;
 mod output;
-#[cfg(test)]
-mod output_tests;
 mod sequence;
 mod symbol;
 

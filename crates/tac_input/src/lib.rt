@@ -3,8 +3,6 @@
 
 mod answering;
 mod reading;
-#[cfg(test)]
-mod tests;
 
 pub use answering::{AnswerFault, write_answer};
 pub use reading::{InputFault, read_piece, read_whole};

@@ -1,8 +1,8 @@
 //! Inputs that come in parts, are interrupted, fail, or are too long.
 
-use crate::reading::{InputFault, read_whole};
 use std::io::{self, ErrorKind, Read};
 use std::process::Abort;
+use tac_input::{InputFault, read_whole};
 
 /// Gives a part of its text a read, by one letter each: `i` is an interruption, `x` another error,
 /// and a digit a read of at most so many bytes. Behind the last letter nothing is left.
