@@ -1,0 +1,4 @@
+pub mod Serving
+pub mod Opening
+pub mod Ending
+pub mod Program
