@@ -1,23 +1,118 @@
 //! The words that the program takes, and its help.
 
-use clap::{Arg, Command};
+use clap::{Arg, Command, value_parser};
 use std::alloc::{AllocError, Global};
 
-/// The word that asks for a check, and the name of its file.
+/// The word that asks for a server.
+pub(crate) const SERVE: &str = "serve";
+
+/// The word that asks for a check.
 pub(crate) const CHECK: &str = "check";
 
+/// The file of a server's or a check's policy.
 pub(crate) const FILE: &str = "FILE";
 
+/// The port that a server listens on.
+pub(crate) const PORT: &str = "port";
+
+/// The key that a server shares with its devices.
+pub(crate) const KEY: &str = "key";
+
+/// How many connections a server serves at once.
+pub(crate) const WORKERS: &str = "workers";
+
+/// How many connections each of its workers serves.
+pub(crate) const CONNECTIONS: &str = "connections";
+
 const ABOUT: &str =
-    "Checks a policy of users and command lines, and plays scripted TACACS+ traffic against one";
+    "Serves TACACS+ by a policy of users and command lines, checks one, and plays scripts against it";
 
 const LONG_ABOUT: &str =
-    "Checks a policy of users and command lines, and plays scripted TACACS+ traffic against one.
+    "Serves TACACS+ by a policy of users and command lines, checks one, and plays scripts against it.
 
 A network device that runs TACACS+ (RFC 8907) asks a server who may log in and which command lines a
-user may run, and has it record what was done. tacd checks the policy of such a server, and plays
-the server: it takes what devices send from a script, together with the policy, and prints what is
-answered. It opens no socket.";
+user may run, and has it record what was done. 'tacd serve' is such a server: it listens on a port,
+and takes edits of its policy and questions at a console. 'tacd check' reads a policy and prints
+which of its rules decide nothing. 'tacd replay' takes what devices send from a script, together
+with the policy, and prints what is answered; it opens no socket.";
+
+const SERVE_ABOUT: &str = "Serves devices on a port, with a console on standard input";
+
+pub(crate) const SERVE_LONG_ABOUT: &str =
+    "Serves devices that run TACACS+ (RFC 8907) on a port, with a console on standard input.
+
+The policy is read from a file once. It is edited at the console, and an edit counts from the next
+packet on. Edits and accounting records are kept in memory alone, and are gone when the server ends.
+
+Anyone with a login on this machine can see the key, by 'ps' for one. Let nobody log in here who may
+not know it.";
+
+const PORT_HELP: &str = "The TCP port, 1 to 65535, at every IPv4 address of the machine";
+
+const KEY_HELP: &str =
+    "The key that server and devices share, 1 to 128 printable ASCII characters; other users see it";
+
+const WORKERS_HELP: &str = "How many connections are served at once, 1 to 63";
+
+const CONNECTIONS_HELP: &str = "How many connections each worker serves before it ends, at least 1";
+
+const SERVE_AFTER_HELP: &str = "Example:
+  tacd serve --port 49 --key tundra campus.policy
+
+'tacd serve --help' describes the console; 'tacd replay --help' the lines of a policy.";
+
+pub(crate) const SERVE_AFTER_LONG_HELP: &str =
+    "'tacd replay --help' describes the lines of a policy.
+
+A worker serves one connection at a time, until the device hangs up; other devices wait. Standard
+output has 'listening PORT' first, and then what the console's lines are answered.
+
+Lines of the console, where a SUBJECT is 'user NAME' or 'group NAME':
+  policy               the policy as it is now
+  shadow               the rules that decide no line, for each user and group
+  reach SUBJECT        the shortest line that each of the rules decides
+  why NAME LINE        which rule decides on a line of this user
+  tally SUBJECT        what the records of a user, or of a group's users, add up to
+  records              the accounting records
+  add SUBJECT          a new user or group; with ' in GROUP', one that has that group's rules too
+  remove SUBJECT       it goes
+  move SUBJECT in GROUP, or move SUBJECT out
+  login NAME TEXT, enable NAME TEXT, clear login NAME, clear enable NAME
+  priv SUBJECT N, clear priv SUBJECT
+  insert SUBJECT N permit PATTERN, or deny PATTERN
+                       a new rule with this number
+  drop SUBJECT N       rule N goes
+  shift SUBJECT N M    rule N gets the number M
+  quit                 the server stops, as it does where the input ends
+
+An edit is answered by 'ok', and for each user whom it concerns by the shortest line that is now
+permitted, and the shortest that is now denied; or by 'refused' and why, and has changed nothing.
+A call that the server doesn't take is answered by 'hall' and why: 65536 calls are taken in all.
+
+Where the server stops, a worker ends once its device asks something, which isn't answered, or hangs
+up. Workers that wait for a device end at once.
+
+Example:
+  $ cat ops.policy
+  group ops
+  permit show .*
+  user bob in ops
+  $ tacd serve --port 49 --key tundra ops.policy
+  listening 49
+  insert group ops 1 deny show run.*
+  ok
+  user bob now denies: show run
+  why bob show running-config
+  denied by group ops rule 1
+  quit
+
+Exit status:
+  0  the server was stopped
+  1  the policy is refused, and why was printed, as by 'tacd check'
+  2  the command line is wrong
+  3  memory ran out
+  4  the file could not be read, the port could not be had, the console could not be read, or the
+     output could not be written";
 
 const CHECK_ABOUT: &str = "Reads a policy, and prints which of its rules decide nothing";
 
@@ -136,10 +231,48 @@ Exit status:
 
 const AFTER_LONG_HELP: &str = "Examples:
   tacd check campus.policy
+  tacd serve --port 49 --key tundra campus.policy
   tacd replay < session.script
 
-'tacd check --help' and 'tacd replay --help' describe what is read, what is printed, and the exit
-status.";
+'tacd serve --help', 'tacd check --help' and 'tacd replay --help' describe what is read, what is
+printed, and the exit status.";
+
+// An option of `serve` that is a number.
+fn number<'a>(alloc: Global, id: &'a str, shown: &'a str, greatest: i64, help: &'a str) -> Arg<'a> {
+    Arg::new(alloc, id)
+        .long(id)
+        .value_name(shown)
+        .value_parser(value_parser!(u32).range(1..=greatest))
+        .help(help)
+}
+
+fn serve<'a>(alloc: Global) -> Result<Command<'a>, AllocError> {
+    let port = number(alloc, PORT, "P", 65_535, PORT_HELP).required(true);
+    let key = Arg::new(alloc, KEY)
+        .long(KEY)
+        .value_name("K")
+        .required(true)
+        .help(KEY_HELP);
+    let workers = number(alloc, WORKERS, "W", 63, WORKERS_HELP).default_value("4");
+    let connections = number(
+        alloc,
+        CONNECTIONS,
+        "N",
+        4_294_967_295,
+        CONNECTIONS_HELP,
+    ).default_value("4294967295");
+    let file = Arg::new(alloc, FILE).required(true).help(FILE_HELP);
+    Command::new(alloc, SERVE)
+        .about(SERVE_ABOUT)
+        .long_about(SERVE_LONG_ABOUT)
+        .after_help(SERVE_AFTER_HELP)
+        .after_long_help(SERVE_AFTER_LONG_HELP)
+        .arg(port)?
+        .arg(key)?
+        .arg(workers)?
+        .arg(connections)?
+        .arg(file)
+}
 
 fn check<'a>(alloc: Global) -> Result<Command<'a>, AllocError> {
     let file = Arg::new(alloc, FILE).required(true).help(FILE_HELP);
@@ -167,6 +300,7 @@ pub(crate) fn command<'a>(alloc: Global) -> Result<Command<'a>, AllocError> {
         .after_long_help(AFTER_LONG_HELP)
         .version("0.1.0")
         .subcommand_required(true)
+        .subcommand(serve(alloc)?)?
         .subcommand(check(alloc)?)?
         .subcommand(replay(alloc))
 }

@@ -45,18 +45,38 @@ impl Stream {
     }
 }
 
-/// A runtime with these words, one blank between them, and this input, which is also what the file
-/// `policy` has. There is a folder `folder`, and no other file.
+/// A runtime with these words, one blank between them, this input, and this text in the file
+/// `policy`. There is a folder `folder`, and no other file.
 #[derive(Drop)]
-pub(crate) struct Fake {
+pub(crate) struct Fake<'a> {
     pub(crate) alloc: Global,
-    pub(crate) words: &'static str,
+    pub(crate) words: &'a str,
     pub(crate) input: &'static str,
+    pub(crate) policy: &'static str,
     pub(crate) output: Stream,
     pub(crate) complaints: Stream,
 }
 
-impl Alloc for Fake {
+impl<'a> Fake<'a> {
+    pub(crate) fn new(
+        alloc: Global,
+        words: &'a str,
+        policy: &'static str,
+        input: &'static str,
+        takes_output: bool,
+    ) -> Fake<'a> {
+        Fake {
+            alloc,
+            words,
+            input,
+            policy,
+            output: Stream::new(alloc, takes_output),
+            complaints: Stream::new(alloc, true),
+        }
+    }
+}
+
+impl Alloc for Fake<'_> {
     type A = Global;
 
     fn alloc(&self) -> Global {
@@ -64,7 +84,7 @@ impl Alloc for Fake {
     }
 }
 
-impl Env for Fake {
+impl Env for Fake<'_> {
     fn arg(&self, i: usize, buf: &mut [u8]) -> Result<usize, FillError> {
         let Some(word) = self.words.split(' ').nth(i) else {
             return Err(FillError::NotPresent);
@@ -86,7 +106,7 @@ impl Env for Fake {
     }
 }
 
-impl Input for Fake {
+impl Input for Fake<'_> {
     type Reader = &'static [u8];
 
     fn read_line<A: Allocator + Clone>(&self, buf: &mut String<A>) -> io::Result<usize> {
@@ -102,7 +122,7 @@ impl Input for Fake {
     }
 }
 
-impl Print for Fake {
+impl Print for Fake<'_> {
     fn print<D: Display + Drop>(&self, value: D) -> io::Result<()> {
         self.output.add(value, b"")
     }
@@ -116,7 +136,7 @@ impl Print for Fake {
     }
 }
 
-impl Eprint for Fake {
+impl Eprint for Fake<'_> {
     fn eprint<D: Display + Drop>(&self, value: D) -> io::Result<()> {
         self.complaints.add(value, b"")
     }
@@ -176,7 +196,7 @@ impl OpenFile for FakeFile {
     }
 }
 
-impl Files for Fake {
+impl Files for Fake<'_> {
     type File = FakeFile;
 
     type Dir = &'static [u8];
@@ -187,7 +207,7 @@ impl Files for Fake {
         }
         Ok(FakeFile {
             is_folder: path == "folder",
-            rest: self.input.as_bytes(),
+            rest: self.policy.as_bytes(),
         })
     }
 

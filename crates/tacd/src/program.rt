@@ -3,16 +3,27 @@
 ghost use Rattle.std.specs.Prelude.{◌≡◌, ◌≢◌, ◌⊎◌};
 ghost use Rattle.clap.specs.Values.{kind_of};
 
-use crate::command_line::{CHECK, FILE, command};
+use crate::command_line::{CHECK, FILE, SERVE, command};
+use crate::opening::open_file;
+use crate::options::Options;
+use crate::serving::serve_by;
 use crate::status::Status;
 use clap::error::ErrorKind;
 use clap::{ArgMatches, Error};
 use std::alloc::Global;
+use std::net::{Net, TcpListener, TcpStream};
 use std::process::ExitCode;
 use std::rt::{Env, Files};
-use std::{env, fs, io};
+use std::sync::Wait;
+use std::thread::Threads;
+use std::{env, io};
 use tac_check::{CheckFault, check};
 use tac_server::replay;
+
+const BAD_KEY: &str =
+    "error: invalid value for '--key <K>': it is not 1 to 128 printable ASCII characters
+
+For more information, try '--help'.";
 
 // The script comes from standard input, and what is replied goes to standard output.
 fn replay_script<R: Input + Print + Eprint + AllocGlobal>(rt: &R) -> Status {
@@ -35,12 +46,9 @@ fn complain<R: Eprint>(rt: &R, path: &str, fault: CheckFault) {
 
 // The policy comes from a file, and what is found goes to standard output.
 fn check_policy<R: Files + Print + Eprint + AllocGlobal>(rt: &R, path: &str) -> Status {
-    let mut file = match fs::open(rt, path) {
+    let mut file = match open_file(rt, path) {
         Ok(file) => file,
-        Err(error) => {
-            let _ = eprintln!(rt; "tacd: {path}: {error}");
-            return Status::of_unopened(error.kind());
-        }
+        Err(status) => return status,
     };
     let outcome = check(rt.alloc(), &mut file, &mut io::writer(rt));
     if let Err(fault) = outcome {
@@ -69,11 +77,33 @@ fn parse<'a>(alloc: Global, words: &'a [String]) -> Result<ArgMatches<'a>, Error
     command(alloc)?.try_get_matches_from(words)
 }
 
-// A parse that succeeds has met a subcommand: `check`, which has its file then, or `replay`.
-fn carry_out<R: Files + Input + Print + Eprint + AllocGlobal>(
-    rt: &R,
-    matches: &ArgMatches<'_>,
-) -> Status {
+// A parse that succeeds leaves of the options the key alone to be judged. What is said of it
+// doesn't show it.
+fn serve_clients<R, H>(rt: &R, host: &H, matches: &ArgMatches<'_>) -> Status
+where
+    R: Files + Input + Print + Eprint + AllocGlobal,
+    H: Threads + Wait + Sync + AllocGlobal + Net<Listener = TcpListener, Stream = TcpStream>,
+{
+    let Some(options) = Options::read(matches) else {
+        let _ = eprintln!(rt; "{BAD_KEY}");
+        return Status::BadCommandLine;
+    };
+    match serve_by(rt, host, &options) {
+        Ok(()) => Status::Done,
+        Err(status) => status,
+    }
+}
+
+// A parse that succeeds has met a subcommand: `serve`, `check`, which has its file then, or
+// `replay`.
+fn carry_out<R, H>(rt: &R, host: &H, matches: &ArgMatches<'_>) -> Status
+where
+    R: Files + Input + Print + Eprint + AllocGlobal,
+    H: Threads + Wait + Sync + AllocGlobal + Net<Listener = TcpListener, Stream = TcpStream>,
+{
+    if let Some(options) = matches.subcommand_matches(SERVE) {
+        return serve_clients(rt, host, options);
+    }
     let file = matches
         .subcommand_matches(CHECK)
         .and_then(|check| check.get_str(FILE));
@@ -83,9 +113,13 @@ fn carry_out<R: Files + Input + Print + Eprint + AllocGlobal>(
     }
 }
 
-fn obey<R: Files + Input + Print + Eprint + AllocGlobal>(rt: &R, words: &[String]) -> Status {
+fn obey<R, H>(rt: &R, host: &H, words: &[String]) -> Status
+where
+    R: Files + Input + Print + Eprint + AllocGlobal,
+    H: Threads + Wait + Sync + AllocGlobal + Net<Listener = TcpListener, Stream = TcpStream>,
+{
     match parse(rt.alloc(), words) {
-        Ok(matches) => carry_out(rt, &matches),
+        Ok(matches) => carry_out(rt, host, &matches),
         Err(error) => explain(rt, &error),
     }
 }
@@ -94,10 +128,15 @@ fn words_of<R: Env + AllocGlobal>(rt: &R) -> io::Result<Vec<String>> {
     Ok(env::args(rt)?.collect(rt.alloc())?)
 }
 
-/// Does what the command line asks for. The result is the status to end with.
-pub(crate) fn run<R: Env + Files + Input + Print + Eprint + AllocGlobal>(rt: &R) -> ExitCode {
+/// Does what the command line asks for. The result is the status to end with. Words, files and
+/// streams are the runtime's, threads and sockets the host's.
+pub(crate) fn run<R, H>(rt: &R, host: &H) -> ExitCode
+where
+    R: Env + Files + Input + Print + Eprint + AllocGlobal,
+    H: Threads + Wait + Sync + AllocGlobal + Net<Listener = TcpListener, Stream = TcpStream>,
+{
     let status = match words_of(rt) {
-        Ok(words) => obey(rt, words.as_slice()),
+        Ok(words) => obey(rt, host, words.as_slice()),
         Err(error) => {
             let _ = eprintln!(rt; "tacd: the command line could not be read: {error}");
             Status::of_unread_words(error.kind())

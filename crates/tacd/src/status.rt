@@ -5,6 +5,8 @@ ghost use Rattle.std.specs.Prelude.{◌≡◌, ◌≢◌, ◌⊎◌};
 use clap::error::ErrorKind;
 use std::io::ErrorKind as IoErrorKind;
 use tac_check::{CheckEnd, CheckFault};
+use tac_input::AnswerFault;
+use tac_serve::ServeFault;
 use tac_server::{ReplayEnd, ReplayFault};
 
 /// How a run of the program ended, with the number that its caller sees.
@@ -57,7 +59,35 @@ impl Status {
         }
     }
 
-    /// The status where a file could not be opened.
+    /// The status where there is no desk of a policy's file, which isn't refused.
+    pub(crate) fn of_opening(fault: AnswerFault) -> Status
+        ensures memory { fault ≡ AnswerFault.Memory → result ≡ Status.OutOfMemory }
+        ensures read { fault ≡ AnswerFault.Unread → result ≡ Status.Failed }
+        ensures too_long { fault ≡ AnswerFault.TooLong → result ≡ Status.Failed }
+        ensures write { fault ≡ AnswerFault.Unwritten → result ≡ Status.Failed }
+    {
+        match fault {
+            AnswerFault::Memory => Status::OutOfMemory,
+            AnswerFault::Unread | AnswerFault::TooLong | AnswerFault::Unwritten => Status::Failed,
+        }
+    }
+
+    /// The status of a server that came to no good end.
+    pub(crate) fn of_serving(fault: ServeFault) -> Status
+        ensures memory { fault ≡ ServeFault.Memory → result ≡ Status.OutOfMemory }
+        ensures read { fault ≡ ServeFault.ReadFault → result ≡ Status.Failed }
+        ensures write { fault ≡ ServeFault.WriteFault → result ≡ Status.Failed }
+        ensures close { fault ≡ ServeFault.CloseRefused → result ≡ Status.Failed }
+    {
+        match fault {
+            ServeFault::Memory => Status::OutOfMemory,
+            ServeFault::ReadFault | ServeFault::WriteFault | ServeFault::CloseRefused => {
+                Status::Failed
+            }
+        }
+    }
+
+    /// The status where a file could not be opened, or a port not be had.
     pub(crate) fn of_unopened(kind: IoErrorKind) -> Status
         ensures memory { kind ≡ IoErrorKind.OutOfMemory → result ≡ Status.OutOfMemory }
         ensures failed { kind ≢ IoErrorKind.OutOfMemory → result ≡ Status.Failed }

@@ -2,30 +2,29 @@
 
 use crate::command_line::{
     CHECK_AFTER_LONG_HELP, CHECK_LONG_ABOUT, REPLAY_AFTER_LONG_HELP, REPLAY_LONG_ABOUT,
+    SERVE_AFTER_LONG_HELP, SERVE_LONG_ABOUT,
 };
-use crate::fake::{Fake, Stream};
+use crate::fake::Fake;
 use crate::program::run;
+use std::alloc::{AllocError, Global};
+use std::net::{Net, TcpListener, TcpStream};
 use std::process::{Abort, ExitCode};
+use std::sync::Wait;
 use std::test::Fail;
+use std::thread::Threads;
 
 // Runs the program, and compares its status and what stands on both streams.
-fn ends<R: Abort + AllocGlobal>(
-    rt: &R,
-    words: &'static str,
-    input: &'static str,
-    takes_output: bool,
-    status: u8,
-    printed: &str,
-    complained: &str,
-) {
-    let fake = Fake {
-        alloc: rt.alloc(),
-        words,
-        input,
-        output: Stream::new(rt.alloc(), takes_output),
-        complaints: Stream::new(rt.alloc(), true),
-    };
-    assert_eq!(rt; run(&fake), ExitCode::from(status), "by {words:?}");
+fn run_ends<R>(rt: &R, fake: &Fake<'_>, status: u8, printed: &str, complained: &str)
+where
+    R: Abort
+        + Threads
+        + Wait
+        + Sync
+        + AllocGlobal
+        + Net<Listener = TcpListener, Stream = TcpStream>,
+{
+    let words = fake.words;
+    assert_eq!(rt; run(fake, rt), ExitCode::from(status), "by {words:?}");
     assert!(rt; fake.output.holds(printed), "printed by {words:?}");
     assert!(rt;
         fake.complaints.holds(complained),
@@ -33,14 +32,54 @@ fn ends<R: Abort + AllocGlobal>(
     );
 }
 
+// Runs the program on an input that is also the policy's text.
+fn ends<R>(
+    rt: &R,
+    words: &str,
+    input: &'static str,
+    takes_output: bool,
+    status: u8,
+    printed: &str,
+    complained: &str,
+)
+where
+    R: Abort
+        + Threads
+        + Wait
+        + Sync
+        + AllocGlobal
+        + Net<Listener = TcpListener, Stream = TcpStream>,
+{
+    let fake = Fake::new(rt.alloc(), words, input, input, takes_output);
+    run_ends(rt, &fake, status, printed, complained);
+}
+
 // Checks a policy that may stand.
-fn sound<R: Abort + AllocGlobal>(rt: &R, policy: &'static str, printed: &str) {
+fn sound<R>(rt: &R, policy: &'static str, printed: &str)
+where
+    R: Abort
+        + Threads
+        + Wait
+        + Sync
+        + AllocGlobal
+        + Net<Listener = TcpListener, Stream = TcpStream>,
+{
     ends(rt, "tacd check policy", policy, true, 0, printed, "");
 }
 
-// Checks a policy that is refused.
-fn refused<R: Abort + AllocGlobal>(rt: &R, policy: &'static str, printed: &str) {
+// Checks a policy that is refused, and would serve it.
+fn refused<R>(rt: &R, policy: &'static str, printed: &str)
+where
+    R: Abort
+        + Threads
+        + Wait
+        + Sync
+        + AllocGlobal
+        + Net<Listener = TcpListener, Stream = TcpStream>,
+{
     ends(rt, "tacd check policy", policy, true, 1, printed, "");
+    let words = "tacd serve --port 1 --key k policy";
+    ends(rt, words, policy, true, 1, printed, "");
 }
 
 #[test]
@@ -132,6 +171,110 @@ group g8 in g7
 group g9 in g8
 ";
 
+// Serves on a port of the system's choice, with this console.
+fn serves<R>(
+    rt: &R,
+    input: &'static str,
+    takes_output: bool,
+    status: u8,
+    answers: &str,
+    complained: &str,
+) -> Result<(), Fail>
+where
+    R: Abort
+        + Threads
+        + Wait
+        + Sync
+        + AllocGlobal
+        + Net<Listener = TcpListener, Stream = TcpStream>,
+{
+    let port = free_port(rt)?;
+    let words = format!(in rt.alloc(); "tacd serve --key k --workers 3 policy --port {port}")?;
+    let policy = "group ops\npermit show .*\nuser bob in ops\n";
+    let fake = Fake::new(rt.alloc(), words.as_str(), policy, input, takes_output);
+    let printed = printed_on(rt.alloc(), port, answers, takes_output)?;
+    run_ends(rt, &fake, status, printed.as_str(), complained);
+    Ok(())
+}
+
+// What a server prints on a port: nothing where nothing can be written.
+fn printed_on(
+    alloc: Global,
+    port: u16,
+    answers: &str,
+    takes_output: bool,
+) -> Result<String, AllocError> {
+    if !takes_output {
+        return Ok(String::new(alloc));
+    }
+    format!(in alloc; "listening {port}\n{answers}")
+}
+
+fn free_port<R: Net<Listener = TcpListener, Stream = TcpStream>>(rt: &R) -> Result<u16, Fail> {
+    let listener = TcpListener::bind(rt, "0.0.0.0:0")?;
+    Ok(listener.local_addr()?.port())
+}
+
+#[test]
+fn serves_a_console(rt: HostRuntime) -> Result<(), Fail> {
+    let lines = "why bob show version\ninsert group ops 1 deny show run.*\nshow\nquit\npolicy\n";
+    let answers =
+        "permitted by group ops rule 1\nok\nuser bob now denies: show run\nrefused 1 BadEdit\n";
+    let unwritten = "tacd: the output could not be written\n";
+    serves(&rt, "", true, 0, "", "")?;
+    serves(&rt, lines, true, 0, answers, "")?;
+    serves(&rt, lines, false, 4, "", unwritten)
+}
+
+#[test]
+fn serves_on_no_port(rt: HostRuntime) -> Result<(), Fail> {
+    let listener = TcpListener::bind(&rt, "0.0.0.0:0")?;
+    let port = listener.local_addr()?.port();
+    let words = format!(in rt.alloc(); "tacd serve --port {port} --key k policy")?;
+    let complained = format!(in rt.alloc();
+        "tacd: port {port}: Address already in use (os error 98)\n"
+    )?;
+    ends(&rt, words.as_str(), "", true, 4, "", complained.as_str());
+    // A refused policy comes before the port.
+    let fault = "fault line 1 1 BadLine\n";
+    ends(&rt, words.as_str(), "x", true, 1, fault, "");
+    Ok(())
+}
+
+#[test]
+fn serves_no_file(rt: HostRuntime) {
+    let nowhere = "tacd: nowhere: entity not found\n";
+    let folder = "tacd: folder: it could not be read\n";
+    let unwritten = "tacd: the output could not be written\n";
+    ends(
+        &rt,
+        "tacd serve --port 1 --key k nowhere",
+        "",
+        true,
+        4,
+        "",
+        nowhere,
+    );
+    ends(
+        &rt,
+        "tacd serve --port 1 --key k folder",
+        "",
+        true,
+        4,
+        "",
+        folder,
+    );
+    ends(
+        &rt,
+        "tacd serve --port 1 --key k policy",
+        "x",
+        false,
+        4,
+        "",
+        unwritten,
+    );
+}
+
 #[test]
 fn checks_no_file(rt: HostRuntime) {
     let nowhere = "tacd: nowhere: entity not found\n";
@@ -159,14 +302,14 @@ For more information, try '--help'.
 ";
 
 const NO_COMMAND: &str = "error: 'tacd' requires a subcommand but one was not provided
-  [subcommands: check, replay, help]
+  [subcommands: serve, check, replay, help]
 
 Usage: tacd <COMMAND>
 
 For more information, try '--help'.
 ";
 
-const OTHER_COMMAND: &str = "error: unrecognized subcommand 'serve'
+const OTHER_COMMAND: &str = "error: unrecognized subcommand 'listen'
 
 Usage: tacd <COMMAND>
 
@@ -187,10 +330,101 @@ Usage: tacd replay
 For more information, try '--help'.
 ";
 
+const NO_PORT: &str = "error: the following required arguments were not provided:
+  --port <P>
+  --key <K>
+  <FILE>
+
+Usage: tacd serve --port <P> --key <K> <FILE>
+
+For more information, try '--help'.
+";
+
+const BAD_KEY: &str =
+    "error: invalid value for '--key <K>': it is not 1 to 128 printable ASCII characters
+
+For more information, try '--help'.
+";
+
+// 128 symbols.
+const LONG_KEY: &str =
+    "0123456789abcdef0123456789abcdef0123456789abcdef0123456789abcdef0123456789abcdef0123456789abcdef0123456789abcdef0123456789abcdef";
+
+// An option of a server is refused.
+fn bad_option<R>(rt: &R, option: &str, shown: &str, why: &str) -> Result<(), Fail>
+where
+    R: Abort
+        + Threads
+        + Wait
+        + Sync
+        + AllocGlobal
+        + Net<Listener = TcpListener, Stream = TcpStream>,
+{
+    let words = format!(in rt.alloc(); "tacd serve --key k {option} policy")?;
+    let value = option.split(' ').last().unwrap_or("");
+    let complained = format!(in rt.alloc();
+        "error: invalid value '{value}' for '{shown}': {why}\n\nFor more information, try '--help'.\n"
+    )?;
+    ends(rt, words.as_str(), "", true, 2, "", complained.as_str());
+    Ok(())
+}
+
+#[test]
+fn bad_options(rt: HostRuntime) -> Result<(), Fail> {
+    let (port, workers) = ("--port <P>", "--workers <W>");
+    bad_option(&rt, "--port 0", port, "0 is not in 1..=65535")?;
+    bad_option(&rt, "--port 65536", port, "65536 is not in 1..=65535")?;
+    bad_option(&rt, "--port tacacs", port, "invalid digit found in string")?;
+    bad_option(&rt, "--port 1 --workers 0", workers, "0 is not in 1..=63")?;
+    bad_option(&rt, "--port 1 --workers 64", workers, "64 is not in 1..=63")?;
+    bad_option(
+        &rt,
+        "--port 1 --connections 0",
+        "--connections <N>",
+        "0 is not in 1..=4294967295",
+    )?;
+    bad_option(
+        &rt,
+        "--port 1 --connections 4294967296",
+        "--connections <N>",
+        "4294967296 is not in 1..=4294967295",
+    )
+}
+
+#[test]
+fn bad_keys(rt: HostRuntime) -> Result<(), Fail> {
+    // What is wrong with a key comes before its file.
+    let nowhere = "tacd: nowhere: entity not found\n";
+    let long = format!(in rt.alloc(); "tacd serve --port 1 --key {LONG_KEY} nowhere")?;
+    let longer = format!(in rt.alloc(); "tacd serve --port 1 --key x{LONG_KEY} nowhere")?;
+    ends(&rt, long.as_str(), "", true, 4, "", nowhere);
+    ends(&rt, longer.as_str(), "", true, 2, "", BAD_KEY);
+    ends(
+        &rt,
+        "tacd serve --port 1 --key  nowhere",
+        "",
+        true,
+        2,
+        "",
+        BAD_KEY,
+    );
+    ends(
+        &rt,
+        "tacd serve --port 1 --key b\u{f6}b nowhere",
+        "",
+        true,
+        2,
+        "",
+        BAD_KEY,
+    );
+    Ok(())
+}
+
 #[test]
 fn mistakes(rt: HostRuntime) {
+    ends(&rt, "tacd serve", "", true, 2, "", NO_PORT);
     ends(&rt, "tacd", "", true, 2, "", NO_COMMAND);
-    ends(&rt, "tacd serve", "", true, 2, "", OTHER_COMMAND);
+    ends(&rt, "tacd listen", "", true, 2, "", OTHER_COMMAND);
     ends(&rt, "tacd replay script", "", true, 2, "", OTHER_WORD);
     ends(&rt, "tacd replay --fast", "", true, 2, "", OTHER_FLAG);
     ends(&rt, "tacd check", "", true, 2, "", NO_FILE);
@@ -198,11 +432,12 @@ fn mistakes(rt: HostRuntime) {
 }
 
 const SUMMARY: &str =
-    "Checks a policy of users and command lines, and plays scripted TACACS+ traffic against one
+    "Serves TACACS+ by a policy of users and command lines, checks one, and plays scripts against it
 
 Usage: tacd <COMMAND>
 
 Commands:
+  serve   Serves devices on a port, with a console on standard input
   check   Reads a policy, and prints which of its rules decide nothing
   replay  Reads a script on standard input and prints the server's replies
   help    Print this message or the help of the given subcommand(s)
@@ -210,6 +445,56 @@ Commands:
 Options:
   -h, --help     Print help (see more with '--help')
   -V, --version  Print version
+";
+
+const SERVE_SUMMARY: &str = "Serves devices on a port, with a console on standard input
+
+Usage: tacd serve [OPTIONS] --port <P> --key <K> <FILE>
+
+Arguments:
+  <FILE>  The policy's text, at most 268435456 bytes
+
+Options:
+      --port <P>         The TCP port, 1 to 65535, at every IPv4 address of the machine
+      --key <K>          The key that server and devices share, 1 to 128 printable ASCII characters; other users see it
+      --workers <W>      How many connections are served at once, 1 to 63 [default: 4]
+      --connections <N>  How many connections each worker serves before it ends, at least 1 [default: 4294967295]
+  -h, --help             Print help (see more with '--help')
+
+Example:
+  tacd serve --port 49 --key tundra campus.policy
+
+'tacd serve --help' describes the console; 'tacd replay --help' the lines of a policy.
+";
+
+const SERVE_OPTIONS: &str = "
+
+Usage: tacd serve [OPTIONS] --port <P> --key <K> <FILE>
+
+Arguments:
+  <FILE>
+          The policy's text, at most 268435456 bytes
+
+Options:
+      --port <P>
+          The TCP port, 1 to 65535, at every IPv4 address of the machine
+
+      --key <K>
+          The key that server and devices share, 1 to 128 printable ASCII characters; other users see it
+
+      --workers <W>
+          How many connections are served at once, 1 to 63
+          
+          [default: 4]
+
+      --connections <N>
+          How many connections each worker serves before it ends, at least 1
+          
+          [default: 4294967295]
+
+  -h, --help
+          Print help (see a summary with '-h')
+
 ";
 
 const CHECK_SUMMARY: &str = "Reads a policy, and prints which of its rules decide nothing
@@ -275,6 +560,11 @@ fn help(rt: HostRuntime) -> Result<(), Fail> {
         "{REPLAY_LONG_ABOUT}{REPLAY_OPTIONS}{REPLAY_AFTER_LONG_HELP}\n"
     )?;
     ends(&rt, "tacd replay --help", "", true, 0, lines.as_str(), "");
+    ends(&rt, "tacd serve -h", "", true, 0, SERVE_SUMMARY, "");
+    let serve = format!(in rt.alloc();
+        "{SERVE_LONG_ABOUT}{SERVE_OPTIONS}{SERVE_AFTER_LONG_HELP}\n"
+    )?;
+    ends(&rt, "tacd serve --help", "", true, 0, serve.as_str(), "");
     ends(&rt, "tacd check -h", "", true, 0, CHECK_SUMMARY, "");
     let check = format!(in rt.alloc();
         "{CHECK_LONG_ABOUT}{CHECK_OPTIONS}{CHECK_AFTER_LONG_HELP}\n"

@@ -1,0 +1,129 @@
+//! The policy's file, and the desk of the policy.
+
+ghost use Rattle.std.specs.Prelude.{◌≡◌, [], ◌∷◌, ◌++◌, codes, ◌≤◌, ◌<◌, ℕ, List, length, take, Ok};
+ghost use Rattle.std.specs.Prelude.{Option, false, IsTrue, IfOk, OnOk, IfSome, IsErrOf};
+ghost use Rattle.std.specs.Io.KnownBytes.{Appends, IsAtEnd, Keeps};
+ghost use Rattle.pol_edit.specs.Applying.{is_memory};
+ghost use Rattle.tac_console.specs.Faults.{build_fault, is_build_fault};
+ghost use Rattle.tac_desk.specs.Metered.{Metered};
+ghost use Rattle.tacd.specs.Opening.{IsDeskOf, IsDeskOfText};
+
+use crate::status::Status;
+use pol_edit::EditFault;
+use pol_text::{Policy, PolicyFault};
+use std::alloc::{AllocError, Global};
+use std::fs;
+use std::io::{Read, Write};
+use std::rt::Files;
+use tac_console::{write_build_fault, write_policy_fault};
+use tac_desk::LiveDesk;
+use tac_input::{AnswerFault, InputFault, read_whole, write_answer};
+
+/// The most bytes that a policy's text has.
+const MAX_TEXT: usize = 268_435_456;
+
+/// The most records that a desk accepts.
+const MAX_RECORDS: usize = 1_000_000;
+
+/// A file to be read. The error is the status to end with, and why was said.
+pub(crate) fn open_file<R: Files + Eprint>(rt: &R, path: &str) -> Result<R::File, Status> {
+    match fs::open(rt, path) {
+        Ok(file) => Ok(file),
+        Err(error) => {
+            // The status tells it too, so it doesn't matter whether this could be written.
+            let _ = eprintln!(rt; "tacd: {path}: {error}");
+            Err(Status::of_unopened(error.kind()))
+        }
+    }
+}
+
+// How it is told why there is no desk, unless that is want of memory.
+fn refusal(alloc: Global, fault: EditFault) -> Result<Vec<u8>, AllocError>
+    requires { IsTrue (is_build_fault fault) }
+    ensures told { IfOk result (λ printed. printed.items ≡ build_fault fault) }
+    ensures judged { OnOk result (is_memory fault ≡ false) }
+{
+    match fault {
+        EditFault::Memory => Err(AllocError),
+        fault => {
+            let mut printed = Vec::new(alloc);
+            write_build_fault(alloc, &mut printed, fault)?;
+            Ok(printed)
+        }
+    }
+}
+
+// The desk of a policy, behind which nothing is printed; or how it is told that there is none.
+fn desk_of_policy(alloc: Global, policy: Policy) -> Result<(Vec<u8>, Option<LiveDesk>), AllocError>
+    ensures { IfOk result (λ opened. IsDeskOf (Ok policy) opened.0.items opened.1) }
+{
+    match LiveDesk::new(alloc, policy, MAX_RECORDS) {
+        Ok(desk) => Ok((Vec::new(alloc), Some(desk))),
+        Err(fault) => {
+            let printed = refusal(alloc, fault)?;
+            Ok((printed, None))
+        }
+    }
+}
+
+// The same of a policy's text.
+fn desk_of_text(alloc: Global, text: &[u8]) -> Result<(Vec<u8>, Option<LiveDesk>), AllocError>
+    ensures { IfOk result (λ opened. IsDeskOfText text.now opened.0.items opened.1) }
+{
+    match Policy::read(alloc, text) {
+        Ok(policy) => desk_of_policy(alloc, policy),
+        Err(PolicyFault::Memory) => Err(AllocError),
+        Err(fault) => {
+            let mut printed = Vec::new(alloc);
+            write_policy_fault(alloc, &mut printed, fault)?;
+            Ok((printed, None))
+        }
+    }
+}
+
+// The same of what the reader gives.
+fn answer<R: Read>(alloc: Global, reader: &mut R) -> Result<(Vec<u8>, Option<LiveDesk>), InputFault>
+    ensures end { OnOk result (IsAtEnd (R.remaining reader.new)) }
+    ensures opened { IfOk result (λ opened. IfSome (R.remaining reader.old) (λ text.
+        (length text ≤ 268435456) × IsDeskOfText text opened.0.items opened.1)) }
+    ensures too_long { IsErrOf result InputFault.TooLong →
+        IfSome (R.remaining reader.old) (λ text. 268435456 < length text) }
+{
+    let text = read_whole(alloc, reader, MAX_TEXT)?;
+    let (printed, desk) = desk_of_text(alloc, text.as_slice())?;
+    Ok((printed, desk))
+}
+
+/// Makes the desk of the policy whose text the reader gives. There is none where the policy is
+/// refused: then why is written, as by a check. The whole text is read first.
+pub(crate) fn open_desk<R: Read, W: Write>(
+    alloc: Global,
+    reader: &mut R,
+    writer: &mut W,
+) -> Result<Option<LiveDesk>, AnswerFault>
+    // The whole input was read, and it is no longer than a text may be.
+    ensures read { OnOk result (IsAtEnd (R.remaining reader.new)) }
+    ensures bound { OnOk result
+        (IfSome (R.remaining reader.old) (λ text. length text ≤ 268435456)) }
+
+    // The desk is the policy's, or there is none and what the check of the text prints was written.
+    ensures opened { IfOk result (λ desk. IfSome (R.remaining reader.old) (λ text.
+        (printed : List ℕ) × IsDeskOfText text printed desk
+        × Appends (W.contents writer.old) (W.contents writer.new) printed)) }
+
+    // What a fault leaves: nothing, a beginning of what is printed, or of the line that says Memory.
+    ensures read_fault { IsErrOf result AnswerFault.Unread →
+        Keeps (W.contents writer.old) (W.contents writer.new) }
+    ensures too_long { IsErrOf result AnswerFault.TooLong →
+        IfSome (R.remaining reader.old) (λ text. 268435456 < length text)
+        × Keeps (W.contents writer.old) (W.contents writer.new) }
+    ensures write_fault { IsErrOf result AnswerFault.Unwritten →
+        IfSome (R.remaining reader.old) (λ text. (printed : List ℕ) × (desk : Option Metered)
+        × IsDeskOfText text printed desk
+        × ((n : ℕ) × Appends (W.contents writer.old) (W.contents writer.new) (take n printed))) }
+    ensures memory { IsErrOf result AnswerFault.Memory → (n : ℕ)
+        × Appends (W.contents writer.old) (W.contents writer.new)
+        (take n (codes "fault Memory" ++ 10 ∷ [])) }
+{
+    write_answer(writer, answer(alloc, reader))
+}
