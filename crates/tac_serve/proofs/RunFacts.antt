@@ -11,14 +11,15 @@ use Rattle.tac_serve.specs.Opening.{listening_line, IsFresh}
 use Rattle.tac_serve.specs.Ending.{Closes}
 use Rattle.tac_serve.specs.Serving.{HaveServed}
 use Rattle.tac_serve.specs.Program.{Runs, end_by}
+use Rattle.tac_serve.specs.declared.settings.Settings.{Settings}
 use Rattle.tac_serve.specs.declared.fault.ServeFault.{ServeFault}
 use Rattle.tac_serve.specs.declared.fault.ServeFault.TheVariants.{Memory}
 
-module _ (key : List ℕ) (port workers connections : ℕ) (base : Meaning) (seats : List Sitting) (seat last : Sitting) (operated : Result (Unit {0}) OperatorFault) (before after old announced told : Option (List ℕ))
-    (announces : Appends old announced (listening_line port)) (count : length seats ≡ workers) (fresh : All IsFresh seats) (new : IsFresh seat) (operates : IsOperated operated seat last before after announced told) where
+module _ (settings : Settings) (base : Meaning) (seats : List Sitting) (seat last : Sitting) (operated : Result (Unit {0}) OperatorFault) (before after old announced told : Option (List ℕ))
+    (announces : Appends old announced (listening_line settings.port)) (count : length seats ≡ settings.workers) (fresh : All IsFresh seats) (new : IsFresh seat) (operates : IsOperated operated seat last before after announced told) where
   -- the workers served, and the hall was closed or not
-  pub ran : (served : List (Sitting × End)) (closed : Result (Unit {0}) ServeFault) (end : Option (List ℕ)) → HaveServed key connections seats served
-      → Closes closed base (last ∷ map (λ one. one.0) served) told end → Runs (end_by operated closed) key port workers connections base before after old end
+  pub ran : (served : List (Sitting × End)) (closed : Result (Unit {0}) ServeFault) (end : Option (List ℕ)) → HaveServed settings.key settings.connections seats served
+      → Closes closed base (last ∷ map (λ one. one.0) served) told end → Runs (end_by operated closed) settings base before after old end
   ran served closed end have closes = inr (record {
     announced = announced;
     announces = announces;
@@ -34,7 +35,7 @@ module _ (key : List ℕ) (port workers connections : ℕ) (base : Meaning) (sea
   })
 
   -- memory ran out for the workers
-  pub ran_out : Runs (end_by operated (Err Memory)) key port workers connections base before after old told
+  pub ran_out : Runs (end_by operated (Err Memory)) settings base before after old told
   ran_out = inr (record {
     announced = announced;
     announces = announces;

@@ -6,7 +6,7 @@ use Rattle.tac_hall.specs.Closing.{AreViews, are_theirs}
 use Rattle.tac_hall.specs.History.{Legal}
 use Rattle.tac_hall.specs.Seat.{Sitting}
 use Rattle.tac_hall.specs.declared.entry.Entry.{Entry}
-use Rattle.tac_serve.specs.Opening.{WritesBeginning}
+use Rattle.tac_operator.specs.Operated.{WritesBeginning}
 use Rattle.tac_serve.specs.declared.fault.ServeFault.{ServeFault}
 use Rattle.tac_serve.specs.declared.fault.ServeFault.TheVariants.{WriteFault, Memory, CloseRefused}
 

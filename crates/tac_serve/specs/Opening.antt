@@ -1,15 +1,12 @@
 -- What a server prints at first, and the seats that it makes.
-use Rattle.std.specs.Prelude.{◌≡◌, ◌<◌, ℕ, List, [], ◌∷◌, ◌++◌, length, take, codes}
+use Rattle.std.specs.Prelude.{◌≡◌, ℕ, List, [], ◌∷◌, ◌++◌, codes}
 use Rattle.std.specs.Prelude.{Option, Result, Ok, Err}
 use Rattle.std.specs.Fmt.{decimal}
 use Rattle.std.specs.Io.KnownBytes.{Appends}
 use Rattle.tac_hall.specs.Seat.{Sitting}
+use Rattle.tac_operator.specs.Operated.{WritesBeginning}
 use Rattle.tac_serve.specs.declared.fault.ServeFault.{ServeFault}
 use Rattle.tac_serve.specs.declared.fault.ServeFault.TheVariants.{WriteFault, Memory}
-
--- a beginning of a line was written, and not all of it
-abbrev pub WritesBeginning : List ℕ → Option (List ℕ) → Option (List ℕ) → Type 0
-WritesBeginning line old new = (n : ℕ) × (n < length line) × Appends old new (take n line)
 
 abbrev pub listening_line : ℕ → List ℕ
 listening_line port = codes "listening " ++ decimal port ++ 10 ∷ []

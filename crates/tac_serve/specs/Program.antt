@@ -10,6 +10,7 @@ use Rattle.tac_operator.specs.declared.fault.OperatorFault.TheVariants as operat
 use Rattle.tac_serve.specs.Opening.{listening_line, Announces, IsFresh}
 use Rattle.tac_serve.specs.Ending.{Refuses, Closes}
 use Rattle.tac_serve.specs.Serving.{HaveServed}
+use Rattle.tac_serve.specs.declared.settings.Settings.{Settings}
 use Rattle.tac_serve.specs.declared.fault.ServeFault.{ServeFault}
 use Rattle.tac_serve.specs.declared.fault.ServeFault.TheVariants.{ReadFault, WriteFault, Memory}
 
@@ -32,22 +33,21 @@ Fails (Err fault) port old new = Refuses fault old new ⊎ Announces (Err fault)
 
 -- so many workers, who had made no call, served so many connections each, and their hall was closed
 -- with the console's seat and theirs; or memory ran out
-pub record HasWorked (closed : Result (Unit {0}) ServeFault) (key : List ℕ)
-    (workers connections : ℕ) (base : Meaning) (console : Sitting) (old new : Option (List ℕ))
-    : Type 0 where
+pub record HasWorked (closed : Result (Unit {0}) ServeFault) (settings : Settings) (base : Meaning)
+    (console : Sitting) (old new : Option (List ℕ)) : Type 0 where
   pub seats : List Sitting
-  pub count : length seats ≡ workers
+  pub count : length seats ≡ settings.workers
   pub fresh : All IsFresh seats
   pub served : List (Sitting × End)
-  pub have : HaveServed key connections seats served
+  pub have : HaveServed settings.key settings.connections seats served
   pub closes : Closes closed base (console ∷ map (λ one. one.0) served) old new
 
 -- `listening P` was printed, then the console was operated by a seat that had made no call, while
 -- workers served, and then the hall was closed
-pub record HasRun (end : Result (Unit {0}) ServeFault) (key : List ℕ) (port workers connections : ℕ)
-    (base : Meaning) (before after old new : Option (List ℕ)) : Type 0 where
+pub record HasRun (end : Result (Unit {0}) ServeFault) (settings : Settings) (base : Meaning)
+    (before after old new : Option (List ℕ)) : Type 0 where
   pub announced : Option (List ℕ)
-  pub announces : Appends old announced (listening_line port)
+  pub announces : Appends old announced (listening_line settings.port)
   pub seat : Sitting
   pub fresh : IsFresh seat
   pub last : Sitting
@@ -56,11 +56,11 @@ pub record HasRun (end : Result (Unit {0}) ServeFault) (key : List ℕ) (port wo
   pub operates : IsOperated operated seat last before after announced told
   pub closed : Result (Unit {0}) ServeFault
   pub works : ((closed ≡ Err Memory) × (new ≡ told))
-      ⊎ HasWorked closed key workers connections base last told new
+      ⊎ HasWorked closed settings base last told new
   pub ends : end ≡ end_by operated closed
 
-abbrev pub Runs : Result (Unit {0}) ServeFault → List ℕ → ℕ → ℕ → ℕ → Meaning
-    → Option (List ℕ) → Option (List ℕ) → Option (List ℕ) → Option (List ℕ) → Type 0
-Runs end key port workers connections base before after old new =
-    ((after ≡ before) × Fails end port old new)
-    ⊎ HasRun end key port workers connections base before after old new
+abbrev pub Runs : Result (Unit {0}) ServeFault → Settings → Meaning → Option (List ℕ)
+    → Option (List ℕ) → Option (List ℕ) → Option (List ℕ) → Type 0
+Runs end settings base before after old new =
+    ((after ≡ before) × Fails end settings.port old new)
+    ⊎ HasRun end settings base before after old new

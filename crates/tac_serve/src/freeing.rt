@@ -1,11 +1,14 @@
 //! Freeing workers that wait for a connection.
 
+use crate::settings::Settings;
 use std::io::Write;
 use std::net::{Ipv4Addr, Net, SocketAddr, TcpStream};
 use std::time::Duration;
 use tac_wire::{Header, Key, PacketType, pad_in_place};
 
-/// A request of authorisation that no one is named in, for the empty command.
+/// An authorisation request (RFC 8907, section 6.1), field by field: method TACACS+ (6), level 1,
+/// type ASCII (1), service login (1); no user, port or address; 2 arguments, of 13 and 4 bytes,
+/// which ask for a shell without a command.
 const BODY: &[u8; 27] = b"\x06\x01\x01\x01\0\0\0\x02\x0d\x04service=shellcmd=";
 
 /// How many seconds the server's own port may take to answer.
@@ -39,11 +42,11 @@ fn ask<R: Net>(rt: &R, port: u16, question: &[u8]) {
     }
 }
 
-/// Makes so many connections to a port of this machine, on each of which something is asked: a
-/// worker of a hall that was stopped ends by one. What fails is passed over.
-pub(crate) fn free<R: Net>(rt: &R, port: u16, key: &Key, workers: u32) {
-    let question = question(key);
-    for _ in 0..workers {
-        ask(rt, port, &question);
+/// Makes as many connections to the server's port as it has workers, on each of which something is
+/// asked: a worker of a hall that was stopped ends by one. What fails is passed over.
+pub(crate) fn free<R: Net>(rt: &R, settings: &Settings) {
+    let question = question(&settings.key);
+    for _ in 0..settings.workers {
+        ask(rt, settings.port, &question);
     }
 }

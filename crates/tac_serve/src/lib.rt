@@ -7,8 +7,10 @@ mod freeing;
 mod opening;
 mod program;
 mod serving;
+mod settings;
 mod worker;
 
 pub use fault::ServeFault;
 pub use program::serve;
 pub use serving::serve_on;
+pub use settings::Settings;

@@ -10,6 +10,7 @@ use crate::fault::ServeFault;
 use crate::freeing::free;
 use crate::opening::{announce, seats_of};
 use crate::serving::serve_on;
+use crate::settings::Settings;
 use std::alloc::AllocError;
 use std::io::{Read, Write};
 use std::net::{Net, TcpListener};
@@ -18,20 +19,16 @@ use std::thread::{Threads, join_mut};
 use tac_desk::Desk;
 use tac_hall::{End, Hall, HallFault, OpenGate, Seat};
 use tac_operator::{OperatorFault, operate};
-use tac_wire::Key;
 
 // Workers serve in threads of their own, while this one serves the console. Once that has ended,
 // they are freed.
 fn serve_both<R, D: Desk + Send, I: Read, O: Write>(
     rt: &R,
     listener: &TcpListener,
-    port: u16,
     hall: &Hall<D>,
-    key: &Key,
+    settings: &Settings,
     seats: Vec<Seat>,
     console: Seat,
-    workers: u32,
-    connections: u32,
     input: &mut I,
     output: &mut O,
 ) -> (
@@ -40,8 +37,8 @@ fn serve_both<R, D: Desk + Send, I: Read, O: Write>(
 )
 where
     R: Threads + Wait + Sync + Net + AllocGlobal,
-    ensures served { IfOk result.0 (λ served. HaveServed key.now connections seats.items
-        served.items) }
+    ensures served { IfOk result.0 (λ served. HaveServed settings.now.key
+        settings.now.connections seats.items served.items) }
     ensures operated { IsOperated result.1.1 console result.1.0
         (I.remaining input.old) (I.remaining input.new)
         (O.contents output.old) (O.contents output.new) }
@@ -51,10 +48,19 @@ where
     let mut serving = || -> Result<Vec<(Seat, End)>, AllocError>
         requires { IsSome seats }
         ensures { IfOk result (λ served. IfSome seats.entry (λ waiting.
-            HaveServed key.entry.now connections waiting.items served.items)) }
+            HaveServed settings.entry.now.key settings.entry.now.connections waiting.items
+            served.items)) }
     {
         match seats.take() {
-            Some(seats) => serve_on(rt, listener, hall, key, seats, connections, &OpenGate),
+            Some(seats) => serve_on(
+                rt,
+                listener,
+                hall,
+                &settings.key,
+                seats,
+                settings.connections,
+                &OpenGate,
+            ),
             None => unreachable!(),
         }
     };
@@ -67,7 +73,7 @@ where
         match console.take() {
             Some(seat) => {
                 let operated = operate(rt, rt.alloc(), hall, seat, input, output);
-                free(rt, port, key, workers);
+                free(rt, settings);
                 operated
             }
             None => unreachable!(),
@@ -78,28 +84,25 @@ where
 
 /// Serves a hall on the network, with a console on its input and output.
 ///
-/// It prints `listening P`. Then so many workers, each with a seat and a thread of its own, serve
-/// so many connections each, one after another ([`serve_on`]), while the lines of the input are the
-/// console's calls ([`operate`]). `quit` or the input's end stops the hall: each worker ends at its
-/// next ask, and those that wait for a client are freed by a connection to port P of 127.0.0.1. At
-/// last the hall is closed with all its seats; `close refused` is printed where it can't be.
+/// It prints `listening P`. Then the workers serve their connections ([`serve_on`]), while the
+/// lines of the input are the console's calls ([`operate`]). `quit` or the input's end stops the
+/// hall: each worker ends at its next ask, and those that wait for a client are freed by a
+/// connection to port P of 127.0.0.1. At last the hall is closed with all its seats, and where it
+/// can't be, `close refused` is printed.
 ///
 /// Of several faults the console's comes first. The hall has to have room for the seats, of which
-/// there are `workers` and one.
+/// there is one more than workers.
 pub fn serve<R, D: Desk + Send, I: Read, O: Write>(
     rt: &R,
     listener: &TcpListener,
-    port: u16,
     hall: Hall<D>,
-    key: &Key,
-    workers: u32,
-    connections: u32,
+    settings: &Settings,
     input: &mut I,
     output: &mut O,
 ) -> Result<(), ServeFault>
 where
     R: Threads + Wait + Sync + Net + AllocGlobal,
-    ensures { program.Runs result key.now port workers connections hall
+    ensures { program.Runs result settings.now hall
         (I.remaining input.old) (I.remaining input.new)
         (O.contents output.old) (O.contents output.new) }
 {
@@ -107,25 +110,15 @@ where
     let Ok(console) = hall.seat(rt) else {
         return Err(refuse(output));
     };
-    let seats = match seats_of(rt, alloc, &hall, workers) {
+    let seats = match seats_of(rt, alloc, &hall, settings.workers) {
         Ok(seats) => seats,
         Err(HallFault::Memory) => return Err(ServeFault::Memory),
         Err(_) => return Err(refuse(output)),
     };
     let room = Vec::with_capacity(alloc, seats.len() + 1)?;
-    announce(alloc, output, port)?;
+    announce(alloc, output, settings.port)?;
     let (served, (console, operated)) = serve_both(
-        rt,
-        listener,
-        port,
-        &hall,
-        key,
-        seats,
-        console,
-        workers,
-        connections,
-        input,
-        output,
+        rt, listener, &hall, settings, seats, console, input, output,
     );
     let closed = match served {
         Ok(served) => close(hall, console, served, room, output),

@@ -2,16 +2,13 @@
 
 use crate::command_line::{CONNECTIONS, FILE, KEY, PORT, WORKERS};
 use clap::ArgMatches;
+use tac_serve::Settings;
 use tac_wire::Key;
 
-/// Where and how to serve.
+/// How to serve, and by what.
 #[derive(Drop)]
 pub(crate) struct Options<'a> {
-    pub(crate) port: u16,
-    pub(crate) key: Key,
-    pub(crate) workers: u32,
-    /// How many connections each worker serves.
-    pub(crate) connections: u32,
+    pub(crate) settings: Settings,
     /// The policy's file.
     pub(crate) path: &'a str,
 }
@@ -21,11 +18,14 @@ impl<'a> Options<'a> {
     /// within their bounds. `None` where the key is none.
     pub(crate) fn read(matches: &ArgMatches<'a>) -> Option<Options<'a>> {
         let key = matches.get_str(KEY)?;
-        Some(Options {
+        let settings = Settings {
             port: matches.get_one::<u16>(PORT)?,
             key: Key::read(key.as_bytes())?,
             workers: matches.get_one::<u32>(WORKERS)?,
             connections: matches.get_one::<u32>(CONNECTIONS)?,
+        };
+        Some(Options {
+            settings,
             path: matches.get_str(FILE)?,
         })
     }

@@ -74,15 +74,12 @@ where
 {
     let desk = desk_of_file(rt, options.path)?;
     let hall = hall_of(rt, desk)?;
-    let listener = listener_on(rt, host, options.port)?;
+    let listener = listener_on(rt, host, options.settings.port)?;
     let outcome = serve(
         host,
         &listener,
-        options.port,
         hall,
-        &options.key,
-        options.workers,
-        options.connections,
+        &options.settings,
         &mut rt.reader(),
         &mut io::writer(rt),
     );

@@ -11,11 +11,11 @@ returns-in_err-operated g c =
     let operates = rw c.in_err-operated.was at both.ensures.operated in
     elim c.match-served.branch [
       | in-Ok-served w ↦ rw (p.1, p.2, w.output-is)
-          (ran c.args.key.now c.args.port c.args.workers c.args.connections c.args.hall c.in-Ok-seats_of.seats.items c.in-Ok.console both.result.1.0 (Err c.in_err-operated.field-0.0)
+          (ran c.args.settings.now c.args.hall c.in-Ok-seats_of.seats.items c.in-Ok.console both.result.1.0 (Err c.in_err-operated.field-0.0)
           _ _ _ _ _ c.in_ok-announce.ensures c.in-Ok-seats_of.ensures.count c.in-Ok-seats_of.ensures.fresh c.in-Ok.ensures.fresh.1 operates
           w.in-Ok-served.served.items w.close-closed.result _ (rw w.in-Ok-served.is at both.ensures.served) w.close-closed.ensures)
       | in-Err-served w ↦ rw (p.1, p.2, w.output-is)
-          (ran_out c.args.key.now c.args.port c.args.workers c.args.connections c.args.hall c.in-Ok-seats_of.seats.items c.in-Ok.console both.result.1.0 (Err c.in_err-operated.field-0.0)
+          (ran_out c.args.settings.now c.args.hall c.in-Ok-seats_of.seats.items c.in-Ok.console both.result.1.0 (Err c.in_err-operated.field-0.0)
           _ _ _ _ _ c.in_ok-announce.ensures c.in-Ok-seats_of.ensures.count c.in-Ok-seats_of.ensures.fresh c.in-Ok.ensures.fresh.1 operates)
     ]
 
@@ -25,10 +25,10 @@ returns g c =
     let operates = rw c.in_ok-operated.was at both.ensures.operated in
     elim c.match-served.branch [
       | in-Ok-served w ↦ rw (w.closed-is, w.output-is)
-          (ran c.args.key.now c.args.port c.args.workers c.args.connections c.args.hall c.in-Ok-seats_of.seats.items c.in-Ok.console both.result.1.0 (Ok c.in_ok-operated.field-0)
+          (ran c.args.settings.now c.args.hall c.in-Ok-seats_of.seats.items c.in-Ok.console both.result.1.0 (Ok c.in_ok-operated.field-0)
           _ _ _ _ _ c.in_ok-announce.ensures c.in-Ok-seats_of.ensures.count c.in-Ok-seats_of.ensures.fresh c.in-Ok.ensures.fresh.1 operates
           w.in-Ok-served.served.items w.close-closed.result _ (rw w.in-Ok-served.is at both.ensures.served) w.close-closed.ensures)
       | in-Err-served w ↦ rw (w.closed-is, w.output-is)
-          (ran_out c.args.key.now c.args.port c.args.workers c.args.connections c.args.hall c.in-Ok-seats_of.seats.items c.in-Ok.console both.result.1.0 (Ok c.in_ok-operated.field-0)
+          (ran_out c.args.settings.now c.args.hall c.in-Ok-seats_of.seats.items c.in-Ok.console both.result.1.0 (Ok c.in_ok-operated.field-0)
           _ _ _ _ _ c.in_ok-announce.ensures c.in-Ok-seats_of.ensures.count c.in-Ok-seats_of.ensures.fresh c.in-Ok.ensures.fresh.1 operates)
     ]

@@ -9,8 +9,8 @@ use Rattle.std.specs.contracts.alloc.Global as Heap
 use Rattle.std.specs.contracts.impls.GlobalAllocator.TheImpl.{ghosts}
 use Rattle.tac_hall.specs.contracts.seat.Seat as Seat
 use Rattle.std.proofs.Crossing.{crosses}
-use Rattle.tac_hall.proofs.Crossing.{Seat-send, Key-sync, Hall-sync}
-use Rattle.tac_serve.proofs.Crossing.{Listener-sync, Number-sync}
+use Rattle.tac_hall.proofs.Crossing.{Seat-send, Hall-sync}
+use Rattle.tac_serve.proofs.Crossing.{Listener-sync, Settings-sync}
 use Rattle.tac_hall.proofs.worked.End.TheSendSync as ends
 use Rattle.tac_serve.proofs.program.serve_both.Goals as goal
 
@@ -36,11 +36,8 @@ join_mut-requires-send-F g c κs within =
               (
                 (tt, hall.shared d.3.now d.3.ref_ptr.0 d.3.ref_ptr.1 _),
                 (
-                  (tt, Key-sync.shared d.4.now d.4.ref_ptr.0 d.4.ref_ptr.1 _),
-                  (
-                    (tt, Number-sync.shared d.5.now d.5.ref_ptr.0 d.5.ref_ptr.1 []),
-                    tt,
-                  ),
+                  (tt, Settings-sync.shared d.4.now d.4.ref_ptr.0 d.4.ref_ptr.1 _),
+                  tt,
                 ),
               ),
             ),
