@@ -3,6 +3,7 @@
 ghost use Rattle.std.specs.Prelude.{◌≡◌, [], true, IfOk, IfErr, OnErr};
 ghost use Rattle.tac_hall.specs.Closing.{AreViews, are_theirs};
 ghost use Rattle.tac_hall.specs.History.{Legal};
+ghost use Rattle.tac_hall.specs.Room.{Contents};
 ghost use Rattle.tac_hall.specs.Seat as sitting;
 ghost use Rattle.tac_hall.specs.declared.fault.HallFault.TheVariants.{NoSeat};
 
@@ -69,6 +70,10 @@ impl<D: Desk> Hall<D> {
     pub fn call<R: Wait>(&self, rt: &R, seat: &mut Seat, call: Call) -> Result<Receipt, HallFault>
         ensures made { IfOk result (λ receipt. sitting.IsMade seat.old call receipt seat.new) }
         ensures err { OnErr result (seat.new ≡ seat.old) }
+
+        // It is what one step under the lock comes to, so the answer is a desk's.
+        ensures room { (was : Contents) × (then : Contents)
+            × sitting.CallsBy was seat.old call result then }
     {
         let mut room = self.room.lock(rt);
         seat.call_in(&mut room, call)
