@@ -33,6 +33,22 @@ fn an_edit_counts_for_the_other_seat(rt: HostRuntime) -> Result<(), Fail> {
 }
 
 #[test]
+fn logins_are_answered_by_the_desk(rt: HostRuntime) -> Result<(), Fail> {
+    converses(
+        &rt,
+        9,
+        "
+        1 pass bob blue-lake = 0 fail
+        0 login bob blue-lake = 1 changes 0
+        1 pass bob blue-lake = 2 pass
+        1 pass bob red-lake = 3 fail
+        1 pass eve blue-lake = 4 fail
+        ",
+        5,
+    )
+}
+
+#[test]
 fn refused_edits_stand_in_the_log(rt: HostRuntime) -> Result<(), Fail> {
     converses(
         &rt,

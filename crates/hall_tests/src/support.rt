@@ -7,7 +7,7 @@ use pol_text::Policy;
 use std::alloc::{AllocError, Global};
 use std::sync::Wait;
 use std::test::Fail;
-use tac_conn::{Answer, Ask};
+use tac_conn::{Answer, Ask, Proof, Service};
 use tac_desk::{PlainDesk, Query};
 use tac_hall::{Call, CallAnswer, Hall, HallFault, Receipt, Seat};
 
@@ -36,18 +36,32 @@ fn run(alloc: Global, user: &str, line: &str) -> Result<Call, AllocError> {
     Ok(Call::Ask(Ask::Authorise { user, line }))
 }
 
+fn login(alloc: Global, user: &str, secret: &str) -> Result<Call, AllocError> {
+    let user = Bytes::from_slice(alloc, user.as_bytes())?;
+    let secret = Bytes::from_slice(alloc, secret.as_bytes())?;
+    Ok(Call::Ask(Ask::Authenticate {
+        user,
+        service: Service::LOGIN,
+        proof: Proof::Plain(secret),
+    }))
+}
+
 /// Bob asks for `show version`.
 pub(crate) fn show_version(alloc: Global) -> Result<Call, AllocError> {
     run(alloc, "bob", "show version")
 }
 
-// `run NAME LINE`, `records`, `stop`, or an edit.
+// `run NAME LINE`, `pass NAME SECRET`, `records`, `stop`, or an edit.
 fn call_of(alloc: Global, words: &str) -> Result<Call, Fail> {
     let (verb, rest) = word(words);
     match verb {
         "run" => {
             let (name, line) = word(rest);
             Ok(run(alloc, name, line)?)
+        }
+        "pass" => {
+            let (name, secret) = word(rest);
+            Ok(login(alloc, name, secret)?)
         }
         "records" => Ok(Call::Query(Query::Records)),
         "stop" => Ok(Call::Stop),
@@ -64,6 +78,8 @@ fn show_answer(out: &mut String, answer: &CallAnswer) -> Result<(), AllocError> 
         CallAnswer::Ask(Answer::Denied(By::Rule(owner, number))) => {
             write!(out, "denied by {owner} rule {number}")
         }
+        CallAnswer::Ask(Answer::Pass) => write!(out, "pass"),
+        CallAnswer::Ask(Answer::Fail) => write!(out, "fail"),
         CallAnswer::Ask(_) => write!(out, "another answer"),
         CallAnswer::Edit(Ok(changes)) => write!(out, "changes {}", changes.get().len()),
         CallAnswer::Edit(Err(fault)) => write!(out, "refused {fault}"),
