@@ -1,6 +1,7 @@
 //! Seats that there are no more of, that are another hall's, and that are missing.
 
 use crate::support::{OPS, closes, hall_of, seats_of, show_version};
+use std::sync::Wait;
 use std::test::Fail;
 use tac_desk::PlainDesk;
 use tac_hall::{Hall, HallFault, Seat};
@@ -13,17 +14,35 @@ fn sixty_four_seats(rt: HostRuntime) -> Result<(), Fail> {
     closes(hall, seats, 0)
 }
 
+// The last of three seats of a hall of its own.
+fn third_seat<R: Wait + AllocGlobal>(rt: &R) -> Result<Seat, Fail> {
+    let hall = hall_of(rt, OPS, 9)?;
+    let mut seats = seats_of(rt, &hall, 3)?;
+    match seats.pop() {
+        Some(seat) => Ok(seat),
+        None => Err(Fail::from("no seat")),
+    }
+}
+
+// The hall, which has two seats, doesn't know this one.
+fn is_refused<R: Wait + AllocGlobal>(
+    rt: &R,
+    hall: &Hall<PlainDesk>,
+    mut seat: Seat,
+) -> Result<(), Fail> {
+    let call = show_version(rt.alloc())?;
+    match hall.call(rt, &mut seat, call) {
+        Err(HallFault::NoSeat) if seat.view().is_empty() => Ok(()),
+        _ => Err(Fail::from("taken")),
+    }
+}
+
 #[test]
 fn a_seat_of_another_hall(rt: HostRuntime) -> Result<(), Fail> {
     let hall = hall_of(&rt, OPS, 9)?;
     let _seats = seats_of(&rt, &hall, 2)?;
-    let other = hall_of(&rt, OPS, 9)?;
-    let _others = seats_of(&rt, &other, 2)?;
-    let mut third = other.seat(&rt)?;
-    let call = show_version(rt.alloc())?;
-    assert!(rt; matches!(hall.call(&rt, &mut third, call), Err(HallFault::NoSeat)));
-    assert!(rt; third.view().is_empty());
-    Ok(())
+    let third = third_seat(&rt)?;
+    is_refused(&rt, &hall, third)
 }
 
 // The hall isn't closed with the first seat alone, and is with both.
