@@ -21,7 +21,7 @@ use std::marker::Model;
 /// An automaton over the residuals of entries: it tells of each text which entry is the first whose
 /// pattern holds it. It doesn't hold its patterns.
 ///
-/// A state takes a row of cells, one for each column, and 32 bytes.
+/// A state takes a row of cells, one for each column, and 33 bytes.
 #[derive(Drop)]
 pub struct Decider {
     pub(crate) alphabet: Alphabet,
@@ -112,7 +112,8 @@ impl Decider {
         Decider::of(entries, limit, meter)
     }
 
-    /// The first entry whose pattern holds the text. Two look-ups for each symbol, and no memory.
+    /// The first entry whose pattern holds the text. Three look-ups for each symbol up to where the
+    /// rest of the text decides nothing any more, and no memory.
     pub fn decide(&self, text: &[u8]) -> Option<usize>
         ensures first { (entries : List (List ℕ)) → IsDecider self.now entries
             → IsFirstMatch entries text.now result }

@@ -72,7 +72,7 @@ module _ (alphabet : Alphabet) (laws : IsAlphabet alphabet) where
       let tail = word_of-text_of word (All-tail (λ x. x < alphabet.width) c word w) in
       cc
 
-  is_word-word_of : (text : List ℕ) → IsTrue (is_text text) → IsWord alphabet.width (word_of alphabet text)
+  pub is_word-word_of : (text : List ℕ) → IsTrue (is_text text) → IsWord alphabet.width (word_of alphabet text)
   is_word-word_of [] t = All-nil (λ x. x < alphabet.width)
   is_word-word_of (s ∷ text) t =
       let p = both (is_symbol s) (is_text text) t in

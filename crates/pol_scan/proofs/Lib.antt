@@ -11,3 +11,4 @@ mod Completing
 mod Seeking
 mod AlphabetFacts
 mod Numbering
+mod Trapping

@@ -1,6 +1,6 @@
 -- The table of a deterministic automaton without accepting states. State 0 is the first.
 use Rattle.std.specs.Prelude.{◌≡◌, ◌↔◌, ◌<◌, ◌≤◌, ◌+◌, ◌*◌, ℕ, Bool, IsTrue, List, length, fold}
-use Rattle.std.specs.Prelude.{slice_index, All, AllPairs}
+use Rattle.std.specs.Prelude.{slice_index, slice_index_or, false, All, AllPairs}
 use Rattle.basics.specs.TextOrder.{IsBefore, IsLeast}
 use Rattle.pol_scan.specs.Words.{IsWord, IsWordThat, word_at}
 use Rattle.pol_scan.specs.Congruence.{Congruence}
@@ -33,6 +33,16 @@ pub record IsWhole (most : ℕ) (table : Table) : Type 0 where
   pub few : count table ≤ most
   pub size : length table.cells ≡ count table * table.width
   pub within : All (λ cell. cell < count table) table.cells
+
+-- no column leads out of the state
+abbrev pub IsTrap : Table → ℕ → Type 0
+IsTrap table state = (column : ℕ) → column < table.width → next table state column ≡ state
+
+-- a mark for each state: whether no column leads out of it
+pub record MarkTraps (table : Table) (marks : List Bool) : Type 0 where
+  pub each : length marks ≡ count table
+  pub right : (state : ℕ) → state < count table
+      → IsTrue (slice_index_or marks state false) ↔ IsTrap table state
 
 -- the table is the automaton of a right congruence: its states are the classes
 pub record IsAutomatonOf (congruence : Congruence) (table : Table) : Type 0 where

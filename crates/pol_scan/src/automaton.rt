@@ -95,12 +95,6 @@ pub fn scan<M: Machine>(
         number += 1;
     }
     let Found { states, words } = found;
-    Ok(Automaton {
-        table: Table {
-            width,
-            cells,
-            words,
-        },
-        states,
-    })
+    let table = Table::new(alloc, width, cells, words)?;
+    Ok(Automaton { table, states })
 }

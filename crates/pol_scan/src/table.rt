@@ -1,10 +1,11 @@
 //! Tables of automata.
 
-ghost use Rattle.std.specs.Prelude.{◌≡◌, ◌↔◌, ◌<◌, IsTrue, IsSome, IfSome, IfOk};
+ghost use Rattle.std.specs.Prelude.{◌≡◌, ◌↔◌, ◌<◌, ◌≤◌, ◌+◌, ◌*◌, ℕ, length, fold, false};
+ghost use Rattle.std.specs.Prelude.{slice_index, slice_index_or, IsTrue, IsSome, IfSome, IfOk};
 ghost use Rattle.basics.specs.Symbol.{is_text};
 ghost use Rattle.pol_scan.specs.Alphabet.{word_of as read_as};
 ghost use Rattle.pol_scan.specs.Words.{IsWord};
-ghost use Rattle.pol_scan.specs.Table.{count, next, walk, word_of};
+ghost use Rattle.pol_scan.specs.Table.{count, next, walk, word_of, IsWhole, IsTrap};
 
 use crate::alphabet::Alphabet;
 use crate::machine::Column;
@@ -23,28 +24,90 @@ const MOST_STATES: usize = StateNumber::MAX as usize;
 /// has the state behind it for each column, and the word along which it was found. State 0 is the
 /// first.
 ///
-/// A state takes its row of cells, and 16 bytes for its word.
+/// A state takes its row of cells, and 17 bytes.
 #[derive(Debug, Drop)]
 pub struct Table {
     pub(crate) width: Column,
     // row by row
-    pub(crate) cells: Vec<StateNumber>,
-    pub(crate) words: Words,
+    cells: Vec<StateNumber>,
+    words: Words,
+    // by state: whether no column leads out of it
+    traps: Vec<bool>,
 }
 
 impl Model for Table {
     ghost use Rattle.pol_scan.specs.declared.table.TheConstants.{MOST_STATES};
-    ghost use Rattle.pol_scan.specs.Table.{Table as Rows, IsWhole};
+    ghost use Rattle.pol_scan.specs.Table.{Table as Rows, IsWhole, MarkTraps};
 
     ghost Value = { Rows };
 
     ghost view = { λ t. record { width = t.width; cells = t.cells.items; words = t.words } };
 
     ghost invariant = { λ t. IsWhole MOST_STATES
-        (record { width = t.width; cells = t.cells.items; words = t.words }) };
+        (record { width = t.width; cells = t.cells.items; words = t.words })
+        × MarkTraps (record { width = t.width; cells = t.cells.items; words = t.words })
+        t.traps.items };
+}
+
+// Whether no column leads out of a state.
+fn is_trap(width: Column, cells: &[StateNumber], state: StateNumber) -> bool
+    requires { (state + 1) * width ≤ length cells.now }
+    ensures { IsTrue result ↔ ((column : ℕ) → column < width
+        → slice_index cells.now (state * width + column) ≡ state) }
+{
+    for column in 0..width {
+        if cells[state as usize * width as usize + column as usize] != state {
+            return false;
+        }
+    }
+    true
+}
+
+// For each state whether no column leads out of it. Mostly a look or two at its row.
+fn traps_of(
+    alloc: Global,
+    width: Column,
+    cells: &[StateNumber],
+    states: usize,
+) -> Result<Vec<bool>, AllocError>
+    requires few { states ≤ MOST_STATES }
+    requires size { length cells.now ≡ states * width }
+    ensures each { IfOk result (λ traps. length traps.items ≡ states) }
+    ensures right { IfOk result (λ traps. (state : ℕ) → state < states
+        → IsTrue (slice_index_or traps.items state false) ↔ ((column : ℕ) → column < width
+        → slice_index cells.now (state * width + column) ≡ state)) }
+{
+    let mut traps = Vec::new(alloc);
+    for state in 0..states {
+        traps.push(is_trap(width, cells, state as StateNumber))?;
+    }
+    Ok(traps)
 }
 
 impl Table {
+    ghost use Rattle.pol_scan.specs.declared.table.TheConstants.{MOST_STATES};
+
+    /// The table of these rows and words. Linear in the cells.
+    pub(crate) fn new(
+        alloc: Global,
+        width: Column,
+        cells: Vec<StateNumber>,
+        words: Words,
+    ) -> Result<Table, AllocError>
+        requires { IsWhole MOST_STATES
+            (record { width = width; cells = cells.items; words = words }) }
+        ensures { IfOk result
+            (λ table. table ≡ record { width = width; cells = cells.items; words = words }) }
+    {
+        let traps = traps_of(alloc, width, &cells, words.len())?;
+        Ok(Table {
+            width,
+            cells,
+            words,
+            traps,
+        })
+    }
+
     /// How many states there are.
     pub fn states(&self) -> StateNumber
         ensures many { result ≡ count self.now }
@@ -84,8 +147,23 @@ impl Table {
         state
     }
 
-    /// The state to which a text leads, or nothing if a byte is no symbol. Two look-ups for each
-    /// symbol, and no memory.
+    // The state behind a state that no column leaves, or nothing if a byte is no symbol.
+    fn stay(&self, alphabet: &Alphabet, state: StateNumber, text: &[u8]) -> Option<StateNumber>
+        requires alphabet { alphabet.now.width ≡ self.now.width }
+        requires trap { IsTrap self.now state }
+        ensures found { IsSome result ↔ IsTrue (is_text text.now) }
+        ensures value { IfSome result (λ behind. (behind ≡ state)
+            × (fold (next self.now) state (read_as alphabet.now text.now) ≡ state)) }
+    {
+        if alphabet.reads(text) {
+            Some(state)
+        } else {
+            None
+        }
+    }
+
+    /// The state to which a text leads, or nothing if a byte is no symbol. Three look-ups for each
+    /// symbol up to a state that no symbol leads out of, one look behind it, and no memory.
     pub fn run_text(&self, alphabet: &Alphabet, text: &[u8]) -> Option<StateNumber>
         requires { alphabet.now.width ≡ self.now.width }
         ensures found { IsSome result ↔ IsTrue (is_text text.now) }
@@ -93,14 +171,15 @@ impl Table {
             state ≡ walk self.now (read_as alphabet.now text.now)) }
         ensures within { IfSome result (λ state. state < count self.now) }
     {
-        let width = self.width as usize;
         let mut state = 0;
-        for symbol in text {
+        'symbols: for (place, symbol) in text.iter().enumerate() {
+            if self.traps[state as usize] {
+                return self.stay(alphabet, state, &text[place..]);
+            }
             if !is_symbol(*symbol) {
                 return None;
             }
-            let column = alphabet.column_of(*symbol);
-            state = self.cells[state as usize * width + column as usize];
+            state = self.next(state, alphabet.column_of(*symbol));
         }
         Some(state)
     }

@@ -43,18 +43,18 @@ stands_at_end g c =
     subst (λ (n : ℕ). StandsAt (g.M.Machine.congruence c.rows.machine) (g.M.Machine.leads c.rows.machine)
     c.rows.found.words c.rows.found.states.keys c.rows.cells.items n 0) at_end known.stands
 
-pub invariant_of-result : goal.invariant_of-result
-invariant_of-result g c = whole _ _ _ c.rows.invariant.width _ _ _ (stands_at_end g (goal.at.invariant_of-result g c).After-rows) _ (omega (arith, c.rows.invariant.few, c.ranges.limit))
+pub new-requires : goal.new-requires
+new-requires g c = whole _ _ _ c.rows.invariant.width _ _ _ (stands_at_end g (goal.at.new-requires g c).After-rows) _ (omega (arith, c.rows.invariant.few, c.ranges.limit))
 
 pub returns-clause-automaton : goal.returns-clause-automaton
 returns-clause-automaton g c =
-    automaton _ _ (complete _ _ _ c.rows.invariant.width _ _ _ (stands_at_end g (goal.at.returns-clause-automaton g c).After-rows) _ _
-    (g.met.M.Machine.keeps c.args.machine.now c.rows.machine c.rows.invariant.grows))
+    rw c.in_ok-table.ensures (automaton _ _ (complete _ _ _ c.rows.invariant.width _ _ _ (stands_at_end g (goal.at.returns-clause-automaton g c).After-rows) _ _
+    (g.met.M.Machine.keeps c.args.machine.now c.rows.machine c.rows.invariant.grows)))
 
 pub returns-clause-index : goal.returns-clause-index
 returns-clause-index g c =
-    index _ _ (complete _ _ _ c.rows.invariant.width _ _ _ (stands_at_end g (goal.at.returns-clause-index g c).After-rows) _ _
-    (g.met.M.Machine.keeps c.args.machine.now c.rows.machine c.rows.invariant.grows))
+    rw c.in_ok-table.ensures (index _ _ (complete _ _ _ c.rows.invariant.width _ _ _ (stands_at_end g (goal.at.returns-clause-index g c).After-rows) _ _
+    (g.met.M.Machine.keeps c.args.machine.now c.rows.machine c.rows.invariant.grows)))
 
 pub returns-in_err-found-clause-excludes : goal.returns-in_err-found-clause-excludes
 returns-in_err-found-clause-excludes g c index has few = excludes _ index c.args.limit has few
@@ -64,6 +64,9 @@ returns-then-limit-eq0-clause-excludes g c index has few = excludes _ index c.ar
 
 pub returns-in_err-fill_row-clause-excludes : goal.returns-in_err-fill_row-clause-excludes
 returns-in_err-fill_row-clause-excludes g c index has few = excludes _ index c.args.limit has few
+
+pub returns-in_err-table-clause-excludes : goal.returns-in_err-table-clause-excludes
+returns-in_err-table-clause-excludes g c index has few = excludes _ index c.args.limit has few
 
 pub returns-clause-excludes : goal.returns-clause-excludes
 returns-clause-excludes g c index has few = excludes _ index c.args.limit has few

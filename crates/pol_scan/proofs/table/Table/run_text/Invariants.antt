@@ -1,13 +1,14 @@
-use Rattle.std.proofs.Common.{◌≡◌, ◌<◌, IsTrue, take}
+use Rattle.std.proofs.Common.{◌≡◌, ◌<◌, drop}
+use Rattle.std.specs.List.{fold}
 use Rattle.basics.specs.Symbol.{is_text}
 use Rattle.pol_scan.specs.Alphabet.{word_of}
-use Rattle.pol_scan.specs.Table.{count, walk}
+use Rattle.pol_scan.specs.Table.{count, next, walk}
 use Rattle.pol_scan.proofs.table.Table.run_text.Given as goal
 
--- the state to which the text's beginning leads
-abbrev pub invariant-loop-symbol : goal.invariant-loop-symbol
-invariant-loop-symbol l = record {
+-- the rest of the text leads from the state to where the whole text does
+abbrev pub invariant-symbols : goal.invariant-symbols
+invariant-symbols l = record {
   within : l.state < count l.self;
-  text : IsTrue (is_text (take l.symbol-index l.text));
-  value : l.state ≡ walk l.self (word_of l.alphabet (take l.symbol-index l.text));
+  text : is_text (drop l.place l.text) ≡ is_text l.text;
+  value : fold (next l.self) l.state (word_of l.alphabet (drop l.place l.text)) ≡ walk l.self (word_of l.alphabet l.text);
 }
