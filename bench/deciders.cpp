@@ -1,11 +1,11 @@
 // How many lines a second are decided by a list of POSIX expressions and by RE2::Set, for
 // bench/decisions to be measured against.
 //
-//     deciders PATTERNS LINES
+//     deciders PATTERNS LINES [WHICH]
 //
 // Both files have one text a line. The first pattern in order that matches the whole line decides.
-// Prints for each of the two the seconds of processor time that all lines took, and a sum of what was
-// decided.
+// Prints for each of the two, or for the one that is named, the seconds of processor time that all
+// lines took, and a sum of what was decided.
 #include <re2/re2.h>
 #include <re2/set.h>
 #include <regex.h>
@@ -73,11 +73,12 @@ void by_set(const Texts& patterns, const Texts& lines) {
 }  // namespace
 
 int main(int argc, char** argv) {
-    if (argc != 3) {
-        std::fprintf(stderr, "deciders PATTERNS LINES\n");
+    if (argc != 3 && argc != 4) {
+        std::fprintf(stderr, "deciders PATTERNS LINES [WHICH]\n");
         return 2;
     }
     const Texts patterns = lines_of(argv[1]), lines = lines_of(argv[2]);
-    by_posix(patterns, lines);
-    by_set(patterns, lines);
+    const std::string which = argc == 4 ? argv[3] : "";
+    if (which.empty() || which == "regexec") by_posix(patterns, lines);
+    if (which.empty() || which == "RE2::Set") by_set(patterns, lines);
 }
