@@ -1,2 +1,3 @@
 pub mod LineFacts
 pub mod NumberFacts
+pub mod SymbolFacts
