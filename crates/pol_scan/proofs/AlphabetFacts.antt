@@ -8,7 +8,7 @@ use Rattle.basics.specs.TextOrder.{IsLower, IsBefore, IsLeast}
 use Rattle.pol_scan.specs.Words.{IsWord, IsWordThat}
 use Rattle.pol_scan.specs.Alphabet.{Alphabet, column_of, least_of, word_of, text_of, IsTextThat, IsAlphabet}
 
-both : (a b : Bool) → IsTrue (a && b) → IsTrue a × IsTrue b
+pub both : (a b : Bool) → IsTrue (a && b) → IsTrue a × IsTrue b
 both true b h = (refl, h)
 both false b h = absurd cc
 

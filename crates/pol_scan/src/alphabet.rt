@@ -10,7 +10,6 @@ ghost use Rattle.pol_scan.specs.Alphabet.{text_of, IsTextThat, IsAlphabet};
 ghost use Rattle.pol_scan.specs.Alphabet.{SameColumn, HasClasses, label_of};
 
 use crate::machine::Column;
-use basics::is_text;
 use std::marker::Model;
 
 /// How many symbols there are.
@@ -168,7 +167,7 @@ impl Alphabet {
         ensures within { result < self.now.width }
         ensures least { least_at self.now result ≤ symbol }
     {
-        self.columns[(symbol - FIRST) as usize]
+        self.columns[symbol as usize - FIRST as usize]
     }
 
     /// The least symbol of a column.
@@ -179,16 +178,6 @@ impl Alphabet {
         ensures own { column_at self.now result ≡ column }
     {
         self.least[column as usize]
-    }
-
-    /// Whether a text is read as a word, which it is where every byte is a symbol. Linear in it.
-    pub(crate) fn reads(&self, text: &[u8]) -> bool
-        ensures value { result ≡ is_text text.now }
-        ensures word { IsTrue result → IsWord self.now.width (word_of self.now text.now) }
-    {
-        // a column's facts are known where one is looked at
-        let _ = &self.width;
-        is_text(text)
     }
 
     /// The text that spells a word by least symbols, in the same memory: of all texts that are read

@@ -2,7 +2,7 @@
 
 ghost use Rattle.std.specs.Prelude.{◌≡◌, ◌↔◌, ◌<◌, ◌≤◌, ◌+◌, ◌*◌, ℕ, length, fold, false};
 ghost use Rattle.std.specs.Prelude.{slice_index, slice_index_or, IsTrue, IsSome, IfSome, IfOk};
-ghost use Rattle.basics.specs.Symbol.{is_text};
+ghost use Rattle.basics.specs.Symbol.{is_text as text_test};
 ghost use Rattle.pol_scan.specs.Alphabet.{word_of as read_as};
 ghost use Rattle.pol_scan.specs.Words.{IsWord};
 ghost use Rattle.pol_scan.specs.Table.{count, next, walk, word_of, IsWhole, IsTrap};
@@ -10,7 +10,7 @@ ghost use Rattle.pol_scan.specs.Table.{count, next, walk, word_of, IsWhole, IsTr
 use crate::alphabet::Alphabet;
 use crate::machine::Column;
 use crate::words::Words;
-use basics::is_symbol;
+use basics::is_text;
 use std::alloc::{AllocError, Global};
 use std::marker::Model;
 
@@ -147,41 +147,47 @@ impl Table {
         state
     }
 
-    // The state behind a state that no column leaves, or nothing if a byte is no symbol.
-    fn stay(&self, alphabet: &Alphabet, state: StateNumber, text: &[u8]) -> Option<StateNumber>
-        requires alphabet { alphabet.now.width ≡ self.now.width }
-        requires trap { IsTrap self.now state }
-        ensures found { IsSome result ↔ IsTrue (is_text text.now) }
-        ensures value { IfSome result (λ behind. (behind ≡ state)
-            × (fold (next self.now) state (read_as alphabet.now text.now) ≡ state)) }
+    // Whether no column leads out of a state.
+    fn is_trap(&self, state: StateNumber) -> bool
+        requires { state < count self.now }
+        ensures { IsTrue result → IsTrap self.now state }
     {
-        if alphabet.reads(text) {
-            Some(state)
-        } else {
-            None
-        }
+        self.traps[state as usize]
     }
 
-    /// The state to which a text leads, or nothing if a byte is no symbol. Three look-ups for each
-    /// symbol up to a state that no symbol leads out of, one look behind it, and no memory.
+    // The state to which symbols lead.
+    fn run_symbols(&self, alphabet: &Alphabet, text: &[u8]) -> StateNumber
+        requires alphabet { alphabet.now.width ≡ self.now.width }
+        requires text { IsTrue (text_test text.now) }
+        ensures value { result ≡ walk self.now (read_as alphabet.now text.now) }
+        ensures within { result < count self.now }
+    {
+        // these are for their clauses: there is a first state, and symbols have columns
+        self.states();
+        alphabet.width();
+        let mut state = 0;
+        'symbols: for symbol in text {
+            state = self.next(state, alphabet.column_of(*symbol));
+            if self.is_trap(state) {
+                return state;
+            }
+        }
+        state
+    }
+
+    /// The state to which a text leads, or nothing if a byte is no symbol. One look at each byte,
+    /// three look-ups for each symbol up to a state that no symbol leads out of, and no memory.
     pub fn run_text(&self, alphabet: &Alphabet, text: &[u8]) -> Option<StateNumber>
         requires { alphabet.now.width ≡ self.now.width }
-        ensures found { IsSome result ↔ IsTrue (is_text text.now) }
+        ensures found { IsSome result ↔ IsTrue (text_test text.now) }
         ensures value { IfSome result (λ state.
             state ≡ walk self.now (read_as alphabet.now text.now)) }
         ensures within { IfSome result (λ state. state < count self.now) }
     {
-        let mut state = 0;
-        'symbols: for (place, symbol) in text.iter().enumerate() {
-            if self.traps[state as usize] {
-                return self.stay(alphabet, state, &text[place..]);
-            }
-            if !is_symbol(*symbol) {
-                return None;
-            }
-            state = self.next(state, alphabet.column_of(*symbol));
+        if !is_text(text) {
+            return None;
         }
-        Some(state)
+        Some(self.run_symbols(alphabet, text))
     }
 
     /// The word that is kept for a state. Linear in its length.
