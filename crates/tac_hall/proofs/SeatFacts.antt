@@ -1,10 +1,12 @@
 -- The view of a seat to which a call is added.
-use Rattle.std.proofs.Common.{◌≡◌, ℕ, suc, List, [], ◌∷◌, ◌++◌, ◌<◌, ◌≤◌, length, length-append, arith, refl}
+use Rattle.std.proofs.Common.{◌≡◌, ℕ, List, [], ◌∷◌, ◌++◌, ◌<◌, ◌≤◌, arith, refl, subst, Result, Err}
 use Rattle.tac_hall.specs.declared.call.Call.{Call}
 use Rattle.tac_hall.specs.declared.call.CallAnswer.{CallAnswer}
-use Rattle.tac_hall.specs.declared.entry.Entry.{Entry}
 use Rattle.tac_hall.specs.declared.entry.Made.{Made}
-use Rattle.tac_hall.specs.Seat.{AreBelow}
+use Rattle.tac_hall.specs.declared.entry.Receipt.{Receipt}
+use Rattle.tac_hall.specs.declared.fault.HallFault.{HallFault}
+use Rattle.tac_hall.specs.Room.{Contents}
+use Rattle.tac_hall.specs.Seat.{Sitting, AreBelow, CallsBy}
 
 pub below_more : (view : List Made) (low high : ℕ) → low ≤ high → AreBelow low view → AreBelow high view
 below_more [] low high h b = tt
@@ -22,11 +24,13 @@ pub view_made : (view reserved pushed : List Made) (place : ℕ) (mine call : Ca
     → pushed ≡ view ++ record { place = place; call = call; answer = given } ∷ []
 view_made view reserved pushed place mine call kept given added same is_call is_answer = rw (added, same, is_call, is_answer) refl
 
--- the places stay below the number of calls in the log
-pub below_called : (view reserved pushed : List Made) (log logged : List Entry) (entry : Entry) (made : Made) (low high : ℕ)
-    → AreBelow low view → low ≤ length log → made.place ≡ length log → logged ≡ log ++ entry ∷ [] → high ≡ length logged → reserved ≡ view → pushed ≡ reserved ++ made ∷ []
-    → AreBelow high pushed
-below_called view reserved pushed log logged entry made low high b h place called len same added =
-    let longer : length (log ++ entry ∷ []) ≡ suc (length log) = omega (arith, length-append log (entry ∷ [])) in
-    let above : length log < high = rw (len, called) (omega (arith, longer)) in
-    rw (added, same) (below_behind view made high (below_more view low high (omega arith) b) (rw place above))
+-- the places stay below the next one
+pub below_pushed : (view reserved pushed : List Made) (made : Made) (low high : ℕ)
+    → AreBelow low view → low ≤ made.place → made.place < high → reserved ≡ view → pushed ≡ reserved ++ made ∷ [] → AreBelow high pushed
+below_pushed view reserved pushed made low high b from below same added =
+    rw (added, same) (below_behind view made high (below_more view low high (omega arith) b) below)
+
+-- the refusal of a call is that of the same call
+pub refused_so : (was now : Contents) (seat : Sitting) (theirs call : Call) (result : Result Receipt HallFault) (fault : HallFault)
+    → theirs ≡ call → result ≡ Err fault → CallsBy was seat theirs (Err fault) now → CallsBy was seat call result now
+refused_so was now seat theirs call result fault same refused h = rw refused (subst (λ (x : Call). CallsBy was seat x (Err fault) now) same h)

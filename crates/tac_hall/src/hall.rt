@@ -75,8 +75,7 @@ impl<D: Desk> Hall<D> {
         ensures room { (was : Contents) × (then : Contents)
             × sitting.CallsBy was seat.old call result then }
     {
-        let mut room = self.room.lock(rt);
-        seat.call_in(&mut room, call)
+        seat.call_in(rt, &self.room, call)
     }
 
     /// Ends the hall, and shows what it kept: the base is what the desk stood for when the hall was

@@ -11,6 +11,7 @@ mod gate;
 mod hall;
 mod hearing;
 pub mod laws;
+mod locking;
 mod seat;
 mod serving;
 mod shared;

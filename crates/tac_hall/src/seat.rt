@@ -1,16 +1,20 @@
 //! A seat of a hall.
 
-ghost use Rattle.std.specs.Prelude.{◌≡◌, [], IfOk, OnErr};
+ghost use Rattle.std.specs.Prelude.{◌≡◌, ◌<◌, ◌≤◌, [], Ok, Err, IfOk, IfErr, OnErr};
+ghost use Rattle.tac_hall.specs.History.{IsOfKind};
 ghost use Rattle.tac_hall.specs.Room as rooms;
 ghost use Rattle.tac_hall.specs.Seat as seats;
+ghost use Rattle.tac_hall.specs.declared.call.Call.{Call as CallValue};
 
-use crate::call::Call;
+use crate::call::{Call, CallAnswer};
 use crate::entry::{Made, Receipt};
 use crate::fault::HallFault;
 use crate::laws::{Called, Done, Room, Step};
+use crate::locking::take;
 use crate::shared::Shared;
-use std::alloc::Global;
+use std::alloc::{AllocError, Global};
 use std::marker::Model;
+use std::sync::{Mutex, Wait};
 use tac_desk::Desk;
 
 // The step of a call.
@@ -34,6 +38,68 @@ pub(crate) fn sit_in<D: Desk>(room: &mut Room<D>) -> Result<u32, HallFault>
     match room.step(Step::Seat)? {
         Done::Seated(number) => Ok(number),
         Done::Called(_) => unreachable!(),
+    }
+}
+
+// A call that was made: its receipt, another owner of the answer, and how many calls the log has.
+#[derive(Drop)]
+struct Placed {
+    receipt: Receipt,
+    kept: CallAnswer,
+    next: usize,
+}
+
+// Two owners of a call.
+fn owners(alloc: Global, call: Call) -> Result<(Shared<Call>, Shared<Call>), AllocError>
+    ensures { IfOk result (λ owners. (owners.0 ≡ call) × (owners.1 ≡ call)) }
+{
+    let mine = Shared::new(alloc, call)?;
+    let theirs = mine.again()?;
+    Ok((mine, theirs))
+}
+
+// Makes the call of a seat of this number, all of whose calls stand below the next place.
+fn place_call<D: Desk>(
+    room: &mut Room<D>,
+    number: u32,
+    next: usize,
+    call: Shared<Call>,
+) -> Result<Placed, HallFault>
+    ensures made { IfOk result (λ placed. (seat : seats.Sitting) → seat.number ≡ number →
+        seat.next ≡ next → seats.CallsBy room.old seat call (Ok placed.receipt) room.new) }
+    ensures refused { IfErr result (λ fault. (seat : seats.Sitting) → seat.number ≡ number →
+        seat.next ≡ next → seats.CallsBy room.old seat call (Err fault) room.new) }
+    ensures receipt { IfOk result (λ placed. (placed.receipt.seat ≡ number)
+        × (placed.kept ≡ placed.receipt.answer) × IsOfKind call placed.receipt.answer) }
+    ensures above { IfOk result (λ placed. (next ≤ placed.receipt.place)
+        × (placed.receipt.place < placed.next)) }
+{
+    if !room.knows(number, next) {
+        return Err(HallFault::NoSeat);
+    }
+    let Called { place, kept, given } = call_from(room, number, call)?;
+    Ok(Placed {
+        receipt: Receipt {
+            seat: number,
+            place,
+            answer: given,
+        },
+        kept,
+        next: room.log().len(),
+    })
+}
+
+// Why a call isn't made that there is no memory for: want of memory is the last of the refusals.
+fn refusal<D: Desk>(room: &Room<D>, number: u32, next: usize) -> HallFault
+    ensures { (seat : seats.Sitting) (call : CallValue) → seat.number ≡ number →
+        seat.next ≡ next → seats.CallsBy room.now seat call (Err result) room.now }
+{
+    if !room.knows(number, next) {
+        return HallFault::NoSeat;
+    }
+    match room.judge() {
+        Ok(()) => HallFault::Memory,
+        Err(fault) => fault,
     }
 }
 
@@ -90,35 +156,37 @@ impl Seat {
         self.view.as_slice()
     }
 
-    /// Makes a call in a room. What memory could be wanted for is taken before the call is made.
-    pub(crate) fn call_in<D: Desk>(
+    /// Makes a call in a room. What memory it wants beside that of the room is taken before the
+    /// room is locked.
+    pub(crate) fn call_in<D: Desk, R: Wait>(
         &mut self,
-        room: &mut Room<D>,
+        rt: &R,
+        room: &Mutex<Room<D>>,
         call: Call,
     ) -> Result<Receipt, HallFault>
         ensures made { IfOk result (λ receipt. seats.IsMade self.old call receipt self.new) }
-        ensures room { seats.CallsBy room.old self.old call result room.new }
+        ensures room { (was : rooms.Contents) × (then : rooms.Contents)
+            × seats.CallsBy was self.old call result then }
         ensures err { OnErr result (self.new ≡ self.old) }
     {
-        if !room.knows(self.number, self.next) {
-            return Err(HallFault::NoSeat);
+        if let Err(_) = self.view.reserve(1) {
+            return Err(refusal(&take(rt, room), self.number, self.next));
         }
-        room.judge()?;
-        self.view.reserve(1)?;
-        let mine = Shared::new(self.alloc, call)?;
-        let theirs = mine.again()?;
-        let Called { place, kept, given } = call_from(room, self.number, theirs)?;
+        let Ok((mine, theirs)) = owners(self.alloc, call) else {
+            return Err(refusal(&take(rt, room), self.number, self.next));
+        };
+        let Placed {
+            receipt,
+            kept,
+            next,
+        } = place_call(&mut take(rt, room), self.number, self.next, theirs)?;
         let made = Made {
-            place,
+            place: receipt.place,
             call: mine,
             answer: kept,
         };
         self.view.push(made).unwrap();
-        self.next = room.log().len();
-        Ok(Receipt {
-            seat: self.number,
-            place,
-            answer: given,
-        })
+        self.next = next;
+        Ok(receipt)
     }
 }
