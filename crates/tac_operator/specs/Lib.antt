@@ -1,3 +1,4 @@
 pub mod Commands
+pub mod FaultText
 pub mod Operated
 pub mod Operating

@@ -1,6 +1,7 @@
 //! Why a console fails.
 
-ghost use Rattle.std.specs.Prelude.{◌≡◌};
+ghost use Rattle.std.specs.Prelude.{◌≡◌, Some};
+ghost use Rattle.tac_operator.specs.FaultText.{fault_text};
 ghost use Rattle.tac_operator.specs.declared.fault.OperatorFault.TheVariants.{Memory};
 
 use std::alloc::{AllocError, AllocFailed};
@@ -19,6 +20,8 @@ pub enum OperatorFault {
 }
 
 impl fmt::Display for OperatorFault {
+    ghost output = { λ fault. Some (fault_text fault) };
+
     fn fmt<W: fmt::Write>(&self, f: &mut fmt::Formatter<W>) -> fmt::Result {
         match self {
             OperatorFault::ReadFault => write!(f, "the console could not be read"),
