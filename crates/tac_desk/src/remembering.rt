@@ -68,10 +68,7 @@ impl Remembered {
         ensures right { (policy : List SubjectValue) → AreDecisionsBy policy self.old.kept.entries
             → AreDecisionsBy policy self.new.kept.entries }
     {
-        if !self.kept.promote(command) {
-            return None;
-        }
-        self.kept.peek(command).copied()
+        self.kept.get(command).copied()
     }
 
     // Remembers a decision, if there is room.
