@@ -6,7 +6,7 @@ ghost use Rattle.std.specs.Io.KnownBytes.{Appends, IsAtEnd, Keeps};
 ghost use Rattle.pol_edit.specs.Applying.{is_memory};
 ghost use Rattle.tac_console.specs.Faults.{build_fault, is_build_fault};
 ghost use Rattle.tac_desk.specs.Metered.{Metered};
-ghost use Rattle.tacd.specs.Opening.{IsDeskOf, IsDeskOfText};
+ghost use Rattle.tac_program.specs.Opening.{IsDeskOf, IsDeskOfText};
 
 use crate::status::Status;
 use pol_edit::EditFault;

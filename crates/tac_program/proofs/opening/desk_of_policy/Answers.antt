@@ -1,6 +1,6 @@
 use Rattle.pol_edit.specs.Applying.{is_memory}
-use Rattle.tacd.proofs.OpeningFacts.{refused, unless}
-use Rattle.tacd.proofs.opening.desk_of_policy.Goals as goal
+use Rattle.tac_program.proofs.OpeningFacts.{refused, unless}
+use Rattle.tac_program.proofs.opening.desk_of_policy.Goals as goal
 
 pub returns-in_ok-printed-in-Err : goal.returns-in_ok-printed-in-Err
 returns-in_ok-printed-in-Err c =

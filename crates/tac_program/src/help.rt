@@ -1,33 +1,9 @@
-//! The words that the program takes, and its help.
+//! The texts of the program's help.
 
-use clap::{Arg, Command, value_parser};
-use std::alloc::{AllocError, Global};
-
-/// The word that asks for a server.
-pub(crate) const SERVE: &str = "serve";
-
-/// The word that asks for a check.
-pub(crate) const CHECK: &str = "check";
-
-/// The file of a server's or a check's policy.
-pub(crate) const FILE: &str = "FILE";
-
-/// The port that a server listens on.
-pub(crate) const PORT: &str = "port";
-
-/// The key that a server shares with its devices.
-pub(crate) const KEY: &str = "key";
-
-/// How many connections a server serves at once.
-pub(crate) const WORKERS: &str = "workers";
-
-/// How many connections each of its workers serves.
-pub(crate) const CONNECTIONS: &str = "connections";
-
-const ABOUT: &str =
+pub(crate) const ABOUT: &str =
     "Serves TACACS+ by a policy of users and command lines, checks one, and plays scripts against it";
 
-const LONG_ABOUT: &str =
+pub(crate) const LONG_ABOUT: &str =
     "Serves TACACS+ by a policy of users and command lines, checks one, and plays scripts against it.
 
 A network device that runs TACACS+ (RFC 8907) asks a server who may log in and which command lines a
@@ -36,9 +12,10 @@ and takes edits of its policy and questions at a console. 'tacd check' reads a p
 which of its rules decide nothing. 'tacd replay' takes what devices send from a script, together
 with the policy, and prints what is answered; it opens no socket.";
 
-const SERVE_ABOUT: &str = "Serves devices on a port, with a console on standard input";
+pub(crate) const SERVE_ABOUT: &str = "Serves devices on a port, with a console on standard input";
 
-pub(crate) const SERVE_LONG_ABOUT: &str =
+/// What `tacd serve --help` begins with.
+pub const SERVE_LONG_ABOUT: &str =
     "Serves devices that run TACACS+ (RFC 8907) on a port, with a console on standard input.
 
 The policy is read from a file once. It is edited at the console, and an edit counts from the next
@@ -47,22 +24,23 @@ packet on. Edits and accounting records are kept in memory alone, and are gone w
 Anyone with a login on this machine can see the key, by 'ps' for one. Let nobody log in here who may
 not know it.";
 
-const PORT_HELP: &str = "The TCP port, 1 to 65535, at every IPv4 address of the machine";
+pub(crate) const PORT_HELP: &str = "The TCP port, 1 to 65535, at every IPv4 address of the machine";
 
-const KEY_HELP: &str =
+pub(crate) const KEY_HELP: &str =
     "The key that server and devices share, 1 to 128 printable ASCII characters; other users see it";
 
-const WORKERS_HELP: &str = "How many connections are served at once, 1 to 63";
+pub(crate) const WORKERS_HELP: &str = "How many connections are served at once, 1 to 63";
 
-const CONNECTIONS_HELP: &str = "How many connections each worker serves before it ends, at least 1";
+pub(crate) const CONNECTIONS_HELP: &str =
+    "How many connections each worker serves before it ends, at least 1";
 
-const SERVE_AFTER_HELP: &str = "Example:
+pub(crate) const SERVE_AFTER_HELP: &str = "Example:
   tacd serve --port 49 --key tundra campus.policy
 
 'tacd serve --help' describes the console; 'tacd replay --help' the lines of a policy.";
 
-pub(crate) const SERVE_AFTER_LONG_HELP: &str =
-    "'tacd replay --help' describes the lines of a policy.
+/// What `tacd serve --help` ends with.
+pub const SERVE_AFTER_LONG_HELP: &str = "'tacd replay --help' describes the lines of a policy.
 
 A worker serves one connection at a time, until the device hangs up; other devices wait. Standard
 output has 'listening PORT' first, and then what the console's lines are answered.
@@ -112,26 +90,29 @@ Exit status:
   2  the command line is wrong
   3  memory ran out
   4  the file could not be read, the port could not be had, the console could not be read, or the
-     output could not be written";
+     output could not be written, or 'close refused' was printed: the calls of all workers could
+     not be put together";
 
-const CHECK_ABOUT: &str = "Reads a policy, and prints which of its rules decide nothing";
+pub(crate) const CHECK_ABOUT: &str = "Reads a policy, and prints which of its rules decide nothing";
 
-pub(crate) const CHECK_LONG_ABOUT: &str =
+/// What `tacd check --help` begins with.
+pub const CHECK_LONG_ABOUT: &str =
     "Reads a policy, and prints how much it has and which of its rules decide nothing.
 
 A rule decides nothing for a user or a group if each command line that it fits is decided by a rule
 before it, by one of them alone or by several together. Such a rule is mostly a mistake. A policy
-that is wrong is refused, and the first wrong line is named.";
+that is wrong is refused, and the first line that is no line of a policy is named. Where each is one,
+it is the line of a subject whose group isn't there, whose groups run in a circle or are too many.";
 
-const FILE_HELP: &str = "The policy's text, at most 268435456 bytes";
+pub(crate) const FILE_HELP: &str = "The policy's text, at most 268435456 bytes";
 
-const CHECK_AFTER_HELP: &str = "Example:
+pub(crate) const CHECK_AFTER_HELP: &str = "Example:
   tacd check campus.policy
 
 'tacd check --help' describes what is printed; 'tacd replay --help' the lines of a policy.";
 
-pub(crate) const CHECK_AFTER_LONG_HELP: &str =
-    "'tacd replay --help' describes the lines of a policy.
+/// What `tacd check --help` ends with.
+pub const CHECK_AFTER_LONG_HELP: &str = "'tacd replay --help' describes the lines of a policy.
 
 What is printed of a policy that may stand, with the last line where no rule is shadowed:
   policy ok: S subjects, R rules
@@ -140,7 +121,7 @@ What is printed of a policy that may stand, with the last line where no rule is 
   none
 
 What is printed of one that is refused:
-  fault line L FAULT   line L of the file is wrong; of several, the first is named
+  fault line L FAULT   line L of the file is wrong
   fault TooManyStates SUBJECT
                        the rules along SUBJECT and its groups are too large together
 
@@ -162,9 +143,11 @@ Exit status:
   3  memory ran out
   4  the file could not be read, or the output could not be written";
 
-const REPLAY_ABOUT: &str = "Reads a script on standard input and prints the server's replies";
+pub(crate) const REPLAY_ABOUT: &str =
+    "Reads a script on standard input and prints the server's replies";
 
-pub(crate) const REPLAY_LONG_ABOUT: &str =
+/// What `tacd replay --help` begins with.
+pub const REPLAY_LONG_ABOUT: &str =
     "Reads a script on standard input and prints the server's replies on standard output.
 
 The script gives the key that server and devices share, a policy, and what devices send over their
@@ -172,12 +155,13 @@ connections: packets of TACACS+ authentication, authorisation and accounting (RF
 every session asks for a login or a command line, or tells what was done. The whole script, at most
 268435456 bytes, is read before anything is printed.";
 
-const REPLAY_AFTER_HELP: &str = "Example:
+pub(crate) const REPLAY_AFTER_HELP: &str = "Example:
   tacd replay < session.script
 
 'tacd replay --help' describes the lines of a script.";
 
-pub(crate) const REPLAY_AFTER_LONG_HELP: &str = "Lines of a script, in this order:
+/// What `tacd replay --help` ends with.
+pub const REPLAY_AFTER_LONG_HELP: &str = "Lines of a script, in this order:
   key TEXT             line 1: the key, 1 to 128 printable ASCII characters
   the policy, any number of these:
     group NAME           begins a group; with ' in GROUP', one that has that group's rules too
@@ -194,6 +178,7 @@ pub(crate) const REPLAY_AFTER_LONG_HELP: &str = "Lines of a script, in this orde
     bytes N HEX          it sends these bytes as they are
     pieces K             from here on, what is sent comes in pieces of K bytes, 1 to 9999
     lost N               connection N is lost
+    console LINE         an operator types LINE: an edit or a question, as at 'tacd serve'
 
 In the policy, empty lines, lines that begin with '#' and leading spaces are passed over. A NAME is
 1 to 32 of the characters A-Z a-z 0-9 _ - . @. A PATTERN, up to 200 characters long, is to fit a
@@ -206,7 +191,10 @@ none fits, the command is denied.
 What is printed:
   reply N HEX          the server sends a packet on connection N, here with its body in the clear
   closed N             the server closes connection N; the number may be opened again
+  what a LINE of an operator is answered, which 'tacd serve --help' describes
   fault line L FAULT   line L of the script is wrong, and nothing after it is played
+  fault TooManyStates SUBJECT
+                       the rules along SUBJECT and its groups are too large together
   fault Memory         memory ran out: this line stands in place of all that is printed
 
 Example, in which bob, of the group ops, asks for 'show version':
@@ -229,78 +217,10 @@ Exit status:
   3  memory ran out
   4  the script could not be read, or the output could not be written";
 
-const AFTER_LONG_HELP: &str = "Examples:
+pub(crate) const AFTER_LONG_HELP: &str = "Examples:
   tacd check campus.policy
   tacd serve --port 49 --key tundra campus.policy
   tacd replay < session.script
 
 'tacd serve --help', 'tacd check --help' and 'tacd replay --help' describe what is read, what is
 printed, and the exit status.";
-
-// An option of `serve` that is a number.
-fn number<'a>(alloc: Global, id: &'a str, shown: &'a str, greatest: i64, help: &'a str) -> Arg<'a> {
-    Arg::new(alloc, id)
-        .long(id)
-        .value_name(shown)
-        .value_parser(value_parser!(u32).range(1..=greatest))
-        .help(help)
-}
-
-fn serve<'a>(alloc: Global) -> Result<Command<'a>, AllocError> {
-    let port = number(alloc, PORT, "P", 65_535, PORT_HELP).required(true);
-    let key = Arg::new(alloc, KEY)
-        .long(KEY)
-        .value_name("K")
-        .required(true)
-        .help(KEY_HELP);
-    let workers = number(alloc, WORKERS, "W", 63, WORKERS_HELP).default_value("4");
-    let connections = number(
-        alloc,
-        CONNECTIONS,
-        "N",
-        4_294_967_295,
-        CONNECTIONS_HELP,
-    ).default_value("4294967295");
-    let file = Arg::new(alloc, FILE).required(true).help(FILE_HELP);
-    Command::new(alloc, SERVE)
-        .about(SERVE_ABOUT)
-        .long_about(SERVE_LONG_ABOUT)
-        .after_help(SERVE_AFTER_HELP)
-        .after_long_help(SERVE_AFTER_LONG_HELP)
-        .arg(port)?
-        .arg(key)?
-        .arg(workers)?
-        .arg(connections)?
-        .arg(file)
-}
-
-fn check<'a>(alloc: Global) -> Result<Command<'a>, AllocError> {
-    let file = Arg::new(alloc, FILE).required(true).help(FILE_HELP);
-    Command::new(alloc, CHECK)
-        .about(CHECK_ABOUT)
-        .long_about(CHECK_LONG_ABOUT)
-        .after_help(CHECK_AFTER_HELP)
-        .after_long_help(CHECK_AFTER_LONG_HELP)
-        .arg(file)
-}
-
-fn replay<'a>(alloc: Global) -> Command<'a> {
-    Command::new(alloc, "replay")
-        .about(REPLAY_ABOUT)
-        .long_about(REPLAY_LONG_ABOUT)
-        .after_help(REPLAY_AFTER_HELP)
-        .after_long_help(REPLAY_AFTER_LONG_HELP)
-}
-
-/// What the program's command line may be.
-pub(crate) fn command<'a>(alloc: Global) -> Result<Command<'a>, AllocError> {
-    Command::new(alloc, "tacd")
-        .about(ABOUT)
-        .long_about(LONG_ABOUT)
-        .after_long_help(AFTER_LONG_HELP)
-        .version("0.1.0")
-        .subcommand_required(true)
-        .subcommand(serve(alloc)?)?
-        .subcommand(check(alloc)?)?
-        .subcommand(replay(alloc))
-}

@@ -5,7 +5,7 @@ use Rattle.pol_edit.specs.declared.fault.EditFault.{EditFault}
 use Rattle.pol_text.specs.declared.subject.Subject.{Subject}
 use Rattle.tac_console.specs.Faults.{build_fault}
 use Rattle.tac_desk.specs.Opening.{Opens}
-use Rattle.tacd.specs.Opening.{IsDeskOf}
+use Rattle.tac_program.specs.Opening.{IsDeskOf}
 
 pub unless : {P : Type 0} (is_memory : Bool) → Except is_memory P → is_memory ≡ false → P
 unless {P} is_memory h e = subst (λ b. Except b P) e h

@@ -1,17 +1,17 @@
 //! What the program prints, and how it ends, by its words and its input.
 
-use crate::command_line::{
-    CHECK_AFTER_LONG_HELP, CHECK_LONG_ABOUT, REPLAY_AFTER_LONG_HELP, REPLAY_LONG_ABOUT,
-    SERVE_AFTER_LONG_HELP, SERVE_LONG_ABOUT,
-};
 use crate::fake::Fake;
-use crate::program::run;
 use std::alloc::{AllocError, Global};
 use std::net::{Net, TcpListener, TcpStream};
 use std::process::{Abort, ExitCode};
 use std::sync::Wait;
 use std::test::Fail;
 use std::thread::Threads;
+use tac_program::help::{
+    CHECK_AFTER_LONG_HELP, CHECK_LONG_ABOUT, REPLAY_AFTER_LONG_HELP, REPLAY_LONG_ABOUT,
+    SERVE_AFTER_LONG_HELP, SERVE_LONG_ABOUT,
+};
+use tac_program::run;
 
 // Runs the program, and compares its status and what stands on both streams.
 fn run_ends<R>(rt: &R, fake: &Fake<'_>, status: u8, printed: &str, complained: &str)

@@ -130,7 +130,7 @@ fn words_of<R: Env + AllocGlobal>(rt: &R) -> io::Result<Vec<String>> {
 
 /// Does what the command line asks for. The result is the status to end with. Words, files and
 /// streams are the runtime's, threads and sockets the host's.
-pub(crate) fn run<R, H>(rt: &R, host: &H) -> ExitCode
+pub fn run<R, H>(rt: &R, host: &H) -> ExitCode
 where
     R: Env + Files + Input + Print + Eprint + AllocGlobal,
     H: Threads + Wait + Sync + AllocGlobal + Net<Listener = TcpListener, Stream = TcpStream>,

@@ -1,0 +1,8 @@
+//! Tests of the program: what it prints, and how it ends, over words, files and streams of the tests'
+//! own.
+#![tactic(auto)]
+
+#[cfg(test)]
+mod fake;
+#[cfg(test)]
+mod running;

@@ -1,0 +1,99 @@
+//! The words that the program takes.
+
+use crate::help::{
+    ABOUT, AFTER_LONG_HELP, CHECK_ABOUT, CHECK_AFTER_HELP, CHECK_AFTER_LONG_HELP, CHECK_LONG_ABOUT,
+    CONNECTIONS_HELP, FILE_HELP, KEY_HELP, LONG_ABOUT, PORT_HELP, REPLAY_ABOUT, REPLAY_AFTER_HELP,
+    REPLAY_AFTER_LONG_HELP, REPLAY_LONG_ABOUT, SERVE_ABOUT, SERVE_AFTER_HELP,
+    SERVE_AFTER_LONG_HELP, SERVE_LONG_ABOUT, WORKERS_HELP,
+};
+use clap::{Arg, Command, value_parser};
+use std::alloc::{AllocError, Global};
+
+/// The word that asks for a server.
+pub(crate) const SERVE: &str = "serve";
+
+/// The word that asks for a check.
+pub(crate) const CHECK: &str = "check";
+
+/// The file of a server's or a check's policy.
+pub(crate) const FILE: &str = "FILE";
+
+/// The port that a server listens on.
+pub(crate) const PORT: &str = "port";
+
+/// The key that a server shares with its devices.
+pub(crate) const KEY: &str = "key";
+
+/// How many connections a server serves at once.
+pub(crate) const WORKERS: &str = "workers";
+
+/// How many connections each of its workers serves.
+pub(crate) const CONNECTIONS: &str = "connections";
+
+// An option of `serve` that is a number.
+fn number<'a>(alloc: Global, id: &'a str, shown: &'a str, greatest: i64, help: &'a str) -> Arg<'a> {
+    Arg::new(alloc, id)
+        .long(id)
+        .value_name(shown)
+        .value_parser(value_parser!(u32).range(1..=greatest))
+        .help(help)
+}
+
+fn serve<'a>(alloc: Global) -> Result<Command<'a>, AllocError> {
+    let port = number(alloc, PORT, "P", 65_535, PORT_HELP).required(true);
+    let key = Arg::new(alloc, KEY)
+        .long(KEY)
+        .value_name("K")
+        .required(true)
+        .help(KEY_HELP);
+    let workers = number(alloc, WORKERS, "W", 63, WORKERS_HELP).default_value("4");
+    let connections = number(
+        alloc,
+        CONNECTIONS,
+        "N",
+        4_294_967_295,
+        CONNECTIONS_HELP,
+    ).default_value("4294967295");
+    let file = Arg::new(alloc, FILE).required(true).help(FILE_HELP);
+    Command::new(alloc, SERVE)
+        .about(SERVE_ABOUT)
+        .long_about(SERVE_LONG_ABOUT)
+        .after_help(SERVE_AFTER_HELP)
+        .after_long_help(SERVE_AFTER_LONG_HELP)
+        .arg(port)?
+        .arg(key)?
+        .arg(workers)?
+        .arg(connections)?
+        .arg(file)
+}
+
+fn check<'a>(alloc: Global) -> Result<Command<'a>, AllocError> {
+    let file = Arg::new(alloc, FILE).required(true).help(FILE_HELP);
+    Command::new(alloc, CHECK)
+        .about(CHECK_ABOUT)
+        .long_about(CHECK_LONG_ABOUT)
+        .after_help(CHECK_AFTER_HELP)
+        .after_long_help(CHECK_AFTER_LONG_HELP)
+        .arg(file)
+}
+
+fn replay<'a>(alloc: Global) -> Command<'a> {
+    Command::new(alloc, "replay")
+        .about(REPLAY_ABOUT)
+        .long_about(REPLAY_LONG_ABOUT)
+        .after_help(REPLAY_AFTER_HELP)
+        .after_long_help(REPLAY_AFTER_LONG_HELP)
+}
+
+/// What the program's command line may be.
+pub(crate) fn command<'a>(alloc: Global) -> Result<Command<'a>, AllocError> {
+    Command::new(alloc, "tacd")
+        .about(ABOUT)
+        .long_about(LONG_ABOUT)
+        .after_long_help(AFTER_LONG_HELP)
+        .version("0.1.0")
+        .subcommand_required(true)
+        .subcommand(serve(alloc)?)?
+        .subcommand(check(alloc)?)?
+        .subcommand(replay(alloc))
+}

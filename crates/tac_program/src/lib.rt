@@ -1,0 +1,13 @@
+//! The program over any runtime: its command line, its files and streams, and the status that it
+//! ends with.
+#![tactic(auto)]
+
+mod command_line;
+pub mod help;
+mod opening;
+mod options;
+mod program;
+mod serving;
+mod status;
+
+pub use program::run;
