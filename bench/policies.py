@@ -4,6 +4,7 @@ A unit is 10 groups of 25 rules, nested to depth 3, and 18 users without rules o
 subjects, with 1,475 entries along all chains.
 """
 import random
+import re
 
 PARENTS = [None, None, None, 0, 0, 1, 2, 3, 4, 5]
 HOMES = [0, 1, 2] + [3, 4, 5, 6] * 2 + [3] + [7, 8, 9] * 2
@@ -89,3 +90,12 @@ def lines(seed, count):
         f"{choose.choice(VERBS)} {choose.choice(NOUNS)}{choose.choice(endings)}"
         for _ in range(count)
     ]
+
+
+def decided_lines(seed, count, patterns):
+    """Of such lines those that a pattern fits."""
+    expressions = [re.compile(pattern) for pattern in patterns]
+    seen = sorted(set(lines(seed, 100_000)))
+    decided = [line for line in seen if any(one.fullmatch(line) for one in expressions)]
+    choose = random.Random(seed)
+    return [choose.choice(decided) for _ in range(count)]
