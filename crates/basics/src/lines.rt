@@ -19,6 +19,7 @@ pub fn split_once(bytes: &[u8], separator: u8) -> Option<(&[u8], &[u8])>
     Some((&bytes[..at], &bytes[at + 1..]))
 }
 
+/// The text behind its leading spaces (0x20 alone).
 pub fn without_leading_spaces(text: &[u8]) -> &[u8]
     ensures { result.now ≡ trimmed text.now }
 {

@@ -40,6 +40,7 @@ impl<T> Sequence<T> {
         }
     }
 
+    /// The elements, in order.
     pub fn as_slice(&self) -> &[T]
         ensures { result.now ≡ self.now }
     {
@@ -61,12 +62,14 @@ impl<T> Sequence<T> {
         self.items
     }
 
+    /// How many elements there are.
     pub fn len(&self) -> usize
         ensures { result ≡ length self.now }
     {
         self.items.len()
     }
 
+    /// Whether there is no element.
     pub fn is_empty(&self) -> bool
         ensures { IsTrue result ↔ (self.now ≡ []) }
     {

@@ -5,6 +5,7 @@ ghost use Rattle.pol_names.specs.Decision.{verdict_word};
 
 use crate::subject_id::SubjectId;
 
+/// What a rule says of the lines that its pattern holds.
 #[derive(Clone, Copy, Debug, PartialEq, Eq)]
 pub enum Verdict {
     Permit,
@@ -30,6 +31,7 @@ pub enum By {
     Default,
 }
 
+/// What a policy says of a user's line, and what decided it.
 #[derive(Clone, Copy, Debug, PartialEq, Eq)]
 pub struct Decision {
     pub verdict: Verdict,

@@ -15,7 +15,8 @@ use pol_names::{Name, SubjectId};
 pub use reaching::reach;
 pub use shadowing::shadows;
 
-/// A user for whom a change of the policy changes a decision.
+/// A user to whom a change of the policy permits a line that was denied, or denies one that was
+/// permitted.
 #[derive(Debug, Drop, PartialEq, Eq)]
 pub struct Changed {
     pub user: Name,
@@ -31,8 +32,8 @@ impl StructuralEq for Changed {
     ghost identical = { Prim.search rules };
 }
 
-/// The users for whom a change of the policy changes a decision: those of the new policy in its
-/// order, and then those of the old one alone.
+/// The users to whom a change of the policy permits or denies a line otherwise: those of the new
+/// policy in its order, and then those of the old one alone.
 pub type Changes = Sequence<Changed>;
 
 /// A rule that decides no line of a subject, since earlier ones decide all that it matches.

@@ -181,7 +181,7 @@ impl Policy {
         }
     }
 
-    /// A copy of the policy.
+    /// A copy of the policy, which shares its patterns. The error is want of memory.
     pub fn copy(&self, alloc: Global) -> Result<Policy, AllocError>
         ensures { IfOk result (λ copy. copy ≡ self.now) }
     {

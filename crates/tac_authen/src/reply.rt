@@ -12,8 +12,10 @@ use tac_wire::{BodyFault, MESSAGE_MAX, Message, REPLY_MAX, message_of};
 pub struct AuthenStatus(pub u8);
 
 impl AuthenStatus {
+    /// The user has passed.
     pub const PASS: AuthenStatus = AuthenStatus(1);
 
+    /// The user has failed.
     pub const FAIL: AuthenStatus = AuthenStatus(2);
 
     /// The name of the user is asked for.
@@ -22,6 +24,7 @@ impl AuthenStatus {
     /// The password is asked for.
     pub const GETPASS: AuthenStatus = AuthenStatus(5);
 
+    /// The server can't tell.
     pub const ERROR: AuthenStatus = AuthenStatus(7);
 }
 
