@@ -2,3 +2,5 @@ pub mod Serving
 pub mod Opening
 pub mod Ending
 pub mod Program
+pub mod Shared
+pub mod Places

@@ -8,9 +8,11 @@ mod opening;
 mod program;
 mod serving;
 mod settings;
+mod sharing;
 mod worker;
 
 pub use fault::ServeFault;
 pub use program::serve;
 pub use serving::serve_on;
 pub use settings::Settings;
+pub use sharing::sharing_laws;
