@@ -1,4 +1,5 @@
-//! Tests of the console of a hall: conversations with it, and inputs and outputs that fail.
+//! Tests of the console of a hall: conversations with it, the order of its reads and writes, and
+//! inputs and outputs that fail.
 #![tactic(auto)]
 
 #[cfg(test)]
@@ -9,3 +10,5 @@ mod lines;
 mod streams;
 #[cfg(test)]
 mod support;
+#[cfg(test)]
+mod turns;

@@ -23,8 +23,8 @@ pub(crate) struct Typed<'a> {
     pub(crate) ready: bool,
 }
 
-// As many bytes as there is room for.
-fn hand(bytes: &[u8], buf: &mut [u8]) -> usize
+/// As many bytes as there is room for.
+pub(crate) fn hand(bytes: &[u8], buf: &mut [u8]) -> usize
     ensures bound { result ≤ length buf.new }
     ensures len { length buf.new ≡ length buf.old }
 {
