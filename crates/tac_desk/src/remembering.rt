@@ -38,7 +38,8 @@ impl Command {
 #[derive(Drop)]
 pub(crate) struct Remembered {
     pub(crate) kept: LruCache<Command, Decision>,
-    // for the next command that is looked for: the room of the last one that was found
+    // for the next command that is looked for: the room of the one before, if that was found, or
+    // else none
     room: Vec<u8>,
 }
 
@@ -111,8 +112,9 @@ impl Remembered {
     }
 
     /// What the policy says of a user's line, by what is remembered, or else by its automata.
-    /// Nothing where there is no such user. Without memory nothing new is remembered. What is
-    /// remembered takes memory only for a line that is longer than those found before.
+    /// Nothing where there is no such user. Without memory nothing new is remembered. Looking for a
+    /// line takes memory only where it is longer than all that were found in a row right before it;
+    /// so behind one that was not found it does, unless the line is empty.
     pub(crate) fn decide(
         &mut self,
         alloc: Global,
