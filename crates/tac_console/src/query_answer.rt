@@ -54,7 +54,7 @@ fn verdict_text(verdict: Verdict) -> &'static str
 }
 
 // A rule, by its owner and its number there, and the end of the line. Its parts are added as they
-// are: formatting them takes longer than deciding a line.
+// are: formatting takes more instructions than deciding a line.
 fn write_rule(out: &mut Vec<u8>, owner: &SubjectId, number: u16) -> io::Result<()>
     ensures { OnOk result (out.new.items
         ≡ out.old.items ++ answers.by_text (by.Rule owner.now number) ++ 10 ∷ []) }
