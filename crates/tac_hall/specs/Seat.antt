@@ -6,7 +6,7 @@ use Rattle.tac_hall.specs.declared.entry.Receipt.{Receipt}
 use Rattle.tac_hall.specs.declared.fault.HallFault.{HallFault}
 use Rattle.tac_hall.specs.declared.fault.HallFault.TheVariants.{LogFull, Memory, Closed, NoSeat}
 use Rattle.tac_hall.specs.History.{IsOfKind}
-use Rattle.tac_hall.specs.Room.{Contents, IsCalled, Calls}
+use Rattle.tac_hall.specs.Room.{Contents, Sits, IsCalled, Calls}
 
 -- its number, the calls that it made, in order, and the first place that is above all of theirs
 pub record Sitting : Type 0 where
@@ -32,6 +32,13 @@ pub record IsMade (was : Sitting) (call : Call) (receipt : Receipt) (now : Sitti
   pub kind : IsOfKind call receipt.answer
   pub view : now.view ≡ was.view ++ made_of call receipt ∷ []
   pub number : now.number ≡ was.number
+
+-- ---- a new seat, beside the room
+
+-- it has the number that the room gives next, or there are as many as there may be
+abbrev pub SitsBy : Contents → Result Sitting HallFault → Contents → Type 0
+SitsBy was (Ok seat) now = Sits was (Ok seat.number) now
+SitsBy was (Err fault) now = Sits was (Err fault) now
 
 -- ---- the same call, beside the room
 

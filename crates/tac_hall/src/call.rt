@@ -9,7 +9,7 @@ use pol_report::Changes;
 use tac_conn::{Answer, Ask};
 use tac_desk::{Query, QueryFault, Report};
 
-/// A call.
+/// What a seat may call at its hall. Each call is answered and logged before the next is taken.
 #[derive(Debug, Drop)]
 pub enum Call {
     /// What a connection asks the desk.

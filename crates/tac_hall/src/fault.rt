@@ -8,8 +8,8 @@ use std::alloc::{AllocError, AllocFailed};
 use std::error::Error;
 use std::fmt;
 
-/// Why a hall takes no call, or has no seat. Of a call Closed is judged first, then LogFull, then
-/// Memory.
+/// Why a hall takes no call, or has no seat. Of a call NoSeat is judged first, then Closed, then
+/// LogFull, then Memory.
 #[derive(Clone, Copy, Debug, PartialEq, Eq)]
 pub enum HallFault {
     /// The log has as many calls as it may have.

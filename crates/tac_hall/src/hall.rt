@@ -1,9 +1,9 @@
 //! A desk that many threads ask.
 
-ghost use Rattle.std.specs.Prelude.{◌≡◌, [], true, IfOk, IfErr, OnErr};
-ghost use Rattle.tac_hall.specs.Closing.{AreViews, are_theirs};
+ghost use Rattle.std.specs.Prelude.{◌≡◌, [], true, length, IfOk, IfErr, OnErr};
+ghost use Rattle.tac_hall.specs.Closing.{AreViews, are_theirs, are_there};
 ghost use Rattle.tac_hall.specs.History.{Legal};
-ghost use Rattle.tac_hall.specs.Room.{Contents};
+ghost use Rattle.tac_hall.specs.Room.{Contents, IsLawful};
 ghost use Rattle.tac_hall.specs.Seat as sitting;
 ghost use Rattle.tac_hall.specs.declared.fault.HallFault.TheVariants.{NoSeat};
 
@@ -55,11 +55,15 @@ impl<D: Desk> Hall<D> {
         })
     }
 
-    /// A new seat, which made no call. The only refusal is NoSeat, after 64 of them; a seat may be
-    /// asked for after a Stop too. Takes no memory.
+    /// A new seat, which made no call, under the next number. The only refusal is NoSeat, after 64
+    /// of them; a seat may be asked for after a Stop too. Takes no memory.
     pub fn seat<R: Wait>(&self, rt: &R) -> Result<Seat, HallFault>
         ensures fresh { IfOk result (λ seat. (seat.next ≡ 0) × (seat.view ≡ [])) }
         ensures fault { IfErr result (λ fault. fault ≡ NoSeat) }
+
+        // One step of some room comes to it; that it was this hall's is told by `close`.
+        ensures room { (was : Contents) × (then : Contents) × IsLawful was
+            × sitting.SitsBy was result then }
     {
         let number = sit_in(&mut self.room.lock(rt))?;
         Ok(Seat::new(self.alloc, number))
@@ -71,8 +75,8 @@ impl<D: Desk> Hall<D> {
         ensures made { IfOk result (λ receipt. sitting.IsMade seat.old call receipt seat.new) }
         ensures err { OnErr result (seat.new ≡ seat.old) }
 
-        // It is what one step under the lock comes to, so the answer is a desk's.
-        ensures room { (was : Contents) × (then : Contents)
+        // One step of some room comes to it; that it was this hall's is told by `close`.
+        ensures room { (was : Contents) × (then : Contents) × IsLawful was
             × sitting.CallsBy was seat.old call result then }
     {
         seat.call_in(rt, &self.room, call)
@@ -80,7 +84,8 @@ impl<D: Desk> Hall<D> {
 
     /// Ends the hall, and shows what it kept: the base is what the desk stood for when the hall was
     /// made, the log is a legal history from there to what the desk stands for now, and it has of
-    /// each seat exactly the seat's view, and nothing else.
+    /// each seat exactly the seat's view, and nothing else. The seats have the numbers below their
+    /// count, each one of them.
     ///
     /// Refused where one of the hall's seats is missing, or one is handed in that isn't the hall's;
     /// then the hall and the seats come back. Linear in the log, for each seat.
@@ -91,6 +96,8 @@ impl<D: Desk> Hall<D> {
         ensures views { IfOk result (λ settled. AreViews settled.log.items seats.items) }
         ensures theirs { IfOk result (λ settled.
             are_theirs settled.log.items seats.items ≡ true) }
+        ensures there { IfOk result (λ _.
+            are_there (length seats.items) seats.items ≡ true) }
         ensures back { IfErr result (λ back. (back.0 ≡ self) × (back.1 ≡ seats)) }
     {
         let Hall {

@@ -1,6 +1,6 @@
 //! What lies under the lock of a hall, and the one step that is done while the lock is held.
 
-ghost use Rattle.std.specs.Prelude.{◌≡◌, [], ◌↔◌, true, IsTrue};
+ghost use Rattle.std.specs.Prelude.{◌≡◌, [], ◌↔◌, true, IsTrue, length};
 ghost use Rattle.tac_desk.specs.Meaning.{Meaning};
 ghost use Rattle.tac_hall.specs.History as history;
 ghost use Rattle.tac_hall.specs.Closing as closing;
@@ -114,7 +114,8 @@ impl<D: Desk> Room<D> {
     /// Whether a seat of this number was made, and a call stands in the log at each place below
     /// the next one.
     pub(crate) fn knows(&self, number: u32, next: usize) -> bool
-        ensures { IsTrue result ↔ seats.IsKnown self.now number next }
+        ensures known { IsTrue result ↔ seats.IsKnown self.now number next }
+        ensures lawful { rooms.IsLawful self.now }
     {
         number < self.seats && next <= self.log.len()
     }
@@ -125,6 +126,7 @@ impl<D: Desk> Room<D> {
         ensures views { IsTrue result → closing.AreViews self.now.log seats.now }
         ensures theirs { IsTrue result → closing.are_theirs self.now.log seats.now ≡ true }
         ensures there { IsTrue result → closing.are_there self.now.seats seats.now ≡ true }
+        ensures count { IsTrue result → length seats.now ≡ self.now.seats }
     {
         let log = self.log.as_slice();
         self.base.same(opening)
@@ -152,9 +154,11 @@ impl<D: Desk> Room<D> {
     }
 
     /// Does one thing: a call gets the desk's answer, which stands behind the log from then on. A
-    /// refusal changes nothing; only a call may want memory.
+    /// refusal changes nothing; only a call may want memory. What the room had until then was
+    /// lawful too.
     pub fn step(&mut self, step: Step) -> Result<Done, HallFault>
         ensures does { rooms.Does self.old step result self.new }
+        ensures lawful { rooms.IsLawful self.old }
         ensures legal { history.Legal self.new.base self.new.log self.new.meaning }
     {
         match step {
@@ -172,6 +176,7 @@ impl<D: Desk> Room<D> {
     // Makes a seat.
     fn sit(&mut self) -> Result<u32, HallFault>
         ensures sits { rooms.Sits self.old result self.new }
+        ensures lawful { rooms.IsLawful self.old }
         ensures legal { history.Legal self.new.base self.new.log self.new.meaning }
     {
         if self.seats >= MAX_SEATS {
@@ -185,6 +190,7 @@ impl<D: Desk> Room<D> {
     // Makes a call.
     fn call(&mut self, seat: u32, call: Shared<Call>) -> Result<Called, HallFault>
         ensures calls { rooms.Calls self.old seat call result self.new }
+        ensures lawful { rooms.IsLawful self.old }
         ensures legal { history.Legal self.new.base self.new.log self.new.meaning }
     {
         self.judge()?;

@@ -33,7 +33,8 @@ fn call_from<D: Desk>(
 
 // The step of a new seat.
 pub(crate) fn sit_in<D: Desk>(room: &mut Room<D>) -> Result<u32, HallFault>
-    ensures { rooms.Sits room.old result room.new }
+    ensures sits { rooms.Sits room.old result room.new }
+    ensures lawful { rooms.IsLawful room.old }
 {
     match room.step(Step::Seat)? {
         Done::Seated(number) => Ok(number),
@@ -73,6 +74,7 @@ fn place_call<D: Desk>(
         × (placed.kept ≡ placed.receipt.answer) × IsOfKind call placed.receipt.answer) }
     ensures above { IfOk result (λ placed. (next ≤ placed.receipt.place)
         × (placed.receipt.place < placed.next)) }
+    ensures lawful { rooms.IsLawful room.old }
 {
     if !room.knows(number, next) {
         return Err(HallFault::NoSeat);
@@ -91,8 +93,9 @@ fn place_call<D: Desk>(
 
 // Why a call isn't made that there is no memory for: want of memory is the last of the refusals.
 fn refusal<D: Desk>(room: &Room<D>, number: u32, next: usize) -> HallFault
-    ensures { (seat : seats.Sitting) (call : CallValue) → seat.number ≡ number →
+    ensures refused { (seat : seats.Sitting) (call : CallValue) → seat.number ≡ number →
         seat.next ≡ next → seats.CallsBy room.now seat call (Err result) room.now }
+    ensures lawful { rooms.IsLawful room.now }
 {
     if !room.knows(number, next) {
         return HallFault::NoSeat;
@@ -165,7 +168,7 @@ impl Seat {
         call: Call,
     ) -> Result<Receipt, HallFault>
         ensures made { IfOk result (λ receipt. seats.IsMade self.old call receipt self.new) }
-        ensures room { (was : rooms.Contents) × (then : rooms.Contents)
+        ensures room { (was : rooms.Contents) × (then : rooms.Contents) × rooms.IsLawful was
             × seats.CallsBy was self.old call result then }
         ensures err { OnErr result (self.new ≡ self.old) }
     {

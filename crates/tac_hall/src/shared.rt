@@ -37,7 +37,7 @@ impl<T> Shared<T> {
         Ok(Shared { value })
     }
 
-    /// The value.
+    /// The value itself, which is one for all its owners: nothing is copied.
     pub fn get(&self) -> &T
         ensures { result.now ≡ self.now }
     {

@@ -5,7 +5,7 @@ use Rattle.tac_hall.proofs.seat.Seat.call_in.Goals as goal
 pub returns-in_err-receipt-clause-room : goal.returns-in_err-receipt-clause-room
 returns-in_err-receipt-clause-room g c =
     let refused = c.in_err-receipt.ensures.refused c.args.self.now (search rules) (search rules) in
-    (c.deref_mut.result.now, c.place_call.new.room, refused_so _ c.place_call.new.room c.args.self.now c.in-Ok.theirs c.args.call c.from_residual.result _ c.in-Ok.ensures.1 (search rules) refused)
+    (c.deref_mut.result.now, c.place_call.new.room, c.place_call.ensures.lawful, refused_so _ c.place_call.new.room c.args.self.now c.in-Ok.theirs c.args.call c.from_residual.result _ c.in-Ok.ensures.1 (search rules) refused)
 
 pub invariant_of-self-2 : goal.invariant_of-self-2
 invariant_of-self-2 g c =
@@ -33,4 +33,4 @@ pub returns-clause-room : goal.returns-clause-room
 returns-clause-room g c =
     let made = c.in_ok-receipt.ensures.made c.args.self.now (search rules) (search rules) in
     let theirs = c.in-Ok.ensures.1 in
-    (c.deref_mut.result.now, c.place_call.new.room, rw theirs at made)
+    (c.deref_mut.result.now, c.place_call.new.room, c.place_call.ensures.lawful, rw theirs at made)
