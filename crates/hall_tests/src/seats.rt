@@ -1,6 +1,6 @@
 //! Seats that there are no more of, that are another hall's, and that are missing.
 
-use crate::support::{OPS, closes, hall_of, seats_of, show_version};
+use crate::support::{OPS, closes, closes_with, hall_of, seats_of, show_version, talks};
 use std::sync::Wait;
 use std::test::Fail;
 use tac_desk::PlainDesk;
@@ -14,10 +14,11 @@ fn sixty_four_seats(rt: HostRuntime) -> Result<(), Fail> {
     closes(hall, seats, 0)
 }
 
-// The last of three seats of a hall of its own.
-fn third_seat<R: Wait + AllocGlobal>(rt: &R) -> Result<Seat, Fail> {
+// The last of so many seats of a hall of its own, after this was said there.
+fn last_seat<R: Wait + AllocGlobal>(rt: &R, count: usize, talk: &str) -> Result<Seat, Fail> {
     let hall = hall_of(rt, OPS, 9)?;
-    let mut seats = seats_of(rt, &hall, 3)?;
+    let mut seats = seats_of(rt, &hall, count)?;
+    talks(rt, &hall, seats.as_mut_slice(), talk)?;
     match seats.pop() {
         Some(seat) => Ok(seat),
         None => Err(Fail::from("no seat")),
@@ -41,27 +42,109 @@ fn is_refused<R: Wait + AllocGlobal>(
 fn a_seat_of_another_hall(rt: HostRuntime) -> Result<(), Fail> {
     let hall = hall_of(&rt, OPS, 9)?;
     let _seats = seats_of(&rt, &hall, 2)?;
-    let third = third_seat(&rt)?;
+    let third = last_seat(&rt, 3, "")?;
     is_refused(&rt, &hall, third)
 }
 
-// The hall isn't closed with the first seat alone, and is with both.
-fn closes_with_both(hall: Hall<PlainDesk>, mut seats: Vec<Seat>) -> Result<(), Fail> {
+// The hall isn't closed with these seats; hall and seats come back.
+fn refused(hall: Hall<PlainDesk>, seats: Vec<Seat>) -> Result<(Hall<PlainDesk>, Vec<Seat>), Fail> {
+    match hall.close(seats) {
+        Ok(_) => Err(Fail::from("closed")),
+        Err(back) => Ok(back),
+    }
+}
+
+// The hall isn't closed without its last seat; it comes back with all of them.
+fn refused_without_last(
+    hall: Hall<PlainDesk>,
+    mut seats: Vec<Seat>,
+) -> Result<(Hall<PlainDesk>, Vec<Seat>), Fail> {
     let Some(last) = seats.pop() else {
         return Err(Fail::from("no seat"));
     };
-    match hall.close(seats) {
-        Ok(_) => Err(Fail::from("closed with one seat")),
-        Err((hall, mut seats)) => {
-            seats.push(last)?;
-            closes(hall, seats, 0)
-        }
-    }
+    let (hall, mut seats) = refused(hall, seats)?;
+    seats.push(last)?;
+    Ok((hall, seats))
+}
+
+// The hall isn't closed with this seat in place of its last; it comes back with its own.
+fn refused_with(
+    hall: Hall<PlainDesk>,
+    mut seats: Vec<Seat>,
+    stranger: Seat,
+) -> Result<(Hall<PlainDesk>, Vec<Seat>), Fail> {
+    let Some(last) = seats.pop() else {
+        return Err(Fail::from("no seat"));
+    };
+    seats.push(stranger)?;
+    let (hall, mut seats) = refused(hall, seats)?;
+    let _ = seats.pop();
+    seats.push(last)?;
+    Ok((hall, seats))
 }
 
 #[test]
 fn a_missing_seat(rt: HostRuntime) -> Result<(), Fail> {
     let hall = hall_of(&rt, OPS, 9)?;
     let seats = seats_of(&rt, &hall, 2)?;
-    closes_with_both(hall, seats)
+    let (hall, seats) = refused_without_last(hall, seats)?;
+    closes(hall, seats, 0)
+}
+
+// What a hall of five calls goes on with after three of them.
+const LATER: &str = "
+    0 run bob show version = 3 denied by group ops rule 1
+    1 records = 4 report
+    0 run bob show version = 1 LogFull
+    1 stop = 1 LogFull
+";
+
+const ALL: &str = "
+    1 run bob show version = permitted
+    0 insert group ops 1 deny show .* = changes 1
+    1 run bob show version = denied by group ops rule 1
+    0 run bob show version = denied by group ops rule 1
+    1 records = report
+";
+
+const OPS_AT_LAST: &str = "group ops\ndeny show .*\npermit show .*\nuser bob in ops\n";
+
+#[test]
+fn a_missing_seat_after_calls(rt: HostRuntime) -> Result<(), Fail> {
+    let hall = hall_of(&rt, OPS, 5)?;
+    let mut seats = seats_of(&rt, &hall, 2)?;
+    talks(
+        &rt,
+        &hall,
+        seats.as_mut_slice(),
+        "
+        1 run bob show version = 0 permitted
+        0 insert group ops 1 deny show .* = 1 changes 1
+        1 run bob show version = 2 denied by group ops rule 1
+        ",
+    )?;
+    let (hall, mut seats) = refused_without_last(hall, seats)?;
+    talks(&rt, &hall, seats.as_mut_slice(), LATER)?;
+    closes_with(rt.alloc(), hall, seats, ALL, OPS_AT_LAST)
+}
+
+// The other seat of another hall, whose call stands at another place.
+const FIRST_LAST: &str = "
+    1 run bob show version = 0 permitted
+    0 run bob show version = 1 permitted
+";
+
+const LAST_FIRST: &str = "
+    0 run bob show version = 0 permitted
+    1 run bob show version = 1 permitted
+";
+
+#[test]
+fn a_seat_of_another_hall_in_place_of_its_own(rt: HostRuntime) -> Result<(), Fail> {
+    let hall = hall_of(&rt, OPS, 9)?;
+    let mut seats = seats_of(&rt, &hall, 2)?;
+    talks(&rt, &hall, seats.as_mut_slice(), FIRST_LAST)?;
+    let stranger = last_seat(&rt, 2, LAST_FIRST)?;
+    let (hall, seats) = refused_with(hall, seats, stranger)?;
+    closes(hall, seats, 2)
 }

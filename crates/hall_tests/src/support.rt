@@ -8,11 +8,16 @@ use std::alloc::{AllocError, Global};
 use std::sync::Wait;
 use std::test::Fail;
 use tac_conn::{Answer, Ask, Proof, Service};
-use tac_desk::{PlainDesk, Query};
-use tac_hall::{Call, CallAnswer, Hall, HallFault, Receipt, Seat};
+use tac_desk::{Desk, PlainDesk, Query, State};
+use tac_hall::{Call, CallAnswer, Entry, Hall, HallFault, Receipt, Seat, Settled};
 
 /// A policy under which bob may show things.
 pub(crate) const OPS: &str = "group ops\npermit show .*\nuser bob in ops\n";
+
+fn desk_of(alloc: Global, policy: &str) -> Result<PlainDesk, Fail> {
+    let policy = Policy::read(alloc, policy.as_bytes())?;
+    Ok(PlainDesk::new(alloc, policy, 9)?)
+}
 
 /// A hall round a desk of this policy, whose log takes so many calls.
 pub(crate) fn hall_of<R: AllocGlobal>(
@@ -20,8 +25,7 @@ pub(crate) fn hall_of<R: AllocGlobal>(
     policy: &str,
     limit: usize,
 ) -> Result<Hall<PlainDesk>, Fail> {
-    let policy = Policy::read(rt.alloc(), policy.as_bytes())?;
-    let desk = PlainDesk::new(rt.alloc(), policy, 9)?;
+    let desk = desk_of(rt.alloc(), policy)?;
     Ok(Hall::new(rt, desk, limit)?)
 }
 
@@ -160,6 +164,79 @@ pub(crate) fn closes(hall: Hall<PlainDesk>, seats: Vec<Seat>, logged: usize) -> 
                 Err(Fail::from("another number of calls"))
             }
         }
+        Err(_) => Err(Fail::from("close refused")),
+    }
+}
+
+// Whether this is how the log has the call: `SEAT CALL = ANSWER`.
+fn is_entry(alloc: Global, entry: &Entry, line: &str) -> Result<bool, Fail> {
+    let (asked, wanted) = line.split_once(" = ").unwrap_or((line, ""));
+    let (number, words) = word(asked);
+    let number = number.parse::<u32>()?;
+    let call = call_of(alloc, words)?;
+    let mut shown = String::new(alloc);
+    show_answer(&mut shown, &entry.answer)?;
+    Ok(entry.seat == number && entry.call.get().same(&call) && shown.as_str() == wanted)
+}
+
+// Whether the log has exactly the calls of these lines.
+fn are_entries(alloc: Global, log: &[Entry], lines: &str) -> Result<bool, Fail> {
+    let mut left = log;
+    for line in lines.lines() {
+        let line = line.trim();
+        if line.is_empty() {
+            continue;
+        }
+        let Some((entry, others)) = left.split_first() else {
+            return Ok(false);
+        };
+        if !is_entry(alloc, entry, line)? {
+            return Ok(false);
+        }
+        left = others;
+    }
+    Ok(left.is_empty())
+}
+
+// Whether a desk of this policy, without records, stands for this.
+fn is_state_of(alloc: Global, state: &State, policy: &str) -> Result<bool, Fail> {
+    let desk = desk_of(alloc, policy)?;
+    let wanted = desk.state()?;
+    Ok(wanted.same(state))
+}
+
+// What a hall kept: its desk stood for bob's policy at first, took these calls, each with its
+// answer, and stands for this policy now.
+fn has_kept(
+    alloc: Global,
+    settled: &Settled<PlainDesk>,
+    lines: &str,
+    policy: &str,
+) -> Result<(), Fail> {
+    let now = settled.desk.state()?;
+    if !is_state_of(alloc, &settled.base, OPS)? {
+        return Err(Fail::from("another base"));
+    }
+    if !are_entries(alloc, settled.log.as_slice(), lines)? {
+        return Err(Fail::from("another log"));
+    }
+    if !is_state_of(alloc, &now, policy)? {
+        return Err(Fail::from("another desk"));
+    }
+    Ok(())
+}
+
+/// The hall, of bob's policy at first, is closed with these seats. Each line is
+/// `SEAT CALL = ANSWER`, an entry of its log, and its desk stands for this policy.
+pub(crate) fn closes_with(
+    alloc: Global,
+    hall: Hall<PlainDesk>,
+    seats: Vec<Seat>,
+    lines: &str,
+    policy: &str,
+) -> Result<(), Fail> {
+    match hall.close(seats) {
+        Ok(settled) => has_kept(alloc, &settled, lines, policy),
         Err(_) => Err(Fail::from("close refused")),
     }
 }
