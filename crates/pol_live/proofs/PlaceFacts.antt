@@ -29,6 +29,15 @@ found_few id (x ∷ rest) s right e = by (same_id id (id_of x)) e (found_few id 
     by true h later = let same : x ≡ s = cc in few_right s (ap is_right_subject (sym same) ∙ (and_parts (is_right_subject x) (list_all is_right_subject rest) right).0)
     by false h later = later h
 
+pub few_at : (policy : List Subject) (r : Option (Bor Subject)) (k : ℕ) → list_all is_right_subject policy ≡ true → option_copied r ≡ slice_get policy k → IfSome r (λ s. length s.now.rules ≤ 256)
+few_at policy None k right e = tt
+few_at policy (Some s) k right e = by policy k right (sym e)
+  where
+    by : (policy : List Subject) (k : ℕ) → list_all is_right_subject policy ≡ true → slice_get policy k ≡ Some s.now → length s.now.rules ≤ 256
+    by [] k right e = absurd cc
+    by (x ∷ rest) zero right e = let same : x ≡ s.now = cc in few_right s.now (ap is_right_subject (sym same) ∙ (and_parts (is_right_subject x) (list_all is_right_subject rest) right).0)
+    by (x ∷ rest) (suc k) right e = by rest k (and_parts (is_right_subject x) (list_all is_right_subject rest) right).1 e
+
 pub right_few : (r : Option (Bor Subject)) → IfSome r (λ s. IsTrue (is_right_subject s.now)) → IfSome r (λ s. length s.now.rules ≤ 256)
 right_few None right = tt
 right_few (Some s) right = few_right s.now right
@@ -101,5 +110,8 @@ place_later policy subject i parent left lt e at =
     ∙ get_back (own_entries subject) later left own
     ∙ ap (λ (n : ℕ). slice_get later (left - n)) count
 
-pub place_none : (policy : List Subject) (subject : Subject) (i left : ℕ) → 8 ≤ i → slice_get (entries_along (chain_within (8 - i) policy subject)) left ≡ None
-place_none policy subject i left past = ap (λ (es : List Entry). slice_get es left) (entries_none policy subject i past)
+-- what is left of a chain is its end
+pub place_none : (policy : List Subject) (subject : Option Subject) (i left : ℕ) → 8 ≤ i
+    → slice_get (entries_along (option_map_or (chain_within (8 - i) policy) subject [])) left ≡ None
+place_none policy None i left past = refl
+place_none policy (Some subject) i left past = ap (λ (es : List Entry). slice_get es left) (entries_none policy subject i past)

@@ -130,6 +130,23 @@ all_there policy parts k all none = by (slice_get policy k) refl
     by None e = refl
     by (Some s) e = absurd (true≢false (sym (all k (slice_get_within policy k s e)) ∙ ap is_some none))
 
+slot_within : {X : Type 0} (xs : List (Option X)) (k : ℕ) (x : X) → slot xs k ≡ Some x → k < length xs
+slot_within [] k x e = absurd cc
+slot_within (y ∷ xs) zero x e = omega arith
+slot_within (y ∷ xs) (suc k) x e = let below = slot_within xs k x e in omega arith
+
+get_there : {X : Type 0} (xs : List X) (k : ℕ) → k < length xs → IsTrue (is_some (slice_get xs k))
+get_there [] k lt = absurd (omega arith)
+get_there (x ∷ xs) zero lt = refl
+get_there (x ∷ xs) (suc k) lt = get_there xs k (omega arith)
+
+-- where there is an automaton there is a subject
+pub subject_there : (policy : List Subject) (parts : Parts) (k : ℕ) (d : Automaton) → AreParts policy parts → slot parts.wholes k ≡ Some d → IsTrue (is_some (slice_get policy k))
+subject_there policy parts k d are there =
+    let within = slot_within parts.wholes k d there in
+    let many = are.many_wholes in
+    get_there policy k (omega arith)
+
 below_next : (k i : ℕ) → k < suc i → (k < i) ⊎ (k ≡ i)
 below_next zero zero lt = inr refl
 below_next zero (suc i) lt = inl (omega arith)
@@ -163,29 +180,29 @@ more_keepers policy old new i subject grows at before here k s lt its keeper = b
 
 -- ---- a list of places, one after another
 
-push_front : (xs : List (Option Automaton)) (x : Option Automaton) (k : ℕ) → k < length xs → slot (xs ++ x ∷ []) k ≡ slot xs k
+push_front : {X : Type 0} (xs : List (Option X)) (x : Option X) (k : ℕ) → k < length xs → slot (xs ++ x ∷ []) k ≡ slot xs k
 push_front [] x k lt = absurd (omega arith)
 push_front (y ∷ xs) x zero lt = refl
 push_front (y ∷ xs) x (suc k) lt = push_front xs x k (omega arith)
 
-push_back : (xs : List (Option Automaton)) (x : Option Automaton) → slot (xs ++ x ∷ []) (length xs) ≡ x
+push_back : {X : Type 0} (xs : List (Option X)) (x : Option X) → slot (xs ++ x ∷ []) (length xs) ≡ x
 push_back [] x = refl
 push_back (y ∷ xs) x = push_back xs x
 
 -- what holds of each place, and of one more
-pub more_each : (P : Subject → Option Automaton → Type 0) (policy : List Subject) (xs : List (Option Automaton)) (x : Option Automaton) (i : ℕ) (subject : Subject) → length xs ≡ i
+pub more_each : {X : Type 0} (P : Subject → Option X → Type 0) (policy : List Subject) (xs : List (Option X)) (x : Option X) (i : ℕ) (subject : Subject) → length xs ≡ i
     → slice_get policy i ≡ Some subject → P subject x → ((k : ℕ) (s : Subject) → k < i → slice_get policy k ≡ Some s → P s (slot xs k))
     → (k : ℕ) (s : Subject) → k < suc i → slice_get policy k ≡ Some s → P s (slot (xs ++ x ∷ []) k)
-more_each P policy xs x i subject long here new before k s lt its = by (below_next k i lt)
+more_each {X} P policy xs x i subject long here new before k s lt its = by (below_next k i lt)
   where
     by : (k < i) ⊎ (k ≡ i) → P s (slot (xs ++ x ∷ []) k)
     by (inl h) =
         let within : k < length xs = omega arith in
-        let Q : Option Automaton → Type 0 = λ o. P s o in
+        let Q : Option X → Type 0 = λ o. P s o in
         subst Q (sym (push_front xs x k within)) (before k s h its)
     by (inr h) =
         let same : subject ≡ s = same_Some subject s (sym here ∙ ap (slice_get policy) (sym h) ∙ its) in
         let at : slot (xs ++ x ∷ []) k ≡ x = ap (slot (xs ++ x ∷ [])) (h ∙ sym long) ∙ push_back xs x in
-        let Q : Option Automaton → Type 0 = λ o. P s o in
+        let Q : Option X → Type 0 = λ o. P s o in
         let R : Subject → Type 0 = λ t. P t x in
         subst Q (sym at) (subst R same new)

@@ -8,7 +8,7 @@ use Rattle.pol_automaton.specs.Automaton.{Automaton, IsDecider}
 use Rattle.pol_automaton.specs.Residuals.{HasMoreResiduals}
 use Rattle.pol_names.specs.declared.subject_id.SubjectId.{SubjectId}
 use Rattle.pol_text.specs.declared.subject.Subject.{Subject}
-use Rattle.pol_text.specs.Policy.{find_subject, chain}
+use Rattle.pol_text.specs.Policy.{find_subject, parent_of, chain}
 use Rattle.pol_live.specs.declared.parts.Parts.{Parts}
 use Rattle.pol_live.specs.Along.{patterns_along}
 
@@ -40,8 +40,8 @@ own_patterns subject = map (λ rule. rule.pattern) subject.rules
 abbrev pub IsFit : List (List ℕ) → Automaton → Type 0
 IsFit entries decider = IsDecider decider entries × (¬ (HasMoreResiduals entries 4096))
 
--- the automaton at a place, if there is one
-abbrev pub slot : List (Option Automaton) → ℕ → Option Automaton
+-- what there is at a place, if there is anything
+abbrev pub slot : {X : Type 0} → List (Option X) → ℕ → Option X
 slot slots k = option_and_then (λ found. found) (slice_get slots k)
 
 -- what there is of a policy's automata: of a subject's own rules, and of those along its chain
@@ -54,6 +54,11 @@ pub record AreParts (policy : List Subject) (parts : Parts) : Type 0 where
   pub wholes : (k : ℕ) (subject : Subject) (decider : Automaton) → slice_get policy k ≡ Some subject
       → slot parts.wholes k ≡ Some decider
       → IsFit (patterns_along policy subject) decider
+
+-- where each subject's group stands
+abbrev pub AreParents : List Subject → List (Option ℕ) → Type 0
+AreParents policy parents = (k : ℕ) (subject : Subject) → slice_get policy k ≡ Some subject
+    → option_and_then (slice_get policy) (slot parents k) ≡ parent_of policy subject
 
 -- each automaton that there was stays
 abbrev pub Stays : List (Option Automaton) → List (Option Automaton) → Type 0

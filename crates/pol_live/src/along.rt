@@ -1,12 +1,16 @@
 //! The rules along the chain of a subject.
 
-ghost use Rattle.std.specs.Prelude.{◌≡◌, ◌≤◌, ◌++◌, ℕ, List, length, map, slice_get, IfOk, IfSome};
+ghost use Rattle.std.specs.Prelude.{◌≡◌, ◌≤◌, ◌++◌, ℕ, List, length, map, slice_get, IfOk, IfSome, Some};
 ghost use Rattle.std.specs.Prelude.{OnOk};
 ghost use Rattle.std.specs.Option.{option_map, option_copied};
 ghost use Rattle.pol_automaton.specs.Entries.{AreEntries};
 ghost use Rattle.pol_text.specs.Policy.{parent_of, own_entries, entries};
+ghost use Rattle.pol_text.specs.declared.subject.Subject.{Subject as SubjectValue};
 ghost use Rattle.pol_live.specs.Along.{chain_rule as rule_of, entries_of, decision_by};
+ghost use Rattle.pol_live.specs.Kept.{AreParents};
 
+use crate::filling::subject_at;
+use crate::parents::{Parents, parent_at};
 use pol_automaton::Entries;
 use pol_names::{By, Decision, SubjectId, Verdict};
 use pol_text::{Policy, Subject};
@@ -106,15 +110,24 @@ pub fn rules_along(
     }
 }
 
-/// The rule at this place of those along the chain of a subject, counted from 0. Takes no memory,
-/// and a look-up for each subject of the chain up to the rule.
-pub(crate) fn chain_rule(policy: &Policy, subject: &Subject, place: usize) -> Option<ChainRule>
-    requires { length subject.now.rules ≤ 256 }
-    ensures { result ≡ option_map rule_of (slice_get (entries policy.now subject.now) place) }
+/// The rule at this place of those along the chain of the subject that stands at a place of the
+/// policy, both counted from 0. Takes no memory, and a step for each subject up to the rule's.
+pub(crate) fn chain_rule(
+    policy: &Policy,
+    parents: &Parents,
+    subject: usize,
+    place: usize,
+) -> Option<ChainRule>
+    requires { AreParents policy.now parents.now }
+    ensures { (its : SubjectValue) → slice_get policy.now subject ≡ Some its
+        → result ≡ option_map rule_of (slice_get (entries policy.now its) place) }
 {
-    let mut present = subject;
+    let mut at = subject;
     let mut left = place;
     'chain: for _ in 0..Policy::MAX_CHAIN {
+        let Some(present) = subject_at(policy, at) else {
+            return None;
+        };
         if let Some(rule) = present.rules.as_slice().get(left) {
             return Some(ChainRule {
                 owner: present.id(),
@@ -123,8 +136,8 @@ pub(crate) fn chain_rule(policy: &Policy, subject: &Subject, place: usize) -> Op
             });
         }
         left -= present.rules.len();
-        match parent(policy, present) {
-            Some(group) => present = group,
+        match parent_at(parents, at) {
+            Some(group) => at = group,
             None => return None,
         }
     }

@@ -1,7 +1,7 @@
 //! Making the automata of a policy: each subject's own, and those along its chain, each from the
 //! own one and that of the group that it inherits from.
 
-ghost use Rattle.std.specs.Prelude.{◌≡◌, ◌<◌, ◌||◌, ◌&&◌, ◌++◌, ◌⊎◌, ℕ, List, length, slice_get};
+ghost use Rattle.std.specs.Prelude.{◌≡◌, ◌<◌, ◌≤◌, ◌||◌, ◌&&◌, ◌++◌, ◌⊎◌, ℕ, List, length, slice_get};
 ghost use Rattle.std.specs.Prelude.{slice_set, is_some, true, Some, None, IsTrue, if◌then◌else◌};
 ghost use Rattle.std.specs.Prelude.{IfOk, IfSome, OnOk, OnErr, IsErrOf, Contains};
 ghost use Rattle.std.specs.Option.{option_and_then, option_copied};
@@ -42,7 +42,8 @@ pub(crate) fn is_keeper(subject: &Subject) -> bool
 
 /// The subject at a place.
 pub(crate) fn subject_at(policy: &Policy, index: usize) -> Option<&Subject>
-    ensures { option_copied result ≡ slice_get policy.now index }
+    ensures found { option_copied result ≡ slice_get policy.now index }
+    ensures few { IfSome result (λ subject. length subject.now.rules ≤ 256) }
 {
     policy.subjects().get(index)
 }

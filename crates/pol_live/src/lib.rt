@@ -7,6 +7,7 @@ mod deciding;
 mod filling;
 mod keeping;
 mod live;
+mod parents;
 mod parts;
 mod prepared;
 mod reusing;

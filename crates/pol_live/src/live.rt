@@ -1,10 +1,11 @@
 //! A policy with its automata.
 
-ghost use Rattle.std.specs.Prelude.{◌≡◌, ◌≤◌, length, IfOk, IfErr, IfNone, IfSome, OnOk, OnErr};
-ghost use Rattle.std.specs.Prelude.{None, Some, Ok};
+ghost use Rattle.std.specs.Prelude.{◌≡◌, ◌≤◌, slice_get, is_some, None, Some, Ok, IsTrue};
+ghost use Rattle.std.specs.Prelude.{IfOk, IfErr, IfNone, IfSome, OnOk, OnErr};
 ghost use Rattle.std.specs.Option.{option_copied};
 ghost use Rattle.pol_pattern.specs.Matching.{MatchLaw};
 ghost use Rattle.pol_automaton.specs.Automaton.{IsDecider};
+ghost use Rattle.pol_text.specs.declared.subject.Subject.{Subject as SubjectValue};
 ghost use Rattle.pol_text.specs.Policy.{WellFormed, find_subject, decide};
 ghost use Rattle.pol_edit.specs.declared.fault.EditFault.TheVariants.{Memory};
 ghost use Rattle.pol_edit.specs.Applying.{applied, is_memory};
@@ -15,13 +16,14 @@ ghost use Rattle.pol_live.specs.Live.{Builds, IsOnlyBuilt, IsDeciderFor, UnlessM
 
 use crate::building::{complete, no_parts};
 use crate::deciding::decided;
+use crate::parents::{Parents, parents_of};
 use crate::parts::{Parts, lookup};
 use crate::reusing::kept_parts;
 use pol_automaton::{Decider, Meter};
 use pol_edit::{Edit, EditFault};
 use pol_names::{Decision, Name, SubjectId};
 use pol_pattern::match_law;
-use pol_text::{Policy, Subject};
+use pol_text::Policy;
 use std::alloc::Global;
 use std::marker::Model;
 
@@ -30,13 +32,14 @@ use std::marker::Model;
 #[derive(Drop)]
 pub struct Live {
     policy: Policy,
+    parents: Parents,
     parts: Parts,
 }
 
 impl Model for Live {
     ghost use Rattle.std.specs.Prelude.{List};
     ghost use Rattle.pol_text.specs.declared.subject.Subject.{Subject as SubjectValue};
-    ghost use Rattle.pol_live.specs.Kept.{AreParts, AreAll, HaveKeepers};
+    ghost use Rattle.pol_live.specs.Kept.{AreParts, AreAll, HaveKeepers, AreParents};
     ghost use Rattle.pol_live.specs.Sizes.{IsSmall};
 
     ghost Value = { List SubjectValue };
@@ -44,7 +47,8 @@ impl Model for Live {
     ghost view = { λ live. live.policy };
 
     ghost invariant = { λ live. AreParts live.policy live.parts × AreAll live.policy live.parts
-        × HaveKeepers live.policy live.parts × IsSmall live.policy };
+        × HaveKeepers live.policy live.parts × IsSmall live.policy
+        × AreParents live.policy live.parents };
 }
 
 impl Live {
@@ -55,9 +59,14 @@ impl Live {
     {
         // the call is for its clause: the meter is a number of its type
         let _ = meter.total();
+        let parents = parents_of(alloc, &policy)?;
         let mut parts = no_parts(alloc, &policy)?;
         complete(alloc, &policy, &mut parts, meter)?;
-        Ok(Live { policy, parts })
+        Ok(Live {
+            policy,
+            parents,
+            parts,
+        })
     }
 
     /// The policy that an edit makes, with the automata that the edit leaves right, and the others
@@ -75,9 +84,14 @@ impl Live {
         ensures kept { OnErr result (meter.old ≤ meter.new) }
     {
         let _ = meter.total();
+        let parents = parents_of(alloc, &policy)?;
         let mut parts = kept_parts(alloc, &self.policy, &self.parts, edit, &policy)?;
         complete(alloc, &policy, &mut parts, meter)?;
-        Ok(Live { policy, parts })
+        Ok(Live {
+            policy,
+            parents,
+            parts,
+        })
     }
 
     /// The policy with its automata, all built anew. Refused where a subject has too many
@@ -112,24 +126,23 @@ impl Live {
         &self.policy
     }
 
-    // The subject of this kind and name, and its decider.
-    fn part(&self, id: &SubjectId) -> Option<(&Subject, &Decider)>
+    // Where the subject of this kind and name stands, and its decider.
+    fn part(&self, id: &SubjectId) -> Option<(usize, &Decider)>
         ensures none { IfNone result (find_subject id.now self.now ≡ None) }
-        ensures found { IfSome result (λ part. find_subject id.now self.now ≡ Some part.0.now) }
-        ensures right { IfSome result (λ part.
-            IsDecider part.1.now (patterns self.now part.0.now)) }
-        ensures few { IfSome result (λ part. length part.0.now.rules ≤ 256) }
+        ensures found { IfSome result (λ part.
+            find_subject id.now self.now ≡ slice_get self.now part.0) }
+        ensures right { IfSome result (λ part. (subject : SubjectValue)
+            → slice_get self.now part.0 ≡ Some subject
+            → IsDecider part.1.now (patterns self.now subject)) }
+        ensures there { IfSome result (λ part. IsTrue (is_some (slice_get self.now part.0))) }
     {
         let Some(index) = self.policy.index_of(id) else {
-            return None;
-        };
-        let Some(subject) = self.policy.subjects().get(index) else {
             return None;
         };
         let Some(whole) = lookup(&self.parts.wholes, index) else {
             return None;
         };
-        Some((subject, whole.decider()))
+        Some((index, whole.decider()))
     }
 
     /// What the policy says of a user's line, as a search along the user's chain would. Nothing
@@ -137,10 +150,10 @@ impl Live {
     pub fn decide(&self, user: &Name, line: &[u8]) -> Option<Decision>
         ensures { result ≡ decide self.now user.now line.now }
     {
-        let Some((subject, decider)) = self.part(&SubjectId::user(*user)) else {
+        let Some((at, decider)) = self.part(&SubjectId::user(*user)) else {
             return None;
         };
-        Some(decided(&self.policy, subject, decider, line))
+        Some(decided(&self.policy, &self.parents, at, decider, line))
     }
 
     /// The decider of the rules along the chain of a subject, the subject's own first. Nothing

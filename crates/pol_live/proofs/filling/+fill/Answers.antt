@@ -17,14 +17,14 @@ overflow_sub-most t c =
     let policy = c.args.policy.now in
     let subject = c.in-Some.subject.now in
     let there = slice_get-get_or policy c.in-Some-parent.parent subject c.in-Some-parent.ensures.within in
-    (ends_above c.args.most policy subject _ (c.requires.ends subject (sym c.in-Some.ensures)) (c.in-Some-parent.ensures.found ∙ there)).0
+    (ends_above c.args.most policy subject _ (c.requires.ends subject (sym c.in-Some.ensures.found)) (c.in-Some-parent.ensures.found ∙ there)).0
 
 pub fill-requires : goal.fill-requires
 fill-requires t c =
     let policy = c.args.policy.now in
     let subject = c.in-Some.subject.now in
     let there = slice_get-get_or policy c.in-Some-parent.parent subject c.in-Some-parent.ensures.within in
-    let ends = ends_above c.args.most policy subject _ (c.requires.ends subject (sym c.in-Some.ensures)) (c.in-Some-parent.ensures.found ∙ there) in
+    let ends = ends_above c.args.most policy subject _ (c.requires.ends subject (sym c.in-Some.ensures.found)) (c.in-Some-parent.ensures.found ∙ there) in
     let some = ends.0 in
     let less = c.decreases in
     let shorter : c.args.most - 1 < t = omega arith in
@@ -34,18 +34,18 @@ pub returns-in_err-fill-clause-too_many : goal.returns-in_err-fill-clause-too_ma
 returns-in_err-fill-clause-too_many t c is subject here =
     let policy = c.args.policy.now in
     let p = err_from_is_err_and c.from_residual.result c.from_residual.ensures.1 in
-    let same : c.in-Some.subject.now ≡ subject = same_Some _ subject (c.in-Some.ensures ∙ here) in
+    let same : c.in-Some.subject.now ≡ subject = same_Some _ subject (c.in-Some.ensures.found ∙ here) in
     let there = slice_get-get_or policy c.in-Some-parent.parent subject c.in-Some-parent.ensures.within in
     let above = c.in_err-fill.ensures.too_many (ap Err (sym p.2) ∙ sym p.1 ∙ is) _ there in
-    let inherits = c.in-Some-parent.ensures.inherits (contains_at policy c.args.index c.in-Some.subject.now (sym c.in-Some.ensures)) in
+    let inherits = c.in-Some-parent.ensures.inherits (contains_at policy c.args.index c.in-Some.subject.now (sym c.in-Some.ensures.found)) in
     subst (λ (s : Subject). IsLarge policy s) same (large_above policy c.in-Some.subject.now _ inherits (c.in-Some-parent.ensures.found ∙ there) above)
 
 pub fill_here-requires-clause-here : goal.fill_here-requires-clause-here
-fill_here-requires-clause-here t c = sym c.in-Some.ensures
+fill_here-requires-clause-here t c = sym c.in-Some.ensures.found
 
 pub returns-clause-too_many : goal.returns-clause-too_many
 returns-clause-too_many t c is subject here =
-    let same : c.in-Some.subject.now ≡ subject = same_Some _ subject (c.in-Some.ensures ∙ here) in
+    let same : c.in-Some.subject.now ≡ subject = same_Some _ subject (c.in-Some.ensures.found ∙ here) in
     subst (λ (s : Subject). IsLarge c.args.policy.now s) same (c.fill_here.ensures.too_many is)
 
 pub returns-clause-grows : goal.returns-clause-grows
