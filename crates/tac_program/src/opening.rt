@@ -118,9 +118,9 @@ pub(crate) fn open_desk<R: Read, W: Write>(
         IfSome (R.remaining reader.old) (λ text. 268435456 < length text)
         × Keeps (W.contents writer.old) (W.contents writer.new) }
     ensures write_fault { IsErrOf result AnswerFault.Unwritten →
-        IfSome (R.remaining reader.old) (λ text. (printed : List ℕ) × (desk : Option Metered)
-        × IsDeskOfText text printed desk
-        × ((n : ℕ) × Appends (W.contents writer.old) (W.contents writer.new) (take n printed))) }
+        IfSome (R.remaining reader.old) (λ text. (length text ≤ 268435456)
+        × ((printed : List ℕ) × (desk : Option Metered) × IsDeskOfText text printed desk
+        × ((n : ℕ) × Appends (W.contents writer.old) (W.contents writer.new) (take n printed)))) }
     ensures memory { IsErrOf result AnswerFault.Memory → (n : ℕ)
         × Appends (W.contents writer.old) (W.contents writer.new)
         (take n (codes "fault Memory" ++ 10 ∷ [])) }

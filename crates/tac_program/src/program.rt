@@ -59,10 +59,12 @@ fn check_policy<R: Files + Print + Eprint + AllocGlobal>(rt: &R, path: &str) -> 
 
 // Prints help to standard output, and what is wrong with the words to standard error.
 fn explain<R: Print + Eprint>(rt: &R, error: &Error) -> Status
-    ensures shown { (kind_of error.now ≡ ErrorKind.DisplayHelp) ⊎ (kind_of error.now ≡ ErrorKind.DisplayVersion)
+    ensures shown { (kind_of error.now ≡ ErrorKind.DisplayHelp)
+        ⊎ (kind_of error.now ≡ ErrorKind.DisplayVersion)
         → (result ≡ Status.Done) ⊎ (result ≡ Status.Failed) }
     ensures memory { kind_of error.now ≡ ErrorKind.OutOfMemory → result ≡ Status.OutOfMemory }
-    ensures mistake { (kind_of error.now ≢ ErrorKind.DisplayHelp) × (kind_of error.now ≢ ErrorKind.DisplayVersion)
+    ensures mistake { (kind_of error.now ≢ ErrorKind.DisplayHelp)
+        × (kind_of error.now ≢ ErrorKind.DisplayVersion)
         × (kind_of error.now ≢ ErrorKind.OutOfMemory) → result ≡ Status.BadCommandLine }
 {
     let status = Status::of_command_line(error.kind());
