@@ -6,6 +6,8 @@ mod calls;
 #[cfg(test)]
 mod seats;
 #[cfg(test)]
+mod starved;
+#[cfg(test)]
 mod support;
 #[cfg(test)]
 mod threads;

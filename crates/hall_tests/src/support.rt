@@ -14,7 +14,8 @@ use tac_hall::{Call, CallAnswer, Entry, Hall, HallFault, Receipt, Seat, Settled}
 /// A policy under which bob may show things.
 pub(crate) const OPS: &str = "group ops\npermit show .*\nuser bob in ops\n";
 
-fn desk_of(alloc: Global, policy: &str) -> Result<PlainDesk, Fail> {
+/// A desk of this policy, without records.
+pub(crate) fn desk_of(alloc: Global, policy: &str) -> Result<PlainDesk, Fail> {
     let policy = Policy::read(alloc, policy.as_bytes())?;
     Ok(PlainDesk::new(alloc, policy, 9)?)
 }
@@ -105,9 +106,9 @@ fn show(out: &mut String, told: &Result<Receipt, HallFault>) -> Result<(), Alloc
 }
 
 // Makes a call by a seat; this has to be what comes of it.
-fn says<R: Wait + AllocGlobal>(
+fn says<D: Desk, R: Wait + AllocGlobal>(
     rt: &R,
-    hall: &Hall<PlainDesk>,
+    hall: &Hall<D>,
     seat: &mut Seat,
     words: &str,
     wanted: &str,
@@ -124,9 +125,9 @@ fn says<R: Wait + AllocGlobal>(
 }
 
 // One line of a conversation.
-fn exchanges<R: Wait + AllocGlobal>(
+fn exchanges<D: Desk, R: Wait + AllocGlobal>(
     rt: &R,
-    hall: &Hall<PlainDesk>,
+    hall: &Hall<D>,
     seats: &mut [Seat],
     line: &str,
 ) -> Result<(), Fail> {
@@ -139,9 +140,9 @@ fn exchanges<R: Wait + AllocGlobal>(
 }
 
 /// Each line is `SEAT CALL = PLACE ANSWER`, or `SEAT CALL = REFUSAL`.
-pub(crate) fn talks<R: Wait + AllocGlobal>(
+pub(crate) fn talks<D: Desk, R: Wait + AllocGlobal>(
     rt: &R,
-    hall: &Hall<PlainDesk>,
+    hall: &Hall<D>,
     seats: &mut [Seat],
     talk: &str,
 ) -> Result<(), Fail> {
@@ -155,7 +156,7 @@ pub(crate) fn talks<R: Wait + AllocGlobal>(
 }
 
 // The hall is closed with these seats, and its log has so many calls.
-pub(crate) fn closes(hall: Hall<PlainDesk>, seats: Vec<Seat>, logged: usize) -> Result<(), Fail> {
+pub(crate) fn closes<D: Desk>(hall: Hall<D>, seats: Vec<Seat>, logged: usize) -> Result<(), Fail> {
     match hall.close(seats) {
         Ok(settled) => {
             if settled.log.len() == logged {
@@ -242,9 +243,9 @@ pub(crate) fn closes_with(
 }
 
 /// So many seats of a hall.
-pub(crate) fn seats_of<R: Wait + AllocGlobal>(
+pub(crate) fn seats_of<D: Desk, R: Wait + AllocGlobal>(
     rt: &R,
-    hall: &Hall<PlainDesk>,
+    hall: &Hall<D>,
     count: usize,
 ) -> Result<Vec<Seat>, Fail> {
     let mut seats = Vec::new(rt.alloc());
@@ -255,8 +256,20 @@ pub(crate) fn seats_of<R: Wait + AllocGlobal>(
     Ok(seats)
 }
 
-/// Each line is `SEAT CALL = PLACE ANSWER`, or `SEAT CALL = REFUSAL`, at a hall of bob's policy with
+/// Each line is `SEAT CALL = PLACE ANSWER`, or `SEAT CALL = REFUSAL`, at this hall, with its first
 /// two seats; behind them the hall is closed, and its log has so many calls.
+pub(crate) fn converses_in<D: Desk, R: Wait + AllocGlobal>(
+    rt: &R,
+    hall: Hall<D>,
+    talk: &str,
+    logged: usize,
+) -> Result<(), Fail> {
+    let mut seats = seats_of(rt, &hall, 2)?;
+    talks(rt, &hall, seats.as_mut_slice(), talk)?;
+    closes(hall, seats, logged)
+}
+
+/// The same at a hall of bob's policy.
 pub(crate) fn converses<R: Wait + AllocGlobal>(
     rt: &R,
     limit: usize,
@@ -264,7 +277,5 @@ pub(crate) fn converses<R: Wait + AllocGlobal>(
     logged: usize,
 ) -> Result<(), Fail> {
     let hall = hall_of(rt, OPS, limit)?;
-    let mut seats = seats_of(rt, &hall, 2)?;
-    talks(rt, &hall, seats.as_mut_slice(), talk)?;
-    closes(hall, seats, logged)
+    converses_in(rt, hall, talk, logged)
 }
