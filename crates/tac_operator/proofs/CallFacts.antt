@@ -7,9 +7,11 @@ use Rattle.tac_hall.specs.declared.call.Call.TheVariants as calls
 use Rattle.tac_hall.specs.declared.entry.Made.{Made}
 use Rattle.tac_hall.specs.declared.entry.Receipt.{Receipt}
 use Rattle.tac_hall.specs.declared.fault.HallFault.{HallFault}
+use Rattle.tac_hall.specs.declared.fault.HallFault.TheVariants as hall
 use Rattle.tac_hall.specs.Seat.{Sitting, IsMade, made_of}
 use Rattle.tac_operator.specs.declared.fault.OperatorFault.{OperatorFault}
-use Rattle.tac_operator.specs.Operated.{Outcome, made, refused, told, refusal_line}
+use Rattle.tac_operator.specs.declared.fault.OperatorFault.TheVariants as faults
+use Rattle.tac_operator.specs.Operated.{Outcome, made, refused, told, refusal_line, HasFound}
 use Rattle.tac_operator.specs.Operating.{Comes, Adds, IsUntold, SendsUnlessMemory, Stops}
 use Rattle.tac_operator.proofs.GoingFacts.{makes_none}
 
@@ -70,10 +72,14 @@ stops_untold heard (Err same) fault was now old e is c = rw e (record { stop = c
 pub stops_made : (heard : Result (Unit {0}) OperatorFault) (u : Unit {0}) (receipt : Receipt) (was now : Sitting) (old : Option (List ℕ)) → heard ≡ Ok u → IsMade was calls.Stop receipt now
     → Stops heard (Ok tt) was now old old
 stops_made heard u receipt was now old e m =
-    rw e (record { stop = made (made_of calls.Stop receipt); came = comes_made calls.Stop receipt was now m; ends = (Appends-nil old, λ no. absurd cc) })
+    rw e (record { stop = made (made_of calls.Stop receipt); came = comes_made calls.Stop receipt was now m; ends = (Appends-nil old, (λ no. absurd cc), tt) })
+
+found_refused : (end : Result (Unit {0}) OperatorFault) (fault : HallFault) → (fault ≡ hall.Memory → end ≡ Err faults.Memory) → HasFound end (refused fault)
+found_refused (Ok u) fault memory = λ is. absurd (let no = memory is in cc)
+found_refused (Err e) fault memory = tt
 
 -- it was refused
 pub stops_refused : (heard end : Result (Unit {0}) OperatorFault) (u : Unit {0}) (fault : HallFault) (was now : Sitting) (old new : Option (List ℕ)) → heard ≡ Ok u → now ≡ was
-    → SendsUnlessMemory end (refusal_line fault) old new → Stops heard end was now old new
-stops_refused heard end u fault was now old new e same sent =
-    rw e (record { stop = refused fault; came = comes_refused calls.Stop fault was now same; ends = (sent, λ memory. tt) })
+    → SendsUnlessMemory end (refusal_line fault) old new → (fault ≡ hall.Memory → end ≡ Err faults.Memory) → Stops heard end was now old new
+stops_refused heard end u fault was now old new e same sent memory =
+    rw e (record { stop = refused fault; came = comes_refused calls.Stop fault was now same; ends = (sent, (λ is. tt), found_refused end fault memory) })

@@ -46,6 +46,7 @@ module _ (was mid now : Sitting) (before after old between new : Option (List �
     stop = s.stop;
     stops = s.came.comes;
     wants = tt;
+    found = s.ends.2;
     makes = makes_then was mid now h.ends.outcomes (s.stop ∷ []) h.ends.makes s.came.makes;
     writes = written_then h.ends.outcomes (s.stop ∷ []) old between new h.ends.writes (subst (Appends between new) (sym (text_one s.stop)) s.ends.0);
   }
@@ -63,6 +64,7 @@ module _ (was mid now : Sitting) (before after old between new : Option (List �
     stop = s.stop;
     stops = s.came.comes;
     wants = tt;
+    found = tt;
     makes = makes_then was mid now h.ends.outcomes (s.stop ∷ []) h.ends.makes s.came.makes;
     writes = subst (λ (t : List ℕ). WritesBeginning t old new)
         (ap (λ (t : List ℕ). text_of h.ends.outcomes ++ t) (sym (text_one s.stop)) ∙ sym (text_append h.ends.outcomes (s.stop ∷ [])))
@@ -81,6 +83,7 @@ module _ (was mid now : Sitting) (before after old between new : Option (List �
     stop = s.stop;
     stops = s.came.comes;
     wants = wants_refused h.input s.stop (s.ends.1 refl);
+    found = tt;
     makes = makes_then was mid now h.ends.outcomes (s.stop ∷ []) h.ends.makes s.came.makes;
     writes = record {
       first = h.ends.outcomes;
@@ -106,6 +109,7 @@ module _ (was mid now : Sitting) (before after old between new : Option (List �
     stop = s.stop;
     stops = s.came.comes;
     wants = tt;
+    found = tt;
     makes = makes_then was mid now h.ends.outcomes (s.stop ∷ []) h.ends.makes s.came.makes;
     writes = h.ends.writes;
   }
@@ -122,6 +126,7 @@ module _ (was mid now : Sitting) (before after old between new : Option (List �
     stop = s.stop;
     stops = s.came.comes;
     wants = tt;
+    found = tt;
     makes = makes_then was mid now h.ends.outcomes (s.stop ∷ []) h.ends.makes s.came.makes;
     writes = beginning_of_more h.ends.outcomes s.stop old between h.ends.writes;
   }
@@ -138,6 +143,7 @@ module _ (was mid now : Sitting) (before after old between new : Option (List �
     stop = s.stop;
     stops = s.came.comes;
     wants = wants_some h.input s.stop (h.wants refl);
+    found = tt;
     makes = makes_then was mid now h.ends.outcomes (s.stop ∷ []) h.ends.makes s.came.makes;
     writes = h.ends.writes;
   }

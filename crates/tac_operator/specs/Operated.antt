@@ -1,5 +1,5 @@
 -- What was done at the console of a hall (docs/CONSOLE.md, "The console of a hall").
-use Rattle.std.specs.Prelude.{◌≡◌, ◌<◌, ◌≤◌, ℕ, List, [], ◌∷◌, ◌++◌, length, codes, false}
+use Rattle.std.specs.Prelude.{◌≡◌, ◌≢◌, ◌<◌, ◌≤◌, ℕ, List, [], ◌∷◌, ◌++◌, length, codes, false}
 use Rattle.std.specs.Prelude.{Option, Some, None, Result, Ok, Err, flat_map, filter_map}
 use Rattle.std.specs.Io.KnownBytes.{Appends, Consumes, IsAtEnd}
 use Rattle.basics.specs.Lines.{lines_of}
@@ -14,6 +14,7 @@ use Rattle.tac_hall.specs.declared.call.CallAnswer.{CallAnswer}
 use Rattle.tac_hall.specs.declared.call.CallAnswer.TheVariants as answers
 use Rattle.tac_hall.specs.declared.entry.Made.{Made}
 use Rattle.tac_hall.specs.declared.fault.HallFault.{HallFault}
+use Rattle.tac_hall.specs.declared.fault.HallFault.TheVariants as hall
 use Rattle.tac_hall.specs.FaultText.{fault_text}
 use Rattle.tac_hall.specs.History.{IsOfKind}
 use Rattle.tac_hall.specs.Seat.{Sitting}
@@ -142,6 +143,13 @@ abbrev pub Wants : Result (Unit {0}) OperatorFault → List ℕ → Outcome → 
 Wants (Err faults.Memory) input (made entry) = 0 < length input
 Wants end input stop = Unit {0}
 
+-- a console that ended well had memory for its Stop
+abbrev pub HasFound : Result (Unit {0}) OperatorFault → Outcome → Type 0
+HasFound (Ok _) uncalled = Unit {0}
+HasFound (Ok _) (made entry) = Unit {0}
+HasFound (Ok _) (refused fault) = fault ≢ hall.Memory
+HasFound (Err fault) stop = Unit {0}
+
 -- the lines of what was read up to the first `quit` were answered, one after another, by calls of
 -- this seat, and then it made the Stop
 pub record IsOperated (end : Result (Unit {0}) OperatorFault) (was now : Sitting)
@@ -158,5 +166,6 @@ pub record IsOperated (end : Result (Unit {0}) OperatorFault) (was now : Sitting
   pub stop : Outcome
   pub stops : ComesTo (Some calls.Stop) stop
   pub wants : Wants end input stop
+  pub found : HasFound end stop
   pub makes : Makes was now (entries_of (outcomes ++ stop ∷ []))
   pub writes : Writes end outcomes stop old new

@@ -14,7 +14,7 @@ use Rattle.tac_operator.specs.Commands.{ended_lines, commands, quits}
 use Rattle.tac_operator.specs.Operated.{Outcome, uncalled, made, refused, ComesTo, CameTo}
 use Rattle.tac_operator.specs.Operated.{told, text_of}
 use Rattle.tac_operator.specs.Operated.{entries_of, Makes, WritesBeginning, WritesMost}
-use Rattle.tac_operator.specs.Operated.{lines_at, Leaves, Finishes}
+use Rattle.tac_operator.specs.Operated.{lines_at, Leaves, Finishes, HasFound}
 
 -- ---- one line
 
@@ -146,6 +146,7 @@ abbrev pub StopEnds : Result (Unit {0}) OperatorFault → Result (Unit {0}) Oper
     → Option (List ℕ) → Option (List ℕ) → Type 0
 StopEnds (Ok _) end stop old new =
     SendsUnlessMemory end (told stop) old new × (end ≡ Err faults.Memory → IsRefused stop)
+    × HasFound end stop
 StopEnds (Err fault) end stop old new = (end ≡ Err fault) × (new ≡ old)
 
 pub record Stops (heard end : Result (Unit {0}) OperatorFault) (was now : Sitting)

@@ -1,6 +1,6 @@
 //! What is told of a line, and of a call.
 
-ghost use Rattle.std.specs.Prelude.{◌≡◌, ◌++◌, Some, IfOk, OnOk, OnErr};
+ghost use Rattle.std.specs.Prelude.{◌≡◌, ◌++◌, Some, Err, IfOk, OnOk, OnErr};
 ghost use Rattle.tac_console.specs.ConsoleText.{asked_by};
 ghost use Rattle.tac_hall.specs.History.{IsOfKind};
 ghost use Rattle.tac_operator.specs.Operated.{answer_text, call_of, refusal_line};
@@ -108,15 +108,19 @@ pub(crate) fn write_text<W: Write>(writer: &mut W, text: &[u8]) -> Result<(), Op
     }
 }
 
-/// Tells that the hall refused a call. Writes nothing where memory runs out.
+/// Tells that the hall refused a call. Writes nothing where memory runs out, be it the hall's.
 pub(crate) fn write_refused<W: Write>(
     alloc: Global,
     writer: &mut W,
     fault: HallFault,
 ) -> Result<(), OperatorFault>
-    ensures { operating.SendsUnlessMemory result (refusal_line fault)
+    ensures sent { operating.SendsUnlessMemory result (refusal_line fault)
         (W.contents writer.old) (W.contents writer.new) }
+    ensures memory { fault ≡ HallFault.Memory → result ≡ Err OperatorFault.Memory }
 {
+    if fault == HallFault::Memory {
+        return Err(OperatorFault::Memory);
+    }
     let mut text = Vec::with_capacity(alloc, LINE)?;
     write_refusal(&mut text, fault)?;
     write_text(writer, text.as_slice())

@@ -13,7 +13,7 @@ use tac_desk::Desk;
 use tac_hall::{Call, Hall, Seat};
 
 // Makes the Stop, however the lines before it went. That it is refused is told, unless the console
-// has failed.
+// has failed. A Stop for which there is no memory ends the console as out of memory.
 fn stop<H: Wait, D: Desk, W: Write>(
     rt: &H,
     alloc: Global,
@@ -41,7 +41,8 @@ fn stop<H: Wait, D: Desk, W: Write>(
 ///
 /// At ReadFault the lines that had ended are answered whole. At WriteFault a beginning of the
 /// answers was written. At Memory the answers so far were written whole; the last call may have
-/// been made even so, without its answer. A read or a write that is interrupted is tried again; a
+/// been made even so, without its answer; or it was the Stop that found no memory, and whoever
+/// started the console has to stop the hall's callers otherwise. A read or a write that is interrupted is tried again; a
 /// write that takes nothing is a fault. It may wait for the hall's lock, the reader and the writer.
 /// Linear in what is read and written, but for what the hall takes.
 pub fn operate<H: Wait, D: Desk, R: Read, W: Write>(

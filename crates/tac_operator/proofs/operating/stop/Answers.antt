@@ -9,7 +9,7 @@ returns-in_err-heard g c =
 
 pub returns-in-Err : goal.returns-in-Err
 returns-in-Err g c =
-    stops_refused c.args.heard c.write_refused.result c.in_ok-heard.field-0 c.in-Err.fault c.args.seat.now c.call-stopped.new.seat _ _ c.in_ok-heard.was c.in-Err.ensures.err c.write_refused.ensures
+    stops_refused c.args.heard c.write_refused.result c.in_ok-heard.field-0 c.in-Err.fault c.args.seat.now c.call-stopped.new.seat _ _ c.in_ok-heard.was c.in-Err.ensures.err c.write_refused.ensures.sent c.write_refused.ensures.memory
 
 pub returns : goal.returns
 returns g c =
