@@ -6,6 +6,7 @@ use Rattle.std.proofs.Crossing.{crosses}
 use Rattle.std.specs.contracts.net.tcp.TcpListener as TcpListener
 use Rattle.tac_hall.proofs.Crossing.{Key-sync}
 use Rattle.tac_serve.specs.contracts.settings.Settings as Settings
+use Rattle.tac_serve.specs.contracts.vigil.Vigil as Vigil
 
 pub Listener-sync : IsSync TcpListener.the_row
 Listener-sync = search (crosses, sendable) depth 60
@@ -15,3 +16,6 @@ Number-sync = search sendable depth 60
 
 pub Settings-sync : IsSync Settings.the_row
 Settings-sync = search (Key-sync, crosses, sendable) depth 60
+
+pub Vigil-sync : IsSync Vigil.the_row
+Vigil-sync = search (crosses, sendable) depth 60

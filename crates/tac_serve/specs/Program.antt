@@ -12,7 +12,7 @@ use Rattle.tac_serve.specs.Ending.{Refuses, Closes}
 use Rattle.tac_serve.specs.Serving.{HaveServed}
 use Rattle.tac_serve.specs.declared.settings.Settings.{Settings}
 use Rattle.tac_serve.specs.declared.fault.ServeFault.{ServeFault}
-use Rattle.tac_serve.specs.declared.fault.ServeFault.TheVariants.{ReadFault, WriteFault, Memory}
+use Rattle.tac_serve.specs.declared.fault.ServeFault.TheVariants.{ReadFault, WriteFault, Memory, Threads}
 
 -- what the end of the console ends the server as
 abbrev pub fault_by : OperatorFault → ServeFault
@@ -26,10 +26,27 @@ abbrev pub end_by : Result (Unit {0}) OperatorFault → Result (Unit {0}) ServeF
 end_by (Err fault) closed = Err (fault_by fault)
 end_by (Ok _) closed = closed
 
--- before its console could begin
+-- before its console could begin: it has no seats, no memory or no threads, or its first line
+-- couldn't be written
 abbrev pub Fails : Result (Unit {0}) ServeFault → ℕ → Option (List ℕ) → Option (List ℕ) → Type 0
 Fails (Ok _) port old new = ⊥
+Fails (Err Threads) port old new = new ≡ old
 Fails (Err fault) port old new = Refuses fault old new ⊎ Announces (Err fault) port old new
+
+-- `listening P` was printed, and then the console was operated by this seat
+pub record HasAttended (ended : Sitting × Result (Unit {0}) OperatorFault) (port : ℕ)
+    (was : Sitting) (before after old new : Option (List ℕ)) : Type 0 where
+  pub announced : Option (List ℕ)
+  pub announces : Appends old announced (listening_line port)
+  pub operates : IsOperated ended.1 was ended.0 before after announced new
+
+-- the console's part: that, or nothing was read
+abbrev pub Attends : Result (Sitting × Result (Unit {0}) OperatorFault) ServeFault → Settings
+    → Sitting → Option (List ℕ) → Option (List ℕ) → Option (List ℕ) → Option (List ℕ) → Type 0
+Attends (Ok ended) settings was before after old new =
+    HasAttended ended settings.port was before after old new
+Attends (Err fault) settings was before after old new =
+    (after ≡ before) × Fails (Err fault) settings.port old new
 
 -- so many workers, who had made no call, served so many connections each, and their hall was closed
 -- with the console's seat and theirs; or memory ran out

@@ -19,14 +19,19 @@ pub record IsConnection (key : List ℕ) (was : Sitting) (end : End) (now : Sitt
   pub served : IsServed end key (record { seat = was; receipts = [] })
       (record { seat = now; receipts = receipts }) before after old new
 
--- the same, or no connection could be accepted, which counts as one that couldn't be read
+-- how it ends where no connection was accepted: as one that couldn't be read, or as Stopped, since
+-- the server was stopping
+abbrev pub IsUnaccepted : End → Type 0
+IsUnaccepted end = (end ≡ ReadFault) ⊎ (end ≡ Stopped)
+
+-- a connection was served, or none could be accepted
 abbrev pub Connects : List ℕ → Sitting → End → Sitting → Type 0
 Connects key was end now =
-    IsConnection key was end now ⊎ ((end ≡ ReadFault) × (now ≡ was))
+    IsConnection key was end now ⊎ (IsUnaccepted end × (now ≡ was))
 
 -- ---- one after another
 
--- whether a worker takes another connection behind one that ended so
+-- whether a worker takes another connection after one that ended so
 abbrev pub goes_on : End → Bool
 goes_on Stopped = false
 goes_on LogFull = false

@@ -20,6 +20,9 @@ pub enum ServeFault {
     /// Memory ran out.
     #[error("memory ran out")]
     Memory,
+    /// A worker has no thread.
+    #[error("a thread could not be made")]
+    Threads,
     /// The hall could not be closed with its seats, and `close refused` was printed.
     #[error("the hall could not be closed")]
     CloseRefused,

@@ -1,17 +1,22 @@
 //! Serving a hall on the network: one worker a seat, each in a thread of its own, and a console.
 #![tactic(auto)]
 
+mod attending;
 mod ending;
 mod fault;
-mod freeing;
+mod line;
 mod opening;
+mod pause;
+mod port;
 mod program;
 mod serving;
 mod settings;
 mod sharing;
+mod vigil;
 mod worker;
 
 pub use fault::ServeFault;
+pub use port::Port;
 pub use program::serve;
 pub use serving::serve_on;
 pub use settings::Settings;

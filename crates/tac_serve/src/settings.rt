@@ -2,10 +2,10 @@
 
 use tac_wire::Key;
 
-/// Where a server listens, whom it serves, and how much.
+/// Whom a server serves, and how much.
 #[derive(Drop)]
 pub struct Settings {
-    /// The port P that its listener has, which it prints.
+    /// The number of the port that is listened on, which is printed.
     pub port: u16,
     /// The key that it shares with its clients.
     pub key: Key,
@@ -13,4 +13,7 @@ pub struct Settings {
     pub workers: u32,
     /// How many connections each worker serves, one after another.
     pub connections: u32,
+    /// After how many seconds without a reply a connection is given up; never, if they are none.
+    /// Before the first reply ten seconds are enough.
+    pub idle: u32,
 }

@@ -10,7 +10,7 @@ use Rattle.std.specs.contracts.impls.GlobalAllocator.TheImpl.{ghosts}
 use Rattle.tac_hall.specs.contracts.seat.Seat as Seat
 use Rattle.std.proofs.Crossing.{crosses}
 use Rattle.tac_hall.proofs.Crossing.{Seat-send, Hall-sync}
-use Rattle.tac_serve.proofs.Crossing.{Listener-sync, Settings-sync}
+use Rattle.tac_serve.proofs.Crossing.{Listener-sync, Settings-sync, Vigil-sync}
 use Rattle.tac_hall.proofs.worked.End.TheSendSync as ends
 use Rattle.tac_serve.proofs.program.serve_both.Goals as goal
 
@@ -37,7 +37,10 @@ join_mut-requires-send-F g c κs within =
                 (tt, hall.shared d.3.now d.3.ref_ptr.0 d.3.ref_ptr.1 _),
                 (
                   (tt, Settings-sync.shared d.4.now d.4.ref_ptr.0 d.4.ref_ptr.1 _),
-                  tt,
+                  (
+                    (tt, Vigil-sync.shared d.5.now d.5.ref_ptr.0 d.5.ref_ptr.1 _),
+                    tt,
+                  ),
                 ),
               ),
             ),

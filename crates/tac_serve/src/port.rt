@@ -1,0 +1,38 @@
+//! The port that devices call.
+
+use std::io;
+use std::net::{Net, Shutdown, SocketAddr, TcpListener, TcpStream};
+use std::os::fd::OwnedFd;
+
+/// A port that is listened on, and that can be closed while threads wait for connections there.
+#[derive(Drop)]
+pub struct Port {
+    listener: TcpListener,
+    // the same socket as a stream, which can be shut down
+    door: TcpStream,
+}
+
+impl Port {
+    /// Listens at an address of this machine. The error is the system's: the address is another
+    /// one's, the port is in use, or it takes rights that the process lacks.
+    pub fn bind<R>(rt: &R, address: SocketAddr) -> io::Result<Port>
+    where
+        R: Net<Listener = TcpListener, Stream = TcpStream>,
+    {
+        let listener = TcpListener::bind(rt, address)?;
+        let door = TcpStream::from(OwnedFd::from(listener.try_clone()?));
+        Ok(Port { listener, door })
+    }
+
+    /// What takes the connections.
+    pub fn listener(&self) -> &TcpListener {
+        &self.listener
+    }
+
+    /// Takes no more connections. Whoever waits for one is told at once that there is none, and
+    /// those in the queue are closed.
+    pub(crate) fn close(&self) {
+        // a port that is closed already is well closed
+        let _ = self.door.shutdown(Shutdown::Both);
+    }
+}

@@ -1,0 +1,87 @@
+//! What a server's threads tell one another, and how long they are patient with a device.
+
+use std::sync::atomic::{AtomicBool, AtomicU64, Ordering};
+use std::thread::sleep;
+use std::time::{Clock, Duration};
+
+/// How long a device may be silent before its first reply, in seconds.
+const FIRST_IDLE: u64 = 10;
+
+/// How often it is looked at whether another worker has begun, in milliseconds.
+const GLANCE: u64 = 1;
+
+/// At how many glances one after another no worker has to begin until it is given up: two seconds.
+const MOST_GLANCES: u32 = 2_000;
+
+/// How patient a server is with its devices, how many of its workers have begun, and whether it is
+/// stopping.
+#[derive(Drop)]
+pub(crate) struct Vigil {
+    idle: u64,
+    begun: AtomicU64,
+    stops: AtomicBool,
+}
+
+impl Vigil {
+    /// Of a server that gives a connection up after so many seconds without a reply; never, if
+    /// they are none.
+    pub(crate) fn new(idle: u32) -> Vigil {
+        Vigil {
+            idle: u64::from(idle),
+            begun: AtomicU64::new(0),
+            stops: AtomicBool::new(false),
+        }
+    }
+
+    /// How long a connection may be silent, if not for ever.
+    pub(crate) fn patience(&self, has_replied: bool) -> Option<Duration> {
+        if self.idle == 0 {
+            return None;
+        }
+        let seconds = if has_replied {
+            self.idle
+        } else {
+            self.idle.min(FIRST_IDLE)
+        };
+        Some(Duration::from_secs(seconds))
+    }
+
+    /// A worker has begun, in a thread of its own.
+    pub(crate) fn begin(&self) {
+        self.begun.fetch_add(1, Ordering::SeqCst);
+    }
+
+    /// Waits until so many workers have begun. Where threads can't be made the closures of workers
+    /// run one after another, so that none begins while another serves: it is given up after two
+    /// seconds in which none did.
+    pub(crate) fn have_begun<C: Clock>(&self, clock: &C, workers: u32) -> bool {
+        let mut seen = 0;
+        let mut glances = 0_u32;
+        'glances: for _ in 0..u64::MAX {
+            let begun = self.begun.load(Ordering::SeqCst);
+            if begun >= u64::from(workers) {
+                return true;
+            }
+            if begun > seen {
+                seen = begun;
+                glances = 0;
+            }
+            if glances >= MOST_GLANCES {
+                return false;
+            }
+            glances = glances.saturating_add(1);
+            sleep(clock, Duration::from_millis(GLANCE));
+        }
+        false
+    }
+
+    /// The server is to end.
+    pub(crate) fn stop(&self) {
+        self.stops.store(true, Ordering::SeqCst);
+    }
+
+    /// Whether the server is to end.
+    pub(crate) fn is_stopping(&self) -> bool {
+        self.stops.load(Ordering::SeqCst)
+    }
+}
