@@ -1,12 +1,12 @@
 //! The words that the program takes.
 
 use crate::help::{
-    ABOUT, AFTER_LONG_HELP, CHECK_ABOUT, CHECK_AFTER_HELP, CHECK_AFTER_LONG_HELP, CHECK_LONG_ABOUT,
-    CONNECTIONS_HELP, FILE_HELP, KEY_HELP, LONG_ABOUT, PORT_HELP, REPLAY_ABOUT, REPLAY_AFTER_HELP,
-    REPLAY_AFTER_LONG_HELP, REPLAY_LONG_ABOUT, SERVE_ABOUT, SERVE_AFTER_HELP,
-    SERVE_AFTER_LONG_HELP, SERVE_LONG_ABOUT, WORKERS_HELP,
+    ABOUT, ADDRESS_HELP, AFTER_LONG_HELP, CHECK_ABOUT, CHECK_AFTER_HELP, CHECK_AFTER_LONG_HELP,
+    CHECK_LONG_ABOUT, CONNECTIONS_HELP, FILE_HELP, IDLE_HELP, KEY_FILE_HELP, KEY_HELP, LONG_ABOUT,
+    PORT_HELP, REPLAY_ABOUT, REPLAY_AFTER_HELP, REPLAY_AFTER_LONG_HELP, REPLAY_LONG_ABOUT,
+    SERVE_ABOUT, SERVE_AFTER_HELP, SERVE_AFTER_LONG_HELP, SERVE_LONG_ABOUT, WORKERS_HELP,
 };
-use clap::{Arg, Command, value_parser};
+use clap::{Arg, ArgGroup, Command, value_parser};
 use std::alloc::{AllocError, Global};
 
 /// The word that asks for a server.
@@ -24,47 +24,74 @@ pub(crate) const PORT: &str = "port";
 /// The key that a server shares with its devices.
 pub(crate) const KEY: &str = "key";
 
+/// The file whose first line is that key.
+pub(crate) const KEY_FILE: &str = "key-file";
+
+/// The address at which a server listens.
+pub(crate) const ADDRESS: &str = "address";
+
+/// After how many seconds without a reply a connection is given up.
+pub(crate) const IDLE: &str = "idle";
+
+// The key, by either of its options.
+const SECRET: &str = "secret";
+
 /// How many connections a server serves at once.
 pub(crate) const WORKERS: &str = "workers";
 
 /// How many connections each of its workers serves.
 pub(crate) const CONNECTIONS: &str = "connections";
 
-// An option of `serve` that is a number.
-fn number<'a>(alloc: Global, id: &'a str, shown: &'a str, greatest: i64, help: &'a str) -> Arg<'a> {
+// An option of `serve` that is a number, within these bounds.
+fn number<'a>(
+    alloc: Global,
+    id: &'a str,
+    shown: &'a str,
+    bounds: (i64, i64),
+    help: &'a str,
+) -> Arg<'a> {
+    let (least, greatest) = bounds;
     Arg::new(alloc, id)
         .long(id)
         .value_name(shown)
-        .value_parser(value_parser!(u32).range(1..=greatest))
+        .value_parser(value_parser!(u32).range(least..=greatest))
         .help(help)
 }
 
+// An option of `serve` that is a text.
+fn text<'a>(alloc: Global, id: &'a str, shown: &'a str, help: &'a str) -> Arg<'a> {
+    Arg::new(alloc, id).long(id).value_name(shown).help(help)
+}
+
+// The options of a server, in the order of its help.
+fn with_options<'a>(alloc: Global, command: Command<'a>) -> Result<Command<'a>, AllocError> {
+    let connections = (1, 4_294_967_295);
+    let address = text(alloc, ADDRESS, "ADDR", ADDRESS_HELP).default_value("0.0.0.0");
+    command
+        .arg(number(alloc, PORT, "P", (1, 65_535), PORT_HELP).required(true))?
+        .arg(text(alloc, KEY, "K", KEY_HELP))?
+        .arg(text(alloc, KEY_FILE, "PATH", KEY_FILE_HELP))?
+        .arg(address)?
+        .arg(number(alloc, WORKERS, "W", (1, 63), WORKERS_HELP).default_value("4"))?
+        .arg(number(alloc, IDLE, "SECONDS", (0, 86_400), IDLE_HELP).default_value("300"))?
+        .arg(number(alloc, CONNECTIONS, "N", connections, CONNECTIONS_HELP).default_value(
+            "4294967295",
+        ))
+}
+
 fn serve<'a>(alloc: Global) -> Result<Command<'a>, AllocError> {
-    let port = number(alloc, PORT, "P", 65_535, PORT_HELP).required(true);
-    let key = Arg::new(alloc, KEY)
-        .long(KEY)
-        .value_name("K")
-        .required(true)
-        .help(KEY_HELP);
-    let workers = number(alloc, WORKERS, "W", 63, WORKERS_HELP).default_value("4");
-    let connections = number(
-        alloc,
-        CONNECTIONS,
-        "N",
-        4_294_967_295,
-        CONNECTIONS_HELP,
-    ).default_value("4294967295");
-    let file = Arg::new(alloc, FILE).required(true).help(FILE_HELP);
-    Command::new(alloc, SERVE)
+    let secret = ArgGroup::new(alloc, SECRET)
+        .arg(KEY)?
+        .arg(KEY_FILE)?
+        .required(true);
+    let command = Command::new(alloc, SERVE)
         .about(SERVE_ABOUT)
         .long_about(SERVE_LONG_ABOUT)
         .after_help(SERVE_AFTER_HELP)
-        .after_long_help(SERVE_AFTER_LONG_HELP)
-        .arg(port)?
-        .arg(key)?
-        .arg(workers)?
-        .arg(connections)?
-        .arg(file)
+        .after_long_help(SERVE_AFTER_LONG_HELP);
+    with_options(alloc, command)?
+        .group(secret)?
+        .arg(Arg::new(alloc, FILE).required(true).help(FILE_HELP))
 }
 
 fn check<'a>(alloc: Global) -> Result<Command<'a>, AllocError> {

@@ -21,13 +21,21 @@ pub const SERVE_LONG_ABOUT: &str =
 The policy is read from a file once. It is edited at the console, and an edit counts from the next
 packet on. Edits and accounting records are kept in memory alone, and are gone when the server ends.
 
-Anyone with a login on this machine can see the key, by 'ps' for one. Let nobody log in here who may
-not know it.";
+The key is 1 to 128 printable ASCII characters. Give it by --key-file: a key on the command line can
+be seen by everyone with a login on this machine, by 'ps' for one.";
 
-pub(crate) const PORT_HELP: &str = "The TCP port, 1 to 65535, at every IPv4 address of the machine";
+pub(crate) const PORT_HELP: &str = "The TCP port that devices call, 1 to 65535";
 
 pub(crate) const KEY_HELP: &str =
-    "The key that server and devices share, 1 to 128 printable ASCII characters; other users see it";
+    "The key that server and devices share; other users of this machine see it";
+
+pub(crate) const KEY_FILE_HELP: &str = "The file whose first line is that key";
+
+pub(crate) const ADDRESS_HELP: &str =
+    "The IPv4 or IPv6 address to listen at; '::' is every address of both kinds";
+
+pub(crate) const IDLE_HELP: &str =
+    "After how many seconds without a reply a connection is closed, 0 to 86400; 0 is never";
 
 pub(crate) const WORKERS_HELP: &str = "How many connections are served at once, 1 to 63";
 
@@ -35,15 +43,16 @@ pub(crate) const CONNECTIONS_HELP: &str =
     "How many connections each worker serves before it ends, at least 1";
 
 pub(crate) const SERVE_AFTER_HELP: &str = "Example:
-  tacd serve --port 49 --key tundra campus.policy
+  tacd serve --port 49 --key-file tacd.key campus.policy
 
 'tacd serve --help' describes the console; 'tacd replay --help' the lines of a policy.";
 
 /// What `tacd serve --help` ends with.
 pub const SERVE_AFTER_LONG_HELP: &str = "'tacd replay --help' describes the lines of a policy.
 
-A worker serves one connection at a time, until the device hangs up; other devices wait. Standard
-output has 'listening PORT' first, and then what the console's lines are answered.
+A worker serves one connection at a time, until the device hangs up, or has had no reply for so many
+seconds as --idle says (at most 10 before the first reply); other devices wait. Standard output has
+'listening PORT' first, and then what the console's lines are answered.
 
 Lines of the console, where a SUBJECT is 'user NAME' or 'group NAME':
   policy               the policy as it is now
@@ -67,15 +76,14 @@ An edit is answered by 'ok', and for each user whom it concerns by the shortest 
 permitted, and the shortest that is now denied; or by 'refused' and why, and has changed nothing.
 A call that the server doesn't take is answered by 'hall' and why: 65536 calls are taken in all.
 
-Where the server stops, a worker ends once its device asks something, which isn't answered, or hangs
-up. Workers that wait for a device end at once.
+Where the server stops, the port is closed, and all connections are closed within half a second.
 
 Example:
   $ cat ops.policy
   group ops
   permit show .*
   user bob in ops
-  $ tacd serve --port 49 --key tundra ops.policy
+  $ tacd serve --port 49 --key-file tacd.key ops.policy
   listening 49
   insert group ops 1 deny show run.*
   ok
@@ -87,9 +95,9 @@ Example:
 Exit status:
   0  the server was stopped
   1  the policy is refused, and why was printed, as by 'tacd check'
-  2  the command line is wrong
-  3  memory ran out
-  4  the file could not be read, the port could not be had, the console could not be read, or the
+  2  the command line or the key is wrong
+  3  memory ran out, or a thread could not be made
+  4  a file could not be read, the port could not be had, the console could not be read, or the
      output could not be written, or 'close refused' was printed: the calls of all workers could
      not be put together";
 
@@ -219,7 +227,7 @@ Exit status:
 
 pub(crate) const AFTER_LONG_HELP: &str = "Examples:
   tacd check campus.policy
-  tacd serve --port 49 --key tundra campus.policy
+  tacd serve --port 49 --key-file tacd.key campus.policy
   tacd replay < session.script
 
 'tacd serve --help', 'tacd check --help' and 'tacd replay --help' describe what is read, what is

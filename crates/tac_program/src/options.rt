@@ -1,32 +1,140 @@
 //! What the command line of `serve` asks for.
+//!
+//! Each fault is said on standard error. The status tells it too, so it doesn't matter whether that
+//! could be written.
 
-use crate::command_line::{CONNECTIONS, FILE, KEY, PORT, WORKERS};
+use crate::command_line::{ADDRESS, CONNECTIONS, FILE, IDLE, KEY, KEY_FILE, PORT, WORKERS};
+use crate::opening::open_file;
+use crate::status::Status;
+use basics::split_once;
 use clap::ArgMatches;
+use std::net::{IpAddr, SocketAddr};
+use std::rt::Files;
+use tac_input::{InputFault, read_whole};
 use tac_serve::Settings;
 use tac_wire::Key;
 
-/// How to serve, and by what.
+const BAD_KEY: &str =
+    "error: invalid value for '--key <K>': it is not 1 to 128 printable ASCII characters
+
+For more information, try '--help'.";
+
+/// The most bytes that a key's file has.
+const MAX_KEY_FILE: usize = 65_536;
+
+/// How to serve, where, and by what.
 #[derive(Drop)]
 pub(crate) struct Options<'a> {
     pub(crate) settings: Settings,
+    /// Where devices call.
+    pub(crate) address: SocketAddr,
     /// The policy's file.
     pub(crate) path: &'a str,
 }
 
+// The key of a word of the command line. What is said of it doesn't show it.
+fn key_of_word<R: Eprint>(rt: &R, word: &str) -> Result<Key, Status> {
+    match Key::read(word.as_bytes()) {
+        Some(key) => Ok(key),
+        None => {
+            let _ = eprintln!(rt; "{BAD_KEY}");
+            Err(Status::BadCommandLine)
+        }
+    }
+}
+
+// Says why a key's file isn't read.
+fn complain<R: Eprint>(rt: &R, path: &str, fault: InputFault) {
+    let _ = match fault {
+        InputFault::Failed => eprintln!(rt; "tacd: {path}: it could not be read"),
+        InputFault::TooLong => eprintln!(rt; "tacd: {path}: it is over 65536 bytes long"),
+        InputFault::Memory => eprintln!(rt; "tacd: memory ran out"),
+    };
+}
+
+// What comes before the first LF, or all where there is none.
+fn first_line(text: &[u8]) -> &[u8] {
+    match split_once(text, b'\n') {
+        Some((line, _)) => line,
+        None => text,
+    }
+}
+
+// The key that is the first line of a file, up to its LF, or all of the file where it has none.
+fn key_of_file<R: Files + Eprint + AllocGlobal>(rt: &R, path: &str) -> Result<Key, Status> {
+    let mut file = open_file(rt, path)?;
+    let text = match read_whole(rt.alloc(), &mut file, MAX_KEY_FILE) {
+        Ok(text) => text,
+        Err(fault) => {
+            complain(rt, path, fault);
+            return Err(Status::of_key_file(fault));
+        }
+    };
+    match Key::read(first_line(text.as_slice())) {
+        Some(key) => Ok(key),
+        None => {
+            let _ = eprintln!(rt;
+                "tacd: {path}: its first line is not 1 to 128 printable ASCII characters"
+            );
+            Err(Status::BadCommandLine)
+        }
+    }
+}
+
+// A command line that was parsed has a key or a key's file.
+fn key_of<R: Files + Eprint + AllocGlobal>(
+    rt: &R,
+    matches: &ArgMatches<'_>,
+) -> Result<Key, Status> {
+    match (matches.get_str(KEY), matches.get_str(KEY_FILE)) {
+        (Some(word), _) => key_of_word(rt, word),
+        (None, Some(path)) => key_of_file(rt, path),
+        (None, None) => Err(Status::BadCommandLine),
+    }
+}
+
+fn address_of<R: Eprint>(rt: &R, matches: &ArgMatches<'_>) -> Result<IpAddr, Status> {
+    match matches.get_one::<IpAddr>(ADDRESS) {
+        Some(address) => Ok(address),
+        None => {
+            let word = matches.get_str(ADDRESS).unwrap_or("");
+            let _ = eprintln!(rt;
+                "error: invalid value '{word}' for '--address <ADDR>': invalid IP address syntax
+
+For more information, try '--help'."
+            );
+            Err(Status::BadCommandLine)
+        }
+    }
+}
+
+// The numbers of a command line that was parsed, which has each of them within its bounds.
+fn settings_of(matches: &ArgMatches<'_>, key: Key) -> Option<Settings> {
+    Some(Settings {
+        port: matches.get_one::<u16>(PORT)?,
+        key,
+        workers: matches.get_one::<u32>(WORKERS)?,
+        connections: matches.get_one::<u32>(CONNECTIONS)?,
+        idle: matches.get_one::<u32>(IDLE)?,
+    })
+}
+
 impl<'a> Options<'a> {
-    /// The options of a command line that was parsed, which has each of them, and the numbers
-    /// within their bounds. `None` where the key is none.
-    pub(crate) fn read(matches: &ArgMatches<'a>) -> Option<Options<'a>> {
-        let key = matches.get_str(KEY)?;
-        let settings = Settings {
-            port: matches.get_one::<u16>(PORT)?,
-            key: Key::read(key.as_bytes())?,
-            workers: matches.get_one::<u32>(WORKERS)?,
-            connections: matches.get_one::<u32>(CONNECTIONS)?,
-        };
-        Some(Options {
-            settings,
-            path: matches.get_str(FILE)?,
-        })
+    /// The options of a command line that was parsed. The error is the status to end with: of the
+    /// address, which is judged first, or of the key.
+    pub(crate) fn read<R: Files + Eprint + AllocGlobal>(
+        rt: &R,
+        matches: &ArgMatches<'a>,
+    ) -> Result<Options<'a>, Status> {
+        let address = address_of(rt, matches)?;
+        let key = key_of(rt, matches)?;
+        match (settings_of(matches, key), matches.get_str(FILE)) {
+            (Some(settings), Some(path)) => Ok(Options {
+                address: SocketAddr::from((address, settings.port)),
+                settings,
+                path,
+            }),
+            _ => Err(Status::BadCommandLine),
+        }
     }
 }

@@ -16,14 +16,10 @@ use std::process::ExitCode;
 use std::rt::{Env, Files};
 use std::sync::Wait;
 use std::thread::Threads;
+use std::time::Clock;
 use std::{env, io};
 use tac_check::{CheckFault, check};
 use tac_server::replay;
-
-const BAD_KEY: &str =
-    "error: invalid value for '--key <K>': it is not 1 to 128 printable ASCII characters
-
-For more information, try '--help'.";
 
 // The script comes from standard input, and what is replied goes to standard output.
 fn replay_script<R: Input + Print + Eprint + AllocGlobal>(rt: &R) -> Status {
@@ -79,18 +75,18 @@ fn parse<'a>(alloc: Global, words: &'a [String]) -> Result<ArgMatches<'a>, Error
     command(alloc)?.try_get_matches_from(words)
 }
 
-// A parse that succeeds leaves of the options the key alone to be judged. What is said of it
-// doesn't show it.
+// A parse that succeeds leaves of the options the address and the key to be judged.
 fn serve_clients<R, H>(rt: &R, host: &H, matches: &ArgMatches<'_>) -> Status
 where
     R: Files + Input + Print + Eprint + AllocGlobal,
-    H: Threads + Wait + Sync + AllocGlobal + Net<Listener = TcpListener, Stream = TcpStream>,
+    H: Threads + Wait + Clock + Sync + AllocGlobal,
+    H: Net<Listener = TcpListener, Stream = TcpStream>,
 {
-    let Some(options) = Options::read(matches) else {
-        let _ = eprintln!(rt; "{BAD_KEY}");
-        return Status::BadCommandLine;
+    let outcome = match Options::read(rt, matches) {
+        Ok(options) => serve_by(rt, host, &options),
+        Err(status) => Err(status),
     };
-    match serve_by(rt, host, &options) {
+    match outcome {
         Ok(()) => Status::Done,
         Err(status) => status,
     }
@@ -101,7 +97,8 @@ where
 fn carry_out<R, H>(rt: &R, host: &H, matches: &ArgMatches<'_>) -> Status
 where
     R: Files + Input + Print + Eprint + AllocGlobal,
-    H: Threads + Wait + Sync + AllocGlobal + Net<Listener = TcpListener, Stream = TcpStream>,
+    H: Threads + Wait + Clock + Sync + AllocGlobal,
+    H: Net<Listener = TcpListener, Stream = TcpStream>,
 {
     if let Some(options) = matches.subcommand_matches(SERVE) {
         return serve_clients(rt, host, options);
@@ -118,7 +115,8 @@ where
 fn obey<R, H>(rt: &R, host: &H, words: &[String]) -> Status
 where
     R: Files + Input + Print + Eprint + AllocGlobal,
-    H: Threads + Wait + Sync + AllocGlobal + Net<Listener = TcpListener, Stream = TcpStream>,
+    H: Threads + Wait + Clock + Sync + AllocGlobal,
+    H: Net<Listener = TcpListener, Stream = TcpStream>,
 {
     match parse(rt.alloc(), words) {
         Ok(matches) => carry_out(rt, host, &matches),
@@ -135,7 +133,8 @@ fn words_of<R: Env + AllocGlobal>(rt: &R) -> io::Result<Vec<String>> {
 pub fn run<R, H>(rt: &R, host: &H) -> ExitCode
 where
     R: Env + Files + Input + Print + Eprint + AllocGlobal,
-    H: Threads + Wait + Sync + AllocGlobal + Net<Listener = TcpListener, Stream = TcpStream>,
+    H: Threads + Wait + Clock + Sync + AllocGlobal,
+    H: Net<Listener = TcpListener, Stream = TcpStream>,
 {
     let status = match words_of(rt) {
         Ok(words) => obey(rt, host, words.as_slice()),

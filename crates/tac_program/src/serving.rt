@@ -3,18 +3,21 @@
 //! Each fault is said on standard error. The status tells it too, so it doesn't matter whether
 //! that could be written.
 
+ghost use Rattle.std.specs.Prelude.{◌≡◌, ◌⊎◌, IfErr};
+
 use crate::opening::{open_desk, open_file};
 use crate::options::Options;
 use crate::status::Status;
 use std::io;
-use std::net::{Ipv4Addr, Net, TcpListener, TcpStream};
+use std::net::{Net, SocketAddr, TcpListener, TcpStream};
 use std::rt::Files;
 use std::sync::Wait;
 use std::thread::Threads;
+use std::time::Clock;
 use tac_desk::LiveDesk;
 use tac_hall::Hall;
 use tac_input::AnswerFault;
-use tac_serve::{ServeFault, serve};
+use tac_serve::{Port, ServeFault, serve};
 
 /// The most calls that a hall takes.
 const MAX_CALLS: usize = 65_536;
@@ -44,7 +47,9 @@ fn desk_of_file<R: Files + Print + Eprint + AllocGlobal>(
     }
 }
 
-fn hall_of<R: Eprint + AllocGlobal>(rt: &R, desk: LiveDesk) -> Result<Hall<LiveDesk>, Status> {
+fn hall_of<R: Eprint + AllocGlobal>(rt: &R, desk: LiveDesk) -> Result<Hall<LiveDesk>, Status>
+    ensures { IfErr result (λ status. status ≡ Status.OutOfMemory) }
+{
     match Hall::new(rt, desk, MAX_CALLS) {
         Ok(hall) => Ok(hall),
         Err(_) => {
@@ -54,12 +59,16 @@ fn hall_of<R: Eprint + AllocGlobal>(rt: &R, desk: LiveDesk) -> Result<Hall<LiveD
     }
 }
 
-// The socket on which devices call, at every IPv4 address of the machine.
-fn listener_on<R: Eprint, H: Net>(rt: &R, host: &H, port: u16) -> Result<H::Listener, Status> {
-    match TcpListener::bind(host, (Ipv4Addr::UNSPECIFIED, port)) {
-        Ok(listener) => Ok(listener),
+// Where devices call.
+fn port_at<R: Eprint, H>(rt: &R, host: &H, address: SocketAddr) -> Result<Port, Status>
+where
+    H: Net<Listener = TcpListener, Stream = TcpStream>,
+    ensures { IfErr result (λ status. (status ≡ Status.OutOfMemory) ⊎ (status ≡ Status.Failed)) }
+{
+    match Port::bind(host, address) {
+        Ok(port) => Ok(port),
         Err(error) => {
-            let _ = eprintln!(rt; "tacd: port {port}: {error}");
+            let _ = eprintln!(rt; "tacd: {address}: {error}");
             Err(Status::of_unopened(error.kind()))
         }
     }
@@ -70,14 +79,15 @@ fn listener_on<R: Eprint, H: Net>(rt: &R, host: &H, port: u16) -> Result<H::List
 pub(crate) fn serve_by<R, H>(rt: &R, host: &H, options: &Options<'_>) -> Result<(), Status>
 where
     R: Files + Input + Print + Eprint + AllocGlobal,
-    H: Threads + Wait + Sync + AllocGlobal + Net<Listener = TcpListener, Stream = TcpStream>,
+    H: Threads + Wait + Clock + Sync + AllocGlobal,
+    H: Net<Listener = TcpListener, Stream = TcpStream>,
 {
     let desk = desk_of_file(rt, options.path)?;
     let hall = hall_of(rt, desk)?;
-    let listener = listener_on(rt, host, options.settings.port)?;
+    let port = port_at(rt, host, options.address)?;
     let outcome = serve(
         host,
-        &listener,
+        &port,
         hall,
         &options.settings,
         &mut rt.reader(),

@@ -5,7 +5,7 @@ ghost use Rattle.std.specs.Prelude.{◌≡◌, ◌≢◌, ◌⊎◌};
 use clap::error::ErrorKind;
 use std::io::ErrorKind as IoErrorKind;
 use tac_check::{CheckEnd, CheckFault};
-use tac_input::AnswerFault;
+use tac_input::{AnswerFault, InputFault};
 use tac_serve::ServeFault;
 use tac_server::{ReplayEnd, ReplayFault};
 
@@ -18,6 +18,7 @@ pub(crate) enum Status {
     Refused = 1,
     /// The command line is not one of this program's.
     BadCommandLine = 2,
+    /// Memory ran out, or a thread could not be made.
     OutOfMemory = 3,
     /// Reading or writing failed.
     Failed = 4,
@@ -77,13 +78,26 @@ impl Status {
         ensures memory { fault ≡ ServeFault.Memory → result ≡ Status.OutOfMemory }
         ensures read { fault ≡ ServeFault.ReadFault → result ≡ Status.Failed }
         ensures write { fault ≡ ServeFault.WriteFault → result ≡ Status.Failed }
+        ensures threads { fault ≡ ServeFault.Threads → result ≡ Status.OutOfMemory }
         ensures close { fault ≡ ServeFault.CloseRefused → result ≡ Status.Failed }
     {
         match fault {
-            ServeFault::Memory => Status::OutOfMemory,
+            ServeFault::Memory | ServeFault::Threads => Status::OutOfMemory,
             ServeFault::ReadFault | ServeFault::WriteFault | ServeFault::CloseRefused => {
                 Status::Failed
             }
+        }
+    }
+
+    /// The status where a key's file could not be read.
+    pub(crate) fn of_key_file(fault: InputFault) -> Status
+        ensures memory { fault ≡ InputFault.Memory → result ≡ Status.OutOfMemory }
+        ensures read { fault ≡ InputFault.Failed → result ≡ Status.Failed }
+        ensures too_long { fault ≡ InputFault.TooLong → result ≡ Status.Failed }
+    {
+        match fault {
+            InputFault::Memory => Status::OutOfMemory,
+            InputFault::Failed | InputFault::TooLong => Status::Failed,
         }
     }
 
