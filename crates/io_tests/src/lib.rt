@@ -3,6 +3,10 @@
 #![tactic(auto)]
 
 #[cfg(test)]
+mod answering;
+#[cfg(test)]
 mod reading;
+#[cfg(test)]
+mod scripted;
 #[cfg(test)]
 mod writing;

@@ -1,37 +1,9 @@
 //! Sending to writers that take little, are interrupted, or fail.
 
+use crate::scripted::Scripted;
 use basics::send;
-use std::io::{self, ErrorKind, Write};
 use std::process::Abort;
 use std::test::Fail;
-
-/// Answers each write by one letter: `i` is an interruption, `x` another error, and a digit a write
-/// that takes at most so many bytes. A write behind the last letter takes all.
-#[derive(Drop)]
-struct Scripted<'a> {
-    letters: &'a [u8],
-    taken: Vec<u8>,
-}
-
-impl Write for Scripted<'_> {
-    fn write(&mut self, buf: &[u8]) -> io::Result<usize> {
-        let mut room = buf.len();
-        if let Some((letter, rest)) = self.letters.split_first() {
-            self.letters = rest;
-            match *letter {
-                b'i' => return Err(io::Error::from(ErrorKind::Interrupted)),
-                b'x' => return Err(io::Error::from(ErrorKind::StorageFull)),
-                letter => room = usize::from(letter.wrapping_sub(b'0')).min(room),
-            }
-        }
-        self.taken.extend_from_slice(&buf[..room])?;
-        Ok(room)
-    }
-
-    fn flush(&mut self) -> io::Result<()> {
-        Ok(())
-    }
-}
 
 // Sends eight bytes. Wanted are how many are taken and whether that is a success, with no letter
 // left.
@@ -42,10 +14,7 @@ fn sends<R: Abort + AllocGlobal>(
     succeeds: bool,
 ) -> Result<(), Fail> {
     let bytes = b"abcdefgh";
-    let mut writer = Scripted {
-        letters: letters.as_bytes(),
-        taken: Vec::new(rt.alloc()),
-    };
+    let mut writer = Scripted::new(rt.alloc(), letters);
     let (sent, outcome) = send(&mut writer, bytes);
     assert_eq!(rt; outcome.is_ok(), succeeds, "by {letters:?}");
     assert_eq!(rt; sent, wanted, "by {letters:?}");
@@ -83,10 +52,7 @@ fn failing_at_each_byte(rt: HostRuntime) -> Result<(), Fail> {
 // Where there is nothing to send, the writer isn't asked.
 #[test]
 fn nothing(rt: HostRuntime) {
-    let mut writer = Scripted {
-        letters: b"x",
-        taken: Vec::new(rt.alloc()),
-    };
+    let mut writer = Scripted::new(rt.alloc(), "x");
     let (sent, outcome) = send(&mut writer, b"");
     assert_eq!(rt; sent, 0);
     assert!(rt; outcome.is_ok());
