@@ -148,3 +148,23 @@ fn a_seat_of_another_hall_in_place_of_its_own(rt: HostRuntime) -> Result<(), Fai
     let (hall, seats) = refused_with(hall, seats, stranger)?;
     closes(hall, seats, 2)
 }
+
+// A hall doesn't ask in which order its seats come back.
+#[test]
+fn seats_in_another_order(rt: HostRuntime) -> Result<(), Fail> {
+    let hall = hall_of(&rt, OPS, 9)?;
+    let mut seats = seats_of(&rt, &hall, 3)?;
+    talks(
+        &rt,
+        &hall,
+        seats.as_mut_slice(),
+        "
+        2 run bob show version = 0 permitted
+        0 records = 1 report
+        1 run bob show clock = 2 permitted
+        2 records = 3 report
+        ",
+    )?;
+    seats.as_mut_slice().reverse();
+    closes(hall, seats, 4)
+}
