@@ -49,6 +49,21 @@ fn logins_are_answered_by_the_desk(rt: HostRuntime) -> Result<(), Fail> {
 }
 
 #[test]
+fn records_are_stored_by_the_desk(rt: HostRuntime) -> Result<(), Fail> {
+    converses(
+        &rt,
+        3,
+        "
+        0 record bob 7 = 0 stored
+        1 record bob 7 = 1 stored
+        0 record bob 8 = 2 stored
+        1 record bob 8 = 1 LogFull
+        ",
+        3,
+    )
+}
+
+#[test]
 fn refused_edits_stand_in_the_log(rt: HostRuntime) -> Result<(), Fail> {
     converses(
         &rt,

@@ -1,25 +1,52 @@
-//! A desk that has no memory for edits, nor for copies of its records. Such an answer is a call's
-//! like others.
+//! A desk that has no memory for edits, for copies of its records, nor for a record. An edit or a
+//! question is answered so, as others are answered; a record is refused.
 
-use crate::support::{OPS, converses_in, desk_of};
+ghost use Rattle.std.specs.Prelude.{◌≡◌, []};
+
+use crate::support::{OPS, converses_in};
 use pol_edit::{Edit, EditFault};
 use pol_report::Changes;
-use std::alloc::AllocError;
+use pol_text::Policy;
+use std::alloc::{AllocError, Global};
+use std::marker::Model;
+use std::sync::Wait;
 use std::test::Fail;
 use tac_conn::{Answer, Ask};
 use tac_desk::{Desk, PlainDesk, Query, QueryFault, Report, State, Thrice};
 use tac_hall::Hall;
 
+// Never has a record, and would take nine. A contract sees the desk inside.
 #[derive(Drop)]
 struct Starved {
     inner: PlainDesk,
 }
 
+impl Model for Starved {
+    ghost use Rattle.std.specs.Prelude.{◌≡◌, []};
+    ghost use Rattle.tac_desk.specs.Meaning.{Meaning};
+
+    ghost Value = { Meaning };
+
+    ghost view = { λ desk. desk.inner };
+
+    ghost invariant = { λ desk. (desk.inner.records ≡ []) × (desk.inner.limit ≡ 9) };
+}
+
+impl Starved {
+    fn new(alloc: Global, policy: Policy) -> Result<Starved, EditFault> {
+        let inner = PlainDesk::new(alloc, policy, 9)?;
+        Ok(Starved { inner })
+    }
+}
+
 impl Desk for Starved {
-    ghost meaning = { λ desk. desk.inner };
+    ghost meaning = { λ desk. desk };
 
     fn ask(&mut self, ask: &Ask) -> Result<Answer, AllocError> {
-        self.inner.ask(ask)
+        match ask {
+            Ask::Authenticate { .. } | Ask::Authorise { .. } => self.inner.ask(ask),
+            Ask::Account(_) => Err(AllocError),
+        }
     }
 
     fn edit(&mut self, _edit: &Edit) -> Result<Thrice<Changes>, EditFault> {
@@ -38,13 +65,18 @@ impl Desk for Starved {
     }
 }
 
+// A conversation with two seats at such a desk; the log takes and has so many calls.
+fn starves<R: Wait + AllocGlobal>(rt: &R, talk: &str, logged: usize) -> Result<(), Fail> {
+    let policy = Policy::read(rt.alloc(), OPS.as_bytes())?;
+    let desk = Starved::new(rt.alloc(), policy)?;
+    let hall = Hall::new(rt, desk, logged)?;
+    converses_in(rt, hall, talk, logged)
+}
+
 #[test]
 fn want_of_memory_stands_in_the_log(rt: HostRuntime) -> Result<(), Fail> {
-    let inner = desk_of(rt.alloc(), OPS)?;
-    let hall = Hall::new(&rt, Starved { inner }, 4)?;
-    converses_in(
+    starves(
         &rt,
-        hall,
         "
         0 insert group ops 1 deny show .* = 0 refused 12 Memory
         1 records = 1 refused 12 Memory
@@ -52,5 +84,35 @@ fn want_of_memory_stands_in_the_log(rt: HostRuntime) -> Result<(), Fail> {
         0 stop = 3 stopped
         ",
         4,
+    )
+}
+
+#[test]
+fn a_record_that_is_not_stored(rt: HostRuntime) -> Result<(), Fail> {
+    starves(
+        &rt,
+        "
+        0 record bob 7 = 2 Memory
+        0 run bob show version = 0 permitted
+        0 record bob 7 = 2 Memory
+        1 record bob 8 = 2 Memory
+        1 run bob show version = 1 permitted
+        0 stop = 2 stopped
+        1 record bob 7 = 3 Closed
+        ",
+        3,
+    )
+}
+
+// That the log is full comes before want of memory.
+#[test]
+fn a_record_for_a_full_log(rt: HostRuntime) -> Result<(), Fail> {
+    starves(
+        &rt,
+        "
+        1 run bob show version = 0 permitted
+        0 record bob 7 = 1 LogFull
+        ",
+        1,
     )
 }

@@ -10,6 +10,7 @@ use std::test::Fail;
 use tac_conn::{Answer, Ask, Proof, Service};
 use tac_desk::{Desk, PlainDesk, Query, State};
 use tac_hall::{Call, CallAnswer, Entry, Hall, HallFault, Receipt, Seat, Settled};
+use tac_request::{AcctKind, Record};
 
 /// A policy under which bob may show things.
 pub(crate) const OPS: &str = "group ops\npermit show .*\nuser bob in ops\n";
@@ -51,12 +52,24 @@ fn login(alloc: Global, user: &str, secret: &str) -> Result<Call, AllocError> {
     }))
 }
 
+fn record(alloc: Global, user: &str, task: &str) -> Result<Call, AllocError> {
+    let user = Bytes::from_slice(alloc, user.as_bytes())?;
+    let task = Bytes::from_slice(alloc, task.as_bytes())?;
+    Ok(Call::Ask(Ask::Account(Record {
+        user,
+        kind: AcctKind::Update,
+        task,
+        elapsed: 0,
+        line: None,
+    })))
+}
+
 /// Bob asks for `show version`.
 pub(crate) fn show_version(alloc: Global) -> Result<Call, AllocError> {
     run(alloc, "bob", "show version")
 }
 
-// `run NAME LINE`, `pass NAME SECRET`, `records`, `stop`, or an edit.
+// `run NAME LINE`, `pass NAME SECRET`, `record NAME TASK`, `records`, `stop`, or an edit.
 fn call_of(alloc: Global, words: &str) -> Result<Call, Fail> {
     let (verb, rest) = word(words);
     match verb {
@@ -67,6 +80,10 @@ fn call_of(alloc: Global, words: &str) -> Result<Call, Fail> {
         "pass" => {
             let (name, secret) = word(rest);
             Ok(login(alloc, name, secret)?)
+        }
+        "record" => {
+            let (name, task) = word(rest);
+            Ok(record(alloc, name, task)?)
         }
         "records" => Ok(Call::Query(Query::Records)),
         "stop" => Ok(Call::Stop),
@@ -85,6 +102,7 @@ fn show_answer(out: &mut String, answer: &CallAnswer) -> Result<(), AllocError> 
         }
         CallAnswer::Ask(Answer::Pass) => write!(out, "pass"),
         CallAnswer::Ask(Answer::Fail) => write!(out, "fail"),
+        CallAnswer::Ask(Answer::Stored) => write!(out, "stored"),
         CallAnswer::Ask(_) => write!(out, "another answer"),
         CallAnswer::Edit(Ok(changes)) => write!(out, "changes {}", changes.get().len()),
         CallAnswer::Edit(Err(fault)) => write!(out, "refused {fault}"),
