@@ -7,6 +7,7 @@ use std::net::{Ipv4Addr, Net, SocketAddr, TcpListener, TcpStream};
 use std::sync::Wait;
 use std::test::Fail;
 use std::thread::Threads;
+use std::time::Clock;
 use tac_desk::PlainDesk;
 use tac_hall::{End, Gate, Hall, Seat};
 use tac_serve::serve_on;
@@ -91,11 +92,11 @@ pub(crate) fn listen<R: Net<Listener = TcpListener, Stream = TcpStream>>(
 /// A client that has asked.
 pub(crate) fn asks<R: Net<Listener = TcpListener, Stream = TcpStream> + AllocGlobal>(
     rt: &R,
-    listener: &TcpListener,
+    address: SocketAddr,
 ) -> io::Result<TcpStream> {
     let mut packet = Vec::new(rt.alloc());
     add_packet(&mut packet, 1, 1, 0, BODY)?;
-    let mut client = TcpStream::connect(rt, listener.local_addr()?)?;
+    let mut client = TcpStream::connect(rt, address)?;
     client.write_all(packet.as_slice())?;
     Ok(client)
 }
@@ -125,12 +126,14 @@ pub(crate) fn two_asked<R, G: Gate + Sync>(
     gate: &G,
 ) -> Result<Vec<(Seat, End)>, Fail>
 where
-    R: Threads + Wait + Sync + AllocGlobal + Net<Listener = TcpListener, Stream = TcpStream>,
+    R: Threads + Wait + Clock + Sync + AllocGlobal,
+    R: Net<Listener = TcpListener, Stream = TcpStream>,
 {
     let key = key()?;
     let listener = listen(rt)?;
-    let one = asks(rt, &listener)?;
-    let two = asks(rt, &listener)?;
+    let address = listener.local_addr()?;
+    let one = asks(rt, address)?;
+    let two = asks(rt, address)?;
     let served = serve_on(rt, &listener, hall, &key, seats, 1, gate)?;
     if are_permitted(rt.alloc(), &one, &two)? {
         Ok(served)

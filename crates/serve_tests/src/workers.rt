@@ -5,6 +5,7 @@ use std::net::{Net, TcpListener, TcpStream};
 use std::sync::Wait;
 use std::test::Fail;
 use std::thread::Threads;
+use std::time::Clock;
 use tac_hall::{End, OpenGate, Seat};
 
 // Whether the seats are in order, each with this end.
@@ -15,7 +16,8 @@ fn all_ended(served: &[(Seat, End)], end: End) -> bool {
 // Two workers serve a connection each, on which a client has asked.
 fn two_served<R>(rt: &R) -> Result<(), Fail>
 where
-    R: Threads + Wait + Sync + AllocGlobal + Net<Listener = TcpListener, Stream = TcpStream>,
+    R: Threads + Wait + Clock + Sync + AllocGlobal,
+    R: Net<Listener = TcpListener, Stream = TcpStream>,
 {
     let hall = hall_of(rt, 9)?;
     let seats = seats_of(rt, &hall, 2)?;
