@@ -8,6 +8,8 @@ use std::fs::{FileTimes, Metadata, OpenFile, OpenOptions};
 use std::io;
 use std::io::{BufRead, ErrorKind, Lines, Read, Seek, SeekFrom, Write};
 use std::rt::{Env, Files};
+use std::sync::atomic::{AtomicBool, Ordering};
+use std::thread::yield_now;
 
 /// What was written to a stream that is open.
 #[derive(Drop)]
@@ -45,19 +47,80 @@ impl Stream {
     }
 }
 
+/// What is typed, once the flag is set, where there is one.
+#[derive(Drop)]
+pub(crate) struct Typed<'a> {
+    text: &'static [u8],
+    after: Option<&'a AtomicBool>,
+}
+
+impl Typed<'_> {
+    fn wait(&self) {
+        if let Some(flag) = self.after {
+            for _ in 0..u64::MAX {
+                if flag.load(Ordering::SeqCst) {
+                    return;
+                }
+                yield_now();
+            }
+        }
+    }
+}
+
+impl Read for Typed<'_> {
+    fn read(&mut self, buf: &mut [u8]) -> io::Result<usize> {
+        self.wait();
+        self.text.read(buf)
+    }
+}
+
+impl BufRead for Typed<'_> {
+    fn fill_buf(&mut self) -> io::Result<&[u8]> {
+        self.wait();
+        Ok(self.text)
+    }
+
+    fn consume(&mut self, amount: usize) {
+        let taken = amount.min(self.text.len());
+        let (_, rest) = self.text.split_at(taken);
+        self.text = rest;
+    }
+}
+
 /// A runtime with these words, one blank between them, this input, and this text in the file
-/// `policy`. There is a folder `folder`, and no other file.
+/// `policy`. The first line of the file `key` is a key that ends in a blank, that of `bad-key` is
+/// no key, and `no-key` is empty. There is a folder `folder`, and no other file.
 #[derive(Drop)]
 pub(crate) struct Fake<'a> {
     pub(crate) alloc: Global,
     pub(crate) words: &'a str,
     pub(crate) input: &'static str,
     pub(crate) policy: &'static str,
+    // the input comes once this flag is set
+    pub(crate) after: Option<&'a AtomicBool>,
     pub(crate) output: Stream,
     pub(crate) complaints: Stream,
 }
 
 impl<'a> Fake<'a> {
+    /// One at whose console `quit` is typed, once the flag is set.
+    pub(crate) fn quitting(
+        alloc: Global,
+        words: &'a str,
+        policy: &'static str,
+        after: &'a AtomicBool,
+    ) -> Fake<'a> {
+        Fake {
+            alloc,
+            words,
+            input: "quit\n",
+            policy,
+            after: Some(after),
+            output: Stream::new(alloc, true),
+            complaints: Stream::new(alloc, true),
+        }
+    }
+
     pub(crate) fn new(
         alloc: Global,
         words: &'a str,
@@ -70,6 +133,7 @@ impl<'a> Fake<'a> {
             words,
             input,
             policy,
+            after: None,
             output: Stream::new(alloc, takes_output),
             complaints: Stream::new(alloc, true),
         }
@@ -106,19 +170,22 @@ impl Env for Fake<'_> {
     }
 }
 
-impl Input for Fake<'_> {
-    type Reader = &'static [u8];
+impl<'a> Input for Fake<'a> {
+    type Reader = Typed<'a>;
 
     fn read_line<A: Allocator + Clone>(&self, buf: &mut String<A>) -> io::Result<usize> {
         self.reader().read_line(buf)
     }
 
-    fn lines<A: Allocator>(&self, alloc: A) -> Lines<&'static [u8], A> {
+    fn lines<A: Allocator>(&self, alloc: A) -> Lines<Typed<'a>, A> {
         self.reader().lines(alloc)
     }
 
-    fn reader(&self) -> &'static [u8] {
-        self.input.as_bytes()
+    fn reader(&self) -> Typed<'a> {
+        Typed {
+            text: self.input.as_bytes(),
+            after: self.after,
+        }
     }
 }
 
@@ -202,12 +269,16 @@ impl Files for Fake<'_> {
     type Dir = &'static [u8];
 
     fn open_file(&self, _how: &OpenOptions, path: &str) -> io::Result<FakeFile> {
-        if path != "policy" && path != "folder" {
-            return Err(io::Error::from(ErrorKind::NotFound));
-        }
+        let text = match path {
+            "policy" => self.policy,
+            "key" => "k \nthe second line\n",
+            "bad-key" => "tun\tdra\n",
+            "no-key" | "folder" => "",
+            _ => return Err(io::Error::from(ErrorKind::NotFound)),
+        };
         Ok(FakeFile {
             is_folder: path == "folder",
-            rest: self.policy.as_bytes(),
+            rest: text.as_bytes(),
         })
     }
 

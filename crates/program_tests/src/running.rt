@@ -7,6 +7,7 @@ use std::process::{Abort, ExitCode};
 use std::sync::Wait;
 use std::test::Fail;
 use std::thread::Threads;
+use std::time::Clock;
 use tac_program::help::{
     CHECK_AFTER_LONG_HELP, CHECK_LONG_ABOUT, REPLAY_AFTER_LONG_HELP, REPLAY_LONG_ABOUT,
     SERVE_AFTER_LONG_HELP, SERVE_LONG_ABOUT,
@@ -19,6 +20,7 @@ where
     R: Abort
         + Threads
         + Wait
+        + Clock
         + Sync
         + AllocGlobal
         + Net<Listener = TcpListener, Stream = TcpStream>,
@@ -46,6 +48,7 @@ where
     R: Abort
         + Threads
         + Wait
+        + Clock
         + Sync
         + AllocGlobal
         + Net<Listener = TcpListener, Stream = TcpStream>,
@@ -60,6 +63,7 @@ where
     R: Abort
         + Threads
         + Wait
+        + Clock
         + Sync
         + AllocGlobal
         + Net<Listener = TcpListener, Stream = TcpStream>,
@@ -73,6 +77,7 @@ where
     R: Abort
         + Threads
         + Wait
+        + Clock
         + Sync
         + AllocGlobal
         + Net<Listener = TcpListener, Stream = TcpStream>,
@@ -184,6 +189,7 @@ where
     R: Abort
         + Threads
         + Wait
+        + Clock
         + Sync
         + AllocGlobal
         + Net<Listener = TcpListener, Stream = TcpStream>,
@@ -232,7 +238,7 @@ fn serves_on_no_port(rt: HostRuntime) -> Result<(), Fail> {
     let port = listener.local_addr()?.port();
     let words = format!(in rt.alloc(); "tacd serve --port {port} --key k policy")?;
     let complained = format!(in rt.alloc();
-        "tacd: port {port}: Address already in use (os error 98)\n"
+        "tacd: 0.0.0.0:{port}: Address already in use (os error 98)\n"
     )?;
     ends(&rt, words.as_str(), "", true, 4, "", complained.as_str());
     // A refused policy comes before the port.
@@ -332,10 +338,17 @@ For more information, try '--help'.
 
 const NO_PORT: &str = "error: the following required arguments were not provided:
   --port <P>
-  --key <K>
+  <--key <K>|--key-file <PATH>>
   <FILE>
 
-Usage: tacd serve --port <P> --key <K> <FILE>
+Usage: tacd serve --port <P> <--key <K>|--key-file <PATH>> <FILE>
+
+For more information, try '--help'.
+";
+
+const TWO_KEYS: &str = "error: the argument '--key <K>' cannot be used with '--key-file <PATH>'
+
+Usage: tacd serve --port <P> <--key <K>|--key-file <PATH>> <FILE>
 
 For more information, try '--help'.
 ";
@@ -356,6 +369,7 @@ where
     R: Abort
         + Threads
         + Wait
+        + Clock
         + Sync
         + AllocGlobal
         + Net<Listener = TcpListener, Stream = TcpStream>,
@@ -388,7 +402,47 @@ fn bad_options(rt: HostRuntime) -> Result<(), Fail> {
         "--port 1 --connections 4294967296",
         "--connections <N>",
         "4294967296 is not in 1..=4294967295",
+    )?;
+    let (idle, address) = ("--idle <SECONDS>", "--address <ADDR>");
+    bad_option(
+        &rt,
+        "--port 1 --idle 86401",
+        idle,
+        "86401 is not in 0..=86400",
+    )?;
+    bad_option(
+        &rt,
+        "--port 1 --address 127.0.0",
+        address,
+        "invalid IP address syntax",
     )
+}
+
+// A key's file is judged after the command line, and before the policy's file.
+#[test]
+fn key_files(rt: HostRuntime) {
+    let first = "its first line is not 1 to 128 printable ASCII characters\n";
+    let cases = [
+        ("nowhere", 4, "tacd: nowhere: entity not found\n"),
+        ("folder", 4, "tacd: folder: it could not be read\n"),
+        ("key", 4, "tacd: nobody: entity not found\n"),
+    ];
+    for (path, status, complained) in cases {
+        let Ok(words) = format!(in rt.alloc(); "tacd serve --port 1 --key-file {path} nobody")
+        else {
+            return;
+        };
+        ends(&rt, words.as_str(), "", true, status, "", complained);
+    }
+    for path in ["bad-key", "no-key"] {
+        let words = format!(in rt.alloc(); "tacd serve --port 1 --key-file {path} nobody");
+        let complained = format!(in rt.alloc(); "tacd: {path}: {first}");
+        if let (Ok(words), Ok(complained)) = (words, complained) {
+            ends(&rt, words.as_str(), "", true, 2, "", complained.as_str());
+        }
+    }
+    let both = "tacd serve --port 1 --key k --key-file key policy";
+    ends(&rt, both, "", true, 2, "", TWO_KEYS);
 }
 
 #[test]
@@ -449,27 +503,30 @@ Options:
 
 const SERVE_SUMMARY: &str = "Serves devices on a port, with a console on standard input
 
-Usage: tacd serve [OPTIONS] --port <P> --key <K> <FILE>
+Usage: tacd serve [OPTIONS] --port <P> <--key <K>|--key-file <PATH>> <FILE>
 
 Arguments:
   <FILE>  The policy's text, at most 268435456 bytes
 
 Options:
-      --port <P>         The TCP port, 1 to 65535, at every IPv4 address of the machine
-      --key <K>          The key that server and devices share, 1 to 128 printable ASCII characters; other users see it
+      --port <P>         The TCP port that devices call, 1 to 65535
+      --key <K>          The key that server and devices share; other users of this machine see it
+      --key-file <PATH>  The file whose first line is that key
+      --address <ADDR>   The IPv4 or IPv6 address to listen at; '::' is every address of both kinds [default: 0.0.0.0]
       --workers <W>      How many connections are served at once, 1 to 63 [default: 4]
+      --idle <SECONDS>   After how many seconds without a reply a connection is closed, 0 to 86400; 0 is never [default: 300]
       --connections <N>  How many connections each worker serves before it ends, at least 1 [default: 4294967295]
   -h, --help             Print help (see more with '--help')
 
 Example:
-  tacd serve --port 49 --key tundra campus.policy
+  tacd serve --port 49 --key-file tacd.key campus.policy
 
 'tacd serve --help' describes the console; 'tacd replay --help' the lines of a policy.
 ";
 
 const SERVE_OPTIONS: &str = "
 
-Usage: tacd serve [OPTIONS] --port <P> --key <K> <FILE>
+Usage: tacd serve [OPTIONS] --port <P> <--key <K>|--key-file <PATH>> <FILE>
 
 Arguments:
   <FILE>
@@ -477,15 +534,28 @@ Arguments:
 
 Options:
       --port <P>
-          The TCP port, 1 to 65535, at every IPv4 address of the machine
+          The TCP port that devices call, 1 to 65535
 
       --key <K>
-          The key that server and devices share, 1 to 128 printable ASCII characters; other users see it
+          The key that server and devices share; other users of this machine see it
+
+      --key-file <PATH>
+          The file whose first line is that key
+
+      --address <ADDR>
+          The IPv4 or IPv6 address to listen at; '::' is every address of both kinds
+          
+          [default: 0.0.0.0]
 
       --workers <W>
           How many connections are served at once, 1 to 63
           
           [default: 4]
+
+      --idle <SECONDS>
+          After how many seconds without a reply a connection is closed, 0 to 86400; 0 is never
+          
+          [default: 300]
 
       --connections <N>
           How many connections each worker serves before it ends, at least 1

@@ -1,0 +1,232 @@
+//! A server that the program starts, with devices that call it over loopback. The packets are under
+//! the key `k `, which ends in a blank.
+
+use crate::fake::Fake;
+use std::alloc::Global;
+use std::io::{self, ErrorKind, Read, Write};
+use std::net::{Ipv4Addr, Net, SocketAddr, TcpListener, TcpStream};
+use std::process::ExitCode;
+use std::sync::Wait;
+use std::sync::atomic::{AtomicBool, Ordering};
+use std::test::Fail;
+use std::thread::{Threads, join, sleep};
+use std::time::{Clock, Duration};
+use tac_program::run;
+
+// Bob asks for `show version`, on a connection of its own.
+const ASK: &str =
+    "c00201000000000100000036d7cc6454be5ba68bc9f210f557d7ae8b726b5381a695029602c4b878ff8e59e05e4fc5c65065c4c62f3074105889424c197670190298";
+
+// He is permitted.
+const PERMITTED: &str = "c00202000000000100000006d549912637db";
+
+// The same on a connection that is kept open.
+const ASK_AGAIN: &str =
+    "c00201040000000100000036d7cc6454be5ba68bc9f210f557d7ae8b726b5381a695029602c4b878ff8e59e05e4fc5c65065c4c62f3074105889424c197670190298";
+
+// What that is answered.
+const PERMITTED_AGAIN: &str = "c00202040000000100000006d549912637db";
+
+// A login without a name.
+const LOGIN: &str = "c0010100000000010000000cd0cc6454bd5ba688b08e66a7";
+
+// The question for the name, after which the connection stays open.
+const NAME_WANTED: &str = "c00102000000000100000010d049912c37db4f2b7d26db3c07a2abf5";
+
+/// What devices do at the server.
+#[derive(Clone, Copy, Debug, PartialEq, Eq)]
+enum Visit {
+    /// So many are connected at once, and each is asked for a name.
+    AtOnce(u32),
+    /// One connection is kept open, and bob asks on it ten times.
+    TenTimes,
+    /// Each on a connection of its own: one is cut off in the middle of a packet, bob asks, another
+    /// is cut off, bob asks, and then nobody is served any more.
+    FourAndNoMore,
+}
+
+fn decoded(alloc: Global, digits: &str) -> io::Result<Vec<u8>> {
+    match hex::decode(alloc, digits.as_bytes()) {
+        Ok(bytes) => Ok(bytes),
+        Err(_) => Err(io::Error::from(ErrorKind::InvalidInput)),
+    }
+}
+
+// A connection to the server, as soon as it listens.
+fn connect<R>(rt: &R, address: SocketAddr) -> io::Result<TcpStream>
+where
+    R: Clock + Net<Listener = TcpListener, Stream = TcpStream>,
+{
+    for _ in 0..4_000 {
+        if let Ok(stream) = TcpStream::connect(rt, address) {
+            stream.set_read_timeout(Some(Duration::from_secs(20)))?;
+            return Ok(stream);
+        }
+        sleep(rt, Duration::from_millis(5));
+    }
+    Err(io::Error::from(ErrorKind::TimedOut))
+}
+
+// Whether this is answered so. Nothing more is read.
+fn is_answered(alloc: Global, stream: &TcpStream, sent: &str, wanted: &str) -> io::Result<bool> {
+    let sent = decoded(alloc, sent)?;
+    let wanted = decoded(alloc, wanted)?;
+    let mut answer = vec![in alloc; 0; wanted.len()]?;
+    let mut stream = stream;
+    stream.write_all(sent.as_slice())?;
+    stream.read_exact(answer.as_mut_slice())?;
+    Ok(answer == wanted)
+}
+
+fn asks_once<R>(rt: &R, address: SocketAddr) -> io::Result<bool>
+where
+    R: Clock + AllocGlobal + Net<Listener = TcpListener, Stream = TcpStream>,
+{
+    let stream = connect(rt, address)?;
+    is_answered(rt.alloc(), &stream, ASK, PERMITTED)
+}
+
+fn breaks_off<R>(rt: &R, address: SocketAddr) -> io::Result<()>
+where
+    R: Clock + Net<Listener = TcpListener, Stream = TcpStream>,
+{
+    let mut stream = connect(rt, address)?;
+    stream.write_all(b"\xc0\x02\x01\0\0")
+}
+
+fn at_once<R>(rt: &R, address: SocketAddr, count: u32) -> io::Result<bool>
+where
+    R: Clock + AllocGlobal + Net<Listener = TcpListener, Stream = TcpStream>,
+{
+    let mut open = Vec::new(rt.alloc());
+    for _ in 0..count {
+        let stream = connect(rt, address)?;
+        let is_asked = is_answered(rt.alloc(), &stream, LOGIN, NAME_WANTED)?;
+        open.push(stream)?;
+        if !is_asked {
+            return Ok(false);
+        }
+    }
+    Ok(true)
+}
+
+fn ten_times<R>(rt: &R, address: SocketAddr) -> io::Result<bool>
+where
+    R: Clock + AllocGlobal + Net<Listener = TcpListener, Stream = TcpStream>,
+{
+    let stream = connect(rt, address)?;
+    for _ in 0..10 {
+        if !is_answered(rt.alloc(), &stream, ASK_AGAIN, PERMITTED_AGAIN)? {
+            return Ok(false);
+        }
+    }
+    Ok(true)
+}
+
+fn four_and_no_more<R>(rt: &R, address: SocketAddr) -> io::Result<bool>
+where
+    R: Clock + AllocGlobal + Net<Listener = TcpListener, Stream = TcpStream>,
+{
+    for _ in 0..2 {
+        breaks_off(rt, address)?;
+        if !asks_once(rt, address)? {
+            return Ok(false);
+        }
+    }
+    let fifth = connect(rt, address)?;
+    fifth.set_read_timeout(Some(Duration::from_millis(500)))?;
+    Ok(is_answered(rt.alloc(), &fifth, ASK, PERMITTED).is_err())
+}
+
+impl Visit {
+    // Whether all went as it is to go.
+    fn make<R>(self, rt: &R, address: SocketAddr) -> bool
+    where
+        R: Clock + AllocGlobal + Net<Listener = TcpListener, Stream = TcpStream>,
+    {
+        let went = match self {
+            Visit::AtOnce(count) => at_once(rt, address, count),
+            Visit::TenTimes => ten_times(rt, address),
+            Visit::FourAndNoMore => four_and_no_more(rt, address),
+        };
+        went.unwrap_or(false)
+    }
+}
+
+fn free_port<R: Net<Listener = TcpListener, Stream = TcpStream>>(rt: &R) -> Result<u16, Fail> {
+    let listener = TcpListener::bind(rt, "0.0.0.0:0")?;
+    Ok(listener.local_addr()?.port())
+}
+
+// Devices visit a server, in a thread of their own, and then its operator is to quit.
+fn visit_it<R>(
+    rt: &R,
+    fake: &Fake<'_>,
+    is_over: &AtomicBool,
+    address: SocketAddr,
+    visit: Visit,
+) -> (bool, ExitCode)
+where
+    R: Threads + Wait + Clock + Sync + AllocGlobal,
+    R: Net<Listener = TcpListener, Stream = TcpStream>,
+{
+    join(
+        rt,
+        || -> bool {
+            let went = visit.make(rt, address);
+            is_over.store(true, Ordering::SeqCst);
+            went
+        },
+        || -> ExitCode { run(fake, rt) },
+    )
+}
+
+// Whether all went as it is to go at the server that these words start.
+fn serves<R>(rt: &R, words: &str, address: SocketAddr, visit: Visit) -> bool
+where
+    R: Threads + Wait + Clock + Sync + AllocGlobal,
+    R: Net<Listener = TcpListener, Stream = TcpStream>,
+{
+    let is_over = AtomicBool::new(false);
+    let policy = "group ops\npermit show .*\nuser bob in ops\n";
+    let fake = Fake::quitting(rt.alloc(), words, policy, &is_over);
+    let (went, status) = visit_it(rt, &fake, &is_over, address, visit);
+    went && status == ExitCode::from(0)
+}
+
+// The program serves, devices visit it at this address, and then its operator quits.
+fn visited<R>(rt: &R, options: &str, host: [u8; 4], visit: Visit) -> Result<(), Fail>
+where
+    R: Threads + Wait + Clock + Sync + AllocGlobal,
+    R: Net<Listener = TcpListener, Stream = TcpStream>,
+{
+    let port = free_port(rt)?;
+    let words = format!(in rt.alloc(); "tacd serve --port {port} --key-file key {options} policy")?;
+    let address = SocketAddr::from((Ipv4Addr::from(host), port));
+    if serves(rt, words.as_str(), address, visit) {
+        return Ok(());
+    }
+    Err(Fail::from("a device was served otherwise"))
+}
+
+const HERE: [u8; 4] = [127, 0, 0, 1];
+
+#[test]
+fn so_many_are_served_at_once(rt: HostRuntime) -> Result<(), Fail> {
+    visited(&rt, "--workers 6", HERE, Visit::AtOnce(6))?;
+    visited(&rt, "--workers 63", HERE, Visit::AtOnce(63))?;
+    visited(&rt, "--idle 0", HERE, Visit::AtOnce(4))
+}
+
+#[test]
+fn at_an_address(rt: HostRuntime) -> Result<(), Fail> {
+    visited(&rt, "--idle 1", [127, 0, 0, 2], Visit::TenTimes)?;
+    let options = "--address 127.0.0.2 --workers 1";
+    visited(&rt, options, [127, 0, 0, 2], Visit::TenTimes)
+}
+
+#[test]
+fn so_many_connections_each(rt: HostRuntime) -> Result<(), Fail> {
+    let options = "--workers 1 --connections 4";
+    visited(&rt, options, HERE, Visit::FourAndNoMore)
+}
