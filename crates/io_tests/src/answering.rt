@@ -3,7 +3,7 @@
 use crate::scripted::Scripted;
 use std::process::Abort;
 use std::test::Fail;
-use tac_input::{AnswerFault, InputFault, write_answer};
+use tac_io::{AnswerFault, InputFault, write_answer};
 
 // Says that memory ran out. Of the line so many bytes are taken, with no letter left: what a
 // writer refused isn't tried again.

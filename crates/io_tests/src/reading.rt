@@ -2,7 +2,7 @@
 
 use std::io::{self, ErrorKind, Read};
 use std::process::Abort;
-use tac_input::{InputFault, read_whole};
+use tac_io::{InputFault, read_whole};
 
 /// Gives a part of its text a read, by one letter each: `i` is an interruption, `x` another error,
 /// and a digit a read of at most so many bytes. Behind the last letter nothing is left.

@@ -9,7 +9,7 @@ ghost use Rattle.tac_check.specs.declared.checking.CheckEnd.{CheckEnd as CheckEn
 use crate::output::output;
 use std::alloc::Global;
 use std::io::{Read, Write};
-use tac_input::{AnswerFault, InputFault, read_whole, write_answer};
+use tac_io::{AnswerFault, InputFault, read_whole, write_answer};
 use thiserror::Error;
 
 /// The most bytes that a policy's text has.

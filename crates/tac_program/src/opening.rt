@@ -17,7 +17,7 @@ use std::io::{Read, Write};
 use std::rt::Files;
 use tac_console::{write_build_fault, write_policy_fault};
 use tac_desk::LiveDesk;
-use tac_input::{AnswerFault, InputFault, read_whole, write_answer};
+use tac_io::{AnswerFault, InputFault, read_whole, write_answer};
 
 /// The most bytes that a policy's text has.
 const MAX_TEXT: usize = 268_435_456;

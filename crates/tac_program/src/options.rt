@@ -10,8 +10,8 @@ use basics::split_once;
 use clap::ArgMatches;
 use std::net::{IpAddr, SocketAddr};
 use std::rt::Files;
-use tac_input::{InputFault, read_whole};
-use tac_serve::Settings;
+use tac_io::{InputFault, read_whole};
+use tac_net::Settings;
 use tac_wire::Key;
 
 const BAD_KEY: &str =

@@ -16,8 +16,8 @@ use std::thread::Threads;
 use std::time::Clock;
 use tac_desk::LiveDesk;
 use tac_hall::Hall;
-use tac_input::AnswerFault;
-use tac_serve::{Port, ServeFault, serve};
+use tac_io::AnswerFault;
+use tac_net::{Port, ServeFault, serve};
 
 /// The most calls that a hall takes.
 const MAX_CALLS: usize = 65_536;

@@ -5,8 +5,8 @@ ghost use Rattle.std.specs.Prelude.{◌≡◌, ◌≢◌, ◌⊎◌};
 use clap::error::ErrorKind;
 use std::io::ErrorKind as IoErrorKind;
 use tac_check::{CheckEnd, CheckFault};
-use tac_input::{AnswerFault, InputFault};
-use tac_serve::ServeFault;
+use tac_io::{AnswerFault, InputFault};
+use tac_net::ServeFault;
 use tac_server::{ReplayEnd, ReplayFault};
 
 /// How a run of the program ended, with the number that its caller sees.

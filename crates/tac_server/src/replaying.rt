@@ -10,7 +10,7 @@ use crate::script::run_script;
 use crate::script_fault::Stop;
 use std::alloc::{AllocError, Global};
 use std::io::{Read, Write};
-use tac_input::{AnswerFault, InputFault, read_whole, write_answer};
+use tac_io::{AnswerFault, InputFault, read_whole, write_answer};
 use thiserror::Error;
 
 /// The most bytes that a script has.

@@ -1,0 +1,85 @@
+-- A call that is made or refused.
+use Rattle.std.proofs.Common.{◌≡◌, ◌-◌, ℕ, List, [], ◌∷◌, ◌++◌, length, Option, Some, Result, Ok, Err, IfOk, OnOk, OnErr, IsErrAnd, refl, sym, ap, subst, ◌∙◌, inr, length-append, arith}
+use Rattle.std.specs.Prelude.{slice_get}
+use Rattle.std.proofs.KnownBytes.{Appends-nil}
+use Rattle.tac_hall.specs.declared.call.Call.{Call}
+use Rattle.tac_hall.specs.declared.call.Call.TheVariants as calls
+use Rattle.tac_hall.specs.declared.entry.Made.{Made}
+use Rattle.tac_hall.specs.declared.entry.Receipt.{Receipt}
+use Rattle.tac_hall.specs.declared.fault.HallFault.{HallFault}
+use Rattle.tac_hall.specs.declared.fault.HallFault.TheVariants as hall
+use Rattle.tac_hall.specs.Seat.{Sitting, IsMade, made_of}
+use Rattle.tac_hall_console.specs.declared.fault.OperatorFault.{OperatorFault}
+use Rattle.tac_hall_console.specs.declared.fault.OperatorFault.TheVariants as faults
+use Rattle.tac_hall_console.specs.Operated.{Outcome, made, refused, told, refusal_line, HasFound}
+use Rattle.tac_hall_console.specs.Operating.{Comes, Adds, IsUntold, SendsUnlessMemory, Stops}
+use Rattle.tac_hall_console.proofs.GoingFacts.{makes_none}
+
+behind_all : {X : Type 0} (before : List X) (last : X) → slice_get (before ++ last ∷ []) (length before) ≡ Some last
+behind_all [] last = refl
+behind_all (x ∷ before) last = behind_all before last
+
+-- the last of a list
+pub last_of : {X : Type 0} (before : List X) (last : X) → slice_get (before ++ last ∷ []) (length (before ++ last ∷ []) - 1) ≡ Some last
+last_of before last =
+    let at : length (before ++ last ∷ []) - 1 ≡ length before = omega (arith, length-append before (last ∷ [])) in
+    ap (λ (n : ℕ). slice_get (before ++ last ∷ []) n) at ∙ behind_all before last
+
+-- ---- what came of it
+
+pub comes_made : (call : Call) (receipt : Receipt) (was now : Sitting) → IsMade was call receipt now → Comes (Some call) (made (made_of call receipt)) was now
+comes_made call receipt was now m = record { comes = (refl, m.kind); makes = record { number = m.number; view = m.view } }
+
+pub comes_refused : (call : Call) (fault : HallFault) (was now : Sitting) → now ≡ was → Comes (Some call) (refused fault) was now
+comes_refused call fault was now same = rw same (record { comes = tt; makes = makes_none was })
+
+pub comes_of : (call : Call) (result : Result Receipt HallFault) (was now : Sitting) → IfOk result (λ receipt. IsMade was call receipt now) → OnErr result (now ≡ was)
+    → (outcome : Outcome) × Comes (Some call) outcome was now
+comes_of call (Ok receipt) was now m same = (made (made_of call receipt), comes_made call receipt was now m)
+comes_of call (Err fault) was now m same = (refused fault, comes_refused call fault was now same)
+
+some_same : {X : Type 0} (a b : X) → Some a ≡ Some b → a ≡ b
+some_same a b e = cc
+
+-- the last of the view is what was made
+pub comes_last : (call : Call) (receipt : Receipt) (was now : Sitting) (entry : Made) (view : List Made) → IsMade was call receipt now → view ≡ now.view
+    → Some entry ≡ slice_get view (length view - 1) → Comes (Some call) (made entry) was now
+comes_last call receipt was now entry view m is found =
+    let last : entry ≡ made_of call receipt =
+    some_same entry (made_of call receipt) (found ∙ ap (λ (v : List Made). slice_get v (length v - 1)) (is ∙ m.view) ∙ last_of was.view (made_of call receipt)) in
+    subst (λ (e : Made). Comes (Some call) (made e) was now) (sym last) (comes_made call receipt was now m)
+
+-- ---- what is told of it
+
+pub tells_ok : {E : Type 0} (call : Option Call) (outcome : Outcome) (was now : Sitting) (old new : List ℕ) (result : Result (Unit {0}) E) → Comes call outcome was now
+    → OnOk result (new ≡ old ++ told outcome) → OnOk result (Adds call was now old new)
+tells_ok call outcome was now old new (Ok u) came e = (told outcome, e, record { outcome = outcome; came = came; is = refl })
+tells_ok call outcome was now old new (Err fault) came e = tt
+
+pub tells_err : {E : Type 0} (call : Option Call) (outcome : Outcome) (was now : Sitting) (result : Result (Unit {0}) E) → Comes call outcome was now → OnErr result (IsUntold call was now)
+tells_err call outcome was now (Ok u) came = tt
+tells_err call outcome was now (Err fault) came = inr (outcome, came)
+
+-- ---- the Stop
+
+-- the console has failed, and nothing is told
+pub stops_untold : (heard end : Result (Unit {0}) OperatorFault) (fault : OperatorFault) (was now : Sitting) (old : Option (List ℕ)) → heard ≡ Err fault → IsErrAnd end (λ e. e ≡ fault)
+    → (outcome : Outcome) × Comes (Some calls.Stop) outcome was now → Stops heard end was now old old
+stops_untold heard (Ok u) fault was now old e is c = absurd is
+stops_untold heard (Err same) fault was now old e is c = rw e (record { stop = c.0; came = c.1; ends = (ap Err is, refl) })
+
+-- it was made
+pub stops_made : (heard : Result (Unit {0}) OperatorFault) (u : Unit {0}) (receipt : Receipt) (was now : Sitting) (old : Option (List ℕ)) → heard ≡ Ok u → IsMade was calls.Stop receipt now
+    → Stops heard (Ok tt) was now old old
+stops_made heard u receipt was now old e m =
+    rw e (record { stop = made (made_of calls.Stop receipt); came = comes_made calls.Stop receipt was now m; ends = (Appends-nil old, (λ no. absurd cc), tt) })
+
+found_refused : (end : Result (Unit {0}) OperatorFault) (fault : HallFault) → (fault ≡ hall.Memory → end ≡ Err faults.Memory) → HasFound end (refused fault)
+found_refused (Ok u) fault memory = λ is. absurd (let no = memory is in cc)
+found_refused (Err e) fault memory = tt
+
+-- it was refused
+pub stops_refused : (heard end : Result (Unit {0}) OperatorFault) (u : Unit {0}) (fault : HallFault) (was now : Sitting) (old new : Option (List ℕ)) → heard ≡ Ok u → now ≡ was
+    → SendsUnlessMemory end (refusal_line fault) old new → (fault ≡ hall.Memory → end ≡ Err faults.Memory) → Stops heard end was now old new
+stops_refused heard end u fault was now old new e same sent memory =
+    rw e (record { stop = refused fault; came = comes_refused calls.Stop fault was now same; ends = (sent, (λ is. tt), found_refused end fault memory) })

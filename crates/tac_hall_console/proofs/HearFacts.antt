@@ -1,0 +1,119 @@
+-- The whole input, one read after another.
+use Rattle.std.proofs.Common.{◌≡◌, ◌<◌, ℕ, true, List, [], ◌++◌, length, Option, Result, Ok, Err, IsErrAnd, refl, sym, ap, subst, ◌∙◌, append-nil, length-append, arith}
+use Rattle.std.specs.Io.KnownBytes.{Consumes, IsAtEnd, Keeps}
+use Rattle.std.proofs.KnownBytes.{Consumes-nil, Consumes-trans, Consumes-kept}
+use Rattle.basics.specs.Lines.{lines_of}
+use Rattle.tac_hall.specs.Seat.{Sitting}
+use Rattle.tac_hall_console.specs.declared.fault.OperatorFault.{OperatorFault}
+use Rattle.tac_hall_console.specs.declared.fault.OperatorFault.TheVariants as faults
+use Rattle.tac_hall_console.specs.declared.operator.Went.TheVariants.{On, Quits}
+use Rattle.tac_hall_console.specs.Commands.{ended_lines, commands, quits}
+use Rattle.tac_hall_console.specs.Operating.{IsRead, EndsAt, Took, Listens, IsHeard}
+use Rattle.tac_hall_console.proofs.LineFacts.{ended_open}
+use Rattle.tac_hall_console.proofs.GoingFacts.{goes_none, goes_then, goes_more, quits_now, ends_unread, ends_behind, ends_behind_ended}
+
+-- nothing was read yet
+pub listens_first : (begun : List ℕ) (was : Sitting) (before old : Option (List ℕ)) → begun ≡ [] → Listens begun was was before before old old
+listens_first begun was before old none = rw none (record {
+  input = [];
+  read = Consumes-nil before;
+  goes = goes_none [] was old;
+  opens = refl;
+})
+
+module _ (begun : List ℕ) (was mid : Sitting) (before after old between : Option (List ℕ)) (s : Listens begun was mid before after old between) where
+  -- nothing more was read
+  pub listens_still : (left : Option (List ℕ)) → Keeps after left → Listens begun was mid before left old between
+  listens_still left kept = record {
+    input = s.input;
+    read = Consumes-kept before after left s.input s.read kept;
+    goes = s.goes;
+    opens = s.opens;
+  }
+
+  -- reading failed
+  pub heard_unread : (left : Option (List ℕ)) → Keeps after left → IsHeard (Err faults.ReadFault) was mid before left old between
+  heard_unread left kept = record {
+    input = s.input;
+    read = Consumes-kept before after left s.input s.read kept;
+    finishes = quits_now s.input begun was mid old between s.goes ∙ ap quits (ended_open begun s.opens);
+    wants = λ e. absurd cc;
+    ends = ends_behind_ended s.input begun was mid old between s.goes (Err faults.ReadFault) mid between
+        (subst (λ (l : List (List ℕ)). EndsAt (Err faults.ReadFault) l mid mid between between) (sym (ap commands (ended_open begun s.opens))) (ends_unread mid between));
+  }
+
+  module _ (piece : List ℕ) (left : Option (List ℕ)) (read : Consumes after left piece) (now : Sitting) (new : Option (List ℕ)) where
+    -- the lines of a piece were answered
+    pub listens_more : (next : List ℕ) → Took (Ok On) begun piece next mid now between new → Listens next was now before left old new
+    listens_more next t = record {
+      input = s.input ++ piece;
+      read = Consumes-trans before after left s.input piece s.read read;
+      goes = goes_then (s.input ++ piece) (begun ++ piece) was mid old between (goes_more s.input begun was mid old between s.goes piece) next now new t.1;
+      opens = t.0;
+    }
+
+    -- one of them was `quit`
+    pub heard_quit : (next : List ℕ) → Took (Ok Quits) begun piece next mid now between new → IsHeard (Ok tt) was now before left old new
+    heard_quit next t =
+        let more = goes_more s.input begun was mid old between s.goes piece in
+        let quit : quits (ended_lines (s.input ++ piece)) ≡ true = quits_now (s.input ++ piece) (begun ++ piece) was mid old between more ∙ t.0 in
+        record {
+          input = s.input ++ piece;
+          read = Consumes-trans before after left s.input piece s.read read;
+          finishes = λ no. absurd cc;
+          wants = λ e. absurd cc;
+          ends = ends_behind (s.input ++ piece) (begun ++ piece) was mid old between more (Ok tt) now new t.1;
+        }
+
+    -- it failed at one of them
+    pub heard_fault : (fault : OperatorFault) (next : List ℕ) → 0 < length piece → Took (Err fault) begun piece next mid now between new → IsHeard (Err fault) was now before left old new
+    heard_fault faults.ReadFault next some t = absurd t.0
+    heard_fault faults.WriteFault next some t = record {
+      input = s.input ++ piece;
+      read = Consumes-trans before after left s.input piece s.read read;
+      finishes = tt;
+      wants = λ e. absurd cc;
+      ends = ends_behind (s.input ++ piece) (begun ++ piece) was mid old between (goes_more s.input begun was mid old between s.goes piece) (Err faults.WriteFault) now new t.1;
+    }
+    heard_fault faults.Memory next some t = record {
+      input = s.input ++ piece;
+      read = Consumes-trans before after left s.input piece s.read read;
+      finishes = tt;
+      wants = λ e. omega (arith, some, length-append s.input piece);
+      ends = ends_behind (s.input ++ piece) (begun ++ piece) was mid old between (goes_more s.input begun was mid old between s.goes piece) (Err faults.Memory) now new t.1;
+    }
+
+    pub heard_fault_as : (end : Result (Unit {0}) OperatorFault) (fault : OperatorFault) (next : List ℕ) → IsErrAnd end (λ e. e ≡ fault) → 0 < length piece
+        → Took (Err fault) begun piece next mid now between new → IsHeard end was now before left old new
+    heard_fault_as (Ok u) fault next is some t = absurd is
+    heard_fault_as (Err same) fault next is some t = rw is (heard_fault fault next some t)
+
+  module _ (left : Option (List ℕ)) (read : Consumes after left []) (at_end : IsAtEnd left) (now : Sitting) (new : Option (List ℕ)) where
+    read_all : Consumes before left s.input
+    read_all = rw (append-nil s.input) at (Consumes-trans before after left s.input [] s.read read)
+
+    -- the input ended
+    pub heard_last : (end : Result (Unit {0}) OperatorFault) → IsRead end → (end ≡ Err faults.Memory → 0 < length begun) → EndsAt end (commands (lines_of begun)) mid now between new
+        → IsHeard end was now before left old new
+    heard_last (Ok u) is some e = record {
+      input = s.input;
+      read = read_all;
+      finishes = λ no. at_end;
+      wants = λ e. absurd cc;
+      ends = ends_behind s.input begun was mid old between s.goes (Ok u) now new e;
+    }
+    heard_last (Err faults.ReadFault) is some e = absurd is
+    heard_last (Err faults.WriteFault) is some e = record {
+      input = s.input;
+      read = read_all;
+      finishes = tt;
+      wants = λ e. absurd cc;
+      ends = ends_behind s.input begun was mid old between s.goes (Err faults.WriteFault) now new e;
+    }
+    heard_last (Err faults.Memory) is some e = record {
+      input = s.input;
+      read = read_all;
+      finishes = tt;
+      wants = λ e. (let least = some refl in let within = s.goes.within in omega arith);
+      ends = ends_behind s.input begun was mid old between s.goes (Err faults.Memory) now new e;
+    }

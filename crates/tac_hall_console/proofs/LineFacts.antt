@@ -1,0 +1,140 @@
+-- Lines of bytes to which more come.
+use Rattle.std.proofs.Common.{◌≡◌, ◌<◌, ℕ, suc, Bool, true, false, cond, eqb, List, [], ◌∷◌, ◌++◌, length, Option, None, Some, refl, ap, subst, ◌∙◌, arith}
+use Rattle.std.specs.Option.{option_map}
+use Rattle.basics.specs.Lines.{split_at_first, onto_first, lines_of}
+use Rattle.tac_hall_console.specs.Commands.{onto_ended, ended_lines, is_quit, commands, quits}
+
+-- a byte before the first part
+abbrev onto_parts : ℕ → Option (List ℕ × List ℕ) → Option (List ℕ × List ℕ)
+onto_parts byte parts = option_map (λ parts. (byte ∷ parts.0, parts.1)) parts
+
+abbrev split_if : Bool → ℕ → List ℕ → Option (List ℕ × List ℕ) → Option (List ℕ × List ℕ)
+split_if here byte bytes parts = cond {A = Option (List ℕ × List ℕ)} here (Some ([], bytes)) (onto_parts byte parts)
+
+same_parts : (a b : List ℕ × List ℕ) → Some a ≡ Some b → a ≡ b
+same_parts a b e = cc
+
+-- ---- bytes behind
+
+more_case : (here : Bool) (byte : ℕ) (a b x y : List ℕ) (parts later : Option (List ℕ × List ℕ))
+    → ((p : List ℕ × List ℕ) → parts ≡ Some p → later ≡ Some (p.0, p.1 ++ b))
+    → split_if here byte a parts ≡ Some (x, y) → split_if here byte (a ++ b) later ≡ Some (x, y ++ b)
+more_case true byte a b x y parts later below h =
+    let e = same_parts (([], a)) ((x, y)) h in
+    ap (λ (p : List ℕ × List ℕ). Some (p.0, p.1 ++ b)) e
+more_case false byte a b x y None later below h = absurd cc
+more_case false byte a b x y (Some p) later below h =
+    let e = same_parts ((byte ∷ p.0, p.1)) ((x, y)) h in
+    ap (onto_parts byte) (below p refl) ∙ ap (λ (q : List ℕ × List ℕ). Some (q.0, q.1 ++ b)) e
+
+-- behind a line that ended, more bytes are behind it
+pub split_more : (a b x y : List ℕ) → split_at_first 10 a ≡ Some (x, y) → split_at_first 10 (a ++ b) ≡ Some (x, y ++ b)
+split_more [] b x y h = absurd cc
+split_more (byte ∷ a) b x y h =
+    more_case (eqb byte 10) byte a b x y (split_at_first 10 a) (split_at_first 10 (a ++ b)) (λ p e. split_more a b p.0 p.1 e) h
+
+-- ---- bytes before
+
+behind_case : (here : Bool) (byte : ℕ) (a all x y : List ℕ) (parts later : Option (List ℕ × List ℕ))
+    → (parts ≡ None → later ≡ Some (a ++ x, y))
+    → split_if here byte a parts ≡ None → split_if here byte all later ≡ Some (byte ∷ a ++ x, y)
+behind_case true byte a all x y parts later below h = absurd cc
+behind_case false byte a all x y None later below h = ap (onto_parts byte) (below refl)
+behind_case false byte a all x y (Some p) later below h = absurd cc
+
+-- what had begun of a line is its front
+pub split_behind : (a b x y : List ℕ) → split_at_first 10 a ≡ None → split_at_first 10 b ≡ Some (x, y) → split_at_first 10 (a ++ b) ≡ Some (a ++ x, y)
+split_behind [] b x y e h = h
+split_behind (byte ∷ a) b x y e h =
+    behind_case (eqb byte 10) byte a (a ++ b) x y (split_at_first 10 a) (split_at_first 10 (a ++ b)) (λ none. split_behind a b x y none h) e
+
+open_case : (here : Bool) (byte : ℕ) (a all : List ℕ) (parts later : Option (List ℕ × List ℕ))
+    → (parts ≡ None → later ≡ None) → split_if here byte a parts ≡ None → split_if here byte all later ≡ None
+open_case true byte a all parts later below h = absurd cc
+open_case false byte a all None later below h = ap (onto_parts byte) (below refl)
+open_case false byte a all (Some p) later below h = absurd cc
+
+pub open_more : (a b : List ℕ) → split_at_first 10 a ≡ None → split_at_first 10 b ≡ None → split_at_first 10 (a ++ b) ≡ None
+open_more [] b e h = h
+open_more (byte ∷ a) b e h =
+    open_case (eqb byte 10) byte a (a ++ b) (split_at_first 10 a) (split_at_first 10 (a ++ b)) (λ none. open_more a b none h) e
+
+-- ---- lines
+
+abbrev lines_if : (ℕ → List (List ℕ) → List (List ℕ)) → Bool → ℕ → List (List ℕ) → List (List ℕ)
+lines_if onto here byte lines = cond here ([] ∷ lines) (onto byte lines)
+
+split_case : (F : List ℕ → List (List ℕ)) (onto : ℕ → List (List ℕ) → List (List ℕ))
+    → ((byte : ℕ) (line : List ℕ) (lines : List (List ℕ)) → onto byte (line ∷ lines) ≡ (byte ∷ line) ∷ lines)
+    → (here : Bool) (byte : ℕ) (bytes line rest : List ℕ) (parts : Option (List ℕ × List ℕ))
+    → ((p : List ℕ × List ℕ) → parts ≡ Some p → F bytes ≡ p.0 ∷ F p.1)
+    → split_if here byte bytes parts ≡ Some (line, rest) → lines_if onto here byte (F bytes) ≡ line ∷ F rest
+split_case F onto puts true byte bytes line rest parts below h =
+    let e = same_parts (([], bytes)) ((line, rest)) h in
+    ap (λ (p : List ℕ × List ℕ). p.0 ∷ F p.1) e
+split_case F onto puts false byte bytes line rest None below h = absurd cc
+split_case F onto puts false byte bytes line rest (Some p) below h =
+    let e = same_parts ((byte ∷ p.0, p.1)) ((line, rest)) h in
+    ap (onto byte) (below p refl) ∙ puts byte p.0 (F p.1) ∙ ap (λ (q : List ℕ × List ℕ). q.0 ∷ F q.1) e
+
+-- a line that ended is the first
+pub lines_split : (bytes line rest : List ℕ) → split_at_first 10 bytes ≡ Some (line, rest) → lines_of bytes ≡ line ∷ lines_of rest
+lines_split [] line rest h = absurd cc
+lines_split (byte ∷ bytes) line rest h =
+    split_case lines_of onto_first (λ byte line lines. refl) (eqb byte 10) byte bytes line rest (split_at_first 10 bytes) (λ p e. lines_split bytes p.0 p.1 e) h
+
+pub ended_split : (bytes line rest : List ℕ) → split_at_first 10 bytes ≡ Some (line, rest) → ended_lines bytes ≡ line ∷ ended_lines rest
+ended_split [] line rest h = absurd cc
+ended_split (byte ∷ bytes) line rest h =
+    split_case ended_lines onto_ended (λ byte line lines. refl) (eqb byte 10) byte bytes line rest (split_at_first 10 bytes) (λ p e. ended_split bytes p.0 p.1 e) h
+
+none_case : (onto : ℕ → List (List ℕ) → List (List ℕ)) (here : Bool) (byte : ℕ) (bytes : List ℕ) (parts : Option (List ℕ × List ℕ)) (lines wanted : List (List ℕ))
+    → (parts ≡ None → onto byte lines ≡ wanted) → split_if here byte bytes parts ≡ None → lines_if onto here byte lines ≡ wanted
+none_case onto true byte bytes parts lines wanted below h = absurd cc
+none_case onto false byte bytes None lines wanted below h = below refl
+none_case onto false byte bytes (Some p) lines wanted below h = absurd cc
+
+-- without an end no line has ended
+pub ended_open : (bytes : List ℕ) → split_at_first 10 bytes ≡ None → ended_lines bytes ≡ []
+ended_open [] h = refl
+ended_open (byte ∷ bytes) h =
+    none_case onto_ended (eqb byte 10) byte bytes (split_at_first 10 bytes) (ended_lines bytes) [] (λ none. ap (onto_ended byte) (ended_open bytes none)) h
+
+-- and there is one line at most
+pub lines_open : (byte : ℕ) (bytes : List ℕ) → split_at_first 10 (byte ∷ bytes) ≡ None → lines_of (byte ∷ bytes) ≡ (byte ∷ bytes) ∷ []
+lines_open byte [] h = none_case onto_first (eqb byte 10) byte [] None [] ((byte ∷ []) ∷ []) (λ none. refl) h
+lines_open byte (next ∷ bytes) h =
+    none_case onto_first (eqb byte 10) byte (next ∷ bytes) (split_at_first 10 (next ∷ bytes)) (lines_of (next ∷ bytes)) ((byte ∷ next ∷ bytes) ∷ [])
+    (λ none. ap (onto_first byte) (lines_open next bytes none)) h
+
+shorter_case : (here : Bool) (byte : ℕ) (bytes line rest : List ℕ) (parts : Option (List ℕ × List ℕ))
+    → ((p : List ℕ × List ℕ) → parts ≡ Some p → length p.1 < length bytes)
+    → split_if here byte bytes parts ≡ Some (line, rest) → length rest < suc (length bytes)
+shorter_case true byte bytes line rest parts below h =
+    let e = same_parts (([], bytes)) ((line, rest)) h in
+    subst (λ (p : List ℕ × List ℕ). length p.1 < suc (length bytes)) e (omega arith)
+shorter_case false byte bytes line rest None below h = absurd cc
+shorter_case false byte bytes line rest (Some p) below h =
+    let e = same_parts ((byte ∷ p.0, p.1)) ((line, rest)) h in
+    let less = below p refl in
+    subst (λ (q : List ℕ × List ℕ). length q.1 < suc (length bytes)) e (omega arith)
+
+-- less is left behind a line
+pub split_shorter : (bytes line rest : List ℕ) → split_at_first 10 bytes ≡ Some (line, rest) → length rest < length bytes
+split_shorter [] line rest h = absurd cc
+split_shorter (byte ∷ bytes) line rest h =
+    shorter_case (eqb byte 10) byte bytes line rest (split_at_first 10 bytes) (λ p e. split_shorter bytes p.0 p.1 e) h
+
+-- ---- commands
+
+pub command_first : (line : List ℕ) (lines : List (List ℕ)) → is_quit line ≡ false → commands (line ∷ lines) ≡ line ∷ commands lines
+command_first line lines other = rw other refl
+
+pub quits_later : (line : List ℕ) (lines : List (List ℕ)) → is_quit line ≡ false → quits (line ∷ lines) ≡ quits lines
+quits_later line lines other = rw other refl
+
+pub no_command : (line : List ℕ) (lines : List (List ℕ)) → is_quit line ≡ true → commands (line ∷ lines) ≡ []
+no_command line lines quit = rw quit refl
+
+pub quits_here : (line : List ℕ) (lines : List (List ℕ)) → is_quit line ≡ true → quits (line ∷ lines) ≡ true
+quits_here line lines quit = rw quit refl

@@ -1,0 +1,171 @@
+-- What was done at the console of a hall (docs/CONSOLE.md, "The console of a hall").
+use Rattle.std.specs.Prelude.{◌≡◌, ◌≢◌, ◌<◌, ◌≤◌, ℕ, List, [], ◌∷◌, ◌++◌, length, codes, false}
+use Rattle.std.specs.Prelude.{Option, Some, None, Result, Ok, Err, flat_map, filter_map}
+use Rattle.std.specs.Io.KnownBytes.{Appends, Consumes, IsAtEnd}
+use Rattle.basics.specs.Lines.{lines_of}
+use Rattle.pol_edit.specs.declared.fault.EditFault.TheVariants.{BadEdit}
+use Rattle.tac_console.specs.Answers.{edit_answer, query_answer}
+use Rattle.tac_console.specs.ConsoleText.{asked_by}
+use Rattle.tac_console.specs.declared.asked.Asked.{Asked}
+use Rattle.tac_console.specs.declared.asked.Asked.TheVariants as asks
+use Rattle.tac_hall.specs.declared.call.Call.{Call}
+use Rattle.tac_hall.specs.declared.call.Call.TheVariants as calls
+use Rattle.tac_hall.specs.declared.call.CallAnswer.{CallAnswer}
+use Rattle.tac_hall.specs.declared.call.CallAnswer.TheVariants as answers
+use Rattle.tac_hall.specs.declared.entry.Made.{Made}
+use Rattle.tac_hall.specs.declared.fault.HallFault.{HallFault}
+use Rattle.tac_hall.specs.declared.fault.HallFault.TheVariants as hall
+use Rattle.tac_hall.specs.FaultText.{fault_text}
+use Rattle.tac_hall.specs.History.{IsOfKind}
+use Rattle.tac_hall.specs.Seat.{Sitting}
+use Rattle.tac_hall_console.specs.declared.fault.OperatorFault.{OperatorFault}
+use Rattle.tac_hall_console.specs.declared.fault.OperatorFault.TheVariants as faults
+use Rattle.tac_hall_console.specs.Commands.{ended_lines, commands, quits}
+
+-- ---- a line
+
+-- the call that a line asks for
+abbrev pub call_of : Asked → Option Call
+call_of (asks.Edit edit) = Some (calls.Edit edit)
+call_of (asks.Query query) = Some (calls.Query query)
+call_of asks.Neither = None
+
+-- what came of a line: it asks for no call, or the hall took its call, or refused it
+pub data Outcome : Type 0 where
+  uncalled : Outcome
+  made : Made → Outcome
+  refused : HallFault → Outcome
+
+-- a call that was taken is the one that was asked for, and its answer is of its kind
+abbrev pub ComesTo : Option Call → Outcome → Type 0
+ComesTo None uncalled = Unit {0}
+ComesTo None (made entry) = ⊥
+ComesTo None (refused fault) = ⊥
+ComesTo (Some call) uncalled = ⊥
+ComesTo (Some call) (made entry) = (entry.call ≡ call) × IsOfKind call entry.answer
+ComesTo (Some call) (refused fault) = Unit {0}
+
+-- how the answer to a call is printed; of a Stop nothing is
+abbrev pub answer_text : Call → CallAnswer → List ℕ
+answer_text (calls.Edit edit) (answers.Edit answer) = edit_answer answer
+answer_text (calls.Query query) (answers.Query answer) = query_answer query answer
+answer_text call answer = []
+
+abbrev pub refusal_line : HallFault → List ℕ
+refusal_line fault = codes "hall " ++ fault_text fault ++ 10 ∷ []
+
+-- how it is told what came of a line
+abbrev pub told : Outcome → List ℕ
+told uncalled = edit_answer (Err BadEdit)
+told (made entry) = answer_text entry.call entry.answer
+told (refused fault) = refusal_line fault
+
+-- ---- lines, one after another
+
+-- what came of each
+abbrev pub CameTo : List (List ℕ) → List Outcome → Type 0
+CameTo [] [] = Unit {0}
+CameTo [] (outcome ∷ outcomes) = ⊥
+CameTo (line ∷ lines) [] = ⊥
+CameTo (line ∷ lines) (outcome ∷ outcomes) =
+    ComesTo (call_of (asked_by line)) outcome × CameTo lines outcomes
+
+abbrev pub text_of : List Outcome → List ℕ
+text_of outcomes = flat_map told outcomes
+
+-- what a view has of it
+abbrev pub entry_of : Outcome → Option Made
+entry_of uncalled = None
+entry_of (made entry) = Some entry
+entry_of (refused fault) = None
+
+abbrev pub entries_of : List Outcome → List Made
+entries_of outcomes = filter_map entry_of outcomes
+
+-- these calls were made, one after another, and no others
+pub record Makes (was now : Sitting) (entries : List Made) : Type 0 where
+  pub number : now.number ≡ was.number
+  pub view : now.view ≡ was.view ++ entries
+
+-- ---- what was written
+
+-- a beginning of a text, and not all of it
+pub record WritesBeginning (text : List ℕ) (old new : Option (List ℕ)) : Type 0 where
+  pub first : List ℕ
+  pub others : List ℕ
+  pub parts : text ≡ first ++ others
+  pub some_left : 0 < length others
+  pub written : Appends old new first
+
+-- what came of all lines, but perhaps of the last
+pub record WritesMost (outcomes : List Outcome) (old new : Option (List ℕ)) : Type 0 where
+  pub first : List Outcome
+  pub untold : List Outcome
+  pub parts : outcomes ≡ first ++ untold
+  pub few : length untold ≤ 1
+  pub written : Appends old new (text_of first)
+
+-- what came of all lines and of the Stop behind them, unless the console failed
+abbrev pub Writes : Result (Unit {0}) OperatorFault → List Outcome → Outcome → Option (List ℕ)
+    → Option (List ℕ) → Type 0
+Writes (Ok _) outcomes stop old new = Appends old new (text_of (outcomes ++ stop ∷ []))
+Writes (Err faults.ReadFault) outcomes stop old new = Appends old new (text_of outcomes)
+Writes (Err faults.WriteFault) outcomes stop old new =
+    WritesBeginning (text_of (outcomes ++ stop ∷ [])) old new
+Writes (Err faults.Memory) outcomes stop old new = WritesMost outcomes old new
+
+-- ---- how it ended
+
+-- the lines of what was read: what stands behind the last LF is one too, but not where reading
+-- failed
+abbrev pub lines_at : Result (Unit {0}) OperatorFault → List ℕ → List (List ℕ)
+lines_at (Ok _) input = lines_of input
+lines_at (Err faults.ReadFault) input = ended_lines input
+lines_at (Err faults.WriteFault) input = lines_of input
+lines_at (Err faults.Memory) input = lines_of input
+
+-- the commands that nothing came of: none, unless the console failed at one
+abbrev pub Leaves : Result (Unit {0}) OperatorFault → List (List ℕ) → Type 0
+Leaves (Ok _) left = left ≡ []
+Leaves (Err faults.ReadFault) left = left ≡ []
+Leaves (Err faults.WriteFault) left = Unit {0}
+Leaves (Err faults.Memory) left = Unit {0}
+
+-- it goes on until a line is `quit`, or the input ends
+abbrev pub Finishes : Result (Unit {0}) OperatorFault → List ℕ → Option (List ℕ) → Type 0
+Finishes (Ok _) input after = quits (ended_lines input) ≡ false → IsAtEnd after
+Finishes (Err faults.ReadFault) input after = quits (ended_lines input) ≡ false
+Finishes (Err faults.WriteFault) input after = Unit {0}
+Finishes (Err faults.Memory) input after = Unit {0}
+
+-- memory runs out at a line that began, or where a refused Stop is told
+abbrev pub Wants : Result (Unit {0}) OperatorFault → List ℕ → Outcome → Type 0
+Wants (Err faults.Memory) input (made entry) = 0 < length input
+Wants end input stop = Unit {0}
+
+-- a console that ended well had memory for its Stop
+abbrev pub HasFound : Result (Unit {0}) OperatorFault → Outcome → Type 0
+HasFound (Ok _) uncalled = Unit {0}
+HasFound (Ok _) (made entry) = Unit {0}
+HasFound (Ok _) (refused fault) = fault ≢ hall.Memory
+HasFound (Err fault) stop = Unit {0}
+
+-- the lines of what was read up to the first `quit` were answered, one after another, by calls of
+-- this seat, and then it made the Stop
+pub record IsOperated (end : Result (Unit {0}) OperatorFault) (was now : Sitting)
+    (before after old new : Option (List ℕ)) : Type 0 where
+  pub input : List ℕ
+  pub read : Consumes before after input
+  pub finishes : Finishes end input after
+  pub answered : List (List ℕ)
+  pub left : List (List ℕ)
+  pub lines : commands (lines_at end input) ≡ answered ++ left
+  pub leaves : Leaves end left
+  pub outcomes : List Outcome
+  pub came : CameTo answered outcomes
+  pub stop : Outcome
+  pub stops : ComesTo (Some calls.Stop) stop
+  pub wants : Wants end input stop
+  pub found : HasFound end stop
+  pub makes : Makes was now (entries_of (outcomes ++ stop ∷ []))
+  pub writes : Writes end outcomes stop old new

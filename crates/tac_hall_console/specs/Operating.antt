@@ -1,0 +1,156 @@
+-- How a console goes on, one line after another.
+use Rattle.std.specs.Prelude.{◌≡◌, ◌≤◌, ◌<◌, ◌⊎◌, ℕ, List, [], ◌∷◌, ◌++◌, length, true}
+use Rattle.std.specs.Prelude.{Option, Some, None, Result, Ok, Err}
+use Rattle.std.specs.Io.KnownBytes.{Appends, Consumes}
+use Rattle.basics.specs.Lines.{split_at_first, lines_of}
+use Rattle.tac_hall.specs.declared.call.Call.{Call}
+use Rattle.tac_hall.specs.declared.call.Call.TheVariants as calls
+use Rattle.tac_hall.specs.Seat.{Sitting}
+use Rattle.tac_hall_console.specs.declared.fault.OperatorFault.{OperatorFault}
+use Rattle.tac_hall_console.specs.declared.fault.OperatorFault.TheVariants as faults
+use Rattle.tac_hall_console.specs.declared.operator.Went.{Went}
+use Rattle.tac_hall_console.specs.declared.operator.Went.TheVariants.{On, Quits}
+use Rattle.tac_hall_console.specs.Commands.{ended_lines, commands, quits}
+use Rattle.tac_hall_console.specs.Operated.{Outcome, uncalled, made, refused, ComesTo, CameTo}
+use Rattle.tac_hall_console.specs.Operated.{told, text_of}
+use Rattle.tac_hall_console.specs.Operated.{entries_of, Makes, WritesBeginning, WritesMost}
+use Rattle.tac_hall_console.specs.Operated.{lines_at, Leaves, Finishes, HasFound}
+
+-- ---- one line
+
+-- this came of a call, or of a line that asks for none
+pub record Comes (call : Option Call) (outcome : Outcome) (was now : Sitting) : Type 0 where
+  pub comes : ComesTo call outcome
+  pub makes : Makes was now (entries_of (outcome ∷ []))
+
+-- it came to something, which is told by this text
+pub record Tells (call : Option Call) (was now : Sitting) (text : List ℕ) : Type 0 where
+  pub outcome : Outcome
+  pub came : Comes call outcome was now
+  pub is : text ≡ told outcome
+
+-- the same, where the text is added to another
+abbrev pub Adds : Option Call → Sitting → Sitting → List ℕ → List ℕ → Type 0
+Adds call was now old new = (text : List ℕ) × (new ≡ old ++ text) × Tells call was now text
+
+-- memory ran out: it came to nothing, or what it came to isn't told
+abbrev pub IsUntold : Option Call → Sitting → Sitting → Type 0
+IsUntold call was now = (now ≡ was) ⊎ ((outcome : Outcome) × Comes call outcome was now)
+
+-- a text was written, or a beginning of it
+abbrev pub Sends : Result (Unit {0}) OperatorFault → List ℕ → Option (List ℕ) → Option (List ℕ)
+    → Type 0
+Sends (Ok _) text old new = Appends old new text
+Sends (Err faults.WriteFault) text old new = WritesBeginning text old new
+Sends (Err fault) text old new = ⊥
+
+-- the same, where memory may run out before
+abbrev pub SendsUnlessMemory : Result (Unit {0}) OperatorFault → List ℕ → Option (List ℕ)
+    → Option (List ℕ) → Type 0
+SendsUnlessMemory (Err faults.Memory) text old new = Appends old new []
+SendsUnlessMemory end text old new = Sends end text old new
+
+-- ---- lines, one after another
+
+-- no line ends in these bytes
+abbrev pub IsOpen : List ℕ → Type 0
+IsOpen bytes = split_at_first 10 bytes ≡ None
+
+-- these bytes were gone through up to what is left of them: whatever comes later, the lines that
+-- ended before that were answered, and the later ones are the lines of what is left
+pub record GoesOn (bytes left : List ℕ) (was now : Sitting) (old new : Option (List ℕ)) : Type 0
+  where
+    pub answered : List (List ℕ)
+    pub lines : (more : List ℕ)
+        → commands (lines_of (bytes ++ more)) ≡ answered ++ commands (lines_of (left ++ more))
+    pub ended : (more : List ℕ)
+        → commands (ended_lines (bytes ++ more)) ≡ answered ++ commands (ended_lines (left ++ more))
+    pub quitting : (more : List ℕ)
+        → quits (ended_lines (bytes ++ more)) ≡ quits (ended_lines (left ++ more))
+    pub within : length left ≤ length bytes
+    pub outcomes : List Outcome
+    pub came : CameTo answered outcomes
+    pub makes : Makes was now (entries_of outcomes)
+    pub written : Appends old new (text_of outcomes)
+
+-- what came of the lines so far was written, or as much of it as a fault allows
+abbrev pub WritesTo : Result (Unit {0}) OperatorFault → List Outcome → Option (List ℕ)
+    → Option (List ℕ) → Type 0
+WritesTo (Ok _) outcomes old new = Appends old new (text_of outcomes)
+WritesTo (Err faults.ReadFault) outcomes old new = Appends old new (text_of outcomes)
+WritesTo (Err faults.WriteFault) outcomes old new = WritesBeginning (text_of outcomes) old new
+WritesTo (Err faults.Memory) outcomes old new = WritesMost outcomes old new
+
+-- of these commands the first were answered, and it ends
+pub record EndsAt (end : Result (Unit {0}) OperatorFault) (lines : List (List ℕ))
+    (was now : Sitting) (old new : Option (List ℕ)) : Type 0 where
+  pub answered : List (List ℕ)
+  pub left : List (List ℕ)
+  pub parts : lines ≡ answered ++ left
+  pub leaves : Leaves end left
+  pub outcomes : List Outcome
+  pub came : CameTo answered outcomes
+  pub makes : Makes was now (entries_of outcomes)
+  pub writes : WritesTo end outcomes old new
+
+-- reading isn't what failed
+abbrev pub IsRead : Result (Unit {0}) OperatorFault → Type 0
+IsRead (Err faults.ReadFault) = ⊥
+IsRead end = Unit {0}
+
+-- a line was answered, or it ends there
+abbrev pub Answers : Result (Unit {0}) OperatorFault → List ℕ → Sitting → Sitting
+    → Option (List ℕ) → Option (List ℕ) → Type 0
+Answers end line was now old new = IsRead end × EndsAt end (line ∷ []) was now old new
+
+-- the lines of a piece were answered, or it ends at one of them
+abbrev pub Took : Result Went OperatorFault → List ℕ → List ℕ → List ℕ → Sitting → Sitting
+    → Option (List ℕ) → Option (List ℕ) → Type 0
+Took (Ok On) begun piece next was now old new =
+    IsOpen next × GoesOn (begun ++ piece) next was now old new
+Took (Ok Quits) begun piece next was now old new =
+    (quits (ended_lines (begun ++ piece)) ≡ true)
+    × EndsAt (Ok tt) (commands (lines_of (begun ++ piece))) was now old new
+Took (Err fault) begun piece next was now old new =
+    IsRead (Err fault) × EndsAt (Err fault) (commands (lines_of (begun ++ piece))) was now old new
+
+-- ---- the whole input
+
+-- all that was read is answered, up to what has begun of a line
+pub record Listens (begun : List ℕ) (was now : Sitting) (before after old new : Option (List ℕ))
+    : Type 0 where
+  pub input : List ℕ
+  pub read : Consumes before after input
+  pub goes : GoesOn input begun was now old new
+  pub opens : IsOpen begun
+
+-- `quit`, the end of the input or a fault ended it
+pub record IsHeard (end : Result (Unit {0}) OperatorFault) (was now : Sitting)
+    (before after old new : Option (List ℕ)) : Type 0 where
+  pub input : List ℕ
+  pub read : Consumes before after input
+  pub finishes : Finishes end input after
+  pub wants : end ≡ Err faults.Memory → 0 < length input
+  pub ends : EndsAt end (commands (lines_at end input)) was now old new
+
+-- ---- the Stop
+
+abbrev pub IsRefused : Outcome → Type 0
+IsRefused uncalled = ⊥
+IsRefused (made entry) = ⊥
+IsRefused (refused fault) = Unit {0}
+
+-- behind lines that went so the Stop was made, and it ends so: what came of it is told, unless the
+-- lines ended in a fault
+abbrev pub StopEnds : Result (Unit {0}) OperatorFault → Result (Unit {0}) OperatorFault → Outcome
+    → Option (List ℕ) → Option (List ℕ) → Type 0
+StopEnds (Ok _) end stop old new =
+    SendsUnlessMemory end (told stop) old new × (end ≡ Err faults.Memory → IsRefused stop)
+    × HasFound end stop
+StopEnds (Err fault) end stop old new = (end ≡ Err fault) × (new ≡ old)
+
+pub record Stops (heard end : Result (Unit {0}) OperatorFault) (was now : Sitting)
+    (old new : Option (List ℕ)) : Type 0 where
+  pub stop : Outcome
+  pub came : Comes (Some calls.Stop) stop was now
+  pub ends : StopEnds heard end stop old new

@@ -1,0 +1,21 @@
+-- What threads share, beside the hall and the key.
+use mir.Syntax.{w32}
+use denote.Plain.{UInt}
+use denote.Param.Send.{IsSync, sendable}
+use Rattle.std.proofs.Crossing.{crosses}
+use Rattle.std.specs.contracts.net.tcp.TcpListener as TcpListener
+use Rattle.tac_hall.proofs.Crossing.{Key-sync}
+use Rattle.tac_net.specs.contracts.settings.Settings as Settings
+use Rattle.tac_net.specs.contracts.vigil.Vigil as Vigil
+
+pub Listener-sync : IsSync TcpListener.the_row
+Listener-sync = search (crosses, sendable) depth 60
+
+pub Number-sync : IsSync (UInt w32)
+Number-sync = search sendable depth 60
+
+pub Settings-sync : IsSync Settings.the_row
+Settings-sync = search (Key-sync, crosses, sendable) depth 60
+
+pub Vigil-sync : IsSync Vigil.the_row
+Vigil-sync = search (crosses, sendable) depth 60

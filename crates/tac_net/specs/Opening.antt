@@ -1,0 +1,23 @@
+-- What a server prints at first, and the seats that it makes.
+use Rattle.std.specs.Prelude.{◌≡◌, ℕ, List, [], ◌∷◌, ◌++◌, codes}
+use Rattle.std.specs.Prelude.{Option, Result, Ok, Err}
+use Rattle.std.specs.Fmt.{decimal}
+use Rattle.std.specs.Io.KnownBytes.{Appends}
+use Rattle.tac_hall.specs.Seat.{Sitting}
+use Rattle.tac_hall_console.specs.Operated.{WritesBeginning}
+use Rattle.tac_net.specs.declared.fault.ServeFault.{ServeFault}
+use Rattle.tac_net.specs.declared.fault.ServeFault.TheVariants.{WriteFault, Memory}
+
+abbrev pub listening_line : ℕ → List ℕ
+listening_line port = codes "listening " ++ decimal port ++ 10 ∷ []
+
+-- the first line was written, or a beginning of it; or nothing, for want of memory
+abbrev pub Announces : Result (Unit {0}) ServeFault → ℕ → Option (List ℕ) → Option (List ℕ) → Type 0
+Announces (Ok _) port old new = Appends old new (listening_line port)
+Announces (Err WriteFault) port old new = WritesBeginning (listening_line port) old new
+Announces (Err Memory) port old new = new ≡ old
+Announces (Err fault) port old new = ⊥
+
+-- a seat that made no call
+abbrev pub IsFresh : Sitting → Type 0
+IsFresh seat = seat.view ≡ []

@@ -1,0 +1,55 @@
+//! The ending of a server: its hall is closed.
+
+ghost use Rattle.std.specs.Prelude.{◌≡◌, [], ◌∷◌, ◌++◌, map, OnOk};
+ghost use Rattle.tac_net.specs.Ending as ending;
+
+use crate::fault::ServeFault;
+use basics::send;
+use std::alloc::AllocError;
+use std::io::Write;
+use tac_desk::Desk;
+use tac_hall::{End, Hall, Seat};
+
+const REFUSED: &[u8] = b"close refused\n";
+
+/// Prints that the hall can't be closed.
+pub(crate) fn refuse<W: Write>(output: &mut W) -> ServeFault
+    ensures { ending.Refuses result (W.contents output.old) (W.contents output.new) }
+{
+    let (_, sent) = send(output, REFUSED);
+    match sent {
+        Ok(()) => ServeFault::CloseRefused,
+        Err(_) => ServeFault::WriteFault,
+    }
+}
+
+// Adds the seats of those who served.
+fn add_seats(seats: &mut Vec<Seat>, served: Vec<(Seat, End)>) -> Result<(), AllocError>
+    ensures { OnOk result (seats.new.items ≡ seats.old.items ++ map (λ one. one.0) served.items) }
+{
+    'workers: for (seat, _) in served {
+        seats.push(seat)?;
+    }
+    Ok(())
+}
+
+/// Closes a hall with the console's seat and those of its workers. The list has room for them.
+pub(crate) fn close<D: Desk, W: Write>(
+    hall: Hall<D>,
+    console: Seat,
+    served: Vec<(Seat, End)>,
+    room: Vec<Seat>,
+    output: &mut W,
+) -> Result<(), ServeFault>
+    requires { room.items ≡ [] }
+    ensures { ending.Closes result hall (console ∷ map (λ one. one.0) served.items)
+        (W.contents output.old) (W.contents output.new) }
+{
+    let mut seats = room;
+    seats.push(console)?;
+    add_seats(&mut seats, served)?;
+    match hall.close(seats) {
+        Ok(_) => Ok(()),
+        Err(_) => Err(refuse(output)),
+    }
+}

@@ -1,0 +1,57 @@
+//! Why a server ended otherwise than by its console.
+
+ghost use Rattle.std.specs.Prelude.{◌≡◌};
+ghost use Rattle.tac_net.specs.Program.{fault_by};
+ghost use Rattle.tac_net.specs.declared.fault.ServeFault.TheVariants.{Memory};
+
+use std::alloc::{AllocError, AllocFailed};
+use tac_hall_console::OperatorFault;
+use thiserror::Error;
+
+/// Why a server ended otherwise than by its console.
+#[derive(Clone, Copy, Debug, PartialEq, Eq, Error)]
+pub enum ServeFault {
+    /// The console could not be read.
+    #[error("the console could not be read")]
+    ReadFault,
+    /// What is printed could not be written whole.
+    #[error("the output could not be written")]
+    WriteFault,
+    /// Memory ran out.
+    #[error("memory ran out")]
+    Memory,
+    /// A worker has no thread.
+    #[error("a thread could not be made")]
+    Threads,
+    /// The hall could not be closed with its seats, and `close refused` was printed.
+    #[error("the hall could not be closed")]
+    CloseRefused,
+}
+
+impl From<AllocError> for ServeFault {
+    ghost from_gives = { λ _ fault. fault ≡ Memory };
+
+    fn from(_error: AllocError) -> ServeFault {
+        ServeFault::Memory
+    }
+}
+
+impl<T: Drop> From<AllocFailed<T>> for ServeFault {
+    ghost from_gives = { λ _ fault. fault ≡ Memory };
+
+    fn from(_error: AllocFailed<T>) -> ServeFault {
+        ServeFault::Memory
+    }
+}
+
+impl From<OperatorFault> for ServeFault {
+    ghost from_gives = { λ error fault. fault ≡ fault_by error };
+
+    fn from(fault: OperatorFault) -> ServeFault {
+        match fault {
+            OperatorFault::ReadFault => ServeFault::ReadFault,
+            OperatorFault::WriteFault => ServeFault::WriteFault,
+            OperatorFault::Memory => ServeFault::Memory,
+        }
+    }
+}

@@ -1,0 +1,45 @@
+//! The opening of a server: its seats, and its first line.
+
+ghost use Rattle.std.specs.Prelude.{◌≡◌, length, All, IfOk};
+ghost use Rattle.tac_net.specs.Opening as opening;
+
+use crate::fault::ServeFault;
+use basics::send;
+use std::alloc::Global;
+use std::io::Write;
+use std::sync::Wait;
+use tac_desk::Desk;
+use tac_hall::{Hall, HallFault, Seat};
+
+/// So many seats of a hall. The error is Memory or NoSeat.
+pub(crate) fn seats_of<R: Wait, D: Desk>(
+    rt: &R,
+    alloc: Global,
+    hall: &Hall<D>,
+    count: u32,
+) -> Result<Vec<Seat>, HallFault>
+    ensures count { IfOk result (λ seats. length seats.items ≡ count) }
+    ensures fresh { IfOk result (λ seats. All opening.IsFresh seats.items) }
+{
+    let mut seats = Vec::new(alloc);
+    'seats: for _ in 0..count {
+        let seat = hall.seat(rt)?;
+        seats.push(seat)?;
+    }
+    Ok(seats)
+}
+
+/// Prints which port is listened on.
+pub(crate) fn announce<W: Write>(alloc: Global, output: &mut W, port: u16) -> Result<(), ServeFault>
+    ensures { opening.Announces result port (W.contents output.old) (W.contents output.new) }
+{
+    let mut line = Vec::new(alloc);
+    if let Err(_) = writeln!(line, "listening {port}") {
+        return Err(ServeFault::Memory);
+    }
+    let (_, sent) = send(output, line.as_slice());
+    match sent {
+        Ok(()) => Ok(()),
+        Err(_) => Err(ServeFault::WriteFault),
+    }
+}

@@ -1,0 +1,63 @@
+//! Workers in threads.
+
+ghost use Rattle.std.specs.Prelude.{IfOk};
+ghost use Rattle.tac_net.specs.Serving as serving;
+
+use crate::vigil::Vigil;
+use crate::worker::serve_all;
+use std::alloc::AllocError;
+use std::net::TcpListener;
+use std::sync::Wait;
+use std::thread::{Threads, map_vec};
+use std::time::Clock;
+use tac_desk::Desk;
+use tac_hall::{End, Gate, Hall, Seat};
+use tac_wire::Key;
+
+/// The same as [`serve_on`], but a connection is given up, and a worker ends as Stopped, where the
+/// vigil says so.
+pub(crate) fn serve_under<R: Threads + Wait + Clock + Sync, D: Desk + Send, G: Gate + Sync>(
+    rt: &R,
+    listener: &TcpListener,
+    hall: &Hall<D>,
+    key: &Key,
+    seats: Vec<Seat>,
+    connections: u32,
+    gate: &G,
+    vigil: &Vigil,
+) -> Result<Vec<(Seat, End)>, AllocError>
+    ensures { IfOk result (λ served. serving.HaveServed key.now connections seats.items
+        served.items) }
+{
+    let work = |seat: Seat| -> (Seat, End)
+        ensures { serving.Serves key.entry.now connections seat result.1 result.0 }
+    { serve_all(rt, listener, hall, key, seat, connections, gate, vigil) };
+    map_vec(rt, seats, &work)
+}
+
+/// Serves a hall on the network: for each seat there is a worker in a thread of its own, which
+/// serves so many connections, one after another.
+///
+/// Answered are the seats in their order, each with the end of its last connection, Finished where
+/// there was none. A worker stops before its last connection at the ends Stopped, LogFull, Held and
+/// NoSeat alone; a connection that can't be accepted counts as one that ended as ReadFault, and is
+/// followed by a pause of 50 milliseconds, of twice as many after the next, and so on up to a
+/// second. The error is that there is no memory for this list or the threads' parts of it; then the
+/// seats are gone.
+///
+/// It may wait for clients as long as they please.
+pub fn serve_on<R: Threads + Wait + Clock + Sync, D: Desk + Send, G: Gate + Sync>(
+    rt: &R,
+    listener: &TcpListener,
+    hall: &Hall<D>,
+    key: &Key,
+    seats: Vec<Seat>,
+    connections: u32,
+    gate: &G,
+) -> Result<Vec<(Seat, End)>, AllocError>
+    ensures { IfOk result (λ served. serving.HaveServed key.now connections seats.items
+        served.items) }
+{
+    let vigil = Vigil::new(0);
+    serve_under(rt, listener, hall, key, seats, connections, gate, &vigil)
+}

@@ -1,0 +1,137 @@
+//! A worker: one seat that serves connections, one after another.
+
+ghost use Rattle.std.specs.Prelude.{◌≡◌, ◌⊎◌, IfErr, true};
+ghost use Rattle.tac_net.specs.Serving as serving;
+
+use crate::line::Line;
+use crate::pause::Pause;
+use crate::vigil::Vigil;
+use std::net::{TcpListener, TcpStream};
+use std::sync::Wait;
+use std::time::Clock;
+use tac_desk::Desk;
+use tac_hall::{End, Gate, Hall, Seat, Worked, work};
+use tac_wire::Key;
+
+/// Whether a worker takes another connection after one that ended so.
+fn goes_on(end: End) -> bool
+    ensures { result ≡ serving.goes_on end }
+{
+    match end {
+        End::Stopped | End::LogFull | End::Held | End::NoSeat => false,
+        _ => true,
+    }
+}
+
+// Waits for a connection. Where none can be accepted it pauses, so that a lasting fault of the
+// system costs no processor.
+fn accept<C: Clock>(
+    clock: &C,
+    listener: &TcpListener,
+    vigil: &Vigil,
+    pause: &mut Pause,
+) -> Result<TcpStream, End>
+    ensures { IfErr result serving.IsUnaccepted }
+{
+    if vigil.is_stopping() {
+        return Err(End::Stopped);
+    }
+    match listener.accept() {
+        Ok((stream, _)) => {
+            pause.end();
+            Ok(stream)
+        }
+        Err(_) if vigil.is_stopping() => Err(End::Stopped),
+        Err(_) => {
+            pause.take(clock);
+            Err(End::ReadFault)
+        }
+    }
+}
+
+// Serves a connection with an end to patience.
+fn serve_line<'a, R: Wait + Clock, D: Desk, G: Gate>(
+    rt: &R,
+    hall: &Hall<D>,
+    key: &Key,
+    seat: Seat,
+    gate: &G,
+    line: &'a Line<'a, R>,
+) -> (Seat, End)
+    ensures { serving.Connects key.now seat result.1 result.0 }
+{
+    let mut reader = line;
+    let mut writer = line;
+    let Worked {
+        seat,
+        receipts: _,
+        end,
+    } = work(rt, hall, key, seat, &mut reader, &mut writer, gate);
+    (seat, end)
+}
+
+// Serves a connection.
+fn serve_stream<'a, R: Wait + Clock, D: Desk, G: Gate>(
+    rt: &'a R,
+    hall: &Hall<D>,
+    key: &Key,
+    seat: Seat,
+    gate: &G,
+    vigil: &'a Vigil,
+    stream: &'a TcpStream,
+) -> (Seat, End)
+    ensures { serving.Connects key.now seat result.1 result.0 }
+{
+    let Ok(line) = Line::new(stream, rt, vigil) else {
+        return (seat, End::ReadFault);
+    };
+    serve_line(rt, hall, key, seat, gate, &line)
+}
+
+// Waits for a connection and serves it.
+fn serve_one<R: Wait + Clock, D: Desk, G: Gate>(
+    rt: &R,
+    listener: &TcpListener,
+    hall: &Hall<D>,
+    key: &Key,
+    seat: Seat,
+    gate: &G,
+    vigil: &Vigil,
+    pause: &mut Pause,
+) -> (Seat, End)
+    ensures { serving.Connects key.now seat result.1 result.0 }
+{
+    match accept(rt, listener, vigil, pause) {
+        Ok(stream) => serve_stream(rt, hall, key, seat, gate, vigil, &stream),
+        Err(end) => (seat, end),
+    }
+}
+
+/// Serves so many connections, one after another, unless one ends as Stopped, LogFull, Held or
+/// NoSeat before. Answered are the seat and the last end, Finished where there was no connection.
+pub(crate) fn serve_all<R: Wait + Clock, D: Desk, G: Gate>(
+    rt: &R,
+    listener: &TcpListener,
+    hall: &Hall<D>,
+    key: &Key,
+    seat: Seat,
+    connections: u32,
+    gate: &G,
+    vigil: &Vigil,
+) -> (Seat, End)
+    ensures { serving.Serves key.now connections seat result.1 result.0 }
+{
+    vigil.begin();
+    let mut seat = seat;
+    let mut end = End::Finished;
+    let mut pause = Pause::new();
+    'connections: for _ in 0..connections {
+        let (next, last) = serve_one(rt, listener, hall, key, seat, gate, vigil, &mut pause);
+        seat = next;
+        end = last;
+        if !goes_on(end) {
+            return (seat, end);
+        }
+    }
+    (seat, end)
+}
