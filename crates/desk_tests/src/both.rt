@@ -10,7 +10,8 @@ use std::fmt::Write;
 use std::process::Abort;
 use std::test::Fail;
 use tac_conn::Answer;
-use tac_desk::{Desk, LiveDesk, PlainDesk};
+use tac_desk::Desk;
+use tac_desks::{LiveDesk, PlainDesk};
 
 // An answer to a connection, whole.
 fn push_answer(text: &mut String, answer: Answer) -> Result<(), AllocError> {

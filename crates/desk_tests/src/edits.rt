@@ -3,8 +3,8 @@
 use crate::support::converses;
 use basics::Bytes;
 use pol_edit::EditFault;
+use pol_meaning::{Changed, Changes};
 use pol_names::{Name, SubjectId};
-use pol_report::{Changed, Changes};
 use std::alloc::Global;
 use std::test::Fail;
 use tac_console::write_edit_answer;

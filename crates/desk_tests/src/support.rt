@@ -8,7 +8,8 @@ use std::process::Abort;
 use std::test::Fail;
 use tac_conn::{Answer, Ask, Proof, Service};
 use tac_console::{Asked, read_console, write_edit_answer, write_query_answer};
-use tac_desk::{Desk, PlainDesk};
+use tac_desk::Desk;
+use tac_desks::PlainDesk;
 use tac_tally::{AcctKind, Record};
 
 /// What a console prints of a line, at any desk.

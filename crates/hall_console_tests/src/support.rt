@@ -5,7 +5,7 @@ use pol_text::Policy;
 use std::alloc::AllocError;
 use std::sync::Wait;
 use std::test::Fail;
-use tac_desk::PlainDesk;
+use tac_desks::PlainDesk;
 use tac_hall::{Call, Hall, HallFault, Seat};
 use tac_hall_console::operate;
 

@@ -3,7 +3,7 @@
 use crate::support::{OPS, closes, closes_with, hall_of, seats_of, show_version, talks};
 use std::sync::Wait;
 use std::test::Fail;
-use tac_desk::PlainDesk;
+use tac_desks::PlainDesk;
 use tac_hall::{Hall, HallFault, Seat};
 
 #[test]

@@ -5,14 +5,15 @@ ghost use Rattle.std.specs.Prelude.{◌≡◌, []};
 
 use crate::support::{OPS, converses_in};
 use pol_edit::{Edit, EditFault};
-use pol_report::Changes;
+use pol_meaning::Changes;
 use pol_text::Policy;
 use std::alloc::{AllocError, Global};
 use std::marker::Model;
 use std::sync::Wait;
 use std::test::Fail;
 use tac_conn::{Answer, Ask};
-use tac_desk::{Desk, PlainDesk, Query, QueryFault, Report, State, Thrice};
+use tac_desk::{Desk, Query, QueryFault, Report, State, Thrice};
+use tac_desks::PlainDesk;
 use tac_hall::Hall;
 
 // Never has a record, and would take nine. A contract sees the desk inside.

@@ -8,7 +8,8 @@ use std::alloc::{AllocError, Global};
 use std::sync::Wait;
 use std::test::Fail;
 use tac_conn::{Answer, Ask, Proof, Service};
-use tac_desk::{Desk, PlainDesk, Query, State};
+use tac_desk::{Desk, Query, State};
+use tac_desks::PlainDesk;
 use tac_hall::{Call, CallAnswer, Entry, Hall, HallFault, Receipt, Seat, Settled};
 use tac_request::{AcctKind, Record};
 

@@ -4,7 +4,7 @@ use crate::support::{OPS, closes, hall_of, seats_of, show_version, talks};
 use std::sync::Wait;
 use std::test::Fail;
 use std::thread::{Threads, map_vec};
-use tac_desk::PlainDesk;
+use tac_desks::PlainDesk;
 use tac_hall::{Hall, Seat};
 
 const ASKS: usize = 64;

@@ -8,7 +8,7 @@ use std::sync::Wait;
 use std::test::Fail;
 use std::thread::Threads;
 use std::time::Clock;
-use tac_desk::PlainDesk;
+use tac_desks::PlainDesk;
 use tac_hall::{End, Gate, Hall, Seat};
 use tac_net::serve_on;
 use tac_wire::{Header, Key, PacketType, pad_in_place};

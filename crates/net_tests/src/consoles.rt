@@ -7,7 +7,7 @@ use std::sync::Wait;
 use std::test::Fail;
 use std::thread::Threads;
 use std::time::Clock;
-use tac_desk::PlainDesk;
+use tac_desks::PlainDesk;
 use tac_hall::Hall;
 use tac_net::{Port, ServeFault, Settings, serve};
 

@@ -9,7 +9,7 @@ use std::sync::atomic::{AtomicU64, Ordering};
 use std::test::Fail;
 use std::thread::{Threads, map_vec, sleep};
 use std::time::{Clock, Duration};
-use tac_desk::PlainDesk;
+use tac_desks::PlainDesk;
 use tac_hall::{End, Entry, Gate, Hall, Seat, Worked, work};
 use tac_wire::Key;
 

@@ -2,9 +2,9 @@
 use Rattle.std.proofs.Common.{inl, inr, ◌<◌, ℕ, IsTrue, List, [], ◌∷◌, length, sym, subst, ◌∙◌}
 use Rattle.std.specs.List.{slice_index_or}
 use Rattle.pol_pattern.specs.Flat.{Class, Factor, class, group, star, Term, empty, put, Terms, none, alt, join_term}
-use Rattle.pol_deriv.specs.Derivative.{IsAmong, Derivative, of_class, of_group, of_star, behind_star, Derivatives, Residual, at_first, by_more}
+use Rattle.pol_residual.specs.Derivative.{IsAmong, Derivative, of_class, of_group, of_star, behind_star, Derivatives, Residual, at_first, by_more}
 use Rattle.pol_automaton.specs.After.{After, after_more}
-use Rattle.pol_automaton.specs.Residuals.{InResidual, SameResiduals}
+use Rattle.pol_residual.specs.Residuals.{InResidual, SameResiduals}
 use Rattle.pol_automaton.specs.Alike.{AllInFactor, AllInTerm, AllInTerms, HoldsAlike, AreAlike}
 use Rattle.pol_automaton.proofs.Behind.{residual_after, after_residual}
 

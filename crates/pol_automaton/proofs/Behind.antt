@@ -7,11 +7,11 @@ use Rattle.std.proofs.lemmas.List.Elements.{All-contains}
 use Rattle.pol_pattern.specs.Flat.{Term, Terms}
 use Rattle.pol_pattern.specs.Sets.{InTerm}
 use Rattle.pol_pattern.specs.Spelling.{Holds}
-use Rattle.pol_deriv.specs.Derivative.{Derivatives, Residual, at_first, by_more}
+use Rattle.pol_residual.specs.Derivative.{Derivatives, Residual, at_first, by_more}
 use Rattle.pol_automaton.specs.declared.entry_term.EntryTerm.{EntryTerm}
 use Rattle.pol_automaton.specs.After.{After, after_more, after_same, after_push}
 use Rattle.pol_automaton.specs.Decision.{entry_at}
-use Rattle.pol_automaton.specs.Residuals.{InResidual, SameResiduals}
+use Rattle.pol_residual.specs.Residuals.{InResidual, SameResiduals}
 use Rattle.pol_automaton.specs.Scanning.{item_of, HasTerm}
 use Rattle.pol_automaton.specs.Entries.{Entries, AreWhole, AreEntries}
 

@@ -12,7 +12,7 @@ use Rattle.std.proofs.lemmas.Map.Keys.{sorted_from_strictly_increasing}
 use Rattle.pol_pattern.specs.Flat.{Term, Terms}
 use Rattle.pol_pattern.specs.Sets.{InTerms}
 use Rattle.pol_pattern.specs.Spelling.{Spells}
-use Rattle.pol_deriv.specs.Derivative.{Residual, ResidualLaw}
+use Rattle.pol_residual.specs.Derivative.{Residual, ResidualLaw}
 use Rattle.pol_deriv.specs.Table.{Grows, IsSetOf}
 use Rattle.pol_scan.specs.Alphabet.{Alphabet, IsAlphabet, HasClasses}
 use Rattle.pol_automaton.specs.declared.entry_term.EntryTerm.{EntryTerm}

@@ -7,7 +7,7 @@ use Rattle.std.proofs.lemmas.List.{get_or_past, get_or_default}
 use Rattle.std.proofs.lemmas.Map.Keys.{IsDistinct-cons, IsDistinct-from_apart}
 use Rattle.std.proofs.lemmas.Map.Steps.{length-le_from_distinct_below}
 use Rattle.basics.specs.Symbol.{is_symbol, is_text}
-use Rattle.pol_automaton.specs.Residuals.{SameResiduals, IsResidualCount, ExcludesLaw}
+use Rattle.pol_residual.specs.Residuals.{SameResiduals, IsResidualCount, ExcludesLaw}
 use Rattle.pol_automaton.specs.Alike.{AreAlike, IsClassCount}
 use Rattle.pol_automaton.proofs.Alikes.{alike_symmetric, alike_transitive}
 

@@ -11,7 +11,7 @@ use Rattle.pol_scan.specs.Alphabet.{Alphabet, IsAlphabet, SameColumn, HasClasses
 use Rattle.pol_scan.specs.Words.{IsWord}
 use Rattle.pol_scan.specs.Table.{Table, walk}
 use Rattle.pol_pattern.specs.Flat.{Term, Terms}
-use Rattle.pol_automaton.specs.Residuals.{InResidual, SameResiduals}
+use Rattle.pol_residual.specs.Residuals.{InResidual, SameResiduals}
 use Rattle.pol_automaton.specs.Decision.{entry_at, IsFirstMatch}
 use Rattle.pol_automaton.specs.Automaton.{Automaton, state_of, first_of, IsWhole, IsDecider}
 use Rattle.pol_automaton.specs.Alike.{AreAlike, HoldsAlike, AllInTerms}

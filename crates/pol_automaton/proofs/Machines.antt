@@ -8,8 +8,8 @@ use Rattle.pol_scan.specs.Alphabet.{Alphabet, IsAlphabet, HasClasses, word_of, t
 use Rattle.pol_scan.specs.Words.{IsWord, IsWordThat, word_at}
 use Rattle.pol_scan.specs.Congruence.{Congruence, AreDifferent, HasIndex, HasIndexAbove}
 use Rattle.pol_scan.specs.Table.{Table, count, walk, IsAutomatonOf}
-use Rattle.pol_automaton.specs.Residuals.{SameResiduals, IsResidualCount, HasMoreResiduals}
-use Rattle.pol_automaton.specs.Residuals.{AreDifferent as AreDifferentTexts}
+use Rattle.pol_residual.specs.Residuals.{SameResiduals, IsResidualCount, HasMoreResiduals}
+use Rattle.pol_residual.specs.Residuals.{AreDifferent as AreDifferentTexts}
 use Rattle.pol_automaton.specs.Decision.{IsFirstMatch}
 use Rattle.pol_automaton.specs.Automaton.{Automaton, state_of, first_of, IsWhole, IsDecider}
 use Rattle.pol_automaton.specs.Alike.{AreAlike}

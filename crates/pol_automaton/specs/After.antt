@@ -2,7 +2,7 @@
 -- after another.
 use Rattle.std.specs.Prelude.{◌↔◌, ℕ, List, [], ◌∷◌, ◌++◌}
 use Rattle.pol_pattern.specs.Flat.{Term}
-use Rattle.pol_deriv.specs.Derivative.{Derivatives}
+use Rattle.pol_residual.specs.Derivative.{Derivatives}
 
 abbrev pub After : (Term → Type 0) → List ℕ → Term → Type 0
 After set [] = set

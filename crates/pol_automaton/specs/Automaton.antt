@@ -8,7 +8,7 @@ use Rattle.pol_scan.specs.Alphabet.{Alphabet, IsAlphabet, HasClasses, word_of}
 use Rattle.pol_scan.specs.Words.{IsWord, IsWordThat}
 use Rattle.pol_scan.specs.Table.{Table, count, walk}
 use Rattle.pol_scan.specs.Table.{word_of as found_along}
-use Rattle.pol_automaton.specs.Residuals.{SameResiduals, IsResidualCount}
+use Rattle.pol_residual.specs.Residuals.{SameResiduals, IsResidualCount}
 use Rattle.pol_automaton.specs.Decision.{IsFirstMatch}
 use Rattle.pol_automaton.specs.Alike.{AreAlike}
 

@@ -5,11 +5,11 @@ use Rattle.std.specs.Coded.{Coded, code_by, coded×, coded_ℕ, coded_list}
 use Rattle.pol_pattern.specs.Flat.{Term, Terms}
 use Rattle.pol_pattern.specs.Sets.{InTerm}
 use Rattle.pol_pattern.specs.Spelling.{Spells, Holds}
-use Rattle.pol_deriv.specs.Derivative.{Residual}
+use Rattle.pol_residual.specs.Derivative.{Residual}
 use Rattle.pol_deriv.specs.TermCode.{term_code}
 use Rattle.pol_scan.specs.Alphabet.{Alphabet, IsAlphabet, HasClasses}
 use Rattle.pol_automaton.specs.declared.entry_term.EntryTerm.{EntryTerm}
-use Rattle.pol_automaton.specs.Residuals.{InResidual}
+use Rattle.pol_residual.specs.Residuals.{InResidual}
 use Rattle.pol_automaton.specs.Decision.{entry_at}
 use Rattle.pol_automaton.specs.Alike.{AreAlike}
 use Rattle.pol_automaton.specs.Scanning.{HasTerm, AreResiduals}

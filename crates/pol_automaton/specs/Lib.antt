@@ -1,4 +1,3 @@
-pub mod Residuals
 pub mod Alike
 pub mod Decision
 pub mod Faults

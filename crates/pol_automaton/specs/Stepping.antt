@@ -1,7 +1,7 @@
 -- One step of the scan: the derivatives of residuals by a symbol.
 use Rattle.std.specs.Prelude.{◌≡◌, ◌↔◌, ◌<◌, ◌⊎◌, ℕ, List, length, All}
 use Rattle.pol_pattern.specs.Flat.{Term}
-use Rattle.pol_deriv.specs.Derivative.{Derivative, Derivatives}
+use Rattle.pol_residual.specs.Derivative.{Derivative, Derivatives}
 use Rattle.pol_deriv.specs.Table.{Means}
 use Rattle.pol_automaton.specs.declared.entry_term.EntryTerm.{EntryTerm}
 use Rattle.pol_automaton.specs.Scanning.{HasTerm}

@@ -5,7 +5,7 @@ ghost use Rattle.std.specs.Prelude.{IfNone, OnOk, OnErr, IsErrOf};
 ghost use Rattle.basics.specs.Symbol.{is_symbol};
 ghost use Rattle.pol_pattern.specs.Matching.{MatchLaw};
 ghost use Rattle.pol_scan.specs.Table.{count};
-ghost use Rattle.pol_automaton.specs.Residuals.{HasMoreResiduals, ExcludesLaw, IsResidualCount};
+ghost use Rattle.pol_residual.specs.Residuals.{HasMoreResiduals, ExcludesLaw, IsResidualCount};
 ghost use Rattle.pol_automaton.specs.Entries.{AreEntries};
 ghost use Rattle.pol_automaton.specs.Decision.{IsFirstMatch, Decides, IsReachText};
 ghost use Rattle.pol_automaton.specs.Alike.{IsClassCount};

@@ -4,7 +4,7 @@ ghost use Rattle.std.specs.Prelude.{◌≡◌, ◌<◌, ◌≤◌, ◌+◌, ◌+
 ghost use Rattle.std.specs.Prelude.{OnErr, IsErrOf};
 ghost use Rattle.std.specs.List.{AllZip};
 ghost use Rattle.pol_scan.specs.Table.{count};
-ghost use Rattle.pol_automaton.specs.Residuals.{HasMoreResiduals, ExcludesLaw, IsResidualCount};
+ghost use Rattle.pol_residual.specs.Residuals.{HasMoreResiduals, ExcludesLaw, IsResidualCount};
 ghost use Rattle.pol_automaton.specs.Pairs.{joined_first};
 
 use crate::decider::Decider;

@@ -4,7 +4,7 @@ use Rattle.std.proofs.lemmas.List.{take_more}
 use Rattle.std.specs.Global.{Vec}
 use Rattle.pol_pattern.specs.Flat.{Term, term_value, terms_value}
 use Rattle.pol_pattern.specs.declared.flat.Factor.{Factor as FactorValue}
-use Rattle.pol_deriv.specs.Derivative.{IsAmong}
+use Rattle.pol_residual.specs.Derivative.{IsAmong}
 
 among-push : (terms : List (Vec FactorValue)) (last : Vec FactorValue) (term : Term) → IsAmong (terms_value (terms ++ last ∷ [])) term ↔ (IsAmong (terms_value terms) term ⊎ (term ≡ term_value last.items))
 among-push [] last term = (λ h. elim h [ inl e ↦ inr e | inr a ↦ absurd a ], λ h. elim h [ inl a ↦ absurd a | inr e ↦ inl e ])

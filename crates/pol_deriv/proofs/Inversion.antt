@@ -1,7 +1,7 @@
 -- What a derivative of a term is, by the term's first factor.
 use Rattle.std.proofs.Common.{◌≡◌, ◌⊎◌, ℕ, IsTrue, refl, inl, inr}
 use Rattle.pol_pattern.specs.Flat.{Class, holds_symbol, class, group, star, Term, empty, put, Terms, join_term}
-use Rattle.pol_deriv.specs.Derivative.{IsAmong, Derivative, of_class, of_group, of_star, behind_star}
+use Rattle.pol_residual.specs.Derivative.{IsAmong, Derivative, of_class, of_group, of_star, behind_star}
 
 pub derivative-empty : {symbol : ℕ} {next : Term} → Derivative symbol empty next → ⊥
 derivative-empty h = elim h [ ]

@@ -3,7 +3,7 @@ use Rattle.std.proofs.Common.{◌≡◌, ℕ, IsTrue, List, [], ◌∷◌, ◌++
 use Rattle.std.specs.List.{AllByRecursion, concat}
 use Rattle.pol_pattern.specs.Flat.{holds_symbol, class, group, star, Term, empty, put, Terms, none, alt, join_term}
 use Rattle.pol_pattern.specs.Sets.{InFactor, InTerm, InTerms}
-use Rattle.pol_deriv.specs.Derivative.{IsAmong, Derivative, of_class, of_group, of_star, behind_star, DerivativeLaw}
+use Rattle.pol_residual.specs.Derivative.{IsAmong, Derivative, of_class, of_group, of_star, behind_star, DerivativeLaw}
 
 -- ---- terms one behind another
 

@@ -5,7 +5,7 @@ use Rattle.std.proofs.lemmas.List.{map-append}
 use Rattle.basics.specs.Symbol.{is_symbol}
 use Rattle.pol_pattern.specs.Flat.{Class, holds_symbol, Factor, class, group, star, Term, empty, put, Terms, none, alt, join_term}
 use Rattle.pol_pattern.specs.Sets.{InFactor, InTerm, InTerms}
-use Rattle.pol_deriv.specs.Derivative.{IsAmong, Derivative, of_class, of_group, of_star, behind_star}
+use Rattle.pol_residual.specs.Derivative.{IsAmong, Derivative, of_class, of_group, of_star, behind_star}
 use Rattle.pol_deriv.specs.Linear.{factor_holds_empty, term_holds_empty, terms_hold_empty, factor_linear, linear, terms_linear, Leads}
 use Rattle.pol_deriv.proofs.Inversion.{derivative-empty, derivative-class, derivative-group, derivative-star}
 use Rattle.pol_deriv.proofs.Language.{join-empty, join_assoc}

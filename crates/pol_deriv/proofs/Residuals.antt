@@ -2,7 +2,7 @@
 use Rattle.std.proofs.Common.{◌≡◌, ℕ, List, [], ◌∷◌, ◌++◌, refl, sym, subst, append_assoc, append-nil}
 use Rattle.pol_pattern.specs.Flat.{Term, Terms}
 use Rattle.pol_pattern.specs.Sets.{InTerm, InTerms}
-use Rattle.pol_deriv.specs.Derivative.{IsAmong, Derivative, Derivatives, Residual, at_first, by_more, ResidualLaw, FirstResidual, NextResidual}
+use Rattle.pol_residual.specs.Derivative.{IsAmong, Derivative, Derivatives, Residual, at_first, by_more, ResidualLaw, FirstResidual, NextResidual}
 use Rattle.pol_deriv.proofs.Language.{among_holds, holds_among, derivative_holds, holds_goes}
 
 -- ---- texts with a last symbol

@@ -7,7 +7,7 @@ use Rattle.std.proofs.lemmas.Bool.Decides.{nat_tests}
 use Rattle.std.proofs.lemmas.Option.{same_Some}
 use Rattle.basics.specs.Symbol.{is_symbol}
 use Rattle.pol_pattern.specs.Flat.{Class, holds_symbol, Term, empty}
-use Rattle.pol_deriv.specs.Derivative.{Derivative}
+use Rattle.pol_residual.specs.Derivative.{Derivative}
 use Rattle.pol_deriv.specs.Linear.{linear, Leads}
 use Rattle.pol_deriv.specs.Table.{Means, Keeps, StandsFor, IsSetOf}
 use Rattle.pol_deriv.specs.Forms.{IsForm, reached, IsRowOf}

@@ -5,7 +5,7 @@ use Rattle.std.proofs.lemmas.List.{take_more}
 use Rattle.std.proofs.lemmas.List.Elements.{Contains-get_or, Contains-append_left, Contains-push, Contains-push_cases}
 use Rattle.pol_pattern.specs.Flat.{Term, Terms}
 use Rattle.pol_pattern.specs.Sets.{InTerm, InTerms}
-use Rattle.pol_deriv.specs.Derivative.{Derivative, Derivatives, Residual}
+use Rattle.pol_residual.specs.Derivative.{Derivative, Derivatives, Residual}
 use Rattle.pol_deriv.specs.Linear.{term_holds_empty}
 use Rattle.pol_deriv.specs.Table.{Means, Keeps, StandsFor, IsSetOf, HasTerm, AreNumbers}
 use Rattle.pol_deriv.specs.Nodes.{term_at}

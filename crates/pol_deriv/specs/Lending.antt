@@ -4,7 +4,7 @@ use Rattle.std.specs.Borrow.{follows_so, Fml, MutBor, Bor}
 use Rattle.std.specs.declared.alloc.AllocError.{AllocError}
 use mathlib.Core.Option.{none}
 use Rattle.pol_pattern.specs.Flat.{Term}
-use Rattle.pol_deriv.specs.Derivative.{Derivative}
+use Rattle.pol_residual.specs.Derivative.{Derivative}
 use Rattle.pol_deriv.specs.Table.{Means, Grows, IsSetOf}
 use Rattle.pol_deriv.specs.contracts.terms.Terms.{the_row}
 

@@ -1,4 +1,3 @@
-pub mod Derivative
 pub mod Linear
 pub mod TermCode
 pub mod Table

@@ -1,7 +1,7 @@
 -- What was worked out of terms: the derivatives by each symbol.
 use Rattle.std.specs.Prelude.{◌≡◌, ◌+◌, ◌<◌, ℕ, List, Option, None, Some, slice_get, unwrap_or}
 use Rattle.pol_pattern.specs.Flat.{Term}
-use Rattle.pol_deriv.specs.Derivative.{Derivative}
+use Rattle.pol_residual.specs.Derivative.{Derivative}
 use Rattle.pol_deriv.specs.Table.{Means, IsSetOf}
 
 -- lists of numbers, and of each term where its row of 95 lists begins, if it was worked out

@@ -3,7 +3,7 @@
 ghost use Rattle.std.specs.Prelude.{◌≡◌, ◌<◌, length, IfOk};
 ghost use Rattle.pol_pattern.specs.Flat as flat;
 ghost use Rattle.pol_deriv.specs.Table.{Means, IsDistinct, Grows, StandsFor};
-ghost use Rattle.pol_deriv.specs.Derivative.{IsAmong};
+ghost use Rattle.pol_residual.specs.Derivative.{IsAmong};
 ghost use Rattle.pol_deriv.specs.Nodes.{term_at, of_kind};
 
 use crate::node::{Kind, Number};

@@ -6,9 +6,9 @@ ghost use Rattle.pol_pattern.specs.Flat as flat;
 ghost use Rattle.pol_pattern.specs.Matching.{MatchLaw};
 ghost use Rattle.pol_pattern.specs.Sets.{InTerm, InTerms};
 ghost use Rattle.pol_pattern.specs.Spelling.{Spells};
-ghost use Rattle.pol_deriv.specs.Derivative.{Derivatives, Residual};
-ghost use Rattle.pol_deriv.specs.Derivative.{DerivativeLaw, ResidualLaw, FirstResidual};
-ghost use Rattle.pol_deriv.specs.Derivative.{NextResidual};
+ghost use Rattle.pol_residual.specs.Derivative.{Derivatives, Residual};
+ghost use Rattle.pol_residual.specs.Derivative.{DerivativeLaw, ResidualLaw, FirstResidual};
+ghost use Rattle.pol_residual.specs.Derivative.{NextResidual};
 ghost use Rattle.pol_deriv.specs.Table.{Means, Grows, IsSetOf, HasTerm, AreNumbers};
 
 use crate::node::Number;

@@ -6,7 +6,8 @@ use Rattle.pol_text.specs.declared.subject.Rule.{Rule}
 use Rattle.pol_text.specs.declared.subject.Subject.{Subject}
 use Rattle.pol_text.specs.Policy.{parent_of, chain_within, Entry, numbered, own_entries, entries_along}
 use Rattle.pol_live.specs.declared.along.ChainRule.{ChainRule}
-use Rattle.pol_live.specs.Along.{patterns_of, chain_rule}
+use Rattle.pol_meaning.specs.Along.{patterns_of}
+use Rattle.pol_live.specs.ChainRules.{chain_rule}
 
 -- one subject fewer is left
 pub chain_step : (policy : List Subject) (subject : Subject) (i : ℕ) (parent : Option Subject) → i < 8 → parent_of policy subject ≡ parent

@@ -3,7 +3,7 @@ use Rattle.std.proofs.Common.{◌≡◌, ℕ, zero, suc, ◌<◌, List, [], ◌�
 use Rattle.basics.specs.Memory.{Except}
 use Rattle.pol_text.specs.declared.subject.Subject.{Subject}
 use Rattle.pol_text.specs.Policy.{id_of}
-use Rattle.pol_live.specs.Sizes.{IsLarge, AreSmall, IsFirstLarge}
+use Rattle.pol_meaning.specs.Sizes.{IsLarge, AreSmall, IsFirstLarge}
 
 module _ (policy : List Subject) where
   pub more_small : (subjects : List Subject) (i : ℕ) (subject : Subject) → i < length subjects → get_or subjects i subject ≡ subject

@@ -9,13 +9,13 @@ use Rattle.std.proofs.lemmas.List.{length-append, get_or_append_left}
 use Rattle.std.proofs.lemmas.Option.{slice_get-get_or, slice_get_within, slice_get_read, get_or_from_slice_get}
 use Rattle.pol_automaton.specs.Automaton.{Automaton}
 use Rattle.pol_names.specs.SubjectId.{group_id}
-use Rattle.pol_automaton.specs.Residuals.{SameResiduals, HasMoreResiduals}
+use Rattle.pol_residual.specs.Residuals.{SameResiduals, HasMoreResiduals}
 use Rattle.pol_text.specs.declared.subject.Rule.{Rule}
 use Rattle.pol_text.specs.declared.subject.Subject.{Subject}
 use Rattle.pol_text.specs.Policy.{id_of, find_subject, has_parent, all_of, parent_of, ends_within, own_entries, entries, InheritsEntries}
 use Rattle.pol_live.specs.declared.parts.Parts.{Parts}
-use Rattle.pol_live.specs.Along.{patterns_of, patterns_along}
-use Rattle.pol_live.specs.Sizes.{IsLarge}
+use Rattle.pol_meaning.specs.Along.{patterns_of, patterns_along}
+use Rattle.pol_meaning.specs.Sizes.{IsLarge}
 use Rattle.pol_live.specs.Kept.{IsFit, IsOf, IsPutAt, AreParts, Grows, slot, own_patterns, has_rules, is_keeper}
 use Rattle.pol_live.specs.Rise.{is_joined}
 use Rattle.pol_live.proofs.AlongFacts.{patterns_append, patterns_own}

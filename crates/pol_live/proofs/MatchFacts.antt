@@ -5,7 +5,8 @@ use Rattle.pol_pattern.specs.Matching.{matches, MatchLaw}
 use Rattle.pol_pattern.specs.Spelling.{Holds}
 use Rattle.pol_text.specs.Policy.{Entry, first_entry}
 use Rattle.pol_automaton.specs.Decision.{IsFirstMatch}
-use Rattle.pol_live.specs.Along.{patterns_of, chain_rule, decision_by, unmatched}
+use Rattle.pol_meaning.specs.Along.{patterns_of}
+use Rattle.pol_live.specs.ChainRules.{chain_rule, decision_by, unmatched}
 
 module _ (law : MatchLaw) where
   not_matched : (source line : List ℕ) → ¬ (Holds source line) → matches source line ≡ false

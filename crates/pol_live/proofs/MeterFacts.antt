@@ -3,10 +3,10 @@ use Rattle.std.proofs.Common.{◌≡◌, ◌⊎◌, inl, inr, ℕ, zero, suc, �
 use Rattle.std.proofs.lemmas.Option.{same_Some, none-some, slice_get_within}
 use Rattle.pol_scan.specs.Table.{count}
 use Rattle.pol_automaton.specs.Automaton.{Automaton}
-use Rattle.pol_automaton.specs.Residuals.{IsResidualCount}
+use Rattle.pol_residual.specs.Residuals.{IsResidualCount}
 use Rattle.pol_text.specs.declared.subject.Subject.{Subject}
 use Rattle.pol_live.specs.declared.parts.Parts.{Parts}
-use Rattle.pol_live.specs.Along.{patterns_along}
+use Rattle.pol_meaning.specs.Along.{patterns_along}
 use Rattle.pol_live.specs.Kept.{AreParts, AreAll, HaveKeepers, Grows, slot, is_keeper, own_patterns}
 use Rattle.pol_live.specs.Rise.{most, is_joined, IsCount, IsSum, IsRise, IsBuildRise, Rises}
 use Rattle.pol_live.specs.Counting.{Raised, NotLowered, Counts, weight, states_of}

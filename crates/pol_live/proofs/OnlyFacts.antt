@@ -7,8 +7,9 @@ use Rattle.pol_edit.specs.Applying.{applied, is_memory}
 use Rattle.pol_edit.specs.declared.edit.Edit.{Edit}
 use Rattle.pol_edit.specs.declared.fault.EditFault.{EditFault}
 use Rattle.pol_edit.specs.declared.fault.EditFault.TheVariants.{BadEdit, NoSuch, Exists, InUse, Cycle, TooDeep, BadIndex, BadPattern, BadValue, Limit, TooManyStates, Memory}
-use Rattle.pol_live.specs.Sizes.{AreSmall, IsFirstLarge, IsRefusedFor}
-use Rattle.pol_live.specs.Live.{Builds, Step, PreparesTo, Prepares, UnlessMemory}
+use Rattle.pol_meaning.specs.Sizes.{AreSmall, IsFirstLarge, IsRefusedFor}
+use Rattle.pol_live.specs.Live.{Builds, Step, PreparesTo, Prepares}
+use Rattle.pol_meaning.specs.Memory.{UnlessMemory}
 
 -- what can't be refused but for want of memory is that
 memory_alone : {X : Type 0} (fault : EditFault) → ¬ X → Except (is_memory fault) X → fault ≡ Memory

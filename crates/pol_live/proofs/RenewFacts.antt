@@ -11,7 +11,7 @@ use Rattle.pol_text.specs.declared.subject.Rule.{Rule}
 use Rattle.pol_text.specs.declared.subject.Subject.{Subject}
 use Rattle.pol_text.specs.Policy.{id_of, find_subject, parent_of, has_parent, all_of, all_distinct, chain_within, Entry, entries_along, entries, own_entries, numbered, WellFormed}
 use Rattle.pol_edit.specs.declared.edit.Edit.{Edit}
-use Rattle.pol_live.specs.Along.{patterns_of, patterns_along}
+use Rattle.pol_meaning.specs.Along.{patterns_of, patterns_along}
 use Rattle.pol_live.specs.declared.parts.Parts.{Parts}
 use Rattle.pol_live.specs.Kept.{IsFit, AreParts, AreAll, HaveKeepers, slot, own_patterns, has_rules, is_keeper}
 use Rattle.pol_live.specs.Renewing.{touched, is_touched, is_move, renews_own, renews_chain, LeavesOthers, IsAlike, IsKept, AreKept}

@@ -5,7 +5,7 @@ use Rattle.std.proofs.lemmas.Option.{same_Some, none-some, slice_get_within}
 use Rattle.pol_automaton.specs.Automaton.{Automaton}
 use Rattle.pol_text.specs.declared.subject.Subject.{Subject}
 use Rattle.pol_live.specs.declared.parts.Parts.{Parts}
-use Rattle.pol_live.specs.Along.{patterns_along}
+use Rattle.pol_meaning.specs.Along.{patterns_along}
 use Rattle.pol_live.specs.Kept.{IsFit, IsPutAt, AreParts, AreAll, Stays, Grows, slot, own_patterns, is_keeper}
 
 -- ---- one place

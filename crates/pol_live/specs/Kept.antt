@@ -5,12 +5,12 @@ use Rattle.std.specs.Prelude.{length, map, slice_get, slice_set, is_some, IsTrue
 use Rattle.std.specs.Prelude.{Option, Some, None, if◌then◌else◌}
 use Rattle.std.specs.Option.{option_and_then}
 use Rattle.pol_automaton.specs.Automaton.{Automaton, IsDecider}
-use Rattle.pol_automaton.specs.Residuals.{HasMoreResiduals}
+use Rattle.pol_residual.specs.Residuals.{HasMoreResiduals}
 use Rattle.pol_names.specs.declared.subject_id.SubjectId.{SubjectId}
 use Rattle.pol_text.specs.declared.subject.Subject.{Subject}
 use Rattle.pol_text.specs.Policy.{find_subject, parent_of, chain}
 use Rattle.pol_live.specs.declared.parts.Parts.{Parts}
-use Rattle.pol_live.specs.Along.{patterns_along}
+use Rattle.pol_meaning.specs.Along.{patterns_along}
 
 -- ---- keepers: the subjects that have automata of their own
 

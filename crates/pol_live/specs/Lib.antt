@@ -1,5 +1,4 @@
-pub mod Sizes
-pub mod Along
+pub mod ChainRules
 pub mod Kept
 pub mod Renewing
 pub mod Rise

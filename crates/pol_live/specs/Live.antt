@@ -1,13 +1,12 @@
 -- What is kept of a policy that decides, and of a change of it that is ready to be made.
-use Rattle.std.specs.Prelude.{◌≡◌, List, Result, Ok, Err, Bool, Option, Some, None}
-use Rattle.basics.specs.Memory.{Except}
+use Rattle.std.specs.Prelude.{◌≡◌, List, Result, Ok, Err, Option, Some, None}
 use Rattle.pol_automaton.specs.Automaton.{Automaton, IsDecider}
 use Rattle.pol_text.specs.declared.subject.Subject.{Subject}
 use Rattle.pol_edit.specs.Applying.{applied}
 use Rattle.pol_edit.specs.declared.edit.Edit.{Edit}
 use Rattle.pol_edit.specs.declared.fault.EditFault.{EditFault}
-use Rattle.pol_live.specs.Along.{patterns_along}
-use Rattle.pol_live.specs.Sizes.{IsSmall, IsRefusedFor}
+use Rattle.pol_meaning.specs.Along.{patterns_along}
+use Rattle.pol_meaning.specs.Sizes.{IsSmall, IsRefusedFor}
 
 -- the policy is taken as it is, if it may stand
 abbrev pub Builds : List Subject → Result (List Subject) EditFault → Type 0
@@ -45,8 +44,3 @@ IsDeciderFor policy (Some subject) (Some decider) =
     IsDecider decider (patterns_along policy subject)
 IsDeciderFor policy None None = Unit {0}
 IsDeciderFor policy _ _ = ⊥
-
--- the fact holds, unless memory ran out
-abbrev pub UnlessMemory : {X E : Type 0} → (E → Bool) → Result X E → Type 0 → Type 0
-UnlessMemory is_memory (Ok value) fact = fact
-UnlessMemory is_memory (Err fault) fact = Except (is_memory fault) fact

@@ -1,9 +1,9 @@
 -- By how much the meter rises: by the residuals of what each automaton that is made is of.
 use Rattle.std.specs.Prelude.{◌≡◌, ◌+◌, ℕ, min, List, [], ◌∷◌, Bool, true, false, ◌&&◌, is_some}
-use Rattle.pol_automaton.specs.Residuals.{IsResidualCount}
+use Rattle.pol_residual.specs.Residuals.{IsResidualCount}
 use Rattle.pol_text.specs.declared.subject.Subject.{Subject}
 use Rattle.pol_edit.specs.declared.edit.Edit.{Edit}
-use Rattle.pol_live.specs.Along.{patterns_along}
+use Rattle.pol_meaning.specs.Along.{patterns_along}
 use Rattle.pol_live.specs.Kept.{has_rules, is_keeper, own_patterns}
 use Rattle.pol_live.specs.Renewing.{renews_own, renews_chain}
 

@@ -6,7 +6,8 @@ ghost use Rattle.std.specs.Option.{option_map, option_copied};
 ghost use Rattle.pol_automaton.specs.Entries.{AreEntries};
 ghost use Rattle.pol_text.specs.Policy.{parent_of, own_entries, entries};
 ghost use Rattle.pol_text.specs.declared.subject.Subject.{Subject as SubjectValue};
-ghost use Rattle.pol_live.specs.Along.{chain_rule as rule_of, entries_of, decision_by};
+ghost use Rattle.pol_live.specs.ChainRules.{chain_rule as rule_of, decision_by};
+ghost use Rattle.pol_meaning.specs.Along.{entries_of};
 ghost use Rattle.pol_live.specs.Kept.{AreParents};
 
 use crate::filling::subject_at;

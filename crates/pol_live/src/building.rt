@@ -6,7 +6,7 @@ ghost use Rattle.basics.specs.Memory.{Except};
 ghost use Rattle.pol_text.specs.Policy.{ends_within, id_of};
 ghost use Rattle.pol_edit.specs.Applying.{is_memory};
 ghost use Rattle.pol_edit.specs.declared.fault.EditFault.TheVariants.{TooManyStates};
-ghost use Rattle.pol_live.specs.Sizes.{IsLarge, IsSmall, IsRefusedFor};
+ghost use Rattle.pol_meaning.specs.Sizes.{IsLarge, IsSmall, IsRefusedFor};
 ghost use Rattle.pol_live.specs.Kept.{AreParts, AreAll, HaveKeepers, Grows, is_keeper, slot};
 ghost use Rattle.pol_live.specs.Counting.{Counts, NotLowered, states_of};
 

@@ -4,7 +4,7 @@ ghost use Rattle.std.specs.Prelude.{◌≡◌, slice_get, Some};
 ghost use Rattle.pol_automaton.specs.Automaton.{IsDecider};
 ghost use Rattle.pol_text.specs.declared.subject.Subject.{Subject as SubjectValue};
 ghost use Rattle.pol_text.specs.Policy.{decision};
-ghost use Rattle.pol_live.specs.Along.{patterns_along as patterns};
+ghost use Rattle.pol_meaning.specs.Along.{patterns_along as patterns};
 ghost use Rattle.pol_live.specs.Kept.{AreParents};
 
 use crate::along::chain_rule;

@@ -7,10 +7,10 @@ ghost use Rattle.std.specs.Prelude.{IfOk, IfSome, OnOk, OnErr, IsErrOf, Contains
 ghost use Rattle.std.specs.Option.{option_and_then, option_copied};
 ghost use Rattle.pol_scan.specs.Table.{count};
 ghost use Rattle.pol_automaton.specs.Automaton.{Automaton, IsDecider};
-ghost use Rattle.pol_automaton.specs.Residuals.{HasMoreResiduals};
+ghost use Rattle.pol_residual.specs.Residuals.{HasMoreResiduals};
 ghost use Rattle.pol_text.specs.declared.subject.Subject.{Subject as SubjectValue};
 ghost use Rattle.pol_text.specs.Policy.{parent_of, ends_within, InheritsEntries};
-ghost use Rattle.pol_live.specs.Sizes.{IsLarge};
+ghost use Rattle.pol_meaning.specs.Sizes.{IsLarge};
 ghost use Rattle.pol_live.specs.Kept.{IsFit, IsOf, IsPutAt, AreParts, Grows, slot, own_patterns};
 ghost use Rattle.pol_live.specs.Kept.{has_rules as with_rules, is_keeper as keeps};
 ghost use Rattle.pol_live.specs.Counting.{Raised, NotLowered, Counts, weight, states_of};

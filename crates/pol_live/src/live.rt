@@ -9,10 +9,11 @@ ghost use Rattle.pol_text.specs.declared.subject.Subject.{Subject as SubjectValu
 ghost use Rattle.pol_text.specs.Policy.{WellFormed, find_subject, decide};
 ghost use Rattle.pol_edit.specs.declared.fault.EditFault.TheVariants.{Memory};
 ghost use Rattle.pol_edit.specs.Applying.{applied, is_memory};
-ghost use Rattle.pol_live.specs.Along.{patterns_along as patterns};
-ghost use Rattle.pol_live.specs.Sizes.{IsSmall};
+ghost use Rattle.pol_meaning.specs.Along.{patterns_along as patterns};
+ghost use Rattle.pol_meaning.specs.Sizes.{IsSmall};
 ghost use Rattle.pol_live.specs.Rise.{IsBuildRise, IsEditRise, Rises};
-ghost use Rattle.pol_live.specs.Live.{Builds, IsOnlyBuilt, IsDeciderFor, UnlessMemory};
+ghost use Rattle.pol_live.specs.Live.{Builds, IsOnlyBuilt, IsDeciderFor};
+ghost use Rattle.pol_meaning.specs.Memory.{UnlessMemory};
 
 use crate::building::{complete, no_parts};
 use crate::deciding::decided;
@@ -40,7 +41,7 @@ impl Model for Live {
     ghost use Rattle.std.specs.Prelude.{List};
     ghost use Rattle.pol_text.specs.declared.subject.Subject.{Subject as SubjectValue};
     ghost use Rattle.pol_live.specs.Kept.{AreParts, AreAll, HaveKeepers, AreParents};
-    ghost use Rattle.pol_live.specs.Sizes.{IsSmall};
+    ghost use Rattle.pol_meaning.specs.Sizes.{IsSmall};
 
     ghost Value = { List SubjectValue };
 

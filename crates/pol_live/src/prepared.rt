@@ -5,9 +5,10 @@ ghost use Rattle.std.specs.Option.{option_copied, option_map};
 ghost use Rattle.pol_pattern.specs.Matching.{MatchLaw};
 ghost use Rattle.pol_text.specs.Policy.{find_subject, decide, entries};
 ghost use Rattle.pol_edit.specs.Applying.{is_memory};
-ghost use Rattle.pol_live.specs.Sizes.{IsSmall};
+ghost use Rattle.pol_meaning.specs.Sizes.{IsSmall};
 ghost use Rattle.pol_live.specs.Rise.{IsEditRise, Rises};
-ghost use Rattle.pol_live.specs.Live.{Prepares, IsOnlyPrepared, IsDeciderFor, UnlessMemory};
+ghost use Rattle.pol_live.specs.Live.{Prepares, IsOnlyPrepared, IsDeciderFor};
+ghost use Rattle.pol_meaning.specs.Memory.{UnlessMemory};
 
 use crate::live::Live;
 use crate::reusing::{has_on_chain, touched_alone};

@@ -15,13 +15,14 @@ use Rattle.pol_text.specs.Policy.{find_subject, Entry, entries, first_entry, dec
 use Rattle.pol_automaton.specs.Automaton.{Automaton, IsDecider}
 use Rattle.pol_automaton.specs.Decision.{IsFirstMatch, verdict_by, IsDecided, IsChanged}
 use Rattle.pol_automaton.specs.declared.way.Way.TheVariants.{NowPermitted, NowDenied}
-use Rattle.pol_live.specs.Along.{patterns_of, chain_rule, entries_of}
+use Rattle.pol_meaning.specs.Along.{patterns_of, entries_of}
+use Rattle.pol_live.specs.ChainRules.{chain_rule}
 use Rattle.pol_live.specs.Live.{IsDeciderFor}
-use Rattle.pol_report.specs.Reach.{IsLeastIfAny}
-use Rattle.pol_report.specs.Changes.{is_permit, permits, IsGained, IsChangeOf, is_change}
+use Rattle.pol_meaning.specs.Reach.{IsLeastIfAny}
+use Rattle.pol_meaning.specs.Changes.{is_permit, permits, IsGained, IsChangeOf, is_change}
 use Rattle.pol_report.specs.Sharing.{along, along_at, permits_along, IsGainedAlong, IsDifference, IsListed}
 use Rattle.pol_report.specs.declared.differing.Difference.{Difference}
-use Rattle.pol_report.specs.declared.Changed.{Changed}
+use Rattle.pol_meaning.specs.declared.Changed.{Changed}
 use Rattle.pol_report.proofs.Leasts.{if_any_same}
 use Rattle.pol_report.proofs.ReachFacts.{not_matched, not_held}
 

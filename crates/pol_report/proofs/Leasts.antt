@@ -4,7 +4,7 @@ use Rattle.std.specs.Prelude.{IfSome, IfNone}
 use Rattle.std.specs.Option.{option_map}
 use Rattle.std.proofs.lemmas.Bool.{cases_lt}
 use Rattle.basics.specs.TextOrder.{IsLower, IsBefore, IsLeast}
-use Rattle.pol_report.specs.Reach.{IsLeastIfAny}
+use Rattle.pol_meaning.specs.Reach.{IsLeastIfAny}
 
 -- what holds of the same lines has the same least line
 pub least_same : (P Q : List ℕ → Type 0) → ((line : List ℕ) → P line → Q line) → ((line : List ℕ) → Q line → P line) → (line : List ℕ) → IsLeast P line → IsLeast Q line

@@ -8,9 +8,10 @@ use Rattle.pol_names.specs.declared.subject_id.SubjectId.{SubjectId}
 use Rattle.pol_text.specs.Policy.{Entry}
 use Rattle.pol_automaton.specs.Decision.{entry_at, IsFirstMatch, Decides, IsReachText}
 use Rattle.pol_live.specs.declared.along.ChainRule.{ChainRule}
-use Rattle.pol_live.specs.Along.{patterns_of, chain_rule}
-use Rattle.pol_report.specs.Reach.{IsDecidedAt, IsLeastIfAny, IsReached, AreReached}
-use Rattle.pol_report.specs.declared.Reached.{Reached}
+use Rattle.pol_meaning.specs.Along.{patterns_of}
+use Rattle.pol_live.specs.ChainRules.{chain_rule}
+use Rattle.pol_meaning.specs.Reach.{IsDecidedAt, IsLeastIfAny, IsReached, AreReached}
+use Rattle.pol_meaning.specs.declared.Reached.{Reached}
 use Rattle.pol_report.proofs.Leasts.{least_same, if_any_unique, get_push, get_within, has_at, same_places}
 
 module _ (law : MatchLaw) where

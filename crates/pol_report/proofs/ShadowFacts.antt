@@ -4,11 +4,11 @@ use Rattle.pol_names.specs.declared.subject_id.SubjectId.{SubjectId}
 use Rattle.pol_text.specs.declared.subject.Subject.{Subject}
 use Rattle.std.specs.Option.{option_map, option_map_or}
 use Rattle.pol_text.specs.Policy.{id_of, find_subject, Entry, entries}
-use Rattle.pol_live.specs.Along.{entries_of}
-use Rattle.pol_report.specs.Reach.{AreReached, shadowed_row, unreached, ShadowsOf}
+use Rattle.pol_meaning.specs.Along.{entries_of}
+use Rattle.pol_meaning.specs.Reach.{AreReached, shadowed_row, unreached, ShadowsOf}
 use Rattle.pol_report.specs.Sharing.{along, along_at, told_for, AreTold, AreUnreached}
-use Rattle.pol_report.specs.declared.Reached.{Reached}
-use Rattle.pol_report.specs.declared.Shadowed.{Shadowed}
+use Rattle.pol_meaning.specs.declared.Reached.{Reached}
+use Rattle.pol_meaning.specs.declared.Shadowed.{Shadowed}
 use Rattle.pol_report.proofs.ReachFacts.{only_reached}
 
 -- one more row

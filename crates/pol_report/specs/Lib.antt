@@ -1,3 +1,1 @@
-pub mod Reach
-pub mod Changes
 pub mod Sharing

@@ -7,11 +7,11 @@ use Rattle.std.specs.BTreeMap.{BTreeMap, get}
 use Rattle.pol_names.specs.declared.subject_id.SubjectId.{SubjectId}
 use Rattle.pol_text.specs.declared.subject.Subject.{Subject}
 use Rattle.pol_text.specs.Policy.{Entry, entries, find_subject, first_entry}
-use Rattle.pol_report.specs.Reach.{IsLeastIfAny, AreReached, unreached}
-use Rattle.pol_report.specs.Changes.{is_permit, is_change, IsChangeOf}
-use Rattle.pol_report.specs.declared.Changed.{Changed}
-use Rattle.pol_report.specs.declared.Reached.{Reached}
-use Rattle.pol_report.specs.declared.Shadowed.{Shadowed}
+use Rattle.pol_meaning.specs.Reach.{IsLeastIfAny, AreReached, unreached}
+use Rattle.pol_meaning.specs.Changes.{is_permit, is_change, IsChangeOf}
+use Rattle.pol_meaning.specs.declared.Changed.{Changed}
+use Rattle.pol_meaning.specs.declared.Reached.{Reached}
+use Rattle.pol_meaning.specs.declared.Shadowed.{Shadowed}
 use Rattle.pol_report.specs.declared.differing.Difference.{Difference}
 use Rattle.pol_report.specs.declared.known.Known.{Known}
 

@@ -3,11 +3,11 @@
 ghost use Rattle.std.specs.Prelude.{◌≡◌, ◌++◌, ℕ, List, [], ◌∷◌, filter, IfOk, OnOk};
 ghost use Rattle.pol_names.specs.SubjectId.{same_kind};
 ghost use Rattle.pol_names.specs.declared.subject_id.Kind.TheVariants.{User};
-ghost use Rattle.pol_report.specs.Changes.{IsChangeOf, ChangesOf, AreChanges, users_of};
-ghost use Rattle.pol_report.specs.Changes.{is_change as change_test, is_alone as alone_test};
-ghost use Rattle.pol_report.specs.Changes.{users_alone};
+ghost use Rattle.pol_meaning.specs.Changes.{IsChangeOf, ChangesOf, AreChanges, users_of};
+ghost use Rattle.pol_meaning.specs.Changes.{is_change as change_test, is_alone as alone_test};
+ghost use Rattle.pol_meaning.specs.Changes.{users_alone};
 ghost use Rattle.pol_report.specs.Sharing.{AreKnown, IsListed};
-ghost use Rattle.pol_report.specs.declared.Changed.{Changed as ChangedValue};
+ghost use Rattle.pol_meaning.specs.declared.Changed.{Changed as ChangedValue};
 
 use crate::differing::{Difference, difference_for};
 use crate::known::Differences;

@@ -5,7 +5,7 @@ ghost use Rattle.pol_names.specs.declared.decision.Verdict.TheVariants.{Deny};
 ghost use Rattle.pol_automaton.specs.Automaton.{IsDecider};
 ghost use Rattle.pol_automaton.specs.Decision.{Ruling, IsChanged};
 ghost use Rattle.pol_automaton.specs.declared.way.Way.TheVariants.{NowPermitted, NowDenied};
-ghost use Rattle.pol_report.specs.Reach.{IsLeastIfAny};
+ghost use Rattle.pol_meaning.specs.Reach.{IsLeastIfAny};
 ghost use Rattle.pol_report.specs.Sharing.{IsDifference, along};
 
 use crate::line::line_of;

@@ -4,9 +4,9 @@ ghost use Rattle.std.specs.Prelude.{◌≡◌, ◌++◌, List, length, map, IfOk
 ghost use Rattle.pol_pattern.specs.Matching.{MatchLaw};
 ghost use Rattle.pol_automaton.specs.Automaton.{IsDecider};
 ghost use Rattle.pol_text.specs.declared.subject.Subject.{Subject as SubjectValue};
-ghost use Rattle.pol_live.specs.Along.{patterns_of, entries_of};
-ghost use Rattle.pol_report.specs.Reach.{AreReached, shadowed_row, unreached};
-ghost use Rattle.pol_report.specs.declared.Reached.{Reached as ReachedValue};
+ghost use Rattle.pol_meaning.specs.Along.{patterns_of, entries_of};
+ghost use Rattle.pol_meaning.specs.Reach.{AreReached, shadowed_row, unreached};
+ghost use Rattle.pol_meaning.specs.declared.Reached.{Reached as ReachedValue};
 
 use crate::line::line_of;
 use crate::{Reached, Shadowed};

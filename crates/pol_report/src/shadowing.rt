@@ -1,11 +1,11 @@
 //! Which rules decide nothing.
 
 ghost use Rattle.std.specs.Prelude.{◌≡◌, ◌++◌, List, map, take, IfOk, OnOk};
-ghost use Rattle.pol_live.specs.Along.{entries_of};
-ghost use Rattle.pol_report.specs.Reach.{Shadows, AreReached, unreached as unreached_rows};
+ghost use Rattle.pol_meaning.specs.Along.{entries_of};
+ghost use Rattle.pol_meaning.specs.Reach.{Shadows, AreReached, unreached as unreached_rows};
 ghost use Rattle.pol_report.specs.Sharing.{AreFound, AreUnreached, AreTold, told_for};
-ghost use Rattle.pol_report.specs.declared.Reached.{Reached as ReachedValue};
-ghost use Rattle.pol_report.specs.declared.Shadowed.{Shadowed as ShadowedValue};
+ghost use Rattle.pol_meaning.specs.declared.Reached.{Reached as ReachedValue};
+ghost use Rattle.pol_meaning.specs.declared.Shadowed.{Shadowed as ShadowedValue};
 
 use crate::Shadowed;
 use crate::reaching::{add_unreached, reach};

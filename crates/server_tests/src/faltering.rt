@@ -3,10 +3,11 @@
 ghost use Rattle.std.specs.Prelude.{◌≡◌};
 
 use pol_edit::{Edit, EditFault};
-use pol_report::Changes;
+use pol_meaning::Changes;
 use std::alloc::AllocError;
 use tac_conn::{Answer, Ask};
-use tac_desk::{Desk, PlainDesk, Query, QueryFault, Report, State, Thrice};
+use tac_desk::{Desk, Query, QueryFault, Report, State, Thrice};
+use tac_desks::PlainDesk;
 
 /// Another desk, to which memory runs out at one edit.
 #[derive(Drop)]

@@ -1,7 +1,7 @@
 //! A desk that keeps what it stands for in a way of its own.
 
 ghost use Rattle.std.specs.Prelude.{◌≡◌, true, reverse, Err, IsOk, IfOk, OnOk, OnErr};
-ghost use Rattle.pol_live.specs.Live.{UnlessMemory};
+ghost use Rattle.pol_meaning.specs.Memory.{UnlessMemory};
 ghost use Rattle.tac_desk.specs.Asking as asking;
 ghost use Rattle.tac_desk.specs.Reporting as reporting;
 ghost use Rattle.tac_desk.specs.declared.query.QueryFault.TheVariants.{NoSuch};
@@ -9,8 +9,8 @@ ghost use Rattle.server_tests.specs.Ledger.{kept_by};
 
 use basics::Sequence;
 use pol_edit::{Edit, EditFault};
+use pol_meaning::Changes;
 use pol_names::Kind;
-use pol_report::Changes;
 use pol_text::Policy;
 use std::alloc::{AllocError, Global};
 use tac_conn::{Answer, Ask};

@@ -7,7 +7,8 @@ use pol_text::Policy;
 use std::alloc::Global;
 use std::fmt::Write;
 use std::test::Fail;
-use tac_desk::{Desk, PlainDesk};
+use tac_desk::Desk;
+use tac_desks::PlainDesk;
 use tac_server::Server;
 use tac_wire::{Header, Key, pad_in_place};
 

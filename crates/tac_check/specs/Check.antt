@@ -8,8 +8,8 @@ use Rattle.pol_text.specs.declared.fault.PolicyFault.{PolicyFault}
 use Rattle.pol_text.specs.declared.fault.PolicyFault.TheVariants as policies
 use Rattle.pol_edit.specs.declared.fault.EditFault.{EditFault}
 use Rattle.pol_live.specs.Live.{Builds}
-use Rattle.pol_report.specs.Reach.{Shadows}
-use Rattle.pol_report.specs.declared.Shadowed.{Shadowed}
+use Rattle.pol_meaning.specs.Reach.{Shadows}
+use Rattle.pol_meaning.specs.declared.Shadowed.{Shadowed}
 use Rattle.tac_console.specs.Faults.{policy_fault, build_fault}
 use Rattle.tac_console.specs.Reports.{shadows_text}
 use Rattle.tac_check.specs.declared.checking.CheckEnd.{CheckEnd}

@@ -15,7 +15,7 @@ use Rattle.pol_names.specs.declared.subject_id.SubjectId.{SubjectId}
 use Rattle.pol_names.specs.SubjectId.{subject_text}
 use Rattle.pol_edit.specs.FaultText as edit_faults
 use Rattle.pol_edit.specs.declared.fault.EditFault.{EditFault}
-use Rattle.pol_report.specs.declared.Changed.{Changed}
+use Rattle.pol_meaning.specs.declared.Changed.{Changed}
 use Rattle.tac_request.specs.declared.record.AcctKind.{AcctKind}
 use Rattle.tac_request.specs.declared.record.AcctKind.TheVariants.{Begin, Stop, Watch, Update}
 use Rattle.tac_request.specs.declared.record.Record.{Record}

@@ -4,8 +4,8 @@ use Rattle.std.specs.List.{flat_map}
 use Rattle.std.specs.Option.{option_map_or}
 use Rattle.std.specs.Fmt.{decimal}
 use Rattle.pol_names.specs.SubjectId.{subject_text}
-use Rattle.pol_report.specs.declared.Shadowed.{Shadowed}
-use Rattle.pol_report.specs.declared.Reached.{Reached}
+use Rattle.pol_meaning.specs.declared.Shadowed.{Shadowed}
+use Rattle.pol_meaning.specs.declared.Reached.{Reached}
 
 -- the subject, the rule's owner, and its number there
 abbrev pub shadowed_line : Shadowed → List ℕ

@@ -6,7 +6,7 @@ ghost use Rattle.tac_console.specs.Reports as reports;
 
 use crate::adding::add;
 use basics::Bytes;
-use pol_report::{Reached, Shadowed};
+use pol_meaning::{Reached, Shadowed};
 use std::alloc::{AllocError, Global};
 use std::io;
 use std::io::Write;

@@ -4,9 +4,9 @@ use Rattle.pol_text.specs.declared.subject.Subject.{Subject}
 use Rattle.pol_edit.specs.Applying.{applied}
 use Rattle.pol_edit.specs.declared.edit.Edit.{Edit}
 use Rattle.pol_edit.specs.declared.fault.EditFault.{EditFault}
-use Rattle.pol_live.specs.Sizes.{IsSmall, IsRefusedFor}
-use Rattle.pol_report.specs.Changes.{AreChanges}
-use Rattle.pol_report.specs.declared.Changed.{Changed}
+use Rattle.pol_meaning.specs.Sizes.{IsSmall, IsRefusedFor}
+use Rattle.pol_meaning.specs.Changes.{AreChanges}
+use Rattle.pol_meaning.specs.declared.Changed.{Changed}
 use Rattle.tac_desk.specs.Meaning.{Meaning, with_policy}
 
 -- an edit that the policy takes makes this policy of it: where that may stand, the

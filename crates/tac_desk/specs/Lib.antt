@@ -1,9 +1,6 @@
 pub mod Meaning
-pub mod Opening
 pub mod Asking
 pub mod Editing
 pub mod Reporting
 pub mod FaultText
-pub mod Kept
-pub mod Metered
-pub mod Remembered
+pub mod Serving

@@ -8,10 +8,10 @@ use Rattle.pol_names.specs.declared.subject_id.SubjectId.{SubjectId}
 use Rattle.pol_names.specs.declared.decision.Verdict.{Verdict}
 use Rattle.pol_names.specs.declared.decision.Verdict.TheVariants.{Permit, Deny}
 use Rattle.pol_text.specs.declared.subject.Subject.{Subject}
-use Rattle.pol_live.specs.Along.{entries_of}
-use Rattle.pol_report.specs.Reach.{AreReached, Shadows}
-use Rattle.pol_report.specs.declared.Shadowed.{Shadowed}
-use Rattle.pol_report.specs.declared.Reached.{Reached}
+use Rattle.pol_meaning.specs.Along.{entries_of}
+use Rattle.pol_meaning.specs.Reach.{AreReached, Shadows}
+use Rattle.pol_meaning.specs.declared.Shadowed.{Shadowed}
+use Rattle.pol_meaning.specs.declared.Reached.{Reached}
 use Rattle.tac_tally.specs.Book as book
 use Rattle.tac_tally.specs.Recount.{marked}
 use Rattle.tac_tally.specs.Tally.{tally_of, group_tally_of}

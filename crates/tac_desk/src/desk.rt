@@ -3,7 +3,7 @@
 ghost use Rattle.std.specs.Prelude.{◌≡◌, ◌↔◌, false, Err, IsOk, IsTrue, IfOk, OnOk, OnErr};
 ghost use Rattle.tac_conn.specs.Ask.{kind_of_ask, kind_of_answer};
 ghost use Rattle.pol_edit.specs.Applying.{is_memory};
-ghost use Rattle.pol_live.specs.Live.{UnlessMemory};
+ghost use Rattle.pol_meaning.specs.Memory.{UnlessMemory};
 ghost use Rattle.tac_desk.specs.Meaning.{Meaning};
 ghost use Rattle.tac_desk.specs.Asking.{asked, stores, Passes};
 ghost use Rattle.tac_desk.specs.Editing as editing;
@@ -14,7 +14,7 @@ use crate::query::{Query, QueryFault, Report};
 use crate::state::State;
 use crate::thrice::Thrice;
 use pol_edit::{Edit, EditFault};
-use pol_report::Changes;
+use pol_meaning::Changes;
 use std::alloc::AllocError;
 use tac_conn::{Answer, Ask};
 

@@ -1,8 +1,8 @@
 //! Questions to a desk, and what they are answered.
 
 use basics::{Bytes, Sequence, StructuralEq};
+use pol_meaning::{Reached, Shadowed};
 use pol_names::{Decision, Name, SubjectId};
-use pol_report::{Reached, Shadowed};
 use pol_text::Policy;
 use std::alloc::{AllocError, AllocFailed};
 use std::error::Error;

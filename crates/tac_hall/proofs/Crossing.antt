@@ -22,9 +22,9 @@ use Rattle.tac_hall.specs.contracts.laws.Room as Room
 use Rattle.tac_hall.specs.contracts.hall.Hall as Hall
 use Rattle.basics.proofs.sequence.Sequence.TheSendSync as sequence
 use Rattle.pol_names.proofs.decision.Decision.TheSendSync as decision
-use Rattle.pol_report.proofs.Reached.TheSendSync as reached
-use Rattle.pol_report.proofs.Shadowed.TheSendSync as shadowed
-use Rattle.pol_report.proofs.Changed.TheSendSync as changed
+use Rattle.pol_meaning.proofs.Reached.TheSendSync as reached
+use Rattle.pol_meaning.proofs.Shadowed.TheSendSync as shadowed
+use Rattle.pol_meaning.proofs.Changed.TheSendSync as changed
 use Rattle.pol_edit.proofs.fault.EditFault.TheSendSync as edit_fault
 use Rattle.tac_request.proofs.record.Record.TheSendSync as records
 use Rattle.tac_tally.proofs.tally.Tally.TheSendSync as tally

@@ -4,14 +4,14 @@ use Rattle.std.specs.Prelude.{OnErr, IsTrue}
 use Rattle.pol_edit.specs.Applying.{is_memory}
 use Rattle.pol_edit.specs.declared.edit.Edit.{Edit}
 use Rattle.pol_edit.specs.declared.fault.EditFault.{EditFault}
-use Rattle.pol_report.specs.declared.Changed.{Changed}
+use Rattle.pol_meaning.specs.declared.Changed.{Changed}
 use Rattle.tac_conn.specs.Ask.{kind_of_ask, kind_of_answer}
 use Rattle.tac_desk.specs.declared.query.Query.{Query}
 use Rattle.tac_desk.specs.declared.query.QueryFault.{QueryFault}
 use Rattle.tac_desk.specs.declared.query.Report.{Report}
 use Rattle.tac_desk.specs.Meaning.{Meaning}
 use Rattle.tac_desk.specs.Asking.{asked}
-use Rattle.pol_live.specs.Live.{UnlessMemory}
+use Rattle.pol_meaning.specs.Memory.{UnlessMemory}
 use Rattle.tac_desk.specs.Editing as editing
 use Rattle.tac_desk.specs.Reporting as reporting
 use Rattle.tac_hall.specs.declared.call.Call.{Call}

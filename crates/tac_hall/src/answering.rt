@@ -7,7 +7,7 @@ ghost use Rattle.tac_hall.specs.declared.call.CallAnswer.TheVariants as answers;
 use crate::call::{Call, CallAnswer};
 use crate::shared::Shared;
 use pol_edit::EditFault;
-use pol_report::Changes;
+use pol_meaning::Changes;
 use std::alloc::AllocError;
 use std::marker::Model;
 use tac_conn::Answer;

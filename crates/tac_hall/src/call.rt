@@ -5,7 +5,7 @@ ghost use Rattle.std.specs.Prelude.{◌≡◌, ◌↔◌, IsTrue};
 use crate::shared::Shared;
 use basics::StructuralEq;
 use pol_edit::{Edit, EditFault};
-use pol_report::Changes;
+use pol_meaning::Changes;
 use tac_conn::{Answer, Ask};
 use tac_desk::{Query, QueryFault, Report};
 

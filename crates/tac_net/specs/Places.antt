@@ -8,7 +8,7 @@ use Rattle.tac_hall.specs.Closing.{view_of}
 use Rattle.tac_hall.specs.History.{Legal}
 use Rattle.tac_hall.specs.Served.{served, bytes_sent}
 use Rattle.tac_hall.specs.Worked.{Exchange, answers_of, Calling, IsServed}
-use Rattle.tac_server.specs.Serving.{sent_bytes}
+use Rattle.tac_desk.specs.Serving.{sent_bytes}
 use Rattle.tac_net.specs.Shared.{said_shared_on, packets_in}
 
 -- a desk that stood for the base at first, and took the calls of this log, stood for these meanings

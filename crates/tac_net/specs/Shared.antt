@@ -14,8 +14,8 @@ use Rattle.tac_stream.specs.Turns.{packets_of}
 use Rattle.tac_desk.specs.Meaning.{Meaning}
 use Rattle.tac_desk.specs.Asking.{asked}
 use Rattle.tac_hall.specs.Served.{Sending, served_to, asks_in, served, asks, closes, bytes_sent}
-use Rattle.tac_server.specs.Serving.{Said, says, unless_closed, closed_by, said_to, said_on}
-use Rattle.tac_server.specs.Serving.{sent_bytes}
+use Rattle.tac_desk.specs.Serving.{Said, says, unless_closed, closed_by, said_to, said_on}
+use Rattle.tac_desk.specs.Serving.{sent_bytes}
 
 -- ---- a server whose desk others use too
 

@@ -5,8 +5,8 @@ use Rattle.pol_automaton.specs.contracts.meter.Meter as Meter
 use Rattle.pol_live.specs.contracts.live.Live as Live
 use Rattle.tac_tally.specs.contracts.book.Book as Book
 use Rattle.tac_tally.proofs.book.Book.TheSendSync as book
-use Rattle.tac_desk.specs.contracts.live_desk.LiveDesk as LiveDesk
-use Rattle.tac_desk.proofs.remembering.Remembered.TheSendSync as remembered
+use Rattle.tac_desks.specs.contracts.live_desk.LiveDesk as LiveDesk
+use Rattle.tac_desks.proofs.remembering.Remembered.TheSendSync as remembered
 use Rattle.tac_hall.proofs.Crossing.{Policy-send}
 
 Live-field : IsSend Live.the_field.row

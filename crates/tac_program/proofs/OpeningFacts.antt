@@ -4,7 +4,7 @@ use Rattle.basics.specs.Memory.{Except}
 use Rattle.pol_edit.specs.declared.fault.EditFault.{EditFault}
 use Rattle.pol_text.specs.declared.subject.Subject.{Subject}
 use Rattle.tac_console.specs.Faults.{build_fault}
-use Rattle.tac_desk.specs.Opening.{Opens}
+use Rattle.tac_desks.specs.Opening.{Opens}
 use Rattle.tac_program.specs.Opening.{IsDeskOf}
 
 pub unless : {P : Type 0} (is_memory : Bool) → Except is_memory P → is_memory ≡ false → P

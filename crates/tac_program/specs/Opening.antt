@@ -3,8 +3,8 @@ use Rattle.std.specs.Prelude.{◌≡◌, ℕ, List, [], Option, Some, None, Resu
 use Rattle.pol_text.specs.Text.{policy_of}
 use Rattle.pol_text.specs.declared.subject.Subject.{Subject}
 use Rattle.pol_text.specs.declared.fault.PolicyFault.{PolicyFault}
-use Rattle.tac_desk.specs.Metered.{Metered}
-use Rattle.tac_desk.specs.Opening.{Opens}
+use Rattle.tac_desks.specs.Metered.{Metered}
+use Rattle.tac_desks.specs.Opening.{Opens}
 use Rattle.tac_check.specs.Check.{IsCheckOf}
 use Rattle.tac_check.specs.declared.checking.CheckEnd.TheVariants.{Refused}
 

@@ -5,7 +5,7 @@ ghost use Rattle.std.specs.Prelude.{Option, false, IsTrue, IfOk, OnOk, IfSome, I
 ghost use Rattle.std.specs.Io.KnownBytes.{Appends, IsAtEnd, Keeps};
 ghost use Rattle.pol_edit.specs.Applying.{is_memory};
 ghost use Rattle.tac_console.specs.Faults.{build_fault, is_build_fault};
-ghost use Rattle.tac_desk.specs.Metered.{Metered};
+ghost use Rattle.tac_desks.specs.Metered.{Metered};
 ghost use Rattle.tac_program.specs.Opening.{IsDeskOf, IsDeskOfText};
 
 use crate::status::Status;
@@ -16,7 +16,7 @@ use std::fs;
 use std::io::{Read, Write};
 use std::rt::Files;
 use tac_console::{write_build_fault, write_policy_fault};
-use tac_desk::LiveDesk;
+use tac_desks::LiveDesk;
 use tac_io::{AnswerFault, InputFault, read_whole, write_answer};
 
 /// The most bytes that a policy's text has.

@@ -14,7 +14,7 @@ use std::rt::Files;
 use std::sync::Wait;
 use std::thread::Threads;
 use std::time::Clock;
-use tac_desk::LiveDesk;
+use tac_desks::LiveDesk;
 use tac_hall::Hall;
 use tac_io::AnswerFault;
 use tac_net::{Port, ServeFault, serve};

@@ -3,7 +3,7 @@ use Rattle.std.proofs.Common.{◌≡◌, ℕ, List, [], ◌∷◌, ◌++◌, Boo
 use Rattle.std.specs.Prelude.{OnOk}
 use Rattle.std.proofs.lemmas.List.{append_cancel_left}
 use Rattle.tac_desk.specs.Meaning.{Meaning}
-use Rattle.tac_server.specs.Serving.{said_on, sent_bytes}
+use Rattle.tac_desk.specs.Serving.{said_on, sent_bytes}
 use Rattle.tac_server.specs.Server.{State, opened, lost, heard, with_meaning}
 use Rattle.tac_server.specs.Kept.{HasState, IsOpened, IsHeard, IsAnswered, IsOnlyAnswer}
 use Rattle.tac_server.specs.Happening.{Happening, Opens, Brings, Loses, Types, Given, Nothing, Packets, Text, Gives, Hears}

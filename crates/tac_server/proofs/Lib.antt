@@ -1,5 +1,4 @@
 pub mod ScriptFacts
-pub mod ServingFacts
 pub mod SentFacts
 pub mod TurningFacts
 pub mod ServerFacts

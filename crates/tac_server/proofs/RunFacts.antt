@@ -5,12 +5,12 @@ use Rattle.std.specs.List.{list_any}
 use Rattle.pol_names.specs.declared.subject_id.SubjectId.{SubjectId}
 use Rattle.pol_edit.specs.declared.fault.EditFault.{EditFault}
 use Rattle.pol_edit.specs.declared.fault.EditFault.TheVariants as edits
-use Rattle.pol_live.specs.Sizes.{IsSmall, IsFirstLarge, IsRefusedFor}
+use Rattle.pol_meaning.specs.Sizes.{IsSmall, IsFirstLarge, IsRefusedFor}
 use Rattle.std.proofs.lemmas.List.{append_cancel_left}
 use Rattle.pol_text.specs.declared.subject.Subject.{Subject}
 use Rattle.pol_text.specs.Text.{policy_of, text_of_lines}
 use Rattle.tac_desk.specs.Meaning.{Meaning}
-use Rattle.tac_desk.specs.Opening.{IsOnlyOpened}
+use Rattle.tac_desks.specs.Opening.{IsOnlyOpened}
 use Rattle.tac_server.specs.declared.server.Server.{Server}
 use Rattle.tac_server.specs.declared.server.ServerFault.{ServerFault}
 use Rattle.tac_server.specs.declared.server.ServerFault.TheVariants as faults
@@ -20,7 +20,7 @@ use Rattle.tac_server.specs.declared.script_fault.ScriptFault.TheVariants.{BadKe
 use Rattle.tac_server.specs.declared.script_fault.Located.{Located}
 use Rattle.tac_server.specs.declared.script_fault.Stop.{Stop}
 use Rattle.tac_server.specs.declared.script_fault.Stop.TheVariants as stops
-use Rattle.tac_server.specs.Serving.{Said, said_on}
+use Rattle.tac_desk.specs.Serving.{Said, said_on}
 use Rattle.tac_server.specs.Server.{State, opening, opened, lost, heard, with_meaning}
 use Rattle.tac_server.specs.Command.{event_of}
 use Rattle.tac_server.specs.Happening.{Nothing, Packets, Text}

@@ -4,7 +4,7 @@ use Rattle.tac_conn.specs.declared.packet.Packet.{Packet}
 use Rattle.tac_conn.specs.declared.reply.Reply.{Reply}
 use Rattle.tac_conn.specs.Packet.{sent, IsWhole}
 use Rattle.tac_conn.specs.Reply.{packet_of}
-use Rattle.tac_server.specs.Serving.{sent_bytes}
+use Rattle.tac_desk.specs.Serving.{sent_bytes}
 use Rattle.tac_server.specs.Kept.{AreWhole, Sends}
 
 pub whole-append : (key : List ℕ) (first second : List Packet) → AreWhole key first → AreWhole key second → AreWhole key (first ++ second)

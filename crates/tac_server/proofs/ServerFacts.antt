@@ -13,11 +13,11 @@ use Rattle.tac_desk.specs.Meaning.{Meaning}
 use Rattle.tac_server.specs.declared.server.Server.{Server}
 use Rattle.tac_server.specs.declared.server.ServerFault.{ServerFault}
 use Rattle.tac_server.specs.declared.server.ServerFault.TheVariants as faults
-use Rattle.tac_server.specs.Serving.{Said, behind, unless_closed, said_on}
+use Rattle.tac_desk.specs.Serving.{Said, behind, unless_closed, said_on}
 use Rattle.tac_server.specs.Server.{Connections, State, with_connection, opened, heard}
 use Rattle.tac_server.specs.Kept.{Sends, Serves, Ties, Has, stands_for, HasState, IsOpened, IsSaid, IsHeard, IsHeardUnlessMemory}
 use Rattle.tac_server.specs.Turning.{ServesUnless, SaysPiece}
-use Rattle.tac_server.proofs.ServingFacts.{unless_closed-true, unless_closed-false}
+use Rattle.tac_desk.proofs.ServingFacts.{unless_closed-true, unless_closed-false}
 use Rattle.tac_server.proofs.SentFacts.{sends-append}
 
 -- ---- one number among others

@@ -5,7 +5,7 @@ use Rattle.std.proofs.lemmas.List.{take-append-le}
 use Rattle.tac_wire.specs.Header.{header_of}
 use Rattle.tac_conn.specs.declared.packet.Packet.{Packet}
 use Rattle.tac_conn.specs.Packet.{sent}
-use Rattle.tac_server.specs.Serving.{sent_bytes}
+use Rattle.tac_desk.specs.Serving.{sent_bytes}
 use Rattle.tac_conn.specs.Packet.{IsWhole}
 use Rattle.tac_server.specs.Kept.{AreWhole, Sends}
 use Rattle.tac_server.specs.Events.{reply_line, reply_lines}

@@ -3,7 +3,7 @@ use Rattle.std.specs.Prelude.{◌≡◌, ℕ, List, Result, Ok, Err}
 use Rattle.pol_edit.specs.declared.edit.Edit.{Edit}
 use Rattle.pol_edit.specs.declared.fault.EditFault.{EditFault}
 use Rattle.pol_edit.specs.declared.fault.EditFault.TheVariants.{BadEdit}
-use Rattle.pol_report.specs.declared.Changed.{Changed}
+use Rattle.pol_meaning.specs.declared.Changed.{Changed}
 use Rattle.tac_desk.specs.Meaning.{Meaning}
 use Rattle.tac_desk.specs.Editing.{Edits}
 use Rattle.tac_desk.specs.Reporting.{Reports}

@@ -8,7 +8,7 @@ use Rattle.tac_wire.specs.Header.{header_of}
 use Rattle.tac_wire.specs.Pad.{padded}
 use Rattle.tac_conn.specs.declared.packet.Packet.{Packet}
 use Rattle.tac_conn.specs.Packet.{sent}
-use Rattle.tac_server.specs.Serving.{Said}
+use Rattle.tac_desk.specs.Serving.{Said}
 use Rattle.tac_server.specs.Server.{Connections, State}
 use Rattle.tac_server.specs.Happening.{Happening, Opens, Brings, Loses, Types, Gives}
 use Rattle.tac_server.specs.Happening.{Given, Nothing, Packets, Text}

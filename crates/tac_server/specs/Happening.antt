@@ -1,7 +1,7 @@
 -- What happens at a server, and what it gives out then.
 use Rattle.std.specs.Prelude.{◌≡◌, ℕ, List, [], ◌++◌, Some, None}
 use Rattle.tac_desk.specs.Meaning.{Meaning}
-use Rattle.tac_server.specs.Serving.{Said, said_on, sent_bytes}
+use Rattle.tac_desk.specs.Serving.{Said, said_on, sent_bytes}
 use Rattle.tac_server.specs.Server.{State, opened, lost, heard, with_meaning}
 use Rattle.tac_server.specs.Console.{Answers}
 

@@ -9,11 +9,11 @@ use Rattle.tac_conn.specs.Packet.{sent, IsWhole}
 use Rattle.tac_stream.specs.declared.stream.Stream.{Stream}
 use Rattle.tac_stream.specs.Kept.{IsReady, Stands}
 use Rattle.pol_edit.specs.declared.edit.Edit.{Edit}
-use Rattle.pol_report.specs.declared.Changed.{Changed}
+use Rattle.pol_meaning.specs.declared.Changed.{Changed}
 use Rattle.tac_desk.specs.declared.query.Query.{Query}
 use Rattle.tac_desk.specs.Meaning.{Meaning}
 use Rattle.tac_desk.specs.Editing.{Edits}
-use Rattle.tac_server.specs.Serving.{Said, said_on, said_first, sent_bytes, whole_packets}
+use Rattle.tac_desk.specs.Serving.{Said, said_on, said_first, sent_bytes, whole_packets}
 use Rattle.tac_server.specs.Server.{Connections, State, opened, lost, heard, with_meaning}
 use Rattle.tac_server.specs.Console.{AnswersEdit, AnswersQuery, Answers, Accepts}
 use Rattle.tac_server.specs.Events.{fault_in, Does}

@@ -1,5 +1,4 @@
 pub mod Number
-pub mod Serving
 pub mod Server
 pub mod Console
 pub mod Happening

@@ -9,7 +9,7 @@ use Rattle.tac_wire.specs.Key.{key_of}
 use Rattle.basics.specs.Lines.{split_at_first, lines_of}
 use Rattle.pol_text.specs.Text.{policy_of, text_of_lines}
 use Rattle.pol_names.specs.declared.subject_id.SubjectId.{SubjectId}
-use Rattle.pol_live.specs.Sizes.{IsSmall, IsFirstLarge}
+use Rattle.pol_meaning.specs.Sizes.{IsSmall, IsFirstLarge}
 use Rattle.tac_server.specs.FaultText.{located_text}
 use Rattle.tac_server.specs.Command.{event_of}
 use Rattle.tac_desk.specs.Meaning.{Meaning}

@@ -1,7 +1,7 @@
 -- A server: its key, what its desk stands for, and the connections that are open.
 use Rattle.std.specs.Prelude.{ℕ, ◌==◌, List, [], Option, Some, None, if◌then◌else◌}
 use Rattle.tac_desk.specs.Meaning.{Meaning}
-use Rattle.tac_server.specs.Serving.{Said}
+use Rattle.tac_desk.specs.Serving.{Said}
 
 -- the connections that are open: by number, all bytes that came on each
 abbrev pub Connections : Type 0

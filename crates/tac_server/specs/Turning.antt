@@ -6,7 +6,7 @@ use Rattle.tac_conn.specs.declared.packet.Packet.{Packet}
 use Rattle.tac_stream.specs.declared.stream.Stream.{Stream}
 use Rattle.tac_stream.specs.Kept.{IsReady, Stands, unread_of}
 use Rattle.tac_desk.specs.Meaning.{Meaning}
-use Rattle.tac_server.specs.Serving.{Said, said_part, said_from, said_on, said_first, whole_packets}
+use Rattle.tac_desk.specs.Serving.{Said, said_part, said_from, said_on, said_first, whole_packets}
 use Rattle.tac_server.specs.Kept.{Sends, Serves}
 use Rattle.tac_server.specs.declared.turning.Went.{Went}
 use Rattle.tac_server.specs.declared.turning.Went.TheVariants.{On, Rests, Closes}

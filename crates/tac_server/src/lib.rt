@@ -13,5 +13,6 @@ mod turning;
 
 pub use replaying::{ReplayEnd, ReplayFault, replay};
 pub use server::{Server, ServerFault};
-pub use tac_desk::{Desk, LiveDesk, PlainDesk};
+pub use tac_desk::Desk;
+pub use tac_desks::{LiveDesk, PlainDesk};
 pub use tac_wire::Key;

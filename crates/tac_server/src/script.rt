@@ -16,7 +16,7 @@ use pol_edit::EditFault;
 use pol_names::SubjectId;
 use pol_text::{Policy, PolicyFault};
 use std::alloc::Global;
-use tac_desk::LiveDesk;
+use tac_desks::LiveDesk;
 use tac_wire::Key;
 
 /// The most records that are kept.

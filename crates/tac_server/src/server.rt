@@ -2,7 +2,7 @@
 
 ghost use Rattle.std.specs.Prelude.{◌≡◌, ◌++◌, [], ◌∷◌, List, ℕ, false, IfOk, OnOk};
 ghost use Rattle.tac_desk.specs.Meaning.{Meaning as MeaningValue};
-ghost use Rattle.tac_server.specs.Serving.{said_on, unless_closed};
+ghost use Rattle.tac_desk.specs.Serving.{said_on, unless_closed};
 ghost use Rattle.tac_server.specs.Server as servers;
 ghost use Rattle.tac_server.specs.Console as consoles;
 ghost use Rattle.tac_server.specs.Kept as kept;

@@ -3,7 +3,7 @@
 ghost use Rattle.std.specs.Prelude.{◌≡◌, ◌<◌, ◌++◌, ℕ, List, [], length};
 ghost use Rattle.std.specs.Prelude.{MatchOption, IfOk, IfSome, OnOk};
 ghost use Rattle.tac_conn.specs.declared.packet.Packet.{Packet};
-ghost use Rattle.tac_server.specs.Serving.{Said};
+ghost use Rattle.tac_desk.specs.Serving.{Said};
 ghost use Rattle.tac_conn.specs.Packet.{IsWhole};
 ghost use Rattle.tac_server.specs.Kept.{Sends};
 ghost use Rattle.tac_server.specs.Events as events;

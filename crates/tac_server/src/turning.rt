@@ -9,7 +9,7 @@ ghost use Rattle.tac_conn.specs.Judging.{reply_in};
 ghost use Rattle.tac_stream.specs.Kept.{IsReady, Stands, closed_of, pending_of, unread_of};
 ghost use Rattle.tac_desk.specs.Asking.{asked};
 ghost use Rattle.tac_desk.specs.Meaning.{Meaning as MeaningValue};
-ghost use Rattle.tac_server.specs.Serving.{said_on, unless_closed};
+ghost use Rattle.tac_desk.specs.Serving.{said_on, unless_closed};
 ghost use Rattle.tac_server.specs.Kept.{Serves};
 ghost use Rattle.tac_server.specs.Turning as turning;
 

@@ -7,7 +7,7 @@ use std::alloc::AllocError;
 use std::sync::Wait;
 use std::sync::atomic::{AtomicU64, Ordering};
 use std::test::Fail;
-use tac_desk::PlainDesk;
+use tac_desks::PlainDesk;
 use tac_hall::{Hall, Seat, work};
 use tac_wire::Key;
 

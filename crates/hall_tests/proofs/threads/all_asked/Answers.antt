@@ -8,7 +8,7 @@ use Rattle.tac_request.proofs.record.Record.TheSendSync as records
 use Rattle.tac_tally.specs.contracts.account.Account as Account
 use Rattle.tac_tally.specs.contracts.accounts.Accounts as Accounts
 use Rattle.tac_tally.specs.contracts.book.Book as Book
-use Rattle.tac_desk.specs.contracts.plain.PlainDesk as PlainDesk
+use Rattle.tac_desks.specs.contracts.plain.PlainDesk as PlainDesk
 use Rattle.hall_tests.proofs.threads.all_asked.Goals as goal
 
 Account-send : IsSend Account.the_field.row

@@ -1,8 +1,8 @@
 use denote.Param.Send.{sendable}
 use Rattle.std.proofs.Crossing.{crosses}
 use Rattle.tac_hall.proofs.Crossing.{Seat-send, Key-sync, Hall-sync}
-use Rattle.tac_desk.specs.contracts.plain.PlainDesk as PlainDesk
-use Rattle.tac_desk.specs.contracts.plain.PlainDeskDesk.TheImpl.{ghosts}
+use Rattle.tac_desks.specs.contracts.plain.PlainDesk as PlainDesk
+use Rattle.tac_desks.specs.contracts.plain.PlainDeskDesk.TheImpl.{ghosts}
 use Rattle.net_tests.proofs.Crossing.{PlainDesk-send}
 use Rattle.net_tests.proofs.gates.all_work.Goals as goal
 

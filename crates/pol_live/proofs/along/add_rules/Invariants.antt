@@ -1,6 +1,6 @@
 use Rattle.std.proofs.Common.{◌≡◌, ◌++◌, map, take}
 use Rattle.pol_text.specs.Policy.{id_of, numbered}
-use Rattle.pol_live.specs.Along.{chain_rule}
+use Rattle.pol_live.specs.ChainRules.{chain_rule}
 use Rattle.pol_live.proofs.along.add_rules.Given as goal
 
 abbrev pub invariant-loop-i : goal.invariant-loop-i

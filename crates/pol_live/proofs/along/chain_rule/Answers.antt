@@ -2,7 +2,7 @@ use Rattle.std.proofs.Common.{◌≡◌, ◌<◌, ◌≤◌, ◌-◌, Option, []
 use Rattle.std.specs.Option.{option_map, option_map_or, option_copied, option_and_then}
 use Rattle.pol_text.specs.declared.subject.Subject.{Subject}
 use Rattle.pol_text.specs.Policy.{parent_of, chain_within, entries_along}
-use Rattle.pol_live.specs.Along.{chain_rule as rule_of}
+use Rattle.pol_live.specs.ChainRules.{chain_rule as rule_of}
 use Rattle.pol_live.proofs.PlaceFacts.{got, place_here, place_later, place_none}
 use Rattle.pol_live.proofs.along.chain_rule.Goals as goal
 

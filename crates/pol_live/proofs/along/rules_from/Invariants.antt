@@ -1,6 +1,6 @@
 use Rattle.std.proofs.Common.{◌≡◌, ◌≤◌, ◌-◌, ◌++◌, map, length}
 use Rattle.pol_text.specs.Policy.{chain_within, entries_along, entries}
-use Rattle.pol_live.specs.Along.{chain_rule}
+use Rattle.pol_live.specs.ChainRules.{chain_rule}
 use Rattle.pol_live.proofs.along.rules_from.Given as goal
 
 -- what was found, and what is left, are all

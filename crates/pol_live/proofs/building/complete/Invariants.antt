@@ -1,6 +1,6 @@
 use Rattle.std.proofs.Common.{◌≡◌, ◌<◌, ℕ, Some, true, take, slice_get, is_some, IsTrue}
 use Rattle.pol_text.specs.declared.subject.Subject.{Subject}
-use Rattle.pol_live.specs.Sizes.{AreSmall}
+use Rattle.pol_meaning.specs.Sizes.{AreSmall}
 use Rattle.pol_live.specs.Kept.{AreParts, Grows, is_keeper, slot}
 use Rattle.pol_live.specs.Counting.{Counts, states_of}
 use Rattle.pol_live.proofs.building.complete.Given as goal

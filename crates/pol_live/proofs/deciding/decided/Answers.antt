@@ -1,7 +1,7 @@
 use Rattle.std.proofs.Common.{sym, ap, ◌∙◌}
 use Rattle.std.specs.Option.{option_map}
 use Rattle.pol_text.specs.Policy.{entries}
-use Rattle.pol_live.specs.Along.{decision_by}
+use Rattle.pol_live.specs.ChainRules.{decision_by}
 use Rattle.pol_live.proofs.MatchFacts.{none_decides, first_decides}
 use Rattle.pol_live.proofs.deciding.decided.Goals as goal
 

@@ -3,7 +3,7 @@ use Rattle.std.proofs.lemmas.Option.{same_Some, slice_get-get_or}
 use Rattle.std.proofs.lemmas.Result.{err_from_is_err_and}
 use Rattle.pol_text.specs.declared.subject.Subject.{Subject}
 use Rattle.pol_text.specs.Policy.{ends_within}
-use Rattle.pol_live.specs.Sizes.{IsLarge}
+use Rattle.pol_meaning.specs.Sizes.{IsLarge}
 use Rattle.pol_live.proofs.FillFacts.{ends_above, large_above, contains_at, ok_so}
 use Rattle.pol_live.specs.Kept.{Grows}
 use Rattle.pol_live.specs.Counting.{Counts, states_of}

@@ -1,5 +1,5 @@
 use Rattle.std.proofs.Common.{◌++◌, []}
-use Rattle.pol_report.specs.Changes.{ChangesOf, users_of, users_alone}
+use Rattle.pol_meaning.specs.Changes.{ChangesOf, users_of, users_alone}
 use Rattle.pol_report.proofs.ListFacts.{no_changes, only_changes}
 use Rattle.pol_report.proofs.changing.changes.Goals as goal
 

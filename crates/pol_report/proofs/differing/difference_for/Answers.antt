@@ -2,7 +2,8 @@ use Rattle.std.proofs.Common.{◌≡◌, List, map, sym, ap, ◌∙◌}
 use Rattle.pol_names.specs.declared.decision.Verdict.TheVariants.{Deny}
 use Rattle.pol_automaton.specs.Automaton.{IsDecider}
 use Rattle.pol_live.specs.declared.along.ChainRule.{ChainRule}
-use Rattle.pol_live.specs.Along.{entries_of, patterns_of, chain_rule}
+use Rattle.pol_meaning.specs.Along.{entries_of, patterns_of}
+use Rattle.pol_live.specs.ChainRules.{chain_rule}
 use Rattle.pol_report.specs.Sharing.{along}
 use Rattle.pol_report.proofs.ReachFacts.{if_ok_both}
 use Rattle.pol_report.proofs.ChangeFacts.{own_verdicts, denials, present_side, absent_side, found_difference, its_decider, nobody}

@@ -1,5 +1,5 @@
 use Rattle.std.proofs.Common.{◌≡◌, ◌++◌, take}
-use Rattle.pol_report.specs.Reach.{unreached}
+use Rattle.pol_meaning.specs.Reach.{unreached}
 use Rattle.pol_report.proofs.reaching.add_unreached.Given as goal
 
 abbrev pub invariant-loop-row : goal.invariant-loop-row

@@ -1,5 +1,6 @@
 use Rattle.std.proofs.Common.{◌≡◌, map, get_or, sym, ◌∙◌}
-use Rattle.pol_live.specs.Along.{chain_rule, entries_of}
+use Rattle.pol_live.specs.ChainRules.{chain_rule}
+use Rattle.pol_meaning.specs.Along.{entries_of}
 use Rattle.pol_report.proofs.ReachFacts.{more_rows, reached_text}
 use Rattle.pol_report.proofs.reaching.reach_along.Goals as goal
 

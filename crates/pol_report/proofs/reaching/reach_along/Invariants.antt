@@ -1,4 +1,4 @@
-use Rattle.pol_live.specs.Along.{entries_of}
+use Rattle.pol_meaning.specs.Along.{entries_of}
 use Rattle.pol_report.proofs.ReachFacts.{AreReachedTo}
 use Rattle.pol_report.proofs.reaching.reach_along.Given as goal
 

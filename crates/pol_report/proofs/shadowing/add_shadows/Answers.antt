@@ -1,7 +1,7 @@
 use Rattle.std.proofs.Common.{◌≡◌, List, [], Some, sym, subst}
 use Rattle.std.specs.Option.{option_map_or}
 use Rattle.pol_text.specs.Policy.{Entry}
-use Rattle.pol_live.specs.Along.{entries_of}
+use Rattle.pol_meaning.specs.Along.{entries_of}
 use Rattle.pol_report.specs.Sharing.{along, along_at, AreUnreached}
 use Rattle.pol_report.proofs.KnownFacts.{on_ok_so, written}
 use Rattle.pol_report.proofs.ShadowFacts.{are_told, rules_of}

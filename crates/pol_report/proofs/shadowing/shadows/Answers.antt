@@ -1,6 +1,6 @@
 use Rattle.std.proofs.Common.{◌≡◌, ◌<◌, ◌≤◌, length, get_or, sym}
 use Rattle.pol_text.specs.Policy.{id_of}
-use Rattle.pol_live.specs.Along.{entries_of}
+use Rattle.pol_meaning.specs.Along.{entries_of}
 use Rattle.pol_report.specs.Sharing.{AreTold}
 use Rattle.pol_report.proofs.Leasts.{take_all}
 use Rattle.pol_report.proofs.ShadowFacts.{told_shadows, only_shadows}

@@ -1,5 +1,5 @@
 use Rattle.std.proofs.Common.{◌≡◌, take}
-use Rattle.pol_report.specs.Reach.{ShadowsOf}
+use Rattle.pol_meaning.specs.Reach.{ShadowsOf}
 use Rattle.pol_report.specs.Sharing.{AreFound}
 use Rattle.pol_report.proofs.shadowing.shadows.Given as goal
 

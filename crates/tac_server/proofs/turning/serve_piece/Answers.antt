@@ -1,6 +1,6 @@
 use Rattle.std.proofs.Common.{refl, ◌∙◌, ◌++◌}
-use Rattle.tac_server.specs.Serving.{whole_packets}
-use Rattle.tac_server.proofs.ServingFacts.{said_on-pieces}
+use Rattle.tac_desk.specs.Serving.{whole_packets}
+use Rattle.tac_desk.proofs.ServingFacts.{said_on-pieces}
 use Rattle.tac_server.proofs.TurningFacts.{begun, going_on, at_rest, closing, cut_short, none_said, says_err}
 use Rattle.tac_server.proofs.turning.serve_piece.Goals as goal
 

@@ -1,6 +1,6 @@
 use Rattle.std.proofs.Common.{ℕ, List, ◌++◌}
 use Rattle.tac_stream.specs.Kept.{unread_of}
-use Rattle.tac_server.specs.Serving.{whole_packets}
+use Rattle.tac_desk.specs.Serving.{whole_packets}
 use Rattle.tac_server.specs.Kept.{Serves}
 use Rattle.tac_server.proofs.TurningFacts.{Progress}
 use Rattle.tac_server.proofs.turning.serve_piece.Given as goal

@@ -1,6 +1,6 @@
 use Rattle.std.proofs.Common.{take}
 use Rattle.pol_pattern.specs.Flat.{terms_value}
-use Rattle.pol_deriv.specs.Derivative.{IsAmong}
+use Rattle.pol_residual.specs.Derivative.{IsAmong}
 use Rattle.pol_deriv.specs.Table.{Grows, StandsFor}
 use Rattle.pol_deriv.proofs.table.Table.add_each.Given as goal
 

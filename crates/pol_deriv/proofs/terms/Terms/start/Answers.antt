@@ -1,6 +1,6 @@
 use Rattle.std.proofs.Common.{[], refl, sym, subst}
 use Rattle.pol_pattern.specs.Flat.{Terms}
-use Rattle.pol_deriv.specs.Derivative.{Residual}
+use Rattle.pol_residual.specs.Derivative.{Residual}
 use Rattle.pol_deriv.specs.Table.{IsSetOf}
 use Rattle.pol_deriv.proofs.Residuals.{first_residual, residual_law}
 use Rattle.pol_deriv.proofs.Sets.{stands_same, stands_moved, stands_within}

@@ -1,6 +1,6 @@
 use Rattle.std.proofs.Common.{List, ℕ, subst}
 use Rattle.std.proofs.lemmas.List.{take_all}
-use Rattle.pol_deriv.specs.Derivative.{Derivatives}
+use Rattle.pol_residual.specs.Derivative.{Derivatives}
 use Rattle.pol_deriv.specs.Table.{StandsFor, IsSetOf, HasTerm}
 use Rattle.pol_deriv.proofs.Tables.{grows_on}
 use Rattle.pol_deriv.proofs.Sets.{stands_moved, stands_within}

@@ -1,5 +1,5 @@
 use Rattle.std.proofs.Common.{take}
-use Rattle.pol_deriv.specs.Derivative.{Derivatives}
+use Rattle.pol_residual.specs.Derivative.{Derivatives}
 use Rattle.pol_deriv.specs.Table.{Grows, StandsFor, HasTerm}
 use Rattle.pol_deriv.proofs.terms.Terms.step.Given as goal
 

@@ -1,0 +1,5 @@
+pub mod Memory
+pub mod Along
+pub mod Sizes
+pub mod Reach
+pub mod Changes

@@ -1,0 +1,34 @@
+-- Which policies are too large: sizes are numbers of residuals, and nothing else is.
+use Rattle.std.specs.Prelude.{◌≡◌, ◌⊎◌, List, [], ◌∷◌}
+use Rattle.pol_residual.specs.Residuals.{HasMoreResiduals}
+use Rattle.pol_names.specs.declared.subject_id.SubjectId.{SubjectId}
+use Rattle.pol_text.specs.declared.subject.Subject.{Subject}
+use Rattle.pol_text.specs.Policy.{id_of}
+use Rattle.pol_edit.specs.declared.fault.EditFault.{EditFault}
+use Rattle.pol_edit.specs.declared.fault.EditFault.TheVariants.{TooManyStates}
+use Rattle.pol_meaning.specs.Along.{patterns_along}
+
+-- the rules along the chain of the subject have more than 4,096 residuals together
+abbrev pub IsLarge : List Subject → Subject → Type 0
+IsLarge policy subject = HasMoreResiduals (patterns_along policy subject) 4096
+
+-- of these subjects none is large
+abbrev pub AreSmall : List Subject → List Subject → Type 0
+AreSmall policy [] = Unit {0}
+AreSmall policy (subject ∷ rest) = (¬ (IsLarge policy subject)) × AreSmall policy rest
+
+-- the first large one of these subjects has this kind and name
+abbrev pub IsFirstLarge : List Subject → List Subject → SubjectId → Type 0
+IsFirstLarge policy [] id = ⊥
+IsFirstLarge policy (subject ∷ rest) id =
+    (IsLarge policy subject × (id ≡ id_of subject))
+    ⊎ ((¬ (IsLarge policy subject)) × IsFirstLarge policy rest id)
+
+-- a policy may stand if no subject is large
+abbrev pub IsSmall : List Subject → Type 0
+IsSmall policy = AreSmall policy policy
+
+-- else the first large one is named
+abbrev pub IsRefusedFor : List Subject → EditFault → Type 0
+IsRefusedFor policy fault =
+    (id : SubjectId) × (fault ≡ TooManyStates id) × IsFirstLarge policy policy id

@@ -1,0 +1,42 @@
+-- The residuals of a list of entries, and how many different ones there are. An entry is a pattern,
+-- by its source; its residuals are those of the pattern (Derivative).
+use Rattle.std.specs.Prelude.{◌≡◌, ◌↔◌, ◌<◌, ◌≤◌, ℕ, IsTrue, List, length, All, AllPairs, Any}
+use Rattle.basics.specs.Symbol.{is_text}
+use Rattle.pol_pattern.specs.Flat.{Term, Terms}
+use Rattle.pol_pattern.specs.Spelling.{Spells}
+use Rattle.pol_residual.specs.Derivative.{Residual}
+
+-- a term of an entry's residual by a text
+abbrev pub InResidual : List ℕ → List ℕ → Term → Type 0
+InResidual source text term = (flat : Terms) × Spells source flat × Residual flat text term
+
+-- each entry has the same residual by the one text as by the other
+abbrev pub SameResiduals : List (List ℕ) → List ℕ → List ℕ → Type 0
+SameResiduals entries text other =
+    All (λ source. (term : Term) → InResidual source text term
+    ↔ InResidual source other term) entries
+
+-- texts of which no two have the same residuals
+pub record AreDifferent (entries texts : List (List ℕ)) : Type 0 where
+  pub all_texts : All (λ text. IsTrue (is_text text)) texts
+  pub different : AllPairs (λ text other. ¬ (SameResiduals entries text other)) texts
+
+-- there are this many residuals: so many different texts, and every text has the residuals of one
+-- of them
+pub record IsResidualCount (entries : List (List ℕ)) (count : ℕ) : Type 0 where
+  pub texts : List (List ℕ)
+  pub many : length texts ≡ count
+  pub different : AreDifferent entries texts
+  pub complete : (text : List ℕ) → IsTrue (is_text text) → Any (SameResiduals entries text) texts
+
+-- there are more residuals than this
+pub record HasMoreResiduals (entries : List (List ℕ)) (limit : ℕ) : Type 0 where
+  pub texts : List (List ℕ)
+  pub many : limit < length texts
+  pub different : AreDifferent entries texts
+
+-- it can't be both: at most so many, and more
+abbrev pub ExcludesLaw : Type 0
+ExcludesLaw =
+    (entries : List (List ℕ)) (count limit : ℕ) → IsResidualCount entries count → count ≤ limit
+    → ¬ (HasMoreResiduals entries limit)

@@ -1,6 +1,0 @@
-use Rattle.std.proofs.Common.{rules}
-use Rattle.tac_desk.proofs.Asks.{passes_exactly}
-use Rattle.tac_desk.proofs.plain.PlainDeskDesk.ask.Goals as goal
-
-pub returns-in-Authenticate-clause-passes : goal.returns-in-Authenticate-clause-passes
-returns-in-Authenticate-clause-passes c = passes_exactly c.args.self.now c.args.ask.now c.authentication.result (search rules)

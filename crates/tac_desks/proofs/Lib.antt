@@ -1,0 +1,9 @@
+pub mod Asks
+pub mod Edits
+pub mod Opened
+pub mod Reports
+pub mod MarkFacts
+pub mod TallyFacts
+pub mod Unchanged
+pub mod Settling
+pub mod Recalled

@@ -1,0 +1,18 @@
+-- What a desk that is made of a policy stands for.
+use Rattle.std.proofs.Common.{◌≡◌, ℕ, List, Ok, Err, refl, sym, ap}
+use Rattle.pol_text.specs.declared.subject.Subject.{Subject}
+use Rattle.pol_edit.specs.declared.fault.EditFault.{EditFault}
+use Rattle.pol_live.specs.Live.{Builds, IsOnlyBuilt}
+use Rattle.tac_desk.specs.Meaning.{Meaning, opening}
+use Rattle.tac_desks.specs.Opening.{IsOnlyOpened}
+
+module _ (policy : List Subject) (limit : ℕ) where
+  pub opened_only : (built : List Subject) → Builds policy (Ok built) → IsOnlyBuilt policy (Ok built) → IsOnlyOpened policy limit (Ok (opening policy limit))
+  opened_only built h only (Ok meaning) k = ap (λ (m : Meaning). Ok m) (sym k.0)
+  opened_only built h only (Err fault) k = let e : Ok built ≡ Err fault = only (Err fault) k in absurd cc
+
+  pub refused_only : (fault : EditFault) → IsOnlyBuilt policy (Err fault) → IsOnlyOpened policy limit (Err fault)
+  refused_only fault only (Ok meaning) k = let e : Err fault ≡ Ok policy = only (Ok policy) (refl, k.1) in absurd cc
+  refused_only fault only (Err other) k =
+      let e : Err fault ≡ Err other = only (Err other) k in
+      let same : fault ≡ other = cc in ap (λ (f : EditFault). Err f) same

@@ -1,0 +1,4 @@
+pub mod Opening
+pub mod Kept
+pub mod Metered
+pub mod Remembered

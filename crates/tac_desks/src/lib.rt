@@ -1,0 +1,19 @@
+//! The two desks: one that works everything out each time, and one that keeps automata, decisions
+//! and marks. They promise the same.
+#![tactic(auto)]
+
+mod authentication;
+mod authorisation;
+mod deciding;
+mod editing;
+mod live_desk;
+mod live_editing;
+mod live_reports;
+mod plain;
+mod reaching;
+mod recounting;
+mod remembering;
+mod tallies;
+
+pub use live_desk::LiveDesk;
+pub use plain::PlainDesk;

@@ -1,0 +1,234 @@
+//! The desk that keeps what follows from its policy.
+
+ghost use Rattle.std.specs.Prelude.{◌≡◌, ◌≤◌, ◌↔◌, true, false, Ok, Err, IsOk, IsTrue};
+ghost use Rattle.std.specs.Prelude.{IfOk, OnOk, OnErr};
+ghost use Rattle.pol_edit.specs.Applying.{is_memory};
+ghost use Rattle.pol_meaning.specs.Memory.{UnlessMemory};
+ghost use Rattle.pol_live.specs.Rise.{IsBuildRise, IsEditRise, Rises};
+ghost use Rattle.tac_conn.specs.Ask.{kind_of_ask, kind_of_answer};
+ghost use Rattle.tac_conn.specs.declared.ask.Answer.TheVariants as answers;
+ghost use Rattle.tac_desks.specs.Opening.{Opens, IsOnlyOpened};
+ghost use Rattle.tac_desks.specs.Metered.{unmetered};
+ghost use Rattle.tac_desk.specs.Asking as asking;
+ghost use Rattle.tac_desk.specs.Asking.{asked, stores, Passes};
+ghost use Rattle.tac_desk.specs.Editing as editing;
+ghost use Rattle.tac_desk.specs.Reporting as reporting;
+ghost use Rattle.tac_desk.specs.declared.query.QueryFault.TheVariants.{NoSuch};
+
+use crate::authentication::authentication;
+use crate::deciding::{authorisation_by, is_denied};
+use crate::live_editing::change_kept;
+use crate::live_reports::{reach_report_of, shadow_report_of, tally_by_marks};
+use crate::plain::copy_records;
+use crate::remembering::Remembered;
+use pol_automaton::Meter;
+use pol_edit::{Edit, EditFault};
+use pol_live::Live;
+use pol_meaning::Changes;
+use pol_text::Policy;
+use std::alloc::{AllocError, Global};
+use std::marker::Model;
+use tac_conn::{Answer, Ask};
+use tac_desk::{Desk, Query, QueryFault, Report, State, Thrice};
+use tac_tally::{Book, Record};
+
+/// A desk that keeps the automata of its policy, the decisions on the lines that were asked last,
+/// and beside each record whether the policy denies its line. A line is decided by what is
+/// remembered, or by a walk along it, and an edit works out anew only what it changes.
+/// A contract sees what the desk stands for, and its meter.
+#[derive(Drop)]
+pub struct LiveDesk {
+    alloc: Global,
+    live: Live,
+    // of all automata that were built for `live`
+    meter: Meter,
+    // its marks are the policy's
+    book: Book,
+    // of decisions of the policy
+    remembered: Remembered,
+}
+
+impl Model for LiveDesk {
+    ghost use Rattle.tac_desks.specs.Kept.{meaning_of};
+    ghost use Rattle.tac_desks.specs.Metered.{Metered, HasMarksBy};
+    ghost use Rattle.tac_desks.specs.Remembered.{AreDecisionsBy};
+
+    ghost Value = { Metered };
+
+    ghost view = { λ desk. record {
+      meaning = meaning_of desk.live desk.book;
+      meter = desk.meter;
+    } };
+
+    ghost invariant = { λ desk. HasMarksBy desk.live desk.book
+        × AreDecisionsBy desk.live desk.remembered.kept.entries };
+}
+
+impl LiveDesk {
+    /// A desk of this policy, without records, that accepts at most so many. Refused where a
+    /// subject is too large, with the first such subject in the policy's order. Builds all automata
+    /// once.
+    pub fn new(alloc: Global, policy: Policy, record_limit: usize) -> Result<LiveDesk, EditFault>
+        ensures found { UnlessMemory is_memory result
+            (Opens policy record_limit (unmetered result)) }
+        ensures only { UnlessMemory is_memory result
+            (IsOnlyOpened policy record_limit (unmetered result)) }
+
+        // The meter rises from nothing, by the residuals of each automaton that is made.
+        ensures rises { IfOk result (λ desk. Rises (IsBuildRise policy) 0 desk.meter) }
+    {
+        let mut meter = Meter::new();
+        let live = Live::build(alloc, policy, &mut meter)?;
+        let remembered = Remembered::new(alloc)?;
+        Ok(LiveDesk {
+            alloc,
+            live,
+            meter,
+            book: Book::new(alloc, record_limit),
+            remembered,
+        })
+    }
+
+    /// How many states of automata were built. Takes no memory.
+    pub fn meter(&self) -> u128
+        ensures { result ≡ self.now.meter }
+    {
+        self.meter.total()
+    }
+
+    // Stores a copy of the record, if there is room.
+    #[tactic(auto, using(crate::proofs::Unchanged::marks_pushed_so))]
+    fn store(&mut self, item: &Record) -> Result<Answer, AllocError>
+        ensures answer { IfOk result (λ answer.
+            answer ≡ (asking.stored self.old.meaning item.now).answer) }
+        ensures after { OnOk result
+            (self.new.meaning ≡ (asking.stored self.old.meaning item.now).meaning) }
+        ensures sure { asking.is_full self.old.meaning ≡ true → IsOk result }
+        ensures err { OnErr result (self.new.meaning ≡ self.old.meaning) }
+        ensures meter { self.new.meter ≡ self.old.meter }
+    {
+        if self.book.is_full() {
+            return Ok(Answer::BookFull);
+        }
+        let copy = item.copy(self.alloc)?;
+        let denied = is_denied(&self.live, item);
+        self.book.store(copy, denied).map_err(|_| AllocError)?;
+        Ok(Answer::Stored)
+    }
+
+    // What a question is answered.
+    fn report(&self, query: &Query) -> Result<Report, QueryFault>
+        ensures found { UnlessMemory reporting.is_memory result
+            (reporting.Reports self.now.meaning query.now result) }
+        ensures only { UnlessMemory reporting.is_memory result
+            (reporting.IsOnly self.now.meaning query.now result) }
+        ensures sure { reporting.Reports self.now.meaning query.now (Err NoSuch) →
+            result ≡ Err NoSuch }
+    {
+        match query {
+            Query::Policy => {
+                let policy = self.live.policy().copy(self.alloc)?;
+                Ok(Report::Policy(policy))
+            }
+            Query::Shadow => {
+                let report = shadow_report_of(self.alloc, &self.live)?;
+                Ok(report)
+            }
+            Query::Reach(subject) => reach_report_of(self.alloc, &self.live, subject),
+            Query::Tally(subject) => {
+                tally_by_marks(self.alloc, self.live.policy(), &self.book, subject)
+            }
+            Query::Why { user, line } => Ok(Report::Why(self.live.decide(user, line.as_slice()))),
+            Query::Records => {
+                let records = copy_records(self.alloc, self.book.records())?;
+                Ok(Report::Records(records))
+            }
+        }
+    }
+}
+
+impl Desk for LiveDesk {
+    ghost meaning = { λ desk. desk.meaning };
+
+    fn ask(&mut self, ask: &Ask) -> Result<Answer, AllocError>
+        ensures answer { IfOk result (λ answer.
+            answer ≡ (asked self.old.meaning ask.now).answer) }
+        ensures after { OnOk result
+            (self.new.meaning ≡ (asked self.old.meaning ask.now).meaning) }
+        ensures kind { IfOk result (λ answer. kind_of_answer answer ≡ kind_of_ask ask.now) }
+        ensures passes { (result ≡ Ok answers.Pass) ↔ Passes self.old.meaning ask.now }
+        ensures sure { stores self.old.meaning ask.now ≡ false → IsOk result }
+        ensures err { OnErr result (self.new.meaning ≡ self.old.meaning) }
+        ensures meter { self.new.meter ≡ self.old.meter }
+    {
+        match ask {
+            Ask::Authenticate {
+                user,
+                service,
+                proof,
+            } => Ok(authentication(self.live.policy(), user.as_slice(), *service, proof)),
+            Ask::Authorise { user, line } => {
+                let answer = authorisation_by(
+                    self.alloc,
+                    &self.live,
+                    &mut self.remembered,
+                    user.as_slice(),
+                    line.as_slice(),
+                );
+                Ok(answer)
+            }
+            Ask::Account(item) => self.store(item),
+        }
+    }
+
+    fn edit(&mut self, edit: &Edit) -> Result<Thrice<Changes>, EditFault>
+        ensures found { UnlessMemory is_memory result
+            (editing.Edits self.old.meaning edit.now result self.new.meaning) }
+        ensures only { UnlessMemory is_memory result
+            (editing.IsOnly self.old.meaning edit.now result self.new.meaning) }
+        ensures err { OnErr result (self.new.meaning ≡ self.old.meaning) }
+
+        // The meter rises by the residuals of each automaton that the edit makes anew.
+        ensures rises { OnOk result (Rises (IsEditRise edit.now self.new.meaning.policy)
+            self.old.meter self.new.meter) }
+        ensures kept { OnErr result (self.old.meter ≤ self.new.meter) }
+    {
+        let thrice = change_kept(
+            self.alloc,
+            &mut self.live,
+            &mut self.meter,
+            &mut self.book,
+            edit,
+        )?;
+        self.remembered.clear();
+        Ok(thrice)
+    }
+
+    #[tactic(auto, using(crate::proofs::Reports::kind))]
+    fn query(&mut self, query: &Query) -> Result<Thrice<Report>, QueryFault>
+        ensures found { UnlessMemory reporting.is_memory result
+            (reporting.Reports self.old.meaning query.now result) }
+        ensures only { UnlessMemory reporting.is_memory result
+            (reporting.IsOnly self.old.meaning query.now result) }
+        ensures kind { IfOk result (λ report.
+            IsTrue (reporting.is_report_to query.now report)) }
+        ensures sure { reporting.Reports self.old.meaning query.now (Err NoSuch) →
+            result ≡ Err NoSuch }
+        ensures after { self.new.meaning ≡ self.old.meaning }
+        ensures meter { self.new.meter ≡ self.old.meter }
+    {
+        let report = self.report(query)?;
+        let thrice = Thrice::new(self.alloc, report)?;
+        Ok(thrice)
+    }
+
+    fn state(&self) -> Result<State, AllocError> {
+        let policy = self.live.policy().copy(self.alloc)?;
+        let records = copy_records(self.alloc, self.book.records())?;
+        Ok(State {
+            policy,
+            records,
+            record_limit: self.book.limit(),
+        })
+    }
+}

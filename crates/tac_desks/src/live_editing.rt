@@ -1,0 +1,70 @@
+//! Making an edit of a policy that has its automata, beside records that have their marks.
+
+ghost use Rattle.std.specs.Prelude.{◌≡◌, ◌≤◌, length, OnOk, OnErr};
+ghost use Rattle.pol_edit.specs.Applying.{is_memory};
+ghost use Rattle.pol_meaning.specs.Memory.{UnlessMemory};
+ghost use Rattle.pol_live.specs.Rise.{IsEditRise, Rises};
+ghost use Rattle.tac_tally.specs.Recount.{settled};
+ghost use Rattle.tac_desk.specs.Meaning.{with_policy};
+ghost use Rattle.tac_desk.specs.Editing as editing;
+ghost use Rattle.tac_desks.specs.Kept.{meaning_of, entries_by};
+ghost use Rattle.tac_desks.specs.Metered.{HasMarksBy};
+
+use crate::recounting::{Coming, recount_changed};
+use pol_automaton::Meter;
+use pol_edit::{Edit, EditFault};
+use pol_live::{Live, Prepared};
+use pol_meaning::Changes;
+use pol_report::changes;
+use std::alloc::Global;
+use tac_desk::Thrice;
+use tac_tally::{Book, Recount};
+
+// Makes the prepared edit, and puts the marks in that were worked out for it. Takes no memory.
+fn make(live: &mut Live, book: &mut Book, prepared: Prepared, recount: Recount)
+    requires before { prepared.before ≡ live.old }
+    requires size { length recount ≡ length book.old.entries }
+    requires marks { settled recount book.old.entries ≡ entries_by prepared.after book.old }
+    ensures meaning { meaning_of live.new book.new
+        ≡ with_policy prepared.after (meaning_of live.old book.old) }
+    ensures policy { live.new ≡ prepared.after }
+    ensures marks { HasMarksBy live.new book.new }
+{
+    live.commit(prepared);
+    book.settle(recount);
+}
+
+/// Makes the edit, and answers what it changes for users. Beside each record stands then what the
+/// new policy says of its line. All memory is taken before anything is made, so that a refused edit
+/// changes nothing.
+pub(crate) fn change_kept(
+    alloc: Global,
+    live: &mut Live,
+    meter: &mut Meter,
+    book: &mut Book,
+    edit: &Edit,
+) -> Result<Thrice<Changes>, EditFault>
+    requires { HasMarksBy live.old book.old }
+    ensures found { UnlessMemory is_memory result (editing.Edits (meaning_of live.old book.old)
+        edit.now result (meaning_of live.new book.new)) }
+    ensures only { UnlessMemory is_memory result (editing.IsOnly (meaning_of live.old book.old)
+        edit.now result (meaning_of live.new book.new)) }
+    ensures policy { OnErr result (live.new ≡ live.old) }
+    ensures book { OnErr result (book.new ≡ book.old) }
+    ensures marks { HasMarksBy live.new book.new }
+    ensures rises { OnOk result (Rises (IsEditRise edit.now live.new) meter.old meter.new) }
+    ensures kept { OnErr result (meter.old ≤ meter.new) }
+{
+    // the call is for its clause: the meter is a number of its type
+    let _ = meter.total();
+    let prepared = live.prepare(alloc, edit, meter)?;
+    let changes = changes(alloc, live, &prepared)?;
+    let thrice = Thrice::new(alloc, changes)?;
+    let coming = Coming {
+        live,
+        prepared: &prepared,
+    };
+    let recount = recount_changed(alloc, &coming, thrice.first.as_slice(), book)?;
+    make(live, book, prepared, recount);
+    Ok(thrice)
+}

@@ -1,0 +1,173 @@
+//! The desk that searches and counts each time.
+
+ghost use Rattle.std.specs.Prelude.{◌≡◌, true, Err, IsOk, IfOk, OnOk, OnErr};
+ghost use Rattle.pol_edit.specs.Applying.{is_memory};
+ghost use Rattle.pol_meaning.specs.Memory.{UnlessMemory};
+ghost use Rattle.tac_desks.specs.Opening.{Opens, IsOnlyOpened};
+ghost use Rattle.tac_desk.specs.Asking as asking;
+ghost use Rattle.tac_desk.specs.Reporting as reporting;
+ghost use Rattle.tac_desk.specs.declared.query.QueryFault.TheVariants.{NoSuch};
+
+use crate::authentication::authentication;
+use crate::authorisation::authorisation;
+use crate::editing::change;
+use crate::reaching::{live_policy, reach_report, shadow_report};
+use crate::tallies::tally;
+use basics::Sequence;
+use pol_automaton::Meter;
+use pol_edit::{Edit, EditFault};
+use pol_live::Live;
+use pol_meaning::Changes;
+use pol_text::Policy;
+use std::alloc::{AllocError, Global};
+use std::marker::Model;
+use tac_conn::{Answer, Ask};
+use tac_desk::{Desk, Query, QueryFault, Report, State, Thrice};
+use tac_tally::{Book, Record};
+
+/// A desk that keeps the policy and the records, and nothing that follows from them: each ask
+/// searches the policy from the top, each tally counts over all records, and each edit and each
+/// report of rules builds the automata of all subjects. A contract sees what it stands for.
+#[derive(Drop)]
+pub struct PlainDesk {
+    alloc: Global,
+    // no subject is too large
+    policy: Policy,
+    // its marks are worked out before each tally, and say nothing until then
+    book: Book,
+}
+
+impl Model for PlainDesk {
+    ghost use Rattle.pol_meaning.specs.Sizes.{IsSmall};
+    ghost use Rattle.tac_desk.specs.Meaning.{Meaning};
+    ghost use Rattle.tac_desks.specs.Kept.{meaning_of};
+
+    ghost Value = { Meaning };
+
+    ghost view = { λ desk. meaning_of desk.policy desk.book };
+
+    ghost invariant = { λ desk. IsSmall desk.policy };
+}
+
+/// Copies of the records, in order.
+pub(crate) fn copy_records(
+    alloc: Global,
+    records: &[Record],
+) -> Result<Sequence<Record>, AllocError>
+    ensures { IfOk result (λ copy. copy ≡ records.now) }
+{
+    let mut copies = Sequence::new(alloc);
+    for record in records {
+        let copy = record.copy(alloc)?;
+        copies.push(copy)?;
+    }
+    Ok(copies)
+}
+
+impl PlainDesk {
+    /// A desk of this policy, without records, that accepts at most so many. Refused where a
+    /// subject is too large, with the first such subject in the policy's order. Builds all automata
+    /// once.
+    pub fn new(alloc: Global, policy: Policy, record_limit: usize) -> Result<PlainDesk, EditFault>
+        ensures found { UnlessMemory is_memory result (Opens policy record_limit result) }
+        ensures only { UnlessMemory is_memory result (IsOnlyOpened policy record_limit result) }
+    {
+        let mut meter = Meter::new();
+        let live = Live::build(alloc, policy, &mut meter)?;
+        Ok(PlainDesk {
+            alloc,
+            policy: live.into_policy(),
+            book: Book::new(alloc, record_limit),
+        })
+    }
+
+    // Stores a copy of the record, if there is room.
+    fn store(&mut self, item: &Record) -> Result<Answer, AllocError>
+        ensures answer { IfOk result (λ answer.
+            answer ≡ (asking.stored self.old item.now).answer) }
+        ensures after { OnOk result
+            (self.new ≡ (asking.stored self.old item.now).meaning) }
+        ensures sure { asking.is_full self.old ≡ true → IsOk result }
+        ensures err { OnErr result (self.new ≡ self.old) }
+    {
+        if self.book.is_full() {
+            return Ok(Answer::BookFull);
+        }
+        let copy = item.copy(self.alloc)?;
+        self.book.store(copy, false).map_err(|_| AllocError)?;
+        Ok(Answer::Stored)
+    }
+
+    // What a question is answered.
+    fn report(&mut self, query: &Query) -> Result<Report, QueryFault>
+        ensures found { UnlessMemory reporting.is_memory result
+            (reporting.Reports self.old query.now result) }
+        ensures only { UnlessMemory reporting.is_memory result
+            (reporting.IsOnly self.old query.now result) }
+        ensures sure { reporting.Reports self.old query.now (Err NoSuch) → result ≡ Err NoSuch }
+        ensures kept { self.new ≡ self.old }
+    {
+        match query {
+            Query::Policy => {
+                let policy = self.policy.copy(self.alloc)?;
+                Ok(Report::Policy(policy))
+            }
+            Query::Shadow => {
+                let report = shadow_report(self.alloc, &self.policy)?;
+                Ok(report)
+            }
+            Query::Reach(subject) => reach_report(self.alloc, &self.policy, subject),
+            Query::Tally(subject) => tally(self.alloc, &self.policy, &mut self.book, subject),
+            Query::Why { user, line } => {
+                let decision = self.policy.plain_decide(user, line.as_slice())?;
+                Ok(Report::Why(decision))
+            }
+            Query::Records => {
+                let records = copy_records(self.alloc, self.book.records())?;
+                Ok(Report::Records(records))
+            }
+        }
+    }
+}
+
+impl Desk for PlainDesk {
+    ghost meaning = { λ desk. desk };
+
+    fn ask(&mut self, ask: &Ask) -> Result<Answer, AllocError> {
+        match ask {
+            Ask::Authenticate {
+                user,
+                service,
+                proof,
+            } => Ok(authentication(&self.policy, user.as_slice(), *service, proof)),
+            Ask::Authorise { user, line } => {
+                Ok(authorisation(&self.policy, user.as_slice(), line.as_slice()))
+            }
+            Ask::Account(item) => self.store(item),
+        }
+    }
+
+    fn edit(&mut self, edit: &Edit) -> Result<Thrice<Changes>, EditFault> {
+        let mut live = live_policy(self.alloc, &self.policy)?;
+        let changes = change(self.alloc, &mut live, edit)?;
+        self.policy = live.into_policy();
+        Ok(changes)
+    }
+
+    #[tactic(auto, using(crate::proofs::Reports::kind))]
+    fn query(&mut self, query: &Query) -> Result<Thrice<Report>, QueryFault> {
+        let report = self.report(query)?;
+        let thrice = Thrice::new(self.alloc, report)?;
+        Ok(thrice)
+    }
+
+    fn state(&self) -> Result<State, AllocError> {
+        let policy = self.policy.copy(self.alloc)?;
+        let records = copy_records(self.alloc, self.book.records())?;
+        Ok(State {
+            policy,
+            records,
+            record_limit: self.book.limit(),
+        })
+    }
+}
