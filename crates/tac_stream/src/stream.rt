@@ -140,6 +140,7 @@ impl Stream {
         ensures pending { kept.pending_of self.new ≡ None }
         ensures closed { kept.closed_of self.old ≡ false →
             kept.closed_of self.new ≡ result.1 }
+        ensures over { kept.closed_of self.old ≡ true → kept.closed_of self.new ≡ true }
         ensures stands { (bytes : List ℕ) (taken : ℕ) → kept.Stands key.now self.old bytes taken →
             kept.Stands key.now self.new bytes taken }
         ensures unread { kept.unread_of self.new ≡ kept.unread_of self.old }
