@@ -10,6 +10,7 @@ ghost use Rattle.pol_text.specs.Policy.{WellFormed, find_subject, decide};
 ghost use Rattle.pol_edit.specs.declared.fault.EditFault.TheVariants.{Memory};
 ghost use Rattle.pol_edit.specs.Applying.{applied, is_memory};
 ghost use Rattle.pol_meaning.specs.Along.{patterns_along as patterns};
+ghost use Rattle.pol_meaning.specs.Deciding.{DecisionLaw};
 ghost use Rattle.pol_meaning.specs.Sizes.{IsSmall};
 ghost use Rattle.pol_live.specs.Rise.{IsBuildRise, IsEditRise, Rises};
 ghost use Rattle.pol_live.specs.Live.{Builds, IsOnlyBuilt, IsDeciderFor};
@@ -149,7 +150,9 @@ impl Live {
     /// What the policy says of a user's line, as a search along the user's chain would. Nothing
     /// where there is no such user. A walk along the line; no memory.
     pub fn decide(&self, user: &Name, line: &[u8]) -> Option<Decision>
-        ensures { result ≡ decide self.now user.now line.now }
+        ensures decision { result ≡ decide self.now user.now line.now }
+        // What a policy permits by that definition is what the sets of its patterns permit.
+        ensures law { DecisionLaw }
     {
         let Some((at, decider)) = self.part(&SubjectId::user(*user)) else {
             return None;

@@ -3,3 +3,4 @@ pub mod Along
 pub mod Sizes
 pub mod Reach
 pub mod Changes
+pub mod Deciding
