@@ -6,3 +6,4 @@ pub mod Closing
 pub mod Served
 pub mod Worked
 pub mod Working
+pub mod Opening

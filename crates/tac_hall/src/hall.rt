@@ -1,6 +1,6 @@
 //! A desk that many threads ask.
 
-ghost use Rattle.std.specs.Prelude.{◌≡◌, [], true, length, IfOk, IfErr, OnErr};
+ghost use Rattle.std.specs.Prelude.{◌≡◌, ◌≤◌, [], true, length, IfOk, IfErr, OnErr};
 ghost use Rattle.tac_hall.specs.Closing.{AreViews, are_theirs, are_there};
 ghost use Rattle.tac_hall.specs.History.{Legal};
 ghost use Rattle.tac_hall.specs.Room.{Contents, IsLawful};
@@ -19,7 +19,7 @@ use std::sync::{Mutex, Wait};
 use tac_desk::{Desk, State};
 
 /// A desk that many threads ask, one call after another, with the log of all calls. A contract
-/// sees what the desk stood for at first.
+/// sees what the desk stood for at first, and how many calls the log takes.
 ///
 /// Each call takes the one lock, does one step there ([`Room::step`]), and lets the lock go. What
 /// a call may wait for is that lock alone.
@@ -27,22 +27,24 @@ use tac_desk::{Desk, State};
 pub struct Hall<D: Desk> {
     alloc: Global,
     opening: State,
+    limit: usize,
     room: Mutex<Room<D>>,
 }
 
 impl<D: Desk> Model for Hall<D> {
-    ghost use Rattle.tac_desk.specs.Meaning.{Meaning};
+    ghost use Rattle.tac_hall.specs.Opening.{Opening};
 
-    ghost Value = { Meaning };
+    ghost Value = { Opening };
 
-    ghost view = { λ hall. hall.opening };
+    ghost view = { λ hall. record { meaning = hall.opening; limit = hall.limit } };
 }
 
 impl<D: Desk> Hall<D> {
     /// A hall round this desk, without seats, whose log takes so many calls. The error is want of
     /// memory for two copies of what the desk stands for.
     pub fn new<R: AllocGlobal>(rt: &R, desk: D, log_limit: usize) -> Result<Hall<D>, AllocError>
-        ensures { IfOk result (λ hall. hall ≡ D.meaning desk) }
+        ensures { IfOk result (λ hall.
+            hall ≡ record { meaning = D.meaning desk; limit = log_limit }) }
     {
         let alloc = rt.alloc();
         let base = desk.state()?;
@@ -51,6 +53,7 @@ impl<D: Desk> Hall<D> {
         Ok(Hall {
             alloc,
             opening,
+            limit: log_limit,
             room: Mutex::new(room),
         })
     }
@@ -83,16 +86,17 @@ impl<D: Desk> Hall<D> {
     }
 
     /// Ends the hall, and shows what it kept: the base is what the desk stood for when the hall was
-    /// made, the log is a legal history from there to what the desk stands for now, and it has of
-    /// each seat exactly the seat's view, and nothing else. The seats have the numbers below their
-    /// count, each one of them.
+    /// made, the log is a legal history from there to what the desk stands for now, no longer than
+    /// it may be, and it has of each seat exactly the seat's view, and nothing else. The seats have
+    /// the numbers below their count, each one of them.
     ///
     /// Refused where one of the hall's seats is missing, or one is handed in that isn't the hall's;
     /// then the hall and the seats come back. Linear in the log, for each seat.
     pub fn close(self, seats: Vec<Seat>) -> Result<Settled<D>, (Hall<D>, Vec<Seat>)>
-        ensures base { IfOk result (λ settled. settled.base ≡ self) }
+        ensures base { IfOk result (λ settled. settled.base ≡ self.meaning) }
         ensures legal { IfOk result (λ settled.
-            Legal self settled.log.items (D.meaning settled.desk)) }
+            Legal self.meaning settled.log.items (D.meaning settled.desk)) }
+        ensures within { IfOk result (λ settled. length settled.log.items ≤ self.limit) }
         ensures views { IfOk result (λ settled. AreViews settled.log.items seats.items) }
         ensures theirs { IfOk result (λ settled.
             are_theirs settled.log.items seats.items ≡ true) }
@@ -103,15 +107,17 @@ impl<D: Desk> Hall<D> {
         let Hall {
             alloc,
             opening,
+            limit,
             room,
         } = self;
         let room = room.into_inner();
-        if room.settles(&opening, seats.as_slice()) {
+        if room.settles(&opening, limit, seats.as_slice()) {
             return Ok(room.settled());
         }
         let hall = Hall {
             alloc,
             opening,
+            limit,
             room: Mutex::new(room),
         };
         Err((hall, seats))

@@ -1,6 +1,6 @@
 //! What lies under the lock of a hall, and the one step that is done while the lock is held.
 
-ghost use Rattle.std.specs.Prelude.{◌≡◌, [], ◌↔◌, true, IsTrue, length};
+ghost use Rattle.std.specs.Prelude.{◌≡◌, ◌≤◌, [], ◌↔◌, true, IsTrue, length};
 ghost use Rattle.tac_desk.specs.Meaning.{Meaning};
 ghost use Rattle.tac_hall.specs.History as history;
 ghost use Rattle.tac_hall.specs.Closing as closing;
@@ -120,9 +120,11 @@ impl<D: Desk> Room<D> {
         number < self.seats && next <= self.log.len()
     }
 
-    /// Whether the room began at this, and these are its seats, with what the log has of each.
-    pub(crate) fn settles(&self, opening: &State, seats: &[Seat]) -> bool
+    /// Whether the room began at this, takes so many calls, and these are its seats, with what the
+    /// log has of each.
+    pub(crate) fn settles(&self, opening: &State, limit: usize, seats: &[Seat]) -> bool
         ensures base { IsTrue result → self.now.base ≡ opening.now }
+        ensures limit { IsTrue result → self.now.limit ≡ limit }
         ensures views { IsTrue result → closing.AreViews self.now.log seats.now }
         ensures theirs { IsTrue result → closing.are_theirs self.now.log seats.now ≡ true }
         ensures there { IsTrue result → closing.are_there self.now.seats seats.now ≡ true }
@@ -130,6 +132,7 @@ impl<D: Desk> Room<D> {
     {
         let log = self.log.as_slice();
         self.base.same(opening)
+            && self.limit == limit
             && seats.len() == self.seats as usize
             && are_there(self.seats, seats)
             && are_theirs(log, seats)
@@ -140,6 +143,7 @@ impl<D: Desk> Room<D> {
     pub(crate) fn settled(self) -> Settled<D>
         ensures base { result.base ≡ self.base }
         ensures legal { history.Legal self.base result.log.items (D.meaning result.desk) }
+        ensures within { length result.log.items ≤ self.limit }
         ensures log { result.log.items ≡ self.log }
     {
         let Room {

@@ -2,7 +2,7 @@
 use Rattle.std.proofs.Common.{◌≡◌, ℕ, List, ◌∷◌, length, map, All, Option, Result, Err, refl}
 use mathlib.Core.Logic.{inl, inr}
 use Rattle.std.specs.Io.KnownBytes.{Appends}
-use Rattle.tac_desk.specs.Meaning.{Meaning}
+use Rattle.tac_hall.specs.Opening.{Opening}
 use Rattle.tac_hall.specs.Seat.{Sitting}
 use Rattle.tac_hall.specs.declared.worked.End.{End}
 use Rattle.tac_hall_console.specs.Operated.{IsOperated}
@@ -15,11 +15,11 @@ use Rattle.tac_net.specs.declared.settings.Settings.{Settings}
 use Rattle.tac_net.specs.declared.fault.ServeFault.{ServeFault}
 use Rattle.tac_net.specs.declared.fault.ServeFault.TheVariants.{Memory}
 
-module _ (settings : Settings) (base : Meaning) (seats : List Sitting) (seat last : Sitting) (operated : Result (Unit {0}) OperatorFault) (before after old announced told : Option (List ℕ))
+module _ (settings : Settings) (hall : Opening) (seats : List Sitting) (seat last : Sitting) (operated : Result (Unit {0}) OperatorFault) (before after old announced told : Option (List ℕ))
     (announces : Appends old announced (listening_line settings.port)) (count : length seats ≡ settings.workers) (fresh : All IsFresh seats) (new : IsFresh seat) (operates : IsOperated operated seat last before after announced told) where
   -- the workers served, and the hall was closed or not
   pub ran : (served : List (Sitting × End)) (closed : Result (Unit {0}) ServeFault) (end : Option (List ℕ)) → HaveServed settings.key settings.connections seats served
-      → Closes closed base (last ∷ map (λ one. one.0) served) told end → Runs (end_by operated closed) settings base before after old end
+      → Closes closed hall (last ∷ map (λ one. one.0) served) told end → Runs (end_by operated closed) settings hall before after old end
   ran served closed end have closes = inr (record {
     announced = announced;
     announces = announces;
@@ -35,7 +35,7 @@ module _ (settings : Settings) (base : Meaning) (seats : List Sitting) (seat las
   })
 
   -- memory ran out for the workers
-  pub ran_out : Runs (end_by operated (Err Memory)) settings base before after old told
+  pub ran_out : Runs (end_by operated (Err Memory)) settings hall before after old told
   ran_out = inr (record {
     announced = announced;
     announces = announces;

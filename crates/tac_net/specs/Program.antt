@@ -1,7 +1,7 @@
 -- A server with a console, from its first line to the closing of its hall.
 use Rattle.std.specs.Prelude.{◌≡◌, ◌⊎◌, ℕ, List, ◌∷◌, length, map, All, Option, Result, Ok, Err}
 use Rattle.std.specs.Io.KnownBytes.{Appends}
-use Rattle.tac_desk.specs.Meaning.{Meaning}
+use Rattle.tac_hall.specs.Opening.{Opening}
 use Rattle.tac_hall.specs.Seat.{Sitting}
 use Rattle.tac_hall.specs.declared.worked.End.{End}
 use Rattle.tac_hall_console.specs.Operated.{IsOperated}
@@ -50,18 +50,18 @@ Attends (Err fault) settings was before after old new =
 
 -- so many workers, who had made no call, served so many connections each, and their hall was closed
 -- with the console's seat and theirs; or memory ran out
-pub record HasWorked (closed : Result (Unit {0}) ServeFault) (settings : Settings) (base : Meaning)
+pub record HasWorked (closed : Result (Unit {0}) ServeFault) (settings : Settings) (hall : Opening)
     (console : Sitting) (old new : Option (List ℕ)) : Type 0 where
   pub seats : List Sitting
   pub count : length seats ≡ settings.workers
   pub fresh : All IsFresh seats
   pub served : List (Sitting × End)
   pub have : HaveServed settings.key settings.connections seats served
-  pub closes : Closes closed base (console ∷ map (λ one. one.0) served) old new
+  pub closes : Closes closed hall (console ∷ map (λ one. one.0) served) old new
 
 -- `listening P` was printed, then the console was operated by a seat that had made no call, while
 -- workers served, and then the hall was closed
-pub record HasRun (end : Result (Unit {0}) ServeFault) (settings : Settings) (base : Meaning)
+pub record HasRun (end : Result (Unit {0}) ServeFault) (settings : Settings) (hall : Opening)
     (before after old new : Option (List ℕ)) : Type 0 where
   pub announced : Option (List ℕ)
   pub announces : Appends old announced (listening_line settings.port)
@@ -73,11 +73,11 @@ pub record HasRun (end : Result (Unit {0}) ServeFault) (settings : Settings) (ba
   pub operates : IsOperated operated seat last before after announced told
   pub closed : Result (Unit {0}) ServeFault
   pub works : ((closed ≡ Err Memory) × (new ≡ told))
-      ⊎ HasWorked closed settings base last told new
+      ⊎ HasWorked closed settings hall last told new
   pub ends : end ≡ end_by operated closed
 
-abbrev pub Runs : Result (Unit {0}) ServeFault → Settings → Meaning → Option (List ℕ)
+abbrev pub Runs : Result (Unit {0}) ServeFault → Settings → Opening → Option (List ℕ)
     → Option (List ℕ) → Option (List ℕ) → Option (List ℕ) → Type 0
-Runs end settings base before after old new =
+Runs end settings hall before after old new =
     ((after ≡ before) × Fails end settings.port old new)
-    ⊎ HasRun end settings base before after old new
+    ⊎ HasRun end settings hall before after old new

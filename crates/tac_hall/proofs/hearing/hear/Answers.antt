@@ -1,17 +1,17 @@
 use Rattle.tac_hall.proofs.HearFacts.{prolongs_cut, hears_nothing, heard_memory}
 use Rattle.tac_hall.proofs.hearing.hear.Goals as goal
 
-pub returns-in_default-clause-heard : goal.returns-in_default-clause-heard
-returns-in_default-clause-heard g c = hears_nothing _ _ _ (rw c.in_default.is at c.in_ok-n.ensures.bytes)
+pub returns-in-Ok-None-clause-heard : goal.returns-in-Ok-None-clause-heard
+returns-in-Ok-None-clause-heard g c = hears_nothing _ _ _ (rw (c.in-Ok-None.is, c.in-Ok-None.field-0-is) at c.read_piece.ensures.bytes)
 
 pub returns-in_err-feed-clause-heard : goal.returns-in_err-feed-clause-heard
 returns-in_err-feed-clause-heard g c =
-    let read = rw c.in-Some.is at c.in_ok-n.ensures.bytes in
-    heard_memory _ _ _ _ _ _ c.from_residual-in_err-feed.ensures.1 c.in_err-feed.ensures.memory read.0 (prolongs_cut _ c.in_err-feed.ensures.pieces)
+    let read = rw (c.in-Ok-Some.is, c.in-Ok-Some.field-0-is) at c.read_piece.ensures.bytes in
+    heard_memory _ _ _ _ _ _ c.from_residual.ensures.1 c.in_err-feed.ensures.memory read.0 (prolongs_cut _ c.in_err-feed.ensures.pieces)
 
 pub returns-clause-heard : goal.returns-clause-heard
 returns-clause-heard g c =
-    let read = rw c.in-Some.is at c.in_ok-n.ensures.bytes in
+    let read = rw (c.in-Ok-Some.is, c.in-Ok-Some.field-0-is) at c.read_piece.ensures.bytes in
     record {
       piece = _;
       read = read.0;
