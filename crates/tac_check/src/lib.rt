@@ -4,4 +4,5 @@
 mod checking;
 mod output;
 
-pub use checking::{CheckEnd, CheckFault, check};
+pub use checking::{CheckEnd, check};
+pub use tac_io::AnswerFault as CheckFault;

@@ -17,3 +17,6 @@ mod tallies;
 
 pub use live_desk::LiveDesk;
 pub use plain::PlainDesk;
+
+/// The most records that the program's desk accepts.
+pub const MAX_RECORDS: usize = 1_000_000;

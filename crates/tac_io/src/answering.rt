@@ -1,28 +1,33 @@
 //! Writing what an input is answered.
 
-ghost use Rattle.std.specs.Prelude.{◌≡◌, [], ◌∷◌, ◌++◌, codes, ℕ, take, Err};
-ghost use Rattle.std.specs.Prelude.{IfOk, IsOkAnd, IsErrOf};
-ghost use Rattle.std.specs.Io.KnownBytes.{Appends, Keeps};
-ghost use Rattle.tac_io.specs.declared.reading.InputFault.TheVariants as input;
+ghost use Rattle.tac_io.specs.Answering.{IsWritten};
 
 use crate::reading::InputFault;
 use basics::send;
 use std::io::Write;
+use thiserror::Error;
 
-/// Why what an input is answered isn't written.
-#[derive(Clone, Copy, Debug, PartialEq, Eq)]
+/// The most bytes that an input has.
+pub const MAX_INPUT: usize = 268_435_456;
+
+/// Why an input isn't answered, or not to the end.
+#[derive(Clone, Copy, Debug, PartialEq, Eq, Error)]
 pub enum AnswerFault {
     /// The input could not be read. Nothing was written.
-    Unread,
+    #[error("it could not be read")]
+    ReadFault,
     /// The input is too long. Nothing was written.
+    #[error("it is over 268435456 bytes long")]
     TooLong,
-    /// The answer could not be written whole.
-    Unwritten,
+    /// The output could not be written whole.
+    #[error("the output could not be written")]
+    WriteFault,
     /// Memory ran out.
+    #[error("memory ran out")]
     Memory,
 }
 
-/// The line that is written where memory runs out.
+/// The line that is written where memory ran out.
 const MEMORY_LINE: &[u8] = b"fault Memory\n";
 
 /// Writes what was worked out of an input, and answers what came with it; writes the line
@@ -31,29 +36,17 @@ pub fn write_answer<W: Write, E: Drop>(
     writer: &mut W,
     answer: Result<(Vec<u8>, E), InputFault>,
 ) -> Result<E, AnswerFault>
-    ensures written { IfOk result (λ end. IsOkAnd answer (λ output. (output.1 ≡ end)
-        × Appends (W.contents writer.old) (W.contents writer.new) output.0.items)) }
-
-    // What a fault leaves: nothing, a beginning of the answer, or of the line that says Memory.
-    ensures unread { IsErrOf result AnswerFault.Unread → (answer ≡ Err input.Failed)
-        × Keeps (W.contents writer.old) (W.contents writer.new) }
-    ensures too_long { IsErrOf result AnswerFault.TooLong → (answer ≡ Err input.TooLong)
-        × Keeps (W.contents writer.old) (W.contents writer.new) }
-    ensures unwritten { IsErrOf result AnswerFault.Unwritten → IsOkAnd answer (λ output. (n : ℕ)
-        × Appends (W.contents writer.old) (W.contents writer.new) (take n output.0.items)) }
-    ensures memory { IsErrOf result AnswerFault.Memory → (answer ≡ Err input.Memory) × ((n : ℕ)
-        × Appends (W.contents writer.old) (W.contents writer.new)
-        (take n (codes "fault Memory" ++ 10 ∷ []))) }
+    ensures { IsWritten (W.contents writer.old) (W.contents writer.new) answer result }
 {
     match answer {
         Ok((text, end)) => {
             let (_, sent) = send(writer, text.as_slice());
             match sent {
                 Ok(()) => Ok(end),
-                Err(_) => Err(AnswerFault::Unwritten),
+                Err(_) => Err(AnswerFault::WriteFault),
             }
         }
-        Err(InputFault::Failed) => Err(AnswerFault::Unread),
+        Err(InputFault::Failed) => Err(AnswerFault::ReadFault),
         Err(InputFault::TooLong) => Err(AnswerFault::TooLong),
         Err(InputFault::Memory) => {
             let (_, _) = send(writer, MEMORY_LINE);

@@ -4,5 +4,5 @@
 mod answering;
 mod reading;
 
-pub use answering::{AnswerFault, write_answer};
+pub use answering::{AnswerFault, MAX_INPUT, write_answer};
 pub use reading::{InputFault, read_piece, read_whole};

@@ -3,6 +3,7 @@
 #![tactic(auto)]
 
 mod command_line;
+mod complaint;
 pub mod help;
 mod opening;
 mod options;

@@ -1,11 +1,10 @@
 //! The policy's file, and the desk of the policy.
 
-ghost use Rattle.std.specs.Prelude.{◌≡◌, [], ◌∷◌, ◌++◌, codes, ◌≤◌, ◌<◌, ℕ, List, length, take, Ok};
-ghost use Rattle.std.specs.Prelude.{Option, false, IsTrue, IfOk, OnOk, IfSome, IsErrOf};
-ghost use Rattle.std.specs.Io.KnownBytes.{Appends, IsAtEnd, Keeps};
+ghost use Rattle.std.specs.Prelude.{◌≡◌, Ok, false, IsTrue, IfOk, OnOk};
+ghost use Rattle.std.specs.Io.KnownBytes.{IsAtEnd};
 ghost use Rattle.pol_edit.specs.Applying.{is_memory};
 ghost use Rattle.tac_console.specs.Faults.{build_fault, is_build_fault};
-ghost use Rattle.tac_desks.specs.Metered.{Metered};
+ghost use Rattle.tac_io.specs.Answering.{IsAnswered, IsWorked};
 ghost use Rattle.tac_program.specs.Opening.{IsDeskOf, IsDeskOfText};
 
 use crate::status::Status;
@@ -16,14 +15,8 @@ use std::fs;
 use std::io::{Read, Write};
 use std::rt::Files;
 use tac_console::{write_build_fault, write_policy_fault};
-use tac_desks::LiveDesk;
-use tac_io::{AnswerFault, InputFault, read_whole, write_answer};
-
-/// The most bytes that a policy's text has.
-const MAX_TEXT: usize = 268_435_456;
-
-/// The most records that a desk accepts.
-const MAX_RECORDS: usize = 1_000_000;
+use tac_desks::{LiveDesk, MAX_RECORDS};
+use tac_io::{AnswerFault, InputFault, MAX_INPUT, read_whole, write_answer};
 
 /// A file to be read. The error is the status to end with, and why was said.
 pub(crate) fn open_file<R: Files + Eprint>(rt: &R, path: &str) -> Result<R::File, Status> {
@@ -84,12 +77,9 @@ fn desk_of_text(alloc: Global, text: &[u8]) -> Result<(Vec<u8>, Option<LiveDesk>
 // The same of what the reader gives.
 fn answer<R: Read>(alloc: Global, reader: &mut R) -> Result<(Vec<u8>, Option<LiveDesk>), InputFault>
     ensures end { OnOk result (IsAtEnd (R.remaining reader.new)) }
-    ensures opened { IfOk result (λ opened. IfSome (R.remaining reader.old) (λ text.
-        (length text ≤ 268435456) × IsDeskOfText text opened.0.items opened.1)) }
-    ensures too_long { IsErrOf result InputFault.TooLong →
-        IfSome (R.remaining reader.old) (λ text. 268435456 < length text) }
+    ensures worked { IsWorked IsDeskOfText (R.remaining reader.old) result }
 {
-    let text = read_whole(alloc, reader, MAX_TEXT)?;
+    let text = read_whole(alloc, reader, MAX_INPUT)?;
     let (printed, desk) = desk_of_text(alloc, text.as_slice())?;
     Ok((printed, desk))
 }
@@ -101,29 +91,13 @@ pub(crate) fn open_desk<R: Read, W: Write>(
     reader: &mut R,
     writer: &mut W,
 ) -> Result<Option<LiveDesk>, AnswerFault>
-    // The whole input was read, and it is no longer than a text may be.
+    // The whole input was read.
     ensures read { OnOk result (IsAtEnd (R.remaining reader.new)) }
-    ensures bound { OnOk result
-        (IfSome (R.remaining reader.old) (λ text. length text ≤ 268435456)) }
 
-    // The desk is the policy's, or there is none and what the check of the text prints was written.
-    ensures opened { IfOk result (λ desk. IfSome (R.remaining reader.old) (λ text.
-        (printed : List ℕ) × IsDeskOfText text printed desk
-        × Appends (W.contents writer.old) (W.contents writer.new) printed)) }
-
-    // What a fault leaves: nothing, a beginning of what is printed, or of the line that says Memory.
-    ensures read_fault { IsErrOf result AnswerFault.Unread →
-        Keeps (W.contents writer.old) (W.contents writer.new) }
-    ensures too_long { IsErrOf result AnswerFault.TooLong →
-        IfSome (R.remaining reader.old) (λ text. 268435456 < length text)
-        × Keeps (W.contents writer.old) (W.contents writer.new) }
-    ensures write_fault { IsErrOf result AnswerFault.Unwritten →
-        IfSome (R.remaining reader.old) (λ text. (length text ≤ 268435456)
-        × ((printed : List ℕ) × (desk : Option Metered) × IsDeskOfText text printed desk
-        × ((n : ℕ) × Appends (W.contents writer.old) (W.contents writer.new) (take n printed)))) }
-    ensures memory { IsErrOf result AnswerFault.Memory → (n : ℕ)
-        × Appends (W.contents writer.old) (W.contents writer.new)
-        (take n (codes "fault Memory" ++ 10 ∷ [])) }
+    // The desk is the policy's, or there is none and what the check of the text prints was written;
+    // or what a fault leaves.
+    ensures answered { IsAnswered IsDeskOfText (R.remaining reader.old)
+        (W.contents writer.old) (W.contents writer.new) result }
 {
     write_answer(writer, answer(alloc, reader))
 }

@@ -4,6 +4,7 @@ ghost use Rattle.std.specs.Prelude.{◌≡◌, ◌≢◌, ◌⊎◌};
 ghost use Rattle.clap.specs.Values.{kind_of};
 
 use crate::command_line::{CHECK, FILE, SERVE, command};
+use crate::complaint::complain;
 use crate::opening::open_file;
 use crate::options::Options;
 use crate::serving::serve_by;
@@ -18,7 +19,7 @@ use std::sync::Wait;
 use std::thread::Threads;
 use std::time::Clock;
 use std::{env, io};
-use tac_check::{CheckFault, check};
+use tac_check::check;
 use tac_server::replay;
 
 // The script comes from standard input, and what is replied goes to standard output.
@@ -29,15 +30,6 @@ fn replay_script<R: Input + Print + Eprint + AllocGlobal>(rt: &R) -> Status {
         let _ = eprintln!(rt; "tacd: {fault}");
     }
     Status::of_replay(outcome)
-}
-
-// Says why a check came to no end. The status tells it too, so it doesn't matter whether this could
-// be written.
-fn complain<R: Eprint>(rt: &R, path: &str, fault: CheckFault) {
-    let _ = match fault {
-        CheckFault::ReadFault | CheckFault::TooLong => eprintln!(rt; "tacd: {path}: {fault}"),
-        CheckFault::WriteFault | CheckFault::Memory => eprintln!(rt; "tacd: {fault}"),
-    };
 }
 
 // The policy comes from a file, and what is found goes to standard output.

@@ -3,8 +3,9 @@
 //! Each fault is said on standard error. The status tells it too, so it doesn't matter whether
 //! that could be written.
 
-ghost use Rattle.std.specs.Prelude.{◌≡◌, ◌⊎◌, IfErr};
+ghost use Rattle.std.specs.Prelude.{◌≡◌, ◌⊎◌, IfOk, IfErr};
 
+use crate::complaint::complain;
 use crate::opening::{open_desk, open_file};
 use crate::options::Options;
 use crate::status::Status;
@@ -16,20 +17,10 @@ use std::thread::Threads;
 use std::time::Clock;
 use tac_desks::LiveDesk;
 use tac_hall::Hall;
-use tac_io::AnswerFault;
 use tac_net::{Port, ServeFault, serve};
 
 /// The most calls that a hall takes.
 const MAX_CALLS: usize = 65_536;
-
-fn complain<R: Eprint>(rt: &R, path: &str, fault: AnswerFault) {
-    let _ = match fault {
-        AnswerFault::Unread => eprintln!(rt; "tacd: {path}: it could not be read"),
-        AnswerFault::TooLong => eprintln!(rt; "tacd: {path}: it is over 268435456 bytes long"),
-        AnswerFault::Unwritten => eprintln!(rt; "tacd: the output could not be written"),
-        AnswerFault::Memory => eprintln!(rt; "tacd: memory ran out"),
-    };
-}
 
 // The desk of the policy in a file. The error here and below is the status to end with.
 fn desk_of_file<R: Files + Print + Eprint + AllocGlobal>(
@@ -42,13 +33,14 @@ fn desk_of_file<R: Files + Print + Eprint + AllocGlobal>(
         Ok(None) => Err(Status::Refused),
         Err(fault) => {
             complain(rt, path, fault);
-            Err(Status::of_opening(fault))
+            Err(Status::of_answer(fault))
         }
     }
 }
 
 fn hall_of<R: Eprint + AllocGlobal>(rt: &R, desk: LiveDesk) -> Result<Hall<LiveDesk>, Status>
-    ensures { IfErr result (λ status. status ≡ Status.OutOfMemory) }
+    ensures limit { IfOk result (λ hall. hall.limit ≡ 65536) }
+    ensures status { IfErr result (λ status. status ≡ Status.OutOfMemory) }
 {
     match Hall::new(rt, desk, MAX_CALLS) {
         Ok(hall) => Ok(hall),

@@ -1,10 +1,11 @@
 //! What the program's exit status tells.
 
 ghost use Rattle.std.specs.Prelude.{◌≡◌, ◌≢◌, ◌⊎◌};
+ghost use Rattle.tac_program.specs.Ending.{status_of, status_of_check};
 
 use clap::error::ErrorKind;
 use std::io::ErrorKind as IoErrorKind;
-use tac_check::{CheckEnd, CheckFault};
+use tac_check::CheckEnd;
 use tac_io::{AnswerFault, InputFault};
 use tac_net::ServeFault;
 use tac_server::{ReplayEnd, ReplayFault};
@@ -41,35 +42,26 @@ impl Status {
         }
     }
 
-    /// The status of a check.
-    pub(crate) fn of_check(outcome: Result<CheckEnd, CheckFault>) -> Status
-        ensures sound { outcome ≡ Ok CheckEnd.Sound → result ≡ Status.Done }
-        ensures refused { outcome ≡ Ok CheckEnd.Refused → result ≡ Status.Refused }
-        ensures memory { outcome ≡ Err CheckFault.Memory → result ≡ Status.OutOfMemory }
-        ensures read { outcome ≡ Err CheckFault.ReadFault → result ≡ Status.Failed }
-        ensures too_long { outcome ≡ Err CheckFault.TooLong → result ≡ Status.Failed }
-        ensures write { outcome ≡ Err CheckFault.WriteFault → result ≡ Status.Failed }
+    /// The status where an input isn't answered, or not to the end.
+    pub(crate) fn of_answer(fault: AnswerFault) -> Status
+        ensures { result ≡ status_of fault }
     {
-        match outcome {
-            Ok(CheckEnd::Sound) => Status::Done,
-            Ok(CheckEnd::Refused) => Status::Refused,
-            Err(CheckFault::Memory) => Status::OutOfMemory,
-            Err(CheckFault::ReadFault | CheckFault::TooLong | CheckFault::WriteFault) => {
+        match fault {
+            AnswerFault::Memory => Status::OutOfMemory,
+            AnswerFault::ReadFault | AnswerFault::TooLong | AnswerFault::WriteFault => {
                 Status::Failed
             }
         }
     }
 
-    /// The status where there is no desk of a policy's file, which isn't refused.
-    pub(crate) fn of_opening(fault: AnswerFault) -> Status
-        ensures memory { fault ≡ AnswerFault.Memory → result ≡ Status.OutOfMemory }
-        ensures read { fault ≡ AnswerFault.Unread → result ≡ Status.Failed }
-        ensures too_long { fault ≡ AnswerFault.TooLong → result ≡ Status.Failed }
-        ensures write { fault ≡ AnswerFault.Unwritten → result ≡ Status.Failed }
+    /// The status of a check.
+    pub(crate) fn of_check(outcome: Result<CheckEnd, AnswerFault>) -> Status
+        ensures { result ≡ status_of_check outcome }
     {
-        match fault {
-            AnswerFault::Memory => Status::OutOfMemory,
-            AnswerFault::Unread | AnswerFault::TooLong | AnswerFault::Unwritten => Status::Failed,
+        match outcome {
+            Ok(CheckEnd::Sound) => Status::Done,
+            Ok(CheckEnd::Refused) => Status::Refused,
+            Err(fault) => Status::of_answer(fault),
         }
     }
 

@@ -10,3 +10,4 @@ pub mod FaultText
 pub mod Course
 pub mod Script
 pub mod Running
+pub mod Replay

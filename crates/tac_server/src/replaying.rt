@@ -1,20 +1,18 @@
 //! The replay of a script, from bytes to bytes.
 
-ghost use Rattle.std.specs.Prelude.{[], ◌∷◌, ◌++◌, codes, ◌≤◌, ℕ, List, length};
-ghost use Rattle.std.specs.Prelude.{take, IfOk, OnOk, IfSome, IsErrOf};
-ghost use Rattle.std.specs.Io.KnownBytes.{Appends, IsAtEnd, Keeps};
+ghost use Rattle.std.specs.Prelude.{IfOk, OnOk};
+ghost use Rattle.std.specs.Io.KnownBytes.{IsAtEnd};
+ghost use Rattle.pol_meaning.specs.Deciding.{DecisionLaw};
+ghost use Rattle.tac_io.specs.Answering.{IsWorked};
+ghost use Rattle.tac_server.specs.Replay.{fault_by, IsReplayed};
 ghost use Rattle.tac_server.specs.Script.{IsWorkedOut};
-ghost use Rattle.tac_server.specs.declared.replaying.ReplayEnd.{ReplayEnd as ReplayEndValue};
 
 use crate::script::run_script;
 use crate::script_fault::Stop;
 use std::alloc::{AllocError, Global};
 use std::io::{Read, Write};
-use tac_io::{AnswerFault, InputFault, read_whole, write_answer};
+use tac_io::{AnswerFault, InputFault, MAX_INPUT, read_whole, write_answer};
 use thiserror::Error;
-
-/// The most bytes that a script has.
-const MAX_SCRIPT: usize = 268_435_456;
 
 /// How a replay ended.
 #[derive(Clone, Copy, Debug, PartialEq, Eq)]
@@ -39,6 +37,21 @@ pub enum ReplayFault {
     Memory,
 }
 
+impl From<AnswerFault> for ReplayFault {
+    ghost use Rattle.std.specs.Prelude.{◌≡◌};
+    ghost use Rattle.tac_server.specs.Replay.{fault_by};
+
+    ghost from_gives = { λ fault replay. replay ≡ fault_by fault };
+
+    fn from(fault: AnswerFault) -> ReplayFault {
+        match fault {
+            AnswerFault::ReadFault | AnswerFault::TooLong => ReplayFault::ReadFault,
+            AnswerFault::WriteFault => ReplayFault::WriteFault,
+            AnswerFault::Memory => ReplayFault::Memory,
+        }
+    }
+}
+
 // What a script prints, and how its replay ends.
 fn output(alloc: Global, script: &[u8]) -> Result<(Vec<u8>, ReplayEnd), AllocError>
     ensures { IfOk result (λ output. IsWorkedOut script.now output.0.items output.1) }
@@ -59,10 +72,9 @@ fn output(alloc: Global, script: &[u8]) -> Result<(Vec<u8>, ReplayEnd), AllocErr
 // Reads a script, and works out what it prints.
 fn answer<R: Read>(alloc: Global, reader: &mut R) -> Result<(Vec<u8>, ReplayEnd), InputFault>
     ensures end { OnOk result (IsAtEnd (R.remaining reader.new)) }
-    ensures output { IfOk result (λ output. IfSome (R.remaining reader.old) (λ script.
-        (length script ≤ 268435456) × IsWorkedOut script output.0.items output.1)) }
+    ensures worked { IsWorked IsWorkedOut (R.remaining reader.old) result }
 {
-    let script = read_whole(alloc, reader, MAX_SCRIPT)?;
+    let script = read_whole(alloc, reader, MAX_INPUT)?;
     let (text, end) = output(alloc, script.as_slice())?;
     Ok((text, end))
 }
@@ -74,31 +86,19 @@ pub fn replay<R: Read, W: Write>(
     reader: &mut R,
     writer: &mut W,
 ) -> Result<ReplayEnd, ReplayFault>
-    // The whole input was read, and it is no longer than a script may be.
+    // The whole input was read.
     ensures read { OnOk result (IsAtEnd (R.remaining reader.new)) }
-    ensures bound { OnOk result
-        (IfSome (R.remaining reader.old) (λ script. length script ≤ 268435456)) }
 
-    // What was written is exactly the script's output, the end is the script's, and no others are.
-    ensures output { IfOk result (λ end. IfSome (R.remaining reader.old) (λ script.
-        (output : List ℕ) × IsWorkedOut script output end
-        × Appends (W.contents writer.old) (W.contents writer.new) output)) }
+    // What was written is exactly the script's output, the end is the script's, and no others are;
+    // or what a fault leaves.
+    ensures replayed { IsReplayed (R.remaining reader.old)
+        (W.contents writer.old) (W.contents writer.new) result }
 
-    // What a fault leaves: nothing, a beginning of the output, or of the line that says Memory.
-    ensures read_fault { IsErrOf result ReplayFault.ReadFault →
-        Keeps (W.contents writer.old) (W.contents writer.new) }
-    ensures write_fault { IsErrOf result ReplayFault.WriteFault →
-        IfSome (R.remaining reader.old) (λ script. (length script ≤ 268435456)
-        × ((output : List ℕ) × (end : ReplayEndValue) × IsWorkedOut script output end
-        × ((n : ℕ) × Appends (W.contents writer.old) (W.contents writer.new) (take n output)))) }
-    ensures memory { IsErrOf result ReplayFault.Memory → (n : ℕ)
-        × Appends (W.contents writer.old) (W.contents writer.new)
-        (take n (codes "fault Memory" ++ 10 ∷ [])) }
+    // What a policy permits by the definitions is what the sets of its patterns permit.
+    ensures law { DecisionLaw }
 {
     match write_answer(writer, answer(alloc, reader)) {
         Ok(end) => Ok(end),
-        Err(AnswerFault::Unread | AnswerFault::TooLong) => Err(ReplayFault::ReadFault),
-        Err(AnswerFault::Unwritten) => Err(ReplayFault::WriteFault),
-        Err(AnswerFault::Memory) => Err(ReplayFault::Memory),
+        Err(fault) => Err(ReplayFault::from(fault)),
     }
 }

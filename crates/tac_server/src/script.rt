@@ -16,11 +16,8 @@ use pol_edit::EditFault;
 use pol_names::SubjectId;
 use pol_text::{Policy, PolicyFault};
 use std::alloc::Global;
-use tac_desks::LiveDesk;
+use tac_desks::{LiveDesk, MAX_RECORDS};
 use tac_wire::Key;
-
-/// The most records that are kept.
-const MAX_RECORDS: usize = 1_000_000;
 
 fn is_run(line: &[u8]) -> bool
     ensures { result ≡ run_test line.now }

@@ -1,0 +1,20 @@
+-- With which status the program ends.
+use Rattle.std.specs.Prelude.{Result, Ok, Err}
+use Rattle.tac_io.specs.declared.answering.AnswerFault.{AnswerFault}
+use Rattle.tac_io.specs.declared.answering.AnswerFault.TheVariants as answers
+use Rattle.tac_check.specs.declared.checking.CheckEnd.{CheckEnd}
+use Rattle.tac_check.specs.declared.checking.CheckEnd.TheVariants as checks
+use Rattle.tac_program.specs.declared.status.Status.{Status}
+use Rattle.tac_program.specs.declared.status.Status.TheVariants.{Done, Refused, OutOfMemory, Failed}
+
+-- out of memory is told apart from all else that keeps an input from being answered
+abbrev pub status_of : AnswerFault → Status
+status_of answers.Memory = OutOfMemory
+status_of answers.ReadFault = Failed
+status_of answers.TooLong = Failed
+status_of answers.WriteFault = Failed
+
+abbrev pub status_of_check : Result CheckEnd AnswerFault → Status
+status_of_check (Ok checks.Sound) = Done
+status_of_check (Ok checks.Refused) = Refused
+status_of_check (Err fault) = status_of fault
