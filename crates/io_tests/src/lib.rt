@@ -5,6 +5,8 @@
 #[cfg(test)]
 mod answering;
 #[cfg(test)]
+mod large;
+#[cfg(test)]
 mod reading;
 #[cfg(test)]
 mod scripted;

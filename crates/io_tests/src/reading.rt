@@ -7,9 +7,9 @@ use tac_io::{InputFault, read_whole};
 /// Gives a part of its text a read, by one letter each: `i` is an interruption, `x` another error,
 /// and a digit a read of at most so many bytes. Behind the last letter nothing is left.
 #[derive(Drop)]
-struct Scripted<'a> {
-    letters: &'a [u8],
-    text: &'a [u8],
+pub(crate) struct Scripted<'a> {
+    pub(crate) letters: &'a [u8],
+    pub(crate) text: &'a [u8],
 }
 
 impl Read for Scripted<'_> {
