@@ -3,6 +3,7 @@
 ghost use Rattle.std.specs.Prelude.{◌<◌};
 
 use basics::Bytes;
+use std::alloc::{AllocError, Global};
 use std::process::Abort;
 use std::test::Fail;
 use tac_wire::{FrameFault, Framer, Next, chap_response};
@@ -129,6 +130,56 @@ fn headers_that_end_a_stream(rt: HostRuntime) -> Result<(), Fail> {
     let mut framer = Framer::new(rt.alloc());
     framer.feed(b"\xc0\x01\x01\xfe\x00\x00\x00\x01\x00\x02\x00\x03")?;
     told(&rt, &mut framer, 0, b"(need)")
+}
+
+// How many packets are whole, of at most three.
+fn whole_packets(framer: &mut Framer) -> Result<u64, Fail> {
+    for count in 0..3 {
+        match framer.next()? {
+            Next::Packet(_) => {}
+            _ => return Ok(count),
+        }
+    }
+    Ok(3)
+}
+
+// How many packets become whole by a text that comes in pieces of a hundred bytes.
+fn packets_of(framer: &mut Framer, text: &[u8]) -> Result<u64, Fail> {
+    let mut count: u64 = 0;
+    for piece in text.chunks(100) {
+        framer.feed(piece)?;
+        count = count.saturating_add(whole_packets(framer)?);
+    }
+    Ok(count)
+}
+
+// Twenty-five packets, each of a body of 52 bytes.
+fn small_packets(alloc: Global) -> Result<Vec<u8>, AllocError> {
+    let mut text = Vec::new(alloc);
+    for _ in 0..25 {
+        text.extend_from_slice(b"\xc0\x02\x01\x00\x00\x00\x00\x01\x00\x00\x00\x34")?;
+        text.extend_from_slice(&[b'x'; 52])?;
+    }
+    Ok(text)
+}
+
+// Of 100 million bytes it keeps few: what it shows of itself is short.
+fn keeps_few<R: Abort + AllocGlobal>(rt: &R, text: &[u8]) -> Result<(), Fail> {
+    let mut framer = Framer::new(rt.alloc());
+    let mut count: u64 = 0;
+    for _ in 0..62_500 {
+        count = count.saturating_add(packets_of(&mut framer, text)?);
+    }
+    assert_eq!(rt; count, 1_562_500);
+    let shown = format!(in rt.alloc(); "{framer:?}")?;
+    assert!(rt; shown.len() < 10_000, "{} bytes", shown.len());
+    Ok(())
+}
+
+#[test]
+fn many_small_packets(rt: HostRuntime) -> Result<(), Fail> {
+    let text = small_packets(rt.alloc())?;
+    keeps_few(&rt, text.as_slice())
 }
 
 // The digest of `abc` is one of RFC 1321's own.
