@@ -60,8 +60,8 @@ fn stays<R: Abort + AllocGlobal>(
     prints(rt, policy, before)
 }
 
-// The line is refused so by the policy of the text.
-fn refuses<R: Abort + AllocGlobal>(
+/// The line is refused so by the policy of the text.
+pub(crate) fn refuses<R: Abort + AllocGlobal>(
     rt: &R,
     before: &str,
     line: &str,

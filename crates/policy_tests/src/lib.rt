@@ -4,6 +4,8 @@
 #[cfg(test)]
 mod edits;
 #[cfg(test)]
+mod large;
+#[cfg(test)]
 mod patterns;
 #[cfg(test)]
 mod policies;

@@ -54,8 +54,12 @@ fn copied(alloc: Global, text: &str) -> Result<Policy, PolicyFault> {
     Ok(policy.copy(alloc)?)
 }
 
-// The text is a policy, of which a copy is printed so.
-fn is_printed<R: Abort + AllocGlobal>(rt: &R, text: &str, expected: &str) -> Result<(), Fail> {
+/// The text is a policy, of which a copy is printed so.
+pub(crate) fn is_printed<R: Abort + AllocGlobal>(
+    rt: &R,
+    text: &str,
+    expected: &str,
+) -> Result<(), Fail> {
     let copy = copied(rt.alloc(), text)?;
     prints(rt, &copy, expected)
 }
