@@ -11,6 +11,8 @@ mod connections;
 #[cfg(test)]
 mod console;
 #[cfg(test)]
+mod cut_bodies;
+#[cfg(test)]
 mod edits;
 #[cfg(test)]
 mod logins;

@@ -1,6 +1,6 @@
 //! Readers that fail or give little at a time, and writers that take little or fail.
 
-use crate::support::{OPS, PERMITTED, SHOW_VERSION, joined};
+use crate::support::{BOB, OPS, PERMITTED, SHOW_VERSION, joined};
 use std::alloc::Global;
 use std::io::{self, ErrorKind, Read, Write};
 use std::process::Abort;
@@ -113,9 +113,34 @@ fn a_reader_that_fails(rt: HostRuntime) -> Result<(), Fail> {
     Ok(())
 }
 
+// The script of these parts comes a byte at a time, each read and write is interrupted once, and a
+// byte is taken at a time.
+fn trickles<R: Abort + AllocGlobal>(
+    rt: &R,
+    parts: &[&str],
+    end: ReplayEnd,
+    output: &[&str],
+) -> Result<(), Fail> {
+    let script = joined(rt, parts)?;
+    let expected = joined(rt, output)?;
+    let mut reader = Trickle {
+        rest: script.as_bytes(),
+        is_interrupted: false,
+        fails: false,
+    };
+    let mut writer = Narrow::new(rt.alloc(), usize::MAX);
+    let outcome = replay(rt.alloc(), &mut reader, &mut writer);
+    assert_eq!(rt; outcome, Ok(end), "after {script}");
+    assert!(rt;
+        writer.taken.as_slice() == expected.as_bytes(),
+        "after {script}"
+    );
+    Ok(())
+}
+
 #[test]
 fn a_byte_at_a_time(rt: HostRuntime) -> Result<(), Fail> {
-    let script = joined(
+    trickles(
         &rt,
         &[
             "key k\n",
@@ -124,18 +149,47 @@ fn a_byte_at_a_time(rt: HostRuntime) -> Result<(), Fail> {
             SHOW_VERSION,
             "open 1\nclose 1\n",
         ],
+        ReplayEnd::Refused,
+        &[PERMITTED, "fault line 9 BadCommand\n"],
     )?;
-    let expected = joined(&rt, &[PERMITTED, "fault line 9 BadCommand\n"])?;
-    let mut reader = Trickle {
-        rest: script.as_bytes(),
-        is_interrupted: false,
-        fails: false,
-    };
-    let mut writer = Narrow::new(rt.alloc(), usize::MAX);
-    let outcome = replay(rt.alloc(), &mut reader, &mut writer);
-    assert_eq!(rt; outcome, Ok(ReplayEnd::Refused));
-    assert!(rt; writer.taken.as_slice() == expected.as_bytes());
-    Ok(())
+    // Two requests on a single connection.
+    trickles(
+        &rt,
+        &[
+            "key k\n",
+            OPS,
+            "run\nopen 1\n",
+            "packet 1 c0020104000000010000003606010101030400030d080f626f6274747930\
+             736572766963653d7368656c6c636d643d73686f77636d642d6172673d76657273696f6e ",
+            "c0020104000000020000003606010101030400030d080f626f6274747930\
+             736572766963653d7368656c6c636d643d73686f77636d642d6172673d76657273696f6e\n",
+        ],
+        ReplayEnd::Done,
+        &[
+            "reply 1 c00202040000000100000006010000000000\n",
+            "reply 1 c00202040000000200000006010000000000\n",
+        ],
+    )?;
+    // Two logins, the second of which ends before the first.
+    trickles(
+        &rt,
+        &[
+            "key k\n",
+            BOB,
+            "run\nopen 1\n",
+            "packet 1 c0010104000000010000000b0101010103000000626f62\n",
+            "packet 1 c0010104000000020000000b0101010103000000626f62\n",
+            "packet 1 c0010304000000020000000b0006000000736563726574\n",
+            "packet 1 c0010304000000010000000b0006000000736563726574\n",
+        ],
+        ReplayEnd::Done,
+        &[
+            "reply 1 c001020400000001000000100501000a000050617373776f72643a20\n",
+            "reply 1 c001020400000002000000100501000a000050617373776f72643a20\n",
+            "reply 1 c00104040000000200000006010000000000\n",
+            "reply 1 c00104040000000100000006010000000000\n",
+        ],
+    )
 }
 
 #[test]
