@@ -61,7 +61,8 @@ fn by_a_stop(rt: HostRuntime) -> Result<(), Fail> {
     if hall.call(&rt, &mut other, Call::Stop).is_err() {
         return Err(Fail::from("no stop"));
     }
-    ends(&rt, &hall, seat, "pp 99 9 = Stopped 0 0 0")
+    ends(&rt, &hall, seat, "pp 99 9 = Stopped 0 0 0")?;
+    Ok(())
 }
 
 #[test]
@@ -69,5 +70,6 @@ fn by_a_seat_of_another_hall(rt: HostRuntime) -> Result<(), Fail> {
     let hall = hall_of(&rt, 9)?;
     let other = hall_of(&rt, 9)?;
     let seat = other.seat(&rt)?;
-    ends(&rt, &hall, seat, "pp 99 9 = NoSeat 0 0 0")
+    ends(&rt, &hall, seat, "pp 99 9 = NoSeat 0 0 0")?;
+    Ok(())
 }

@@ -4,8 +4,14 @@
 #[cfg(test)]
 mod ends;
 #[cfg(test)]
-mod packet;
+mod gates;
+#[cfg(test)]
+mod packets;
+#[cfg(test)]
+mod starved;
 #[cfg(test)]
 mod streams;
 #[cfg(test)]
 mod support;
+#[cfg(test)]
+mod transport;

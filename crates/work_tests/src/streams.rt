@@ -1,17 +1,19 @@
-//! A reader, a writer and a gate that do what a test says.
+//! Readers, writers and a gate that do what a test says.
 
 ghost use Rattle.std.specs.Prelude.{◌≡◌, ◌≤◌, length};
 
+use std::alloc::Global;
 use std::io::{self, ErrorKind, Read, Write};
 use std::sync::atomic::{AtomicU64, Ordering};
 use tac_hall::Gate;
 
-/// Gives the packet for a `p`, twelve bytes that are no header for an `h`, is interrupted for an
-/// `i`, and fails for an `x`. Behind the last letter nothing is left.
+/// Gives the question for a `p`, the record for an `r`, twelve bytes that are no header for an `h`,
+/// is interrupted for an `i`, and fails for an `x`. After the last letter nothing is left.
 #[derive(Drop)]
 pub(crate) struct Scripted<'a> {
     pub(crate) letters: &'a [u8],
-    pub(crate) packet: &'a [u8],
+    pub(crate) question: &'a [u8],
+    pub(crate) record: &'a [u8],
 }
 
 // As many bytes as there is room for.
@@ -34,23 +36,97 @@ impl Read for Scripted<'_> {
             b'i' => Err(io::Error::from(ErrorKind::Interrupted)),
             b'x' => Err(io::Error::from(ErrorKind::IsADirectory)),
             b'h' => Ok(hand(&[0; 12], buf)),
-            _ => Ok(hand(self.packet, buf)),
+            b'r' => Ok(hand(self.record, buf)),
+            _ => Ok(hand(self.question, buf)),
         }
     }
 }
 
-/// Takes so many bytes more, and then nothing.
-#[derive(Drop)]
-pub(crate) struct Room {
-    pub(crate) left: usize,
-    pub(crate) taken: usize,
+/// How bytes are given or taken.
+#[derive(Clone, Copy, Debug)]
+pub(crate) struct Manner {
+    /// At most so many a call.
+    pub(crate) piece: usize,
+    /// Each call is interrupted once before it is done.
+    pub(crate) interrupted: bool,
+    /// After the last byte it fails; else none is given or taken.
+    pub(crate) fails: bool,
 }
 
-impl Write for Room {
+/// All that there is at once.
+pub(crate) const WHOLE: Manner = Manner {
+    piece: 9999,
+    interrupted: false,
+    fails: false,
+};
+
+/// Gives these bytes.
+#[derive(Drop)]
+pub(crate) struct Source<'a> {
+    bytes: &'a [u8],
+    manner: Manner,
+    ready: bool,
+}
+
+impl Source<'_> {
+    pub(crate) fn new(bytes: &[u8], manner: Manner) -> Source<'_> {
+        Source {
+            bytes,
+            manner,
+            ready: false,
+        }
+    }
+}
+
+impl Read for Source<'_> {
+    fn read(&mut self, buf: &mut [u8]) -> io::Result<usize> {
+        self.ready = !self.ready;
+        if self.manner.interrupted && self.ready {
+            return Err(io::Error::from(ErrorKind::Interrupted));
+        }
+        if self.manner.fails && self.bytes.is_empty() {
+            return Err(io::Error::from(ErrorKind::IsADirectory));
+        }
+        let n = self.manner.piece.min(self.bytes.len()).min(buf.len());
+        let (piece, rest) = self.bytes.split_at(n);
+        buf[..n].copy_from_slice(piece);
+        self.bytes = rest;
+        Ok(n)
+    }
+}
+
+/// Takes so many bytes.
+#[derive(Drop)]
+pub(crate) struct Sink {
+    room: usize,
+    manner: Manner,
+    ready: bool,
+    pub(crate) taken: Vec<u8>,
+}
+
+impl Sink {
+    pub(crate) fn new(alloc: Global, room: usize, manner: Manner) -> Sink {
+        Sink {
+            room,
+            manner,
+            ready: false,
+            taken: Vec::new(alloc),
+        }
+    }
+}
+
+impl Write for Sink {
     fn write(&mut self, buf: &[u8]) -> io::Result<usize> {
-        let n = buf.len().min(self.left);
-        self.left -= n;
-        self.taken = self.taken.saturating_add(n);
+        self.ready = !self.ready;
+        if self.manner.interrupted && self.ready {
+            return Err(io::Error::from(ErrorKind::Interrupted));
+        }
+        if self.manner.fails && self.room == 0 {
+            return Err(io::Error::from(ErrorKind::StorageFull));
+        }
+        let n = self.manner.piece.min(self.room).min(buf.len());
+        self.taken.extend_from_slice(&buf[..n])?;
+        self.room -= n;
         Ok(n)
     }
 
