@@ -1,7 +1,8 @@
 //! A server with a console, which ends by itself.
 
 use crate::clients::{asks, hall_of, is_permitted, key};
-use std::io::{self, ErrorKind, Read};
+use std::alloc::{AllocError, Global};
+use std::io::{self, ErrorKind, Read, Write};
 use std::net::{Ipv4Addr, Net, SocketAddr, TcpListener, TcpStream};
 use std::sync::Wait;
 use std::test::Fail;
@@ -11,14 +12,40 @@ use tac_desks::PlainDesk;
 use tac_hall::Hall;
 use tac_net::{Port, ServeFault, Settings, serve};
 
-// An operator who keeps a silent connection open, if he is to; asks as a client does, if he is to;
-// and quits if this was permitted.
+/// What an operator does, and how many workers his server has.
+#[derive(Clone, Copy)]
+struct Course {
+    workers: u32,
+    /// After so many seconds a device is given up.
+    idle: u32,
+    /// He keeps a silent connection open.
+    keeps: bool,
+    /// He asks as a client does, and goes on if that was permitted.
+    asks: bool,
+    /// Then he types this.
+    types: &'static str,
+    /// Then his input fails, where it doesn't end.
+    fails: bool,
+    /// His output takes so many bytes after the first line.
+    room: usize,
+}
+
+const QUITS: Course = Course {
+    workers: 4,
+    idle: 0,
+    keeps: false,
+    asks: true,
+    types: "quit\n",
+    fails: false,
+    room: 0,
+};
+
+/// The input of an operator who does so.
 #[derive(Drop)]
 struct Operator<'a, R> {
     rt: &'a R,
     address: SocketAddr,
-    keeps: bool,
-    asks: bool,
+    course: Course,
     silent: Option<TcpStream>,
     is_done: bool,
 }
@@ -28,14 +55,14 @@ where
     R: AllocGlobal + Net<Listener = TcpListener, Stream = TcpStream>,
 {
     fn keep(&mut self) -> io::Result<()> {
-        if self.keeps {
+        if self.course.keeps {
             self.silent = Some(TcpStream::connect(self.rt, self.address)?);
         }
         Ok(())
     }
 
     fn ask(&self) -> io::Result<()> {
-        if self.asks {
+        if self.course.asks {
             let client = asks(self.rt, self.address)?;
             if !is_permitted(self.rt.alloc(), &client)? {
                 return Err(io::Error::from(ErrorKind::PermissionDenied));
@@ -50,37 +77,82 @@ where
     R: AllocGlobal + Net<Listener = TcpListener, Stream = TcpStream>,
 {
     fn read(&mut self, buf: &mut [u8]) -> io::Result<usize> {
-        if self.is_done {
-            return Ok(0);
+        if !self.is_done {
+            self.is_done = true;
+            self.keep()?;
+            self.ask()?;
+            if !self.course.types.is_empty() {
+                return self.course.types.as_bytes().read(buf);
+            }
         }
-        self.is_done = true;
-        self.keep()?;
-        self.ask()?;
-        b"quit\n".as_slice().read(buf)
+        if self.course.fails {
+            return Err(io::Error::from(ErrorKind::IsADirectory));
+        }
+        Ok(0)
     }
 }
 
-// A server of so many workers, on a port that was bound, with this operator; whether it printed its
-// port and nothing else.
+/// Takes so many bytes, and then fails.
+#[derive(Drop)]
+struct Screen {
+    room: usize,
+    taken: Vec<u8>,
+}
+
+impl Screen {
+    fn new(alloc: Global, room: usize) -> Screen {
+        Screen {
+            room,
+            taken: Vec::new(alloc),
+        }
+    }
+}
+
+impl Write for Screen {
+    fn write(&mut self, buf: &[u8]) -> io::Result<usize> {
+        if self.room == 0 {
+            return Err(io::Error::from(ErrorKind::BrokenPipe));
+        }
+        let n = buf.len().min(self.room);
+        self.taken.extend_from_slice(&buf[..n])?;
+        self.room -= n;
+        Ok(n)
+    }
+
+    fn flush(&mut self) -> io::Result<()> {
+        Ok(())
+    }
+}
+
+// A server on a port that was bound, with this operator: how it ends, and whether it printed its
+// port and then this.
 fn serves<R>(
     rt: &R,
     port: &Port,
     hall: Hall<PlainDesk>,
     settings: &Settings,
     operator: &mut Operator<'_, R>,
-) -> Result<bool, ServeFault>
+    printed: &str,
+) -> Result<(Result<(), ServeFault>, bool), AllocError>
 where
     R: Threads + Wait + Clock + Sync + AllocGlobal,
     R: Net<Listener = TcpListener, Stream = TcpStream>,
 {
-    let mut output = Vec::new(rt.alloc());
-    serve(rt, port, hall, settings, operator, &mut output)?;
-    let wanted = format!(in rt.alloc(); "listening {}\n", settings.port)?;
-    Ok(output.as_slice() == wanted.as_bytes())
+    let first = format!(in rt.alloc(); "listening {}\n", settings.port)?;
+    let wanted = format!(in rt.alloc(); "{first}{printed}")?;
+    let mut screen = Screen::new(rt.alloc(), first.len().saturating_add(operator.course.room));
+    let ended = serve(rt, port, hall, settings, operator, &mut screen);
+    Ok((ended, screen.taken.as_slice() == wanted.as_bytes()))
 }
 
-// The operator's server stops, though most of its workers wait for clients.
-fn stops<R>(rt: &R, workers: u32, idle: u32, keeps: bool, asks: bool) -> Result<(), Fail>
+// The operator's server ends so, though most of its workers wait for clients, and printed this
+// after its port.
+fn ends<R>(
+    rt: &R,
+    course: Course,
+    printed: &str,
+    wanted: Result<(), ServeFault>,
+) -> Result<(), Fail>
 where
     R: Threads + Wait + Clock + Sync + AllocGlobal,
     R: Net<Listener = TcpListener, Stream = TcpStream>,
@@ -90,38 +162,85 @@ where
     let settings = Settings {
         port: address.port(),
         key: key()?,
-        workers,
+        workers: course.workers,
         connections: 9,
-        idle,
+        idle: course.idle,
     };
     let hall = hall_of(rt, 9)?;
     let mut operator = Operator {
         rt,
         address,
-        keeps,
-        asks,
+        course,
         silent: None,
         is_done: false,
     };
-    match serves(rt, &port, hall, &settings, &mut operator) {
-        Ok(true) => Ok(()),
-        _ => Err(Fail::from("it ended or printed otherwise")),
+    let (ended, is_printed) = serves(rt, &port, hall, &settings, &mut operator, printed)?;
+    if ended == wanted && is_printed {
+        return Ok(());
     }
+    Err(Fail::from("it ended or printed otherwise"))
 }
 
 #[test]
 fn workers_that_wait_end(rt: HostRuntime) -> Result<(), Fail> {
-    stops(&rt, 4, 0, false, true)
+    ends(&rt, QUITS, "", Ok(()))
 }
 
 // Without an end by force the one worker would wait for its silent device for ever.
 #[test]
 fn a_silent_device_holds_up_no_end(rt: HostRuntime) -> Result<(), Fail> {
-    stops(&rt, 1, 0, true, false)
+    let course = Course {
+        workers: 1,
+        keeps: true,
+        asks: false,
+        ..QUITS
+    };
+    ends(&rt, course, "", Ok(()))
 }
 
 // The one worker gives the silent device up, and then serves the other one.
 #[test]
 fn a_silent_device_is_given_up(rt: HostRuntime) -> Result<(), Fail> {
-    stops(&rt, 1, 1, true, true)
+    let course = Course {
+        workers: 1,
+        idle: 1,
+        keeps: true,
+        ..QUITS
+    };
+    ends(&rt, course, "", Ok(()))
+}
+
+// Workers end too, one with a silent device and some that wait for one, after a console that can't
+// be read.
+#[test]
+fn an_input_that_fails(rt: HostRuntime) -> Result<(), Fail> {
+    let failing = Course {
+        keeps: true,
+        fails: true,
+        room: 99,
+        ..QUITS
+    };
+    let at_once = Course {
+        types: "",
+        ..failing
+    };
+    ends(&rt, at_once, "", Err(ServeFault::ReadFault))?;
+    let after_a_line = Course {
+        types: "shadow\n",
+        ..failing
+    };
+    ends(&rt, after_a_line, "none\n", Err(ServeFault::ReadFault))
+}
+
+// So they do after one that can't be written.
+#[test]
+fn an_output_that_fails(rt: HostRuntime) -> Result<(), Fail> {
+    let failing = Course {
+        keeps: true,
+        types: "shadow\n",
+        ..QUITS
+    };
+    ends(&rt, failing, "", Err(ServeFault::WriteFault))?;
+    let in_a_line = Course { room: 3, ..failing };
+    ends(&rt, in_a_line, "non", Err(ServeFault::WriteFault))
 }
