@@ -40,9 +40,10 @@ enum Visit {
     AtOnce(u32),
     /// One connection is kept open, and bob asks on it ten times.
     TenTimes,
-    /// Each on a connection of its own: one is cut off in the middle of a packet, bob asks, another
-    /// is cut off, bob asks, and then nobody is served any more.
-    FourAndNoMore,
+    /// Each on a connection of its own: one is cut off in the middle of a packet, bob asks, one is
+    /// reset after its first reply, bob asks, another is cut off, bob asks, another is reset, bob
+    /// asks, and then nobody is served any more.
+    EightAndNoMore,
 }
 
 fn decoded(alloc: Global, digits: &str) -> io::Result<Vec<u8>> {
@@ -94,6 +95,17 @@ where
     stream.write_all(b"\xc0\x02\x01\0\0")
 }
 
+// Most of the reply isn't read, so the system resets the connection when it is dropped.
+fn resets<R>(rt: &R, address: SocketAddr) -> io::Result<()>
+where
+    R: Clock + AllocGlobal + Net<Listener = TcpListener, Stream = TcpStream>,
+{
+    let sent = decoded(rt.alloc(), ASK_AGAIN)?;
+    let mut stream = connect(rt, address)?;
+    stream.write_all(sent.as_slice())?;
+    stream.read_exact(&mut [0])
+}
+
 fn at_once<R>(rt: &R, address: SocketAddr, count: u32) -> io::Result<bool>
 where
     R: Clock + AllocGlobal + Net<Listener = TcpListener, Stream = TcpStream>,
@@ -123,19 +135,21 @@ where
     Ok(true)
 }
 
-fn four_and_no_more<R>(rt: &R, address: SocketAddr) -> io::Result<bool>
+fn eight_and_no_more<R>(rt: &R, address: SocketAddr) -> io::Result<bool>
 where
     R: Clock + AllocGlobal + Net<Listener = TcpListener, Stream = TcpStream>,
 {
     for _ in 0..2 {
         breaks_off(rt, address)?;
-        if !asks_once(rt, address)? {
+        let is_asked = asks_once(rt, address)?;
+        resets(rt, address)?;
+        if !is_asked || !asks_once(rt, address)? {
             return Ok(false);
         }
     }
-    let fifth = connect(rt, address)?;
-    fifth.set_read_timeout(Some(Duration::from_millis(500)))?;
-    Ok(is_answered(rt.alloc(), &fifth, ASK, PERMITTED).is_err())
+    let ninth = connect(rt, address)?;
+    ninth.set_read_timeout(Some(Duration::from_millis(500)))?;
+    Ok(is_answered(rt.alloc(), &ninth, ASK, PERMITTED).is_err())
 }
 
 impl Visit {
@@ -147,7 +161,7 @@ impl Visit {
         let went = match self {
             Visit::AtOnce(count) => at_once(rt, address, count),
             Visit::TenTimes => ten_times(rt, address),
-            Visit::FourAndNoMore => four_and_no_more(rt, address),
+            Visit::EightAndNoMore => eight_and_no_more(rt, address),
         };
         went.unwrap_or(false)
     }
@@ -227,6 +241,6 @@ fn at_an_address(rt: HostRuntime) -> Result<(), Fail> {
 
 #[test]
 fn so_many_connections_each(rt: HostRuntime) -> Result<(), Fail> {
-    let options = "--workers 1 --connections 4";
-    visited(&rt, options, HERE, Visit::FourAndNoMore)
+    let options = "--workers 1 --connections 8";
+    visited(&rt, options, HERE, Visit::EightAndNoMore)
 }
