@@ -7,6 +7,8 @@ mod deciders;
 #[cfg(test)]
 mod differences;
 #[cfg(test)]
+mod large;
+#[cfg(test)]
 mod lists;
 #[cfg(test)]
 mod meters;
