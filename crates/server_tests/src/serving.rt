@@ -3,6 +3,7 @@
 use crate::conversing::converses;
 use crate::support::{faltering, ledger, packet, plain, serving};
 use std::alloc::Global;
+use std::fmt::Write;
 use std::process::Abort;
 use std::test::Fail;
 use tac_desk::Desk;
@@ -216,6 +217,35 @@ fn the_same_however_bytes_are_cut(rt: HostRuntime) -> Result<(), Fail> {
     let bytes = twice(rt.alloc(), SHOW_VERSION)?;
     let sent = twice(rt.alloc(), PERMITTED)?;
     is_sent(&rt, bytes.as_slice(), sent.as_slice())
+}
+
+// A line of 5,000 bytes that begins so, what it is answered, and a short one.
+fn long_line(alloc: Global, start: &str, answer: &str) -> Result<String, Fail> {
+    let mut lines = String::from_str(alloc, start)?;
+    for _ in start.len()..5_000 {
+        lines.push('x')?;
+    }
+    write!(lines, "\n{answer}\n> why bob ping\ndenied by default\n")?;
+    Ok(lines)
+}
+
+#[test]
+fn long_lines_at_the_console(rt: HostRuntime) -> Result<(), Fail> {
+    for (start, answer) in [
+        ("> x", "refused 1 BadEdit"),
+        ("> insert group ops 1 ", "refused 1 BadEdit"),
+        (
+            "> insert group ops 1 deny ",
+            "refused 8 BadPattern 1 TooLong",
+        ),
+        ("> login bob ", "refused 9 BadValue"),
+        ("> why bob show ", "permitted by group ops rule 1"),
+    ] {
+        let lines = long_line(rt.alloc(), start, answer)?;
+        let desk = plain(rt.alloc(), OPS, 9)?;
+        converses(&rt, desk, lines.as_str())?;
+    }
+    Ok(())
 }
 
 /// How many connections are open at once.
