@@ -1,0 +1,74 @@
+"""Compares what `tacd replay` and `tacd check` print with a reference, on scripts that are drawn.
+
+The reference (the package `reference`) is written from docs/ alone: it searches a policy from its
+top, counts over all records, looks for least texts among all texts, and keeps nothing. The package
+`generator` draws scripts and policies by what they do: conversations of all kinds, cut anywhere;
+edits, questions and patterns of all kinds; headers, bodies, lines and policies with a thing wrong;
+and what is at a limit. Output and status have to be the same, byte by byte. A script on which they
+aren't is made smaller and printed, with both outputs.
+
+    python3 bench/fuzz [--seed N] [--count N] [--first N] [PROGRAM]
+    python3 bench/fuzz selfcheck [--seed N] [--count N]
+    python3 bench/fuzz show [--seed N] NUMBER
+
+The program is crates/tacd/out/tacd unless another path is given; build it by `./tacd --version`.
+Script number K of a seed is the same whatever the count is: `show` prints it, and what the
+reference makes of it. 30,000 scripts, the default, take about twenty minutes of one core.
+
+`selfcheck` needs no program. Wrong bodies of the reference, one mistake each, stand in for a program
+with such a mistake, and each has to be found by a script (wrong_bodies.py).
+
+It takes Python 3.10 or later, and nothing beside its standard library. The status is 0 where there
+was no difference, or all wrong bodies were found, else 1.
+"""
+
+import argparse
+import pathlib
+import sys
+
+import selfcheck
+from comparing import Program, compare
+from generator.choices import Choices
+from generator.scripts import case
+from running import by_reference, told
+
+BUILT = pathlib.Path(__file__).resolve().parents[2] / "crates/tacd/out/tacd"
+
+
+def main():
+    arguments = read_arguments()
+    if arguments.command == "selfcheck":
+        return selfcheck.run(arguments.seed, arguments.count)
+    if arguments.command == "show":
+        return show(arguments.seed, arguments.number)
+    if not arguments.program.is_file():
+        sys.exit(f"{arguments.program} is not there: build it by ./tacd --version")
+    numbers = range(arguments.first, arguments.first + arguments.count)
+    return compare(Program(arguments.program), arguments.seed, numbers)
+
+
+def read_arguments():
+    words = sys.argv[1:]
+    command = words.pop(0) if words and words[0] in ("selfcheck", "show") else "compare"
+    reader = argparse.ArgumentParser("bench/fuzz", description=__doc__.partition("\n")[0])
+    reader.add_argument("--seed", type=int, default=1)
+    if command == "show":
+        reader.add_argument("number", type=int)
+    else:
+        count = 6_000 if command == "selfcheck" else 30_000
+        reader.add_argument("--count", type=int, default=count)
+    if command == "compare":
+        reader.add_argument("--first", type=int, default=0)
+        reader.add_argument("program", type=pathlib.Path, nargs="?", default=BUILT)
+    return reader.parse_args(words, argparse.Namespace(command=command))
+
+
+def show(seed, number):
+    drawn = case(Choices(f"{seed}:{number}"))
+    sys.stdout.buffer.write(drawn.text)
+    print(f"\n-- the reference, run as {drawn.command}:\n{told(by_reference(drawn))}")
+    return 0
+
+
+if __name__ == "__main__":
+    sys.exit(main())

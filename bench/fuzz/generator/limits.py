@@ -1,0 +1,110 @@
+"""Policies and events at the limits of sizes and numbers, each one dear, so they are drawn rarely."""
+
+from reference.wire import AUTHORISATION, Header
+
+
+def policy(choices):
+    return choices.choice([states, states, subjects, rules, chain, lines])(choices)
+
+
+def states(choices):
+    """Subjects of 4,096 states and fewer, or of twice as many."""
+    dots = choices.choice([9, 10, 11, 11, 12])
+    other = choices.choice(["", "permit b*", "deny .*b.", "permit show", f"deny .*a{'.' * dots}"])
+    found = ["group g", f"deny .*a{'.' * dots}"]
+    found += ["user u in g"] + [other] * (other != "")
+    return found + choices.choice([[], ["user v in g"], ["group h in g", "permit x.*"]])
+
+
+def subjects(choices):
+    return ["group g", "permit a.*"] + [
+        f"user u{number} in g" for number in range(choices.choice([1022, 1023, 1024]))
+    ]
+
+
+def rules(choices):
+    number = choices.choice([255, 256, 257])
+    return ["group g"] + [f"permit a{n % 10}" for n in range(number)] + ["user u in g"]
+
+
+def chain(choices):
+    groups = [f"group c{n}" + (f" in c{n - 1}" if n > 1 else "") for n in range(1, 8)]
+    return groups + ["permit a.*", "user u in c7", "group d", "group e in d", "user v in e"]
+
+
+def lines(choices):
+    return ["group g", "permit a[0-9]*[02468]", "deny a.*", "user u in g", "deny a..5"]
+
+
+def events(choices):
+    found = []
+    for _ in range(choices.count(2, 8)):
+        found += choices.choice([state_edits, size_edits, chain_edits, many_lines])(choices)
+    return found
+
+
+def state_edits(choices):
+    dots = "." * choices.choice([8, 9, 10, 11, 12])
+    edit = choices.choice(
+        [
+            f"insert group g 1 deny .*a{dots}",
+            f"insert user u 1 permit .*a{dots}",
+            f"insert user u 1 permit .*[ab]{dots}",
+            "drop group g 1",
+            "move user u out",
+            "move user u in g",
+            "shift group g 1 2",
+        ]
+    )
+    return [f"console {edit}", "console policy", f"console why u xa{dots}"]
+
+
+def size_edits(choices):
+    edit = choices.choice(
+        [
+            "add user new in g",
+            "add group new",
+            "insert group g 1 permit b",
+            "insert group g 257 permit b",
+            "insert group g 258 permit b",
+            "drop group g 256",
+            "remove user u1",
+            "shift group g 256 1",
+        ]
+    )
+    return [f"console {edit}", f"console {edit}", "console why u1 ab", "console reach user u"]
+
+
+def chain_edits(choices):
+    edit = choices.choice(
+        [
+            "add user w in c7",
+            "add group c8 in c7",
+            "add group c9 in c8",
+            "add user x in c8",
+            "move group d in c6",
+            "move group d in c5",
+            "move group c1 in d",
+            "move group c1 in c7",
+            "move group c1 in c1",
+            "move group c2 out",
+            "move user u in c3",
+        ]
+    )
+    return [f"console {edit}", "console shadow", "console reach user u", "console tally group c1"]
+
+
+def many_lines(choices):
+    """More different lines of a user than a server may remember, and the first ones again."""
+    found = ["open 5"]
+    numbers = list(range(choices.choice([250, 257, 300])))
+    again = choices.sample(numbers, 20)
+    for at, number in enumerate(numbers + again, start=1):
+        if at % 100 == 0:
+            found.append(f"console {choices.choice(['drop user u 1', 'insert user u 1 permit a..7'])}")
+        arguments = [b"service=shell", b"cmd=a%d" % number]
+        sizes = [1, 0, 0, len(arguments)] + [len(argument) for argument in arguments]
+        body = bytes([6, 1, 1, 1] + sizes) + b"u" + b"".join(arguments)
+        header = Header(0xC0, AUTHORISATION, 1, 4, at, len(body))
+        found.append(f"packet 5 {header.to_bytes().hex()}{body.hex()}")
+    return found + ["lost 5"]

@@ -1,0 +1,132 @@
+"""What an operator types: edits and questions of all kinds, with a thing wrong at times."""
+
+from .patterns import line, pattern
+from .policies import GROUPS, NO_NAMES, SECRETS, USERS
+
+WORDS = [
+    "add",
+    "remove",
+    "move",
+    "login",
+    "enable",
+    "clear login",
+    "clear enable",
+    "priv",
+    "clear priv",
+    "insert",
+    "insert",
+    "insert",
+    "insert",
+    "drop",
+    "drop",
+    "shift",
+    "shift",
+]
+
+
+class Operator:
+    def __init__(self, choices, world):
+        self.choices = choices
+        self.world = world
+        self.edits = choices.choice([0.2, 0.5, 0.8])
+
+    def line(self):
+        choices = self.choices
+        if choices.chance(0.02):
+            return odd_line(choices)
+        typed = self.edit() if choices.chance(self.edits) else self.question()
+        return self.spoiled(typed) if choices.chance(0.06) else typed
+
+    def spoiled(self, typed):
+        """One field left out, doubled or put for another, or one symbol wrong."""
+        choices = self.choices
+        if choices.chance(0.5):
+            return choices.spoiled(typed, "  019aA\t\r\xe9.")
+        parts = typed.split(" ")
+        at = choices.randrange(len(parts))
+        match choices.randrange(4):
+            case 0:
+                del parts[at]
+            case 1:
+                parts.insert(at, parts[at])
+            case 2:
+                parts[at] = choices.choice(NO_NAMES + ["group", "user", "in", "out", "0", "00001"])
+            case _:
+                parts.append("")
+        return " ".join(parts)
+
+    def subject(self, kind=None):
+        """Kind and name, mostly of a subject that is there, with the number of its rules."""
+        choices = self.choices
+        there = [it for it in self.world.subjects() if kind in (None, it.kind)]
+        if there and choices.chance(0.92):
+            subject = choices.choice(there)
+            return subject.kind, subject.name, len(subject.rules)
+        kind = kind or choices.choice(["group", "user"])
+        return kind, choices.choice(GROUPS if kind == "group" else USERS), choices.randrange(3)
+
+    def edit(self):
+        choices = self.choices
+        word = choices.choice(WORDS)
+        kind, name, rules = self.subject()
+        _, group, _ = self.subject("group")
+        _, user, _ = self.subject("user")
+        match word:
+            case "add":
+                name = choices.choice(GROUPS if kind == "group" else USERS)
+                return f"add {kind} {name}" + (f" in {group}" if choices.chance(0.6) else "")
+            case "remove":
+                return f"remove {kind} {name}"
+            case "move":
+                return f"move {kind} {name} " + (f"in {group}" if choices.chance(0.75) else "out")
+            case "login" | "enable":
+                return f"{word} {user} {self.secret()}"
+            case "clear login" | "clear enable":
+                return f"{word} {user}"
+            case "priv":
+                level = choices.choice(["0", "1", "15", "16", "015", "0015", "9999", "00015"])
+                return f"priv {kind} {name} {level}"
+            case "clear priv":
+                return f"clear priv {kind} {name}"
+            case "insert":
+                verdict = choices.choice(["permit", "deny"])
+                at = self.place(rules + 1)
+                return f"insert {kind} {name} {at} {verdict} {pattern(choices)}"
+            case "drop":
+                return f"drop {kind} {name} {self.place(rules)}"
+        return f"shift {kind} {name} {self.place(rules)} {self.place(rules)}"
+
+    def place(self, last):
+        choices = self.choices
+        if choices.chance(0.1) or last == 0:
+            return choices.choice(["0", str(last + 1), "9999", "01", "0001", "10000"])
+        return str(choices.randint(1, last))
+
+    def secret(self):
+        choices = self.choices
+        if choices.chance(0.1):
+            return choices.choice(["", "s" * 129, " ", "s" * 128, "a b "])
+        return choices.choice(SECRETS)
+
+    def question(self):
+        choices = self.choices
+        kind, name, _ = self.subject()
+        _, user, _ = self.subject("user")
+        asked = choices.kind(
+            {"policy": 12, "shadow": 15, "reach": 20, "tally": 18, "why": 25, "records": 10}
+        )
+        match asked:
+            case "reach" | "tally":
+                return f"{asked} {kind} {name}"
+            case "why":
+                text = line(choices, self.world.patterns())
+                return f"why {user}" + ("" if choices.chance(0.1) else f" {text}")
+        return asked
+
+
+def odd_line(choices):
+    return choices.choice(
+        ["", " ", "quit", "help", "policy ", "records x", "why", "why ", "tally", "reach user"]
+        + ["shadow group g", " policy", "Policy", "#", "\xe9", "insert", "why u\t", "clear", "run"]
+        + ["clear priv", "clear login", "add", "add group", "move user u out ", "in"]
+    )

@@ -1,0 +1,162 @@
+"""Policy texts, as lists of lines; those that are right, and those with something wrong."""
+
+from .patterns import pattern
+
+GROUPS = ["g", "ops", "staff", "base", "bare", "core", "x-y.z_1@a"]
+USERS = ["u", "bob", "eve", "g", "ann", "B", "n" * 32]
+SECRETS = ["secret", "b", " b ", "login", "s" * 128, "p@ss word"]
+NO_NAMES = ["", "n" * 33, "a/b", "a:b", "\xe9", "a\tb", "é"]
+
+
+def policy(choices):
+    """Lines of a policy that is right, but for a pattern now and then."""
+    subjects = subject_lines(choices)
+    lines = []
+    for first in subjects:
+        lines.append(first)
+        lines.extend(settings(choices, first))
+    if choices.chance(0.2):
+        lines = [dressed(choices, line) for line in lines]
+    return [part for line in lines for part in line.split("\n")]
+
+
+def subject_lines(choices):
+    groups = choices.sample(GROUPS, choices.count(0, 4))
+    users = choices.sample(USERS, 0 if choices.chance(0.05) else choices.count(1, 4))
+    lines = []
+    for place, name in enumerate(groups):
+        above = choices.choice(groups[:place]) if place and choices.chance(0.7) else None
+        lines.append(f"group {name}" + (f" in {above}" if above else ""))
+    for name in users:
+        above = choices.choice(groups) if groups and choices.chance(0.75) else None
+        lines.append(f"user {name}" + (f" in {above}" if above else ""))
+    if choices.chance(0.3):
+        choices.shuffle(lines)
+    if choices.chance(0.04):
+        lines += chain(choices.choice([6, 7, 8]))
+    return lines
+
+
+def chain(length):
+    """A user behind a chain of groups, so many subjects in all."""
+    groups = [f"group c{n}" + (f" in c{n - 1}" if n > 1 else "") for n in range(1, length)]
+    return groups + [f"user deep in c{length - 1}"]
+
+
+def settings(choices, first):
+    lines = []
+    if first.startswith("user"):
+        for word in ("login", "enable"):
+            if choices.chance(0.5):
+                lines.append(f"{word} {choices.choice(SECRETS)}")
+    if choices.chance(0.25):
+        lines.append(f"priv {choices.choice(['0', '1', '15', '7', '0015', '015'])}")
+    for _ in range(choices.choice([0, 0, 1, 1, 1, 2, 2, 3, 4])):
+        lines.append(f"{choices.choice(['permit', 'permit', 'deny'])} {pattern(choices)}")
+    if choices.chance(0.1):
+        choices.shuffle(lines)
+    return lines
+
+
+def dressed(choices, line):
+    """The line with leading blanks, or behind what is passed over."""
+    match choices.randrange(5):
+        case 0:
+            return "  " + line
+        case 1:
+            return "\n" + line
+        case 2:
+            return " # group x\n" + line
+        case 3:
+            return "#run\n   \n" + line
+    return line
+
+
+def refused(choices):
+    """Lines with something wrong, mostly one thing, sometimes several."""
+    lines = policy(choices)
+    for _ in range(choices.count(1, 3)):
+        at = choices.randrange(len(lines) + 1)
+        match choices.kind({"line": 50, "spoiled": 25, "chains": 15, "repeated": 10}):
+            case "line":
+                lines.insert(at, wrong_line(choices))
+            case "spoiled" if lines:
+                at = choices.randrange(len(lines))
+                lines[at] = choices.spoiled(lines[at], " \t\r\xe9#01aZ")
+            case "chains":
+                lines[at:at] = wrong_chains(choices)
+            case _ if lines:
+                lines.insert(at, choices.choice(lines))
+    return lines
+
+
+def wrong_line(choices):
+    name = choices.choice(GROUPS + USERS)
+    other = choices.choice(GROUPS + NO_NAMES)
+    none = choices.choice(NO_NAMES)
+    kind = choices.choice(["group", "user"])
+    return choices.choice(
+        [
+            f"{kind} {none}",
+            f"{kind} {name} in {none}",
+            f"{kind} {none} in {other}",
+            f"{kind} {name} in",
+            f"{kind} {name} ",
+            f"{kind} {name} of {other}",
+            f"{kind}  {name}",
+            f"{kind} {name} in {other} ",
+            f"{kind} {name} in absent",
+            f"{kind}",
+            f"{kind} ",
+            f"{kind.title()} {name}",
+            "login",
+            "login ",
+            "enable ",
+            "login " + "s" * choices.choice([127, 128, 129]),
+            "login x",
+            "enable x",
+            "priv",
+            "priv ",
+            "priv 16",
+            "priv 15 ",
+            "priv 00015",
+            "priv 0015",
+            "priv -1",
+            "priv 1a",
+            "priv \xb2",
+            "priv  1",
+            "priv 5",
+            "permit",
+            "deny",
+            "permit ",
+            f"permit {pattern(choices)}",
+            "permit *",
+            "deny [",
+            "deny a\xe9",
+            "allow a",
+            "run ",
+            " run",
+            "Run",
+            "#\xe9",
+            "   \x7f",
+            "\r",
+            "a" + "\x00",
+        ]
+    )
+
+
+def wrong_chains(choices):
+    return choices.choice(
+        [
+            ["group k1 in k2", "group k2 in k1"],
+            ["group k1 in k1"],
+            ["user k0 in k1", "group k1 in k2", "group k2 in k3", "group k3 in k1"],
+            ["group k1 in nowhere"],
+            ["user k1 in k2", "user k2"],
+            chain(9),
+            chain(10),
+            chain(9) + ["group k1 in k1"],
+            chain(9) + ["group k1 in nowhere"],
+            ["group k1 in k1", "user k0 in nowhere"],
+        ]
+    )

@@ -1,0 +1,5 @@
+"""What `tacd replay` and `tacd check` print, worked out plainly from the documents in docs/.
+
+Everything is searched and counted anew for each question: there are no automata that are kept, no
+running counts and no remembered decisions. `script.replay` and `check.check` are the two ways in.
+"""

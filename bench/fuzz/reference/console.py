@@ -1,0 +1,90 @@
+"""What the console answers to a line (docs/CONSOLE.md)."""
+
+from . import edits
+from .decisions import changes_of, decision_on, permits, reach_of, shadowed
+from .edits import is_subject
+from .policy import GROUP, USER, Refused, find, printed, refuse
+from .texts import is_name, is_text, lines_of, percent_form
+
+
+def answer(desk, line):
+    """The answer; an edit that is accepted changes the desk's policy."""
+    try:
+        lines = edit(desk, line) if line.partition(" ")[0] in edits.WORDS else ask(desk, line)
+    except Refused as fault:
+        lines = [f"refused {fault}"]
+    return "".join(said + "\n" for said in lines)
+
+
+def edit(desk, line):
+    before = desk.policy
+    desk.policy = edits.edited(before, line)
+    lines = ["ok"]
+    for user, permitted, denied in changes_of(before, desk.policy):
+        if permitted is not None:
+            lines.append(f"user {user} now permits: {permitted}")
+        if denied is not None:
+            lines.append(f"user {user} now denies: {denied}")
+    return lines
+
+
+def ask(desk, line):
+    if not is_text(line):
+        refuse(1, "BadEdit")
+    match line.split(" ", 2):
+        case ["policy"]:
+            return lines_of(printed(desk.policy))
+        case ["shadow"]:
+            return shadow_lines(desk.policy)
+        case ["records"]:
+            return record_lines(desk.records)
+        case ["reach", kind, name] if is_subject(kind, name):
+            return reach_lines(desk.policy, kind, name)
+        case ["tally", kind, name] if is_subject(kind, name):
+            return [tally_line(desk, kind, name)]
+        case ["why", name, *rest] if is_name(name):
+            return [why_line(desk, name, rest[0] if rest else "")]
+    refuse(1, "BadEdit")
+
+
+def shadow_lines(policy):
+    found = shadowed(policy)
+    return [f"shadowed in {subject.label()}: {entry}" for subject, entry in found] or ["none"]
+
+
+def reach_lines(policy, kind, name):
+    place = find(policy, kind, name)
+    if place is None:
+        refuse(2, "NoSuch")
+    lines = [
+        f"{entry} never reached" if least is None else f"{entry} first reached by: {least}"
+        for entry, least in reach_of(policy, policy[place])
+    ]
+    return lines or ["none"]
+
+
+def tally_line(desk, kind, name):
+    if kind == USER:
+        return f"tally user {name} {desk.tally(name)}"
+    if find(desk.policy, GROUP, name) is None:
+        refuse(2, "NoSuch")
+    return f"tally group {name} {desk.group_tally(name)}"
+
+
+def why_line(desk, name, line):
+    user = desk.user(name)
+    if user is None:
+        return "unknown user"
+    entry = decision_on(desk.policy, user, line)
+    return f"{'permitted' if permits(entry) else 'denied'} by {entry or 'default'}"
+
+
+def record_lines(records):
+    lines = []
+    for number, record in enumerate(records, start=1):
+        user, task = percent_form(record.user), percent_form(record.task)
+        line = f"record {number} user {user} {record.kind} task {task} elapsed {record.elapsed}"
+        if record.line is not None:
+            line += f" line {percent_form(record.line)}"
+        lines.append(line)
+    return lines or ["none"]

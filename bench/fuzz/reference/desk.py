@@ -1,0 +1,74 @@
+"""What logins, lines and records are answered by a policy and the records so far
+(docs/DEFINITIONS.md, "What the desk answers")."""
+
+import hashlib
+
+from .accounting import sum_of, tally_of
+from .decisions import chain_of, decision_on, permits
+from .policy import GROUP, USER, find
+from .texts import bytes_of, is_text
+
+MOST_RECORDS = 1_000_000
+ENABLE_SERVICE = 2
+
+
+class Desk:
+    def __init__(self, policy):
+        self.policy = policy
+        self.records = []
+
+    def user(self, name):
+        place = find(self.policy, USER, name)
+        return None if place is None else self.policy[place]
+
+    def secret_of(self, name, service):
+        user = self.user(name)
+        if user is None:
+            return None
+        secret = user.enable if service == ENABLE_SERVICE else user.login
+        return None if secret is None else bytes_of(secret)
+
+    def passes_by_password(self, name, service, password):
+        secret = self.secret_of(name, service)
+        return secret is not None and secret == password
+
+    def passes_by_response(self, name, service, data):
+        """A CHAP login: one byte of id, the challenge, and the 16 bytes of the response."""
+        secret = self.secret_of(name, service)
+        if secret is None or len(data) < 17:
+            return False
+        digest = hashlib.md5(data[:1] + secret + data[1:-16]).digest()
+        return digest == data[-16:]
+
+    def why_denied(self, name, line):
+        """The text of a refusal, or None where the line is permitted."""
+        user = self.user(name)
+        if user is None:
+            return "unknown user"
+        if not is_text(line):
+            return "unprintable command"
+        entry = decision_on(self.policy, user, line)
+        if permits(entry):
+            return None
+        return f"denied by {entry or 'default'}"
+
+    def store(self, record):
+        if len(self.records) == MOST_RECORDS:
+            return False
+        self.records.append(record)
+        return True
+
+    def tally(self, name):
+        records = [record for record in self.records if record.user == name]
+        return tally_of(records, lambda line: self.why_denied(name, line) is not None)
+
+    def group_tally(self, name):
+        return sum_of([self.tally(user.name) for user in self.users_of(name)])
+
+    def users_of(self, group):
+        for subject in self.policy:
+            if subject.kind == USER and any(
+                above.kind == GROUP and above.name == group
+                for above in chain_of(self.policy, subject)
+            ):
+                yield subject

@@ -1,0 +1,176 @@
+"""A policy's text: reading, refusals and printed form (docs/POLICY.md, "The text of a policy")."""
+
+from typing import NamedTuple, Optional
+
+from .patterns import BadPattern, Pattern, read_pattern
+from .texts import is_name, is_secret, is_text, number_of
+
+MOST_SUBJECTS = 1024
+MOST_RULES = 256
+LONGEST_CHAIN = 8
+HIGHEST_LEVEL = 15
+
+GROUP, USER = "group", "user"
+PERMIT, DENY = "permit", "deny"
+
+
+class Rule(NamedTuple):
+    verdict: str
+    pattern: Pattern
+
+
+class Subject(NamedTuple):
+    kind: str
+    name: str
+    parent: Optional[str] = None
+    login: Optional[str] = None
+    enable: Optional[str] = None
+    level: Optional[int] = None
+    rules: tuple = ()
+
+    def label(self):
+        return f"{self.kind} {self.name}"
+
+
+class Refused(Exception):
+    """A refusal as it is printed: `N REFUSAL`, with what a pattern adds."""
+
+
+class BadPolicy(Exception):
+    def __init__(self, line, refused):
+        super().__init__(line, refused)
+        self.line = line
+        self.refused = refused
+
+
+def refuse(number, name):
+    raise Refused(f"{number} {name}")
+
+
+def read_policy(lines, first_line=1):
+    """The policy that the lines say: a tuple of subjects. Lines count from the number given."""
+    reader = Reader()
+    for number, line in enumerate(lines, start=first_line):
+        try:
+            reader.read(line, number)
+        except Refused as fault:
+            raise BadPolicy(number, str(fault)) from None
+    reader.judge_chains()
+    return tuple(reader.subjects)
+
+
+class Reader:
+    def __init__(self):
+        self.subjects = []
+        self.lines = []  # The line at which each subject stands.
+
+    def read(self, line, number):
+        if not is_text(line):
+            refuse(1, "BadLine")
+        line = line.lstrip(" ")
+        if line == "" or line.startswith("#"):
+            return
+        word, blank, rest = line.partition(" ")
+        if not blank:
+            refuse(1, "BadLine")
+        if word in (GROUP, USER):
+            self.begin(word, rest.split(" "), number)
+        elif word in ("login", "enable"):
+            self.set_secret(word, rest)
+        elif word == "priv":
+            self.set_level(rest)
+        elif word in (PERMIT, DENY):
+            self.add_rule(word, rest)
+        else:
+            refuse(1, "BadLine")
+
+    def begin(self, kind, fields, number):
+        if len(fields) not in (1, 3) or len(fields) == 3 and fields[1] != "in":
+            refuse(1, "BadLine")
+        if not all(is_name(name) for name in fields[::2]):
+            refuse(2, "BadName")
+        if find(self.subjects, kind, fields[0]) is not None:
+            refuse(3, "Repeated")
+        if len(self.subjects) == MOST_SUBJECTS:
+            refuse(10, "Limit")
+        self.subjects.append(Subject(kind, fields[0], fields[2] if len(fields) == 3 else None))
+        self.lines.append(number)
+
+    def last(self):
+        if not self.subjects:
+            refuse(4, "NoSubject")
+        return self.subjects[-1]
+
+    def set_secret(self, word, text):
+        if self.subjects and self.subjects[-1].kind == GROUP:
+            refuse(1, "BadLine")
+        if getattr(self.last(), word) is not None:
+            refuse(3, "Repeated")
+        if not is_secret(text):
+            refuse(6, "BadValue")
+        self.subjects[-1] = self.last()._replace(**{word: text})
+
+    def set_level(self, text):
+        if " " in text:
+            refuse(1, "BadLine")
+        if self.last().level is not None:
+            refuse(3, "Repeated")
+        level = number_of(text, 4)
+        if level is None or level > HIGHEST_LEVEL:
+            refuse(6, "BadValue")
+        self.subjects[-1] = self.last()._replace(level=level)
+
+    def add_rule(self, verdict, source):
+        subject = self.last()
+        try:
+            rule = Rule(verdict, read_pattern(source))
+        except BadPattern as fault:
+            raise Refused(f"5 BadPattern {fault}") from None
+        if len(subject.rules) == MOST_RULES:
+            refuse(10, "Limit")
+        self.subjects[-1] = subject._replace(rules=subject.rules + (rule,))
+
+    def judge_chains(self):
+        groups = {subject.name for subject in self.subjects if subject.kind == GROUP}
+        lengths = [chain_length(self.subjects, subject) for subject in self.subjects]
+        for line, subject in zip(self.lines, self.subjects):
+            if subject.parent is not None and subject.parent not in groups:
+                raise BadPolicy(line, "7 NoSuchParent")
+        for line, length in zip(self.lines, lengths):
+            if length is None:
+                raise BadPolicy(line, "8 Cycle")
+        for line, length in zip(self.lines, lengths):
+            if length > LONGEST_CHAIN:
+                raise BadPolicy(line, "9 TooDeep")
+
+
+def find(subjects, kind, name):
+    for place, subject in enumerate(subjects):
+        if subject.kind == kind and subject.name == name:
+            return place
+    return None
+
+
+def chain_length(subjects, subject):
+    """How many subjects the chain has, as far as groups are found; None where it doesn't end."""
+    parents = {group.name: group.parent for group in subjects if group.kind == GROUP}
+    length, parent = 1, subject.parent
+    while parent is not None and parent in parents:
+        if length > len(subjects):
+            return None
+        length, parent = length + 1, parents[parent]
+    return length
+
+
+def printed(policy):
+    lines = []
+    for subject in policy:
+        lines.append(subject.label() + (f" in {subject.parent}" if subject.parent else ""))
+        if subject.login is not None:
+            lines.append(f"login {subject.login}")
+        if subject.enable is not None:
+            lines.append(f"enable {subject.enable}")
+        if subject.level is not None:
+            lines.append(f"priv {subject.level}")
+        lines.extend(f"{rule.verdict} {rule.pattern.source}" for rule in subject.rules)
+    return "".join(line + "\n" for line in lines)

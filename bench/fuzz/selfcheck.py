@@ -1,0 +1,68 @@
+"""Whether the generator finds mistakes: each wrong body of the reference is compared with the right
+one, on scripts of a seed, until one differs."""
+
+import importlib
+import pathlib
+import shutil
+import sys
+import tempfile
+
+from generator.choices import Choices
+from generator.scripts import case
+from running import by_reference
+from wrong_bodies import WRONG_BODIES
+
+REFERENCE = pathlib.Path(__file__).with_name("reference")
+
+
+class Mutant:
+    """A copy of the reference with one mistake."""
+
+    def __init__(self, body, folder, name):
+        self.body = body
+        self.found = None
+        package = pathlib.Path(folder, name)
+        shutil.copytree(REFERENCE, package, ignore=shutil.ignore_patterns("__pycache__"))
+        module = package / body.module
+        text = module.read_text()
+        if text.count(body.old) != 1:
+            sys.exit(f"{body.module} doesn't have exactly once: {body.old}")
+        module.write_text(text.replace(body.old, body.new))
+        self.replay = importlib.import_module(f"{name}.script").replay
+        self.check = importlib.import_module(f"{name}.check").check
+
+    def differs(self, case, right):
+        try:
+            return by_reference(case, self.replay, self.check) != right
+        except Exception:  # A wrong body may fail in any way, which a program would show too.
+            return True
+
+
+def run(seed, count):
+    with tempfile.TemporaryDirectory(prefix="tacd-fuzz-") as folder:
+        sys.path.insert(0, folder)
+        mutants = [
+            Mutant(body, folder, f"wrong_body_{number}")
+            for number, body in enumerate(WRONG_BODIES)
+        ]
+        for number in range(count):
+            left = [mutant for mutant in mutants if mutant.found is None]
+            if not any(mutant.body.shows for mutant in left):
+                break
+            drawn = case(Choices(f"{seed}:{number}"))
+            right = by_reference(drawn)
+            for mutant in left:
+                if mutant.differs(drawn, right):
+                    mutant.found = number
+    return tell(mutants)
+
+
+def tell(mutants):
+    wrong = 0
+    for mutant in mutants:
+        said = "no script" if mutant.found is None else f"script {mutant.found}"
+        as_wanted = mutant.body.shows == (mutant.found is not None)
+        wrong += not as_wanted
+        print(f"{said:13} {mutant.body.name}" + ("" if as_wanted else ": not as it should be"))
+    print(f"{len(mutants)} wrong bodies, {wrong} not as they should be")
+    return 1 if wrong else 0

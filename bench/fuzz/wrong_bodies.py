@@ -1,0 +1,221 @@
+"""Wrong bodies of the reference: in a module one text is put for another.
+
+Those that don't show are right in another way, so that a script that differs on one of them would
+tell of a fault in the comparison itself.
+"""
+
+from typing import NamedTuple
+
+
+class WrongBody(NamedTuple):
+    name: str
+    module: str
+    old: str
+    new: str
+    shows: bool = True
+
+
+WRONG_BODIES = [
+    # Patterns and what is looked for with them.
+    WrongBody(
+        "a ^ in the middle of a class negates it",
+        "patterns.py",
+        'negated = self.source[self.place : self.place + 1] == "^"',
+        'negated = "^" in self.source[self.place : self.source.find("]", self.place)]',
+    ),
+    WrongBody(
+        "the first parenthesis that isn't closed is named",
+        "patterns.py",
+        "open_places[-1][0]",
+        "open_places[0][0]",
+    ),
+    WrongBody(
+        "a + holds the empty text",
+        "patterns.py",
+        'return star if kind == "*" else factors + star',
+        "return star",
+    ),
+    WrongBody(
+        "a pattern may have one factor more",
+        "patterns.py",
+        "> MOST_FACTORS",
+        "> MOST_FACTORS + 1",
+    ),
+    WrongBody(
+        "a star goes on only with what it begins with",
+        "residuals.py",
+        "return derivatives(rest, symbol).union(inside)",
+        "return frozenset(inside) or derivatives(rest, symbol)",
+    ),
+    WrongBody(
+        "the last rule that matches decides",
+        "residuals.py",
+        "for place, residual in enumerate(state):",
+        "for place, residual in reversed(list(enumerate(state))):",
+    ),
+    WrongBody(
+        "columns are spelled by their greatest symbols",
+        "residuals.py",
+        "for symbol in SYMBOLS:\n        least",
+        "for symbol in reversed(SYMBOLS):\n        least",
+    ),
+    WrongBody(
+        "a subject may have one state more",
+        "decisions.py",
+        "has_more_states(patterns, MOST_STATES)",
+        "has_more_states(patterns, MOST_STATES - 1)",
+    ),
+    WrongBody(
+        "a group's rules come before a user's own",
+        "decisions.py",
+        "for owner in chain_of(policy, subject)\n        for number",
+        "for owner in reversed(chain_of(policy, subject))\n        for number",
+    ),
+    WrongBody(
+        "the level of the farthest group counts",
+        "decisions.py",
+        "levels[0] if",
+        "levels[-1] if",
+    ),
+    WrongBody(
+        "users that were taken out are told no changes of",
+        "decisions.py",
+        "for user in users + gone:",
+        "for user in users:",
+    ),
+    # The policy's text and edits.
+    WrongBody(
+        "a cycle is told before a group that isn't there",
+        "policy.py",
+        'raise BadPolicy(line, "7 NoSuchParent")',
+        'raise BadPolicy(line, "8 Cycle" if None in lengths else "7 NoSuchParent")',
+    ),
+    WrongBody(
+        "a secret before any subject is a bad line",
+        "policy.py",
+        "if self.subjects and self.subjects[-1].kind == GROUP:",
+        "if not self.subjects or self.subjects[-1].kind == GROUP:",
+    ),
+    WrongBody(
+        "only the chain of who is moved is judged",
+        "edits.py",
+        "lengths = [chain_length(after, subject) for subject in after]",
+        "lengths = [chain_length(after, after[place])]",
+    ),
+    WrongBody(
+        "a group may be removed while users belong to it",
+        "edits.py",
+        "any(subject.parent == name for subject in policy)",
+        "any(subject.parent == name and subject.kind == GROUP for subject in policy)",
+    ),
+    WrongBody(
+        "a rule is shifted to the place before the one that it should have",
+        "edits.py",
+        "others[: target - 1] + (rules[source - 1],) + others[target - 1 :]",
+        "others[: target - 2 + (target <= source)] + (rules[source - 1],)"
+        " + others[target - 2 + (target <= source) :]",
+    ),
+    WrongBody(
+        "a pattern is judged before the place of its rule",
+        "edits.py",
+        "    rules = policy[place].rules\n    if not 1 <= at <= len(rules) + 1:",
+        "    rules = policy[place].rules\n    try:\n        read_pattern(source)\n"
+        "    except BadPattern as fault:\n"
+        '        raise Refused(f"8 BadPattern {fault}") from None\n'
+        "    if not 1 <= at <= len(rules) + 1:",
+    ),
+    # Connections.
+    WrongBody(
+        "each block of the pad is the first",
+        "wire.py",
+        "hashlib.md5(seed + digest)",
+        "hashlib.md5(seed)",
+    ),
+    WrongBody(
+        "the rest of a piece is forgotten where a packet isn't whole",
+        "conversations.py",
+        "if len(self.unread) < end:\n",
+        "if len(self.unread) < end:\n                self.unread = b''\n",
+    ),
+    WrongBody(
+        "each packet says anew whether a connection is single",
+        "conversations.py",
+        "if self.single is None:",
+        "if header.seq_no == 1:",
+    ),
+    WrongBody(
+        "a session stays open after its last reply",
+        "conversations.py",
+        "self.sessions.pop(session_id, None)",
+        "session_id",
+    ),
+    WrongBody(
+        "seventeen sessions may be open",
+        "conversations.py",
+        "== MOST_SESSIONS",
+        "> MOST_SESSIONS",
+    ),
+    WrongBody(
+        "a login goes by the policy that was when its connection began",
+        "conversations.py",
+        "self.desk = desk",
+        "self.desk = type(desk)(desk.policy)\n        self.desk.records = desk.records",
+    ),
+    WrongBody(
+        "only the flags 1 abort a login",
+        "wire.py",
+        "flags & 0x01 != 0)",
+        "flags == 0x01)",
+    ),
+    WrongBody(
+        "a response without a challenge is refused",
+        "desk.py",
+        "len(data) < 17",
+        "len(data) < 18",
+    ),
+    WrongBody(
+        "any service may be the shell, not only the first",
+        "accounting.py",
+        'first_value(pairs, "service") != "shell"',
+        '("service", "shell") not in pairs',
+    ),
+    WrongBody(
+        "a level is sent with each permitted line",
+        "conversations.py",
+        'if line == "" and level is not None',
+        "if level is not None",
+    ),
+    # Records and the console.
+    WrongBody(
+        "a watchdog ends its task",
+        "accounting.py",
+        "if record.kind in (START, STOP)}",
+        "}",
+    ),
+    WrongBody(
+        "what drift was found to be stays after an edit",
+        "desk.py",
+        "self.why_denied(name, line) is not None)",
+        "vars(self).setdefault((name, line), self.why_denied(name, line) is not None))",
+    ),
+    WrongBody(
+        "a group's tally has only the users right under it",
+        "desk.py",
+        "for above in chain_of(self.policy, subject)",
+        "for above in chain_of(self.policy, subject)[:2]",
+    ),
+    WrongBody(
+        "percent forms are in lower case",
+        "texts.py",
+        ":02X}",
+        ":02x}",
+    ),
+    WrongBody(
+        "all symbols are tried, and not only the least of those that are alike",
+        "decisions.py",
+        "for text, state in states_with_least_texts(patterns_of(entries)):",
+        "for text, state in states_with_least_texts(\n"
+        "        patterns_of(entries), lambda _: map(chr, range(0x20, 0x7F))\n    ):",
+        shows=False,
+    ),
+]
