@@ -146,8 +146,9 @@ def size_of(unit):
         return 1 + sum(size_of_sequence(sequence) for sequence in content)
     if kind == "?":
         return 1 + size_of(content)
-    starred = size_of(content) if is_one_group(content) else 1 + size_of(content)
-    return starred if kind == "*" else size_of(content) + starred
+    size = size_of(content)
+    starred = size if is_one_group(content) else 1 + size
+    return starred if kind == "*" else size + starred
 
 
 def terms_of(alternatives):

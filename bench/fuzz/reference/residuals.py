@@ -10,8 +10,8 @@ from .patterns import CLASS, GROUP
 from .texts import SYMBOLS
 
 
-# Remembered only because groups that hold the empty text many times over, as in `(|)(|)(|)`, would
-# take exponential time.
+# These are remembered only for time: groups that hold the empty text many times over, as in
+# `(|)(|)(|)`, would take exponential time, and searches ask the same of one pattern very often.
 @functools.lru_cache(maxsize=100_000)
 def derivatives(term, symbol):
     if not term:
@@ -33,21 +33,29 @@ def holds_empty(term):
     return True
 
 
+@functools.lru_cache(maxsize=100_000)
+def residual_behind(residual, symbol):
+    return frozenset().union(*(derivatives(term, symbol) for term in residual))
+
+
+@functools.lru_cache(maxsize=100_000)
+def is_match(residual):
+    """Whether the pattern holds the text so far."""
+    return any(holds_empty(term) for term in residual)
+
+
 def start(patterns):
     return tuple(frozenset(pattern.terms) for pattern in patterns)
 
 
 def step(state, symbol):
-    return tuple(
-        frozenset(left for term in residual for left in derivatives(term, symbol))
-        for residual in state
-    )
+    return tuple(residual_behind(residual, symbol) for residual in state)
 
 
 def first_match(state):
     """The place of the first pattern that holds the text so far, or None."""
     for place, residual in enumerate(state):
-        if any(holds_empty(term) for term in residual):
+        if is_match(residual):
             return place
     return None
 
