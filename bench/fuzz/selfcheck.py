@@ -54,15 +54,18 @@ def run(seed, count):
             for mutant in left:
                 if mutant.differs(drawn, right):
                     mutant.found = number
+                    print(f"script {number}: {mutant.body.name}", flush=True)
     return tell(mutants)
 
 
 def tell(mutants):
     wrong = 0
     for mutant in mutants:
-        said = "no script" if mutant.found is None else f"script {mutant.found}"
-        as_wanted = mutant.body.shows == (mutant.found is not None)
-        wrong += not as_wanted
-        print(f"{said:13} {mutant.body.name}" + ("" if as_wanted else ": not as it should be"))
-    print(f"{len(mutants)} wrong bodies, {wrong} not as they should be")
+        if mutant.body.shows and mutant.found is None:
+            wrong += 1
+            print(f"no script finds: {mutant.body.name}")
+        elif not mutant.body.shows and mutant.found is not None:
+            wrong += 1
+            print(f"not wrong, and found all the same: {mutant.body.name}")
+    print(f"{len(mutants)} bodies, {wrong} not as they should be")
     return 1 if wrong else 0

@@ -45,7 +45,7 @@ class Client:
         self.logins = {}
         self.next_id = choices.choice([1, 2, 0x01020304, 0xFFFFFFFE])
         self.prefers = choices.choice(["login", "line", "record", None, None])
-        self.many_logins = choices.chance(0.04)
+        self.many_logins = self.flags and choices.chance(0.06)
 
     def packet(self):
         choices = self.choices
@@ -225,7 +225,7 @@ def request(choices, user, arguments):
 
 def arguments(choices, world):
     """The arguments that make a line, or nearly do."""
-    command = "" if choices.chance(0.15) else line(choices, world.patterns())
+    command = "" if choices.chance(0.2) else line(choices, world.patterns())
     found = ["service=shell"] + command_arguments(choices, command)
     if choices.chance(0.2):
         found.insert(choices.randrange(len(found) + 1), odd_argument(choices))
@@ -334,6 +334,9 @@ class World:
     def secret(self, user, enable):
         secret = self.server.desk.secret_of(user, ENABLE if enable else 1)
         return None if secret is None else text_of(secret)
+
+    def has_records(self):
+        return bool(self.server.desk.records)
 
     def patterns(self):
         return [rule.pattern for subject in self.subjects() for rule in subject.rules]

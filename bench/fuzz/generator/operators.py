@@ -91,7 +91,7 @@ class Operator:
             case "insert":
                 verdict = choices.choice(["permit", "deny"])
                 at = self.place(rules + 1)
-                return f"insert {kind} {name} {at} {verdict} {pattern(choices)}"
+                return f"insert {kind} {name} {at} {verdict} {pattern(choices, 0.12)}"
             case "drop":
                 return f"drop {kind} {name} {self.place(rules)}"
         return f"shift {kind} {name} {self.place(rules)} {self.place(rules)}"
@@ -112,8 +112,9 @@ class Operator:
         choices = self.choices
         kind, name, _ = self.subject()
         _, user, _ = self.subject("user")
+        tally = 60 if self.world.has_records() else 10
         asked = choices.kind(
-            {"policy": 12, "shadow": 15, "reach": 20, "tally": 18, "why": 25, "records": 10}
+            {"policy": 12, "shadow": 15, "reach": 20, "tally": tally, "why": 25, "records": 10}
         )
         match asked:
             case "reach" | "tally":

@@ -7,11 +7,12 @@ SPECIAL = "|*+?.[()\\"
 ODD_LITERALS = "^-]{}~\"#%0Z"
 
 
-def pattern(choices):
+def pattern(choices, wrong=0.02):
     """Mostly small ones that are right: an operator here and there over few symbols."""
-    kind = choices.kind(
-        {"drawn": 60, "words": 25, "all": 5, "empty": 3, "spoiled": 4, "invalid": 3}
-    )
+    if choices.chance(wrong):
+        kind = choices.choice(["spoiled", "invalid"])
+    else:
+        kind = choices.kind({"drawn": 60, "words": 25, "all": 5, "empty": 3})
     match kind:
         case "drawn":
             return alternatives(choices, choices.count(1, 7), 3)
@@ -135,7 +136,8 @@ def invalid(choices):
             "(" * opened + "]*[",
             "a" + "+" * repeats,
             "(a" + "+" * repeats + ")",
-            "(" * 10 + "a" * 150 + ")" * 10 + "+" * choices.choice([0, 1, 2]),
+            "(" + "a+" * 66 + ")+" + "a" * choices.choice([1, 2, 3]),  # 399 to 401 factors.
+            "(a|(b)(" + "(" * choices.count(0, 3) + "a)",
             "a" * length,
             "(" + "a" * length,
             "a" * (length - 1) + "\\",

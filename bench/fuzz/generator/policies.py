@@ -32,8 +32,8 @@ def subject_lines(choices):
         lines.append(f"user {name}" + (f" in {above}" if above else ""))
     if choices.chance(0.3):
         choices.shuffle(lines)
-    if choices.chance(0.04):
-        lines += chain(choices.choice([6, 7, 8]))
+    if choices.chance(0.1):
+        lines += chain(choices.choice([4, 6, 7, 8]))
     return lines
 
 
@@ -49,12 +49,14 @@ def settings(choices, first):
         for word in ("login", "enable"):
             if choices.chance(0.5):
                 lines.append(f"{word} {choices.choice(SECRETS)}")
-    if choices.chance(0.25):
+    if choices.chance(0.35):
         lines.append(f"priv {choices.choice(['0', '1', '15', '7', '0015', '015'])}")
     for _ in range(choices.choice([0, 0, 1, 1, 1, 2, 2, 3, 4])):
         lines.append(f"{choices.choice(['permit', 'permit', 'deny'])} {pattern(choices)}")
     if choices.chance(0.1):
         choices.shuffle(lines)
+    if choices.chance(0.1):
+        lines.append("permit ()")
     return lines
 
 
@@ -76,7 +78,7 @@ def refused(choices):
     """Lines with something wrong, mostly one thing, sometimes several."""
     lines = policy(choices)
     for _ in range(choices.count(1, 3)):
-        at = choices.randrange(len(lines) + 1)
+        at = 0 if choices.chance(0.1) else choices.randrange(len(lines) + 1)
         match choices.kind({"line": 50, "spoiled": 25, "chains": 15, "repeated": 10}):
             case "line":
                 lines.insert(at, wrong_line(choices))

@@ -25,7 +25,7 @@ class Case(NamedTuple):
 
 def case(choices):
     kind = choices.kind(
-        {"script": 790, "refused": 60, "head": 20, "spoiled": 20, "check": 95, "limit": 15}
+        {"script": 780, "refused": 70, "head": 20, "spoiled": 20, "check": 95, "limit": 15}
     )
     match kind:
         case "check":
@@ -156,7 +156,8 @@ class Device:
         if self.client is None:
             self.client = Client(choices, self.world)
         if not self.unsent:
-            packets = [self.client.packet() for _ in range(choices.count(1, 3))]
+            most = 9 if self.client.many_logins else 3
+            packets = [self.client.packet() for _ in range(choices.count(1, most))]
             if not self.cuts or choices.chance(0.2):
                 words = [self.hex(packet.clear()) for packet in packets]
                 return f"packet {self.number} {' '.join(words)}"
