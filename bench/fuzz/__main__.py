@@ -15,7 +15,7 @@ The program is crates/tacd/out/tacd unless another path is given; build it by `.
 Script number K of a seed is the same whatever the count is: `show` prints it, and what the
 reference makes of it. 30,000 scripts, the default, take about twenty minutes of one core.
 
-`selfcheck` needs no program. Wrong bodies of the reference, one mistake each, stand in for a program
+`selfcheck` needs no program. It takes wrong bodies of the reference, one mistake each, for programs
 with such a mistake, and each has to be found by a script (wrong_bodies.py).
 
 It takes Python 3.10 or later, and nothing beside its standard library. The status is 0 where there

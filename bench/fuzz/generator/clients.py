@@ -1,4 +1,4 @@
-"""What a device sends on a connection: logins, requests and records, with a thing wrong at times."""
+"""What a device sends: logins, requests and records, with a thing wrong now and then."""
 
 import hashlib
 from typing import NamedTuple
@@ -164,7 +164,8 @@ class Client:
     def spoiled_header(self, packet):
         choices, header = self.choices, packet.header
         other = choices.choice([0, 1, 2, 3, 4, 5, 255, choices.randrange(256)])
-        match choices.kind({"version": 2, "kind": 2, "seq_no": 3, "flags": 2, "id": 3, "length": 2}):
+        parts = {"version": 2, "kind": 2, "seq_no": 3, "flags": 2, "id": 3, "length": 2}
+        match choices.kind(parts):
             case "version":
                 version = choices.choice([0xC2, 0xD0, 0xB0, 0xCF, 0x00, header.version ^ 1])
                 header = header._replace(version=version)
@@ -299,8 +300,8 @@ def record_arguments(choices, world):
     if choices.chance(0.75):
         found += arguments(choices, world)
     if choices.chance(0.15):
-        extra = ["task_id=9", "elapsed_time=5", "elapsed_time", "task_id", "task_id=%\xe9", "stop=1"]
-        found.insert(choices.randrange(len(found) + 1), choices.choice(extra))
+        odd = ["task_id=9", "elapsed_time=5", "elapsed_time", "task_id", "task_id=%\xe9", "stop=1"]
+        found.insert(choices.randrange(len(found) + 1), choices.choice(odd))
     if choices.chance(0.2):
         choices.shuffle(found)
     return found
@@ -309,8 +310,8 @@ def record_arguments(choices, world):
 def elapsed(choices):
     if choices.chance(0.7):
         return str(choices.randrange(100))
-    odd = ["4294967295", "4294967296", "0012", "0" * 30 + "7", "9" * 40, "", "-1", "1 ", "1a", "\xb2"]
-    return choices.choice(odd)
+    near_the_end = ["4294967295", "4294967296", "0" * 30 + "7", "9" * 40]
+    return choices.choice([*near_the_end, "0012", "", "-1", "1 ", "1a", "\xb2"])
 
 
 class World:

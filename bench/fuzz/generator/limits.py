@@ -1,4 +1,4 @@
-"""Policies and events at the limits of sizes and numbers, each one dear, so they are drawn rarely."""
+"""Policies and events at the limits of sizes and numbers: dear ones, which are drawn rarely."""
 
 from reference.wire import AUTHORISATION, Header
 
@@ -101,7 +101,8 @@ def many_lines(choices):
     again = choices.sample(numbers, 20)
     for at, number in enumerate(numbers + again, start=1):
         if at % 100 == 0:
-            found.append(f"console {choices.choice(['drop user u 1', 'insert user u 1 permit a..7'])}")
+            edit = choices.choice(["drop user u 1", "insert user u 1 permit a..7"])
+            found.append(f"console {edit}")
         arguments = [b"service=shell", b"cmd=a%d" % number]
         sizes = [1, 0, 0, len(arguments)] + [len(argument) for argument in arguments]
         body = bytes([6, 1, 1, 1] + sizes) + b"u" + b"".join(arguments)

@@ -179,12 +179,14 @@ class Device:
 def odd_event(choices):
     header = "c00201000000000100000000"
     return choices.choice(
-        ["", "#", " ", "open", "open ", "open 1 ", "open  3", "open 65536", "open 000001", "open x"]
-        + ["lost", "lost 99999", "lost 60000", "lost 1 2", "pieces 0", "pieces 00001", "pieces", "run"]
-        + ["packet 1", "packet 1 ", "packet 1 c0", f"packet 9 {header}", "packet 9 c0", "packet"]
-        + [f"packet 1  {header}", f"packet 1 {header} ", f"packet 9 {header} c0", f"packet x {header}"]
-        + ["bytes 1", "bytes 9 c0", "bytes 9 c", "bytes 1 c", "bytes 1 zz", "bytes 1 c0 c0", "bytes 9 "]
-        + ["console", "Console policy", "close 1", f"open 1 {header}", "key k", f"packet 9 {header}0"]
+        ["", "#", " ", "run", "key k", "close 1", "console", "Console policy"]
+        + ["open", "open ", "open 1 ", "open  3", "open 65536", "open 000001", "open x"]
+        + ["lost", "lost 99999", "lost 60000", "lost 1 2", "pieces 0", "pieces 00001", "pieces"]
+        + ["packet", "packet 1", "packet 1 ", "packet 1 c0", "packet 9 c0", f"packet 9 {header}"]
+        + [f"packet 1  {header}", f"packet 1 {header} ", f"packet 9 {header} c0"]
+        + [f"packet x {header}", f"packet 9 {header}0", f"open 1 {header}"]
+        + ["bytes 1", "bytes 9 c0", "bytes 9 c", "bytes 1 c", "bytes 1 zz", "bytes 1 c0 c0"]
+        + ["bytes 9 ", "bytes 9 c0 c0"]
     )
 
 
