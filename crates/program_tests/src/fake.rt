@@ -216,13 +216,13 @@ impl Eprint for Fake<'_> {
 /// A file that is read alone, or a folder, which can be opened and not read.
 #[derive(Drop)]
 pub(crate) struct FakeFile {
-    is_folder: bool,
+    is_unreadable: bool,
     rest: &'static [u8],
 }
 
 impl Read for FakeFile {
     fn read(&mut self, buf: &mut [u8]) -> io::Result<usize> {
-        if self.is_folder {
+        if self.is_unreadable {
             return Err(io::Error::from(ErrorKind::IsADirectory));
         }
         self.rest.read(buf)
@@ -273,11 +273,11 @@ impl Files for Fake<'_> {
             "policy" => self.policy,
             "key" => "k \nthe second line\n",
             "bad-key" => "tun\tdra\n",
-            "no-key" | "folder" => "",
+            "no-key" | "unreadable" => "",
             _ => return Err(io::Error::from(ErrorKind::NotFound)),
         };
         Ok(FakeFile {
-            is_folder: path == "folder",
+            is_unreadable: path == "unreadable",
             rest: text.as_bytes(),
         })
     }
@@ -286,8 +286,11 @@ impl Files for Fake<'_> {
         Err(io::Error::from(ErrorKind::Unsupported))
     }
 
-    fn metadata(&self, _path: &str) -> io::Result<Metadata> {
-        Err(io::Error::from(ErrorKind::Unsupported))
+    fn metadata(&self, path: &str) -> io::Result<Metadata> {
+        match path {
+            "folder" => Ok(Metadata::of_dir()),
+            _ => Err(io::Error::from(ErrorKind::Unsupported)),
+        }
     }
 
     fn symlink_metadata(&self, _path: &str) -> io::Result<Metadata> {

@@ -247,11 +247,21 @@ fn serves_on_no_port(rt: HostRuntime) -> Result<(), Fail> {
     Ok(())
 }
 
+// Paths that are there and can't be read.
+const UNREAD: [(&str, &str); 2] = [
+    ("folder", "tacd: folder: it is a folder\n"),
+    ("unreadable", "tacd: unreadable: it could not be read\n"),
+];
+
 #[test]
 fn serves_no_file(rt: HostRuntime) {
     let nowhere = "tacd: nowhere: entity not found\n";
-    let folder = "tacd: folder: it could not be read\n";
     let unwritten = "tacd: the output could not be written\n";
+    for (path, complained) in UNREAD {
+        if let Ok(words) = format!(in rt.alloc(); "tacd serve --port 1 --key k {path}") {
+            ends(&rt, words.as_str(), "", true, 4, "", complained);
+        }
+    }
     ends(
         &rt,
         "tacd serve --port 1 --key k nowhere",
@@ -260,15 +270,6 @@ fn serves_no_file(rt: HostRuntime) {
         4,
         "",
         nowhere,
-    );
-    ends(
-        &rt,
-        "tacd serve --port 1 --key k folder",
-        "",
-        true,
-        4,
-        "",
-        folder,
     );
     ends(
         &rt,
@@ -284,10 +285,13 @@ fn serves_no_file(rt: HostRuntime) {
 #[test]
 fn checks_no_file(rt: HostRuntime) {
     let nowhere = "tacd: nowhere: entity not found\n";
-    let folder = "tacd: folder: it could not be read\n";
     let unwritten = "tacd: the output could not be written\n";
+    for (path, complained) in UNREAD {
+        if let Ok(words) = format!(in rt.alloc(); "tacd check {path}") {
+            ends(&rt, words.as_str(), "", true, 4, "", complained);
+        }
+    }
     ends(&rt, "tacd check nowhere", "", true, 4, "", nowhere);
-    ends(&rt, "tacd check folder", "", true, 4, "", folder);
     ends(&rt, "tacd check policy", "", false, 4, "", unwritten);
     ends(&rt, "tacd check policy", "x", false, 4, "", unwritten);
 }
@@ -424,7 +428,8 @@ fn key_files(rt: HostRuntime) {
     let first = "its first line is not 1 to 128 printable ASCII characters\n";
     let cases = [
         ("nowhere", 4, "tacd: nowhere: entity not found\n"),
-        ("folder", 4, "tacd: folder: it could not be read\n"),
+        ("folder", 4, "tacd: folder: it is a folder\n"),
+        ("unreadable", 4, "tacd: unreadable: it could not be read\n"),
         ("key", 4, "tacd: nobody: entity not found\n"),
     ];
     for (path, status, complained) in cases {

@@ -18,8 +18,20 @@ use tac_console::{write_build_fault, write_policy_fault};
 use tac_desks::{LiveDesk, MAX_RECORDS};
 use tac_io::{AnswerFault, InputFault, MAX_INPUT, read_whole, write_answer};
 
+// Whether a folder lies at the path: that could be opened, and its first read would fail.
+fn is_folder<R: Files>(rt: &R, path: &str) -> bool {
+    match fs::metadata(rt, path) {
+        Ok(metadata) => metadata.is_dir(),
+        Err(_) => false,
+    }
+}
+
 /// A file to be read. The error is the status to end with, and why was said.
 pub(crate) fn open_file<R: Files + Eprint>(rt: &R, path: &str) -> Result<R::File, Status> {
+    if is_folder(rt, path) {
+        let _ = eprintln!(rt; "tacd: {path}: it is a folder");
+        return Err(Status::Failed);
+    }
     match fs::open(rt, path) {
         Ok(file) => Ok(file),
         Err(error) => {
