@@ -1,0 +1,9 @@
+//! What two policies decide otherwise: whichever policies they are, and not only before and after
+//! an edit.
+#![tactic(auto)]
+
+mod comparing;
+mod differing;
+mod known;
+
+pub use comparing::compare;
