@@ -1,0 +1,3 @@
+pub mod OnlyFacts
+pub mod TableFacts
+pub mod ReadingFacts

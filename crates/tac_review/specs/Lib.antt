@@ -1,0 +1,5 @@
+pub mod Judged
+pub mod Asking
+pub mod Tables
+pub mod Review
+pub mod Reading

@@ -1,0 +1,94 @@
+-- What a review of two inputs prints, and how it ends (docs/REVIEW.md). The first is a policy.
+use Rattle.std.specs.Prelude.{◌≡◌, ℕ, List, [], ◌∷◌, ◌++◌, codes, Option, Some, None, Result, Ok}
+use Rattle.std.specs.Prelude.{Err}
+use Rattle.std.specs.List.{flat_map}
+use Rattle.basics.specs.Lines.{lines_of}
+use Rattle.pol_text.specs.declared.subject.Subject.{Subject}
+use Rattle.pol_meaning.specs.Changes.{AreChanges}
+use Rattle.pol_meaning.specs.declared.Changed.{Changed}
+use Rattle.tac_desk.specs.declared.query.Query.{Query}
+use Rattle.tac_console.specs.Answers.{changed_lines}
+use Rattle.tac_console.specs.Faults.{fault_line}
+use Rattle.tac_review.specs.Judged.{Judges}
+use Rattle.tac_review.specs.Asking.{question_of, answer_to}
+use Rattle.tac_review.specs.Tables as tables
+use Rattle.tac_review.specs.declared.task.Review.{Review}
+use Rattle.tac_review.specs.declared.task.Review.TheVariants.{Diff, Why, Each}
+use Rattle.tac_review.specs.declared.task.ReviewEnd.{ReviewEnd}
+use Rattle.tac_review.specs.declared.task.ReviewEnd.TheVariants.{Done, Differs, Refused}
+use Rattle.tac_review.specs.declared.task.Table.{Table}
+
+-- the line that refuses an input, after the input's name
+abbrev pub named : List ℕ → List ℕ → List ℕ
+named name line = name ++ codes ": " ++ line
+
+-- ---- what a new policy changes
+
+-- as an accepted edit is answered, after its `ok`
+abbrev pub changes_text : List Changed → List ℕ
+changes_text [] = codes "same" ++ 10 ∷ []
+changes_text (change ∷ changes) = flat_map changed_lines (change ∷ changes)
+
+abbrev pub changes_end : List Changed → ReviewEnd
+changes_end [] = Done
+changes_end (change ∷ changes) = Differs
+
+abbrev pub DiffsTo : List ℕ → List Subject → Result (List Subject) (List ℕ) → List ℕ → ReviewEnd
+    → Type 0
+DiffsTo name old (Err line) output end = (output ≡ named name line) × (end ≡ Refused)
+DiffsTo name old (Ok new) output end =
+    (changes : List Changed) × AreChanges old new changes × (output ≡ changes_text changes)
+    × (end ≡ changes_end changes)
+
+-- the exact changes between the policies, if the new one may stand
+abbrev pub Diffs : List ℕ → List ℕ → List Subject → List ℕ → ReviewEnd → Type 0
+Diffs name text old output end =
+    (judged : Result (List Subject) (List ℕ)) × Judges text judged
+    × DiffsTo name old judged output end
+
+-- ---- how a policy decides
+
+abbrev pub Explains : List Subject → Option Query → List ℕ → ReviewEnd → Type 0
+Explains policy None output end =
+    (output ≡ fault_line (codes "BadQuestion")) × (end ≡ Refused)
+Explains policy (Some query) output end = (output ≡ answer_to policy query) × (end ≡ Done)
+
+abbrev pub TellsOf : Table → List ℕ → Result (List ℕ) ℕ → List ℕ → ReviewEnd → Type 0
+TellsOf table name (Err number) output end =
+    (output ≡ named name (tables.fault table number)) × (end ≡ Refused)
+TellsOf table name (Ok text) output end =
+    (output ≡ tables.table_text table text) × (end ≡ tables.table_end table text)
+
+abbrev pub Tells : Table → List ℕ → List ℕ → List Subject → List ℕ → ReviewEnd → Type 0
+Tells table name text policy output end =
+    TellsOf table name (tables.tells table policy 1 (lines_of text)) output end
+
+-- ---- all reviews
+
+-- where the first policy may stand, the second input is reviewed, which has this name and text
+abbrev pub Continues : Review → List ℕ → List ℕ → List Subject → List ℕ → ReviewEnd → Type 0
+Continues Diff name text policy output end = Diffs name text policy output end
+Continues Why name text policy output end = Explains policy (question_of text) output end
+Continues (Each table) name text policy output end = Tells table name text policy output end
+
+abbrev pub ReviewsBy : Review → List ℕ → List ℕ → List ℕ → Result (List Subject) (List ℕ) → List ℕ
+    → ReviewEnd → Type 0
+ReviewsBy review first second text (Err line) output end =
+    (output ≡ named first line) × (end ≡ Refused)
+ReviewsBy review first second text (Ok policy) output end =
+    Continues review second text policy output end
+
+-- the review of the inputs with these names and texts prints this, and ends so
+abbrev pub Reviews : Review → List ℕ → List ℕ → List ℕ → List ℕ → List ℕ → ReviewEnd → Type 0
+Reviews review first second one two output end =
+    (judged : Result (List Subject) (List ℕ)) × Judges one judged
+    × ReviewsBy review first second two judged output end
+
+-- ---- what a function returned, against what was wanted
+
+-- that is wanted, and nothing else is
+pub record IsOnly (Wanted : List ℕ → ReviewEnd → Type 0) (output : List ℕ) (end : ReviewEnd)
+    : Type 0 where
+  pub wanted : Wanted output end
+  pub only : (other : List ℕ) (last : ReviewEnd) → Wanted other last
+      → (other ≡ output) × (last ≡ end)

@@ -1,0 +1,198 @@
+//! What a review prints, and how it ends.
+
+ghost use Rattle.std.specs.Prelude.{◌≡◌, ◌++◌, codes, ◌∷◌, [], Ok, IfOk, OnOk};
+ghost use Rattle.std.specs.List.{flat_map};
+ghost use Rattle.tac_console.specs.Answers.{changed_lines};
+ghost use Rattle.tac_review.specs.Asking as asking;
+ghost use Rattle.tac_review.specs.Tables as tables;
+ghost use Rattle.tac_review.specs.Review as reviews;
+
+use crate::asking::{add_answer, question};
+use crate::judging::judge;
+use crate::table::tell;
+use crate::task::{Review, ReviewEnd, Table};
+use basics::Bytes;
+use pol_compare::compare;
+use pol_live::Live;
+use pol_meaning::Changes;
+use std::alloc::{AllocError, Global};
+use std::io::Write;
+use tac_console::write_edit_answer;
+
+// The line that refuses an input, after the input's name.
+fn refused(alloc: Global, name: &[u8], line: &[u8]) -> Result<(Vec<u8>, ReviewEnd), AllocError>
+    ensures { IfOk result (λ output. (output.0.items ≡ reviews.named name.now line.now)
+        × (output.1 ≡ ReviewEnd.Refused)) }
+{
+    let mut text = Vec::new(alloc);
+    text.extend_from_slice(name)?;
+    text.extend_from_slice(b": ")?;
+    text.extend_from_slice(line)?;
+    Ok((text, ReviewEnd::Refused))
+}
+
+// The lines of changes: those of an edit's answer behind its `ok`.
+fn lines_of_changes(alloc: Global, changes: &Changes) -> Result<Vec<u8>, AllocError>
+    ensures { IfOk result (λ text. text.items ≡ flat_map changed_lines changes.now) }
+{
+    let mut answer = Vec::new(alloc);
+    write_edit_answer(alloc, &mut answer, &Ok(changes))?;
+    let mut text = Vec::new(alloc);
+    if let [_, _, _, lines @ ..] = answer.as_slice() {
+        text.extend_from_slice(lines)?;
+    }
+    Ok(text)
+}
+
+fn same(alloc: Global) -> Result<Vec<u8>, AllocError>
+    ensures { IfOk result (λ text. text.items ≡ codes "same" ++ 10 ∷ []) }
+{
+    let mut text = Vec::new(alloc);
+    text.extend_from_slice(b"same\n")?;
+    Ok(text)
+}
+
+// What is printed of changes.
+fn show(alloc: Global, changes: &Changes) -> Result<(Vec<u8>, ReviewEnd), AllocError>
+    ensures { IfOk result (λ output. (output.0.items ≡ reviews.changes_text changes.now)
+        × (output.1 ≡ reviews.changes_end changes.now)) }
+{
+    if changes.is_empty() {
+        let text = same(alloc)?;
+        return Ok((text, ReviewEnd::Done));
+    }
+    let text = lines_of_changes(alloc, changes)?;
+    Ok((text, ReviewEnd::Differs))
+}
+
+// What a policy whose text this is changes against the old one.
+fn diff(
+    alloc: Global,
+    old: &Live,
+    name: &[u8],
+    text: &[u8],
+) -> Result<(Vec<u8>, ReviewEnd), AllocError>
+    ensures { IfOk result (λ output. reviews.IsOnly (reviews.Diffs name.now text.now old.now)
+        output.0.items output.1) }
+{
+    match judge(alloc, text)? {
+        Ok(new) => {
+            let changes = compare(alloc, old, &new)?;
+            show(alloc, &changes)
+        }
+        Err(line) => refused(alloc, name, line.as_slice()),
+    }
+}
+
+// What a question is answered.
+fn why(alloc: Global, live: &Live, line: &[u8]) -> Result<(Vec<u8>, ReviewEnd), AllocError>
+    ensures { IfOk result (λ output.
+        reviews.Explains live.now (asking.question_of line.now) output.0.items output.1) }
+{
+    let mut text = Vec::new(alloc);
+    match question(alloc, line)? {
+        Some(query) => {
+            add_answer(alloc, &mut text, live, &query)?;
+            Ok((text, ReviewEnd::Done))
+        }
+        None => {
+            text.extend_from_slice(b"fault BadQuestion\n")?;
+            Ok((text, ReviewEnd::Refused))
+        }
+    }
+}
+
+// The name of the fault of a line that is none.
+fn fault_name(table: Table) -> &'static str
+    ensures { result.now ≡ tables.fault_name table }
+{
+    match table {
+        Table::Questions => "BadQuestion",
+        Table::Cases => "BadCase",
+    }
+}
+
+// How it is told that a line of a table is none.
+fn bad_line(alloc: Global, table: Table, number: usize) -> Result<Vec<u8>, AllocError>
+    ensures { IfOk result (λ line. line.items ≡ tables.fault table number) }
+{
+    let mut line = Vec::new(alloc);
+    let fault = fault_name(table);
+    match writeln!(line, "fault line {number} {fault}") {
+        Ok(()) => Ok(line),
+        Err(_) => Err(AllocError),
+    }
+}
+
+// What is printed of a table, and how that ends.
+fn told(alloc: Global, table: Table, text: Bytes) -> Result<(Vec<u8>, ReviewEnd), AllocError>
+    ensures { IfOk result (λ output. (output.0.items ≡ tables.table_text table text)
+        × (output.1 ≡ tables.table_end table text)) }
+{
+    match table {
+        Table::Questions => Ok((text.into_vec(), ReviewEnd::Done)),
+        Table::Cases if text.is_empty() => {
+            let mut text = Vec::new(alloc);
+            text.extend_from_slice(b"ok\n")?;
+            Ok((text, ReviewEnd::Done))
+        }
+        Table::Cases => Ok((text.into_vec(), ReviewEnd::Differs)),
+    }
+}
+
+// What the lines of a table are answered.
+fn each(
+    alloc: Global,
+    live: &Live,
+    table: Table,
+    name: &[u8],
+    text: &[u8],
+) -> Result<(Vec<u8>, ReviewEnd), AllocError>
+    ensures { IfOk result (λ output.
+        reviews.Tells table name.now text.now live.now output.0.items output.1) }
+{
+    match tell(alloc, live, table, text)? {
+        Ok(text) => told(alloc, table, text),
+        Err(number) => {
+            let line = bad_line(alloc, table, number)?;
+            refused(alloc, name, line.as_slice())
+        }
+    }
+}
+
+// What is printed once the first policy may stand.
+fn second(
+    alloc: Global,
+    review: Review,
+    live: &Live,
+    name: &[u8],
+    text: &[u8],
+) -> Result<(Vec<u8>, ReviewEnd), AllocError>
+    ensures { IfOk result (λ output. reviews.IsOnly
+        (reviews.Continues review name.now text.now live.now) output.0.items output.1) }
+{
+    match review {
+        Review::Diff => diff(alloc, live, name, text),
+        Review::Why => why(alloc, live, text),
+        Review::Each(table) => each(alloc, live, table, name, text),
+    }
+}
+
+/// What a review of two inputs prints, each with its name and its text, and how it ends.
+pub(crate) fn output(
+    alloc: Global,
+    review: Review,
+    names: (&[u8], &[u8]),
+    texts: (&[u8], &[u8]),
+) -> Result<(Vec<u8>, ReviewEnd), AllocError>
+    ensures { IfOk result (λ output. reviews.IsOnly (reviews.Reviews review
+        names.entry.0.now names.entry.1.now texts.entry.0.now texts.entry.1.now)
+        output.0.items output.1) }
+{
+    let (first_name, second_name) = names;
+    let (first_text, second_text) = texts;
+    match judge(alloc, first_text)? {
+        Ok(live) => second(alloc, review, &live, second_name, second_text),
+        Err(line) => refused(alloc, first_name, line.as_slice()),
+    }
+}

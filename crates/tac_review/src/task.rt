@@ -1,0 +1,49 @@
+//! What can be reviewed, and how that ends.
+
+use tac_io::AnswerFault;
+
+/// What is asked about a policy, and what the second input is.
+#[derive(Clone, Copy, Debug, PartialEq, Eq)]
+pub enum Review {
+    /// What another policy, whose text is the second input, changes.
+    Diff,
+    /// How a line of a user is decided: the second input is `USER`, or `USER LINE`.
+    Why,
+    /// How the lines of a table are decided.
+    Each(Table),
+}
+
+/// What the lines of a table say.
+#[derive(Clone, Copy, Debug, PartialEq, Eq)]
+pub enum Table {
+    /// `USER LINE`: each is answered.
+    Questions,
+    /// `permit USER LINE` or `deny USER LINE`: each that isn't so is printed.
+    Cases,
+}
+
+/// How a review ended.
+#[derive(Clone, Copy, Debug, PartialEq, Eq)]
+pub enum ReviewEnd {
+    /// Nothing changes for anyone, each question was answered, or each case is so.
+    Done,
+    /// Something changes for someone, or some case isn't so.
+    Differs,
+    /// An input is refused, and why was printed.
+    Refused,
+}
+
+/// One of the two inputs of a review.
+#[derive(Clone, Copy, Debug, PartialEq, Eq)]
+pub enum Input {
+    First,
+    Second,
+}
+
+/// Why a review came to no end.
+#[derive(Clone, Copy, Debug, PartialEq, Eq)]
+pub struct ReviewFault {
+    /// Which input it was, if one couldn't be read or is too long.
+    pub input: Input,
+    pub fault: AnswerFault,
+}
