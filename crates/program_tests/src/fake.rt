@@ -87,9 +87,18 @@ impl BufRead for Typed<'_> {
     }
 }
 
+// What the file `next` has.
+const NEXT: &str = "group ops
+deny show run
+permit show .*
+user bob in ops
+user eve in ops
+";
+
 /// A runtime with these words, one blank between them, this input, and this text in the file
-/// `policy`. The first line of the file `key` is a key that ends in a blank, that of `bad-key` is
-/// no key, and `no-key` is empty. There is a folder `folder`, and no other file.
+/// `policy`. The file `next` has another policy, and `cases` two cases. The first line of the file
+/// `key` is a key that ends in a blank, that of `bad-key` is no key, and `no-key` is empty. There is
+/// a folder `folder`, and no other file.
 #[derive(Drop)]
 pub(crate) struct Fake<'a> {
     pub(crate) alloc: Global,
@@ -271,6 +280,8 @@ impl Files for Fake<'_> {
     fn open_file(&self, _how: &OpenOptions, path: &str) -> io::Result<FakeFile> {
         let text = match path {
             "policy" => self.policy,
+            "next" => NEXT,
+            "cases" => "permit bob show version\ndeny bob reload\n",
             "key" => "k \nthe second line\n",
             "bad-key" => "tun\tdra\n",
             "no-key" | "unreadable" => "",

@@ -7,4 +7,6 @@ mod devices;
 #[cfg(test)]
 mod fake;
 #[cfg(test)]
+mod reviews;
+#[cfg(test)]
 mod running;

@@ -14,8 +14,8 @@ use tac_program::help::{
 };
 use tac_program::run;
 
-// Runs the program, and compares its status and what stands on both streams.
-fn run_ends<R>(rt: &R, fake: &Fake<'_>, status: u8, printed: &str, complained: &str)
+/// Runs the program, and compares its status and what stands on both streams.
+pub(crate) fn run_ends<R>(rt: &R, fake: &Fake<'_>, status: u8, printed: &str, complained: &str)
 where
     R: Abort
         + Threads
@@ -312,7 +312,7 @@ For more information, try '--help'.
 ";
 
 const NO_COMMAND: &str = "error: 'tacd' requires a subcommand but one was not provided
-  [subcommands: serve, check, replay, help]
+  [subcommands: serve, check, diff, why, test, replay, help]
 
 Usage: tacd <COMMAND>
 
@@ -491,13 +491,16 @@ fn mistakes(rt: HostRuntime) {
 }
 
 const SUMMARY: &str =
-    "Serves TACACS+ by a policy of users and command lines, checks one, and plays scripts against it
+    "Serves TACACS+ by a policy of users and command lines, checks and compares policies, plays scripts
 
 Usage: tacd <COMMAND>
 
 Commands:
   serve   Serves devices on a port, with a console on standard input
   check   Reads a policy, and prints which of its rules decide nothing
+  diff    Prints what users gain and lose by a new policy
+  why     Prints which rule decides on a command line
+  test    Prints which cases of a table a policy doesn't meet
   replay  Reads a script on standard input and prints the server's replies
   help    Print this message or the help of the given subcommand(s)
 

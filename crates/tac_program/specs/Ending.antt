@@ -4,6 +4,9 @@ use Rattle.tac_io.specs.declared.answering.AnswerFault.{AnswerFault}
 use Rattle.tac_io.specs.declared.answering.AnswerFault.TheVariants as answers
 use Rattle.tac_check.specs.declared.checking.CheckEnd.{CheckEnd}
 use Rattle.tac_check.specs.declared.checking.CheckEnd.TheVariants as checks
+use Rattle.tac_review.specs.declared.task.ReviewEnd.{ReviewEnd}
+use Rattle.tac_review.specs.declared.task.ReviewEnd.TheVariants as reviews
+use Rattle.tac_review.specs.declared.task.ReviewFault.{ReviewFault}
 use Rattle.tac_program.specs.declared.status.Status.{Status}
 use Rattle.tac_program.specs.declared.status.Status.TheVariants.{Done, Refused, OutOfMemory, Failed}
 
@@ -18,3 +21,10 @@ abbrev pub status_of_check : Result CheckEnd AnswerFault → Status
 status_of_check (Ok checks.Sound) = Done
 status_of_check (Ok checks.Refused) = Refused
 status_of_check (Err fault) = status_of fault
+
+-- where something differs it is the one that is given
+abbrev pub status_of_review : Status → Result ReviewEnd ReviewFault → Status
+status_of_review told (Ok reviews.Done) = Done
+status_of_review told (Ok reviews.Differs) = told
+status_of_review told (Ok reviews.Refused) = Refused
+status_of_review told (Err fault) = status_of fault.fault

@@ -1,12 +1,16 @@
 //! The words that the program takes.
 
 use crate::help::{
-    ABOUT, ADDRESS_HELP, AFTER_LONG_HELP, CHECK_ABOUT, CHECK_AFTER_HELP, CHECK_AFTER_LONG_HELP,
-    CHECK_LONG_ABOUT, CONNECTIONS_HELP, FILE_HELP, IDLE_HELP, KEY_FILE_HELP, KEY_HELP, LONG_ABOUT,
-    PORT_HELP, REPLAY_ABOUT, REPLAY_AFTER_HELP, REPLAY_AFTER_LONG_HELP, REPLAY_LONG_ABOUT,
-    SERVE_ABOUT, SERVE_AFTER_HELP, SERVE_AFTER_LONG_HELP, SERVE_LONG_ABOUT, WORKERS_HELP,
+    ABOUT, ADDRESS_HELP, AFTER_LONG_HELP, CASES_HELP, CHECK_ABOUT, CHECK_AFTER_HELP,
+    CHECK_AFTER_LONG_HELP, CHECK_LONG_ABOUT, CONNECTIONS_HELP, DIFF_ABOUT, DIFF_AFTER_HELP,
+    DIFF_AFTER_LONG_HELP, DIFF_LONG_ABOUT, EXIT_CODE_HELP, FILE_HELP, IDLE_HELP, KEY_FILE_HELP,
+    KEY_HELP, LINE_HELP, LONG_ABOUT, NEW_HELP, OLD_HELP, PORT_HELP, REPLAY_ABOUT,
+    REPLAY_AFTER_HELP, REPLAY_AFTER_LONG_HELP, REPLAY_LONG_ABOUT, SERVE_ABOUT, SERVE_AFTER_HELP,
+    SERVE_AFTER_LONG_HELP, SERVE_LONG_ABOUT, TEST_ABOUT, TEST_AFTER_HELP, TEST_AFTER_LONG_HELP,
+    TEST_LONG_ABOUT, USER_HELP, WHY_ABOUT, WHY_AFTER_HELP, WHY_AFTER_LONG_HELP, WHY_LONG_ABOUT,
+    WORKERS_HELP,
 };
-use clap::{Arg, ArgGroup, Command, value_parser};
+use clap::{Arg, ArgAction, ArgGroup, Command, value_parser};
 use std::alloc::{AllocError, Global};
 
 /// The word that asks for a server.
@@ -15,8 +19,33 @@ pub(crate) const SERVE: &str = "serve";
 /// The word that asks for a check.
 pub(crate) const CHECK: &str = "check";
 
-/// The file of a server's or a check's policy.
+/// The word that asks what a new policy changes.
+pub(crate) const DIFF: &str = "diff";
+
+/// The word that asks how lines are decided.
+pub(crate) const WHY: &str = "why";
+
+/// The word that asks whether cases are so.
+pub(crate) const TEST: &str = "test";
+
+/// The file of a policy.
 pub(crate) const FILE: &str = "FILE";
+
+/// The file of a policy, and that of another which is to take its place.
+pub(crate) const OLD: &str = "OLD";
+
+pub(crate) const NEW: &str = "NEW";
+
+/// That a change is told by the exit status.
+pub(crate) const EXIT_CODE: &str = "exit-code";
+
+/// Whose line it is that is asked about, and the words of the line.
+pub(crate) const USER: &str = "USER";
+
+pub(crate) const LINE: &str = "LINE";
+
+/// The file of cases.
+pub(crate) const CASES: &str = "CASES";
 
 /// The port that a server listens on.
 pub(crate) const PORT: &str = "port";
@@ -104,6 +133,48 @@ fn check<'a>(alloc: Global) -> Result<Command<'a>, AllocError> {
         .arg(file)
 }
 
+fn diff<'a>(alloc: Global) -> Result<Command<'a>, AllocError> {
+    let exit_code = Arg::new(alloc, EXIT_CODE)
+        .long(EXIT_CODE)
+        .action(ArgAction::SetTrue)
+        .help(EXIT_CODE_HELP);
+    Command::new(alloc, DIFF)
+        .about(DIFF_ABOUT)
+        .long_about(DIFF_LONG_ABOUT)
+        .after_help(DIFF_AFTER_HELP)
+        .after_long_help(DIFF_AFTER_LONG_HELP)
+        .arg(exit_code)?
+        .arg(Arg::new(alloc, OLD).required(true).help(OLD_HELP))?
+        .arg(Arg::new(alloc, NEW).required(true).help(NEW_HELP))
+}
+
+fn why<'a>(alloc: Global) -> Result<Command<'a>, AllocError> {
+    // what comes after the user is the line, whatever it begins with
+    let line = Arg::new(alloc, LINE)
+        .num_args(0..)
+        .trailing_var_arg(true)
+        .allow_hyphen_values(true)
+        .help(LINE_HELP);
+    Command::new(alloc, WHY)
+        .about(WHY_ABOUT)
+        .long_about(WHY_LONG_ABOUT)
+        .after_help(WHY_AFTER_HELP)
+        .after_long_help(WHY_AFTER_LONG_HELP)
+        .arg(Arg::new(alloc, FILE).required(true).help(FILE_HELP))?
+        .arg(Arg::new(alloc, USER).help(USER_HELP))?
+        .arg(line)
+}
+
+fn test<'a>(alloc: Global) -> Result<Command<'a>, AllocError> {
+    Command::new(alloc, TEST)
+        .about(TEST_ABOUT)
+        .long_about(TEST_LONG_ABOUT)
+        .after_help(TEST_AFTER_HELP)
+        .after_long_help(TEST_AFTER_LONG_HELP)
+        .arg(Arg::new(alloc, FILE).required(true).help(FILE_HELP))?
+        .arg(Arg::new(alloc, CASES).required(true).help(CASES_HELP))
+}
+
 fn replay<'a>(alloc: Global) -> Command<'a> {
     Command::new(alloc, "replay")
         .about(REPLAY_ABOUT)
@@ -122,5 +193,8 @@ pub(crate) fn command<'a>(alloc: Global) -> Result<Command<'a>, AllocError> {
         .subcommand_required(true)
         .subcommand(serve(alloc)?)?
         .subcommand(check(alloc)?)?
+        .subcommand(diff(alloc)?)?
+        .subcommand(why(alloc)?)?
+        .subcommand(test(alloc)?)?
         .subcommand(replay(alloc))
 }

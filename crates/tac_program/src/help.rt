@@ -1,16 +1,18 @@
 //! The texts of the program's help.
 
 pub(crate) const ABOUT: &str =
-    "Serves TACACS+ by a policy of users and command lines, checks one, and plays scripts against it";
+    "Serves TACACS+ by a policy of users and command lines, checks and compares policies, plays scripts";
 
 pub(crate) const LONG_ABOUT: &str =
-    "Serves TACACS+ by a policy of users and command lines, checks one, and plays scripts against it.
+    "Serves TACACS+ by a policy of users and command lines, checks and compares policies, plays scripts.
 
 A network device that runs TACACS+ (RFC 8907) asks a server who may log in and which command lines a
 user may run, and has it record what was done. 'tacd serve' is such a server: it listens on a port,
 and takes edits of its policy and questions at a console. 'tacd check' reads a policy and prints
-which of its rules decide nothing. 'tacd replay' takes what devices send from a script, together
-with the policy, and prints what is answered; it opens no socket.";
+which of its rules decide nothing; 'tacd diff' prints what a new policy permits and denies that an
+old one didn't, 'tacd why' which rule decides on a line, and 'tacd test' whether all lines of a table
+are decided as it says. 'tacd replay' takes what devices send from a script, together with the
+policy, and prints what is answered; it opens no socket.";
 
 pub(crate) const SERVE_ABOUT: &str = "Serves devices on a port, with a console on standard input";
 
@@ -151,6 +153,159 @@ Exit status:
   3  memory ran out
   4  the file could not be read, or the output could not be written";
 
+pub(crate) const DIFF_ABOUT: &str = "Prints what users gain and lose by a new policy";
+
+/// What `tacd diff --help` begins with.
+pub const DIFF_LONG_ABOUT: &str =
+    "Prints what users gain and lose where a new policy takes the place of an old one.
+
+For each user for whom anything changes it prints the shortest command line that the new policy
+permits and the old one denies, and the shortest that the new one denies and the old one permits; of
+lines of one length, the first by ASCII. So nothing is printed for a user exactly if the two policies
+decide alike on every line that he could ever give. It is what the console of 'tacd serve' answers
+to edits that make the one policy into the other.";
+
+pub(crate) const OLD_HELP: &str = "The present policy's text, at most 268435456 bytes";
+
+pub(crate) const NEW_HELP: &str = "The text of the policy that is to take its place";
+
+pub(crate) const EXIT_CODE_HELP: &str = "End with status 5 where anyone gains or loses a line";
+
+pub(crate) const DIFF_AFTER_HELP: &str = "Example:
+  tacd diff campus.policy campus-next.policy
+
+'tacd diff --help' describes what is printed; 'tacd replay --help' the lines of a policy.";
+
+/// What `tacd diff --help` ends with.
+pub const DIFF_AFTER_LONG_HELP: &str = "'tacd replay --help' describes the lines of a policy.
+
+What is printed, first for the users of NEW in its order, then for those of OLD alone:
+  user NAME now permits: LINE
+  user NAME now denies: LINE
+  same                 where there is no such user
+
+What is printed where one of them is refused; OLD is judged first:
+  PATH: fault ..       as 'tacd check' prints it
+
+Example:
+  $ cat old.policy
+  group desk
+  permit show .*
+  user eve in desk
+  $ cat new.policy
+  group desk
+  deny show run.*
+  permit show .*
+  permit ping [0-9.]+
+  user eve in desk
+  $ tacd diff old.policy new.policy
+  user eve now permits: ping .
+  user eve now denies: show run
+
+Exit status:
+  0  both policies may stand
+  1  one of them is refused, and why was printed
+  2  the command line is wrong
+  3  memory ran out
+  4  a file could not be read, or the output could not be written
+  5  with --exit-code: anyone gains or loses a line";
+
+pub(crate) const WHY_ABOUT: &str = "Prints which rule decides on a command line";
+
+/// What `tacd why --help` begins with.
+pub const WHY_LONG_ABOUT: &str =
+    "Prints which rule of a policy decides on a command line of a user, as the console of 'tacd serve'
+answers 'why'.
+
+The words of LINE are joined by blanks, as a router joins them. Without USER, questions are read from
+standard input, a line 'USER LINE' for each, and each is printed with its answer.";
+
+pub(crate) const USER_HELP: &str = "Whose line it is; without it, standard input is read";
+
+pub(crate) const LINE_HELP: &str = "The words of the line; without any, the empty line";
+
+pub(crate) const WHY_AFTER_HELP: &str = "Examples:
+  tacd why campus.policy ben show vlan
+  tacd why campus.policy < questions
+
+'tacd why --help' describes what is printed; 'tacd replay --help' the lines of a policy.";
+
+/// What `tacd why --help` ends with.
+pub const WHY_AFTER_LONG_HELP: &str = "'tacd replay --help' describes the lines of a policy.
+
+Answers, where OWNER is 'user NAME' or 'group NAME'; the rules of an OWNER count from 1:
+  permitted by OWNER rule N
+  denied by OWNER rule N
+  denied by default    no rule fits
+  unknown user         the policy has no such user
+
+Of standard input, at most 268435456 bytes, leading spaces, empty lines and lines that begin with '#'
+are passed over; each other line is printed, and then ': ' and its answer.
+
+What is printed where something is refused; nothing is answered then:
+  PATH: fault ..       the policy, as 'tacd check' prints it
+  fault BadQuestion    USER is no name, or LINE has a character that isn't printable ASCII
+  standard input: fault line L BadQuestion
+                       the same of line L of standard input
+
+Example:
+  $ tacd why campus.policy ben show vlan
+  permitted by group staff rule 4
+  $ echo ben reload | tacd why campus.policy
+  ben reload: denied by group engineers rule 8
+
+Exit status:
+  0  all is answered
+  1  something is refused, and why was printed
+  2  the command line is wrong
+  3  memory ran out
+  4  an input could not be read, or the output could not be written";
+
+pub(crate) const TEST_ABOUT: &str = "Prints which cases of a table a policy doesn't meet";
+
+/// What `tacd test --help` begins with.
+pub const TEST_LONG_ABOUT: &str =
+    "Compares a policy with a table of cases, and prints each that isn't so with the rule that decided.
+
+A case is a line 'permit USER LINE' or 'deny USER LINE'. A user who isn't in the policy meets neither,
+so that a misspelt name is seen.";
+
+pub(crate) const CASES_HELP: &str = "The table's text, at most 268435456 bytes";
+
+pub(crate) const TEST_AFTER_HELP: &str = "Example:
+  tacd test campus.policy campus.cases
+
+'tacd test --help' describes what is printed; 'tacd replay --help' the lines of a policy.";
+
+/// What `tacd test --help` ends with.
+pub const TEST_AFTER_LONG_HELP: &str = "'tacd replay --help' describes the lines of a policy.
+
+Of CASES leading spaces, empty lines and lines that begin with '#' are passed over.
+
+What is printed, where ANSWER is one of those of 'tacd why':
+  line L: CASE: ANSWER for each case that isn't so, with its line in CASES
+  ok                   where all cases are so
+
+What is printed where something is refused; no case is judged then:
+  PATH: fault ..       the policy, as 'tacd check' prints it
+  PATH: fault line L BadCase
+                       line L of CASES is no case
+
+Example:
+  $ cat ben.cases
+  permit ben show vlan
+  deny ben reload
+  permit ben configure
+  $ tacd test campus.policy ben.cases
+  line 3: permit ben configure: denied by default
+
+Exit status:
+  0  all cases are so
+  1  a case isn't so, or something is refused, and that was printed
+  2  the command line is wrong
+  3  memory ran out
+  4  a file could not be read, or the output could not be written";
+
 pub(crate) const REPLAY_ABOUT: &str =
     "Reads a script on standard input and prints the server's replies";
 
@@ -227,8 +382,10 @@ Exit status:
 
 pub(crate) const AFTER_LONG_HELP: &str = "Examples:
   tacd check campus.policy
+  tacd diff campus.policy campus-next.policy
+  tacd why campus.policy ben show vlan
+  tacd test campus.policy campus.cases
   tacd serve --port 49 --key-file tacd.key campus.policy
   tacd replay < session.script
 
-'tacd serve --help', 'tacd check --help' and 'tacd replay --help' describe what is read, what is
-printed, and the exit status.";
+'tacd COMMAND --help' describes what is read, what is printed, and the exit status.";

@@ -8,6 +8,7 @@ pub mod help;
 mod opening;
 mod options;
 mod program;
+mod reviewing;
 mod serving;
 mod status;
 

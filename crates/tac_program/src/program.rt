@@ -3,10 +3,11 @@
 ghost use Rattle.std.specs.Prelude.{◌≡◌, ◌≢◌, ◌⊎◌};
 ghost use Rattle.clap.specs.Values.{kind_of};
 
-use crate::command_line::{CHECK, FILE, SERVE, command};
+use crate::command_line::{CHECK, DIFF, FILE, SERVE, TEST, WHY, command};
 use crate::complaint::complain;
 use crate::opening::open_file;
 use crate::options::Options;
+use crate::reviewing::{diff, test, why};
 use crate::serving::serve_by;
 use crate::status::Status;
 use clap::error::ErrorKind;
@@ -84,8 +85,26 @@ where
     }
 }
 
-// A parse that succeeds has met a subcommand: `serve`, `check`, which has its file then, or
-// `replay`.
+// What looks at policies in files and serves nobody, if that is asked for.
+fn look<R>(rt: &R, matches: &ArgMatches<'_>) -> Option<Status>
+where
+    R: Files + Input + Print + Eprint + AllocGlobal,
+{
+    if let Some(options) = matches.subcommand_matches(CHECK) {
+        // the file is required
+        return Some(check_policy(rt, options.get_str(FILE).unwrap_or("")));
+    }
+    if let Some(options) = matches.subcommand_matches(DIFF) {
+        return Some(diff(rt, options));
+    }
+    if let Some(options) = matches.subcommand_matches(WHY) {
+        return Some(why(rt, options));
+    }
+    let options = matches.subcommand_matches(TEST)?;
+    Some(test(rt, options))
+}
+
+// A parse that succeeds has met a subcommand: `serve`, one that looks at policies, or `replay`.
 fn carry_out<R, H>(rt: &R, host: &H, matches: &ArgMatches<'_>) -> Status
 where
     R: Files + Input + Print + Eprint + AllocGlobal,
@@ -95,11 +114,8 @@ where
     if let Some(options) = matches.subcommand_matches(SERVE) {
         return serve_clients(rt, host, options);
     }
-    let file = matches
-        .subcommand_matches(CHECK)
-        .and_then(|check| check.get_str(FILE));
-    match file {
-        Some(path) => check_policy(rt, path),
+    match look(rt, matches) {
+        Some(status) => status,
         None => replay_script(rt),
     }
 }

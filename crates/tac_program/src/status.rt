@@ -1,13 +1,14 @@
 //! What the program's exit status tells.
 
 ghost use Rattle.std.specs.Prelude.{◌≡◌, ◌≢◌, ◌⊎◌};
-ghost use Rattle.tac_program.specs.Ending.{status_of, status_of_check};
+ghost use Rattle.tac_program.specs.Ending.{status_of, status_of_check, status_of_review};
 
 use clap::error::ErrorKind;
 use std::io::ErrorKind as IoErrorKind;
 use tac_check::CheckEnd;
 use tac_io::{AnswerFault, InputFault};
 use tac_net::ServeFault;
+use tac_review::{ReviewEnd, ReviewFault};
 use tac_server::{ReplayEnd, ReplayFault};
 
 /// How a run of the program ended, with the number that its caller sees.
@@ -15,7 +16,7 @@ use tac_server::{ReplayEnd, ReplayFault};
 pub(crate) enum Status {
     /// All was done; help counts as that.
     Done = 0,
-    /// The script or the policy has a fault, which was printed.
+    /// The script, a policy or a table has a fault, which was printed; or a case isn't so.
     Refused = 1,
     /// The command line is not one of this program's.
     BadCommandLine = 2,
@@ -23,6 +24,8 @@ pub(crate) enum Status {
     OutOfMemory = 3,
     /// Reading or writing failed.
     Failed = 4,
+    /// Someone gains or loses a line by the new policy.
+    Differs = 5,
 }
 
 impl Status {
@@ -62,6 +65,18 @@ impl Status {
             Ok(CheckEnd::Sound) => Status::Done,
             Ok(CheckEnd::Refused) => Status::Refused,
             Err(fault) => Status::of_answer(fault),
+        }
+    }
+
+    /// The status of a review, where it is this one if something differs.
+    pub(crate) fn of_review(outcome: Result<ReviewEnd, ReviewFault>, differs: Status) -> Status
+        ensures { result ≡ status_of_review differs outcome }
+    {
+        match outcome {
+            Ok(ReviewEnd::Done) => Status::Done,
+            Ok(ReviewEnd::Differs) => differs,
+            Ok(ReviewEnd::Refused) => Status::Refused,
+            Err(fault) => Status::of_answer(fault.fault),
         }
     }
 
@@ -138,6 +153,7 @@ impl Status {
         ensures bad_command_line { self ≡ Status.BadCommandLine → result ≡ 2 }
         ensures out_of_memory { self ≡ Status.OutOfMemory → result ≡ 3 }
         ensures failed { self ≡ Status.Failed → result ≡ 4 }
+        ensures differs { self ≡ Status.Differs → result ≡ 5 }
     {
         self as u8
     }

@@ -1,0 +1,153 @@
+//! The reviews of policies in files.
+
+use crate::command_line::{CASES, EXIT_CODE, FILE, LINE, NEW, OLD, USER};
+use crate::complaint::complain;
+use crate::opening::open_file;
+use crate::status::Status;
+use clap::ArgMatches;
+use std::alloc::{AllocError, Global};
+use std::io;
+use std::io::Read;
+use std::rt::Files;
+use tac_io::AnswerFault;
+use tac_review::{Input as Which, Review, ReviewEnd, ReviewFault, Table, review};
+
+/// What standard input is called where it is refused or can't be read.
+const STANDARD_INPUT: &str = "standard input";
+
+// Reviews a policy's file and another input, each with its name.
+fn review_inputs<R, S>(
+    rt: &R,
+    what: Review,
+    names: (&str, &str),
+    file: &mut R::File,
+    other: &mut S,
+) -> Result<ReviewEnd, ReviewFault>
+where
+    R: Files + Print + Eprint + AllocGlobal,
+    S: Read,
+{
+    let bytes = (names.0.as_bytes(), names.1.as_bytes());
+    let outcome = review(rt.alloc(), what, bytes, file, other, &mut io::writer(rt));
+    if let Err(fault) = outcome {
+        let name = match fault.input {
+            Which::First => names.0,
+            Which::Second => names.1,
+        };
+        complain(rt, name, fault.fault);
+    }
+    outcome
+}
+
+// Reviews two files. With the status that is given it ends where they differ.
+fn review_files<R>(rt: &R, what: Review, paths: (&str, &str), differs: Status) -> Status
+where
+    R: Files + Print + Eprint + AllocGlobal,
+{
+    let mut first = match open_file(rt, paths.0) {
+        Ok(file) => file,
+        Err(status) => return status,
+    };
+    let mut second = match open_file(rt, paths.1) {
+        Ok(file) => file,
+        Err(status) => return status,
+    };
+    let outcome = review_inputs(rt, what, paths, &mut first, &mut second);
+    Status::of_review(outcome, differs)
+}
+
+/// Prints what a new policy changes against an old one.
+pub(crate) fn diff<R>(rt: &R, matches: &ArgMatches<'_>) -> Status
+where
+    R: Files + Print + Eprint + AllocGlobal,
+{
+    let differs = if matches.get_flag(EXIT_CODE) {
+        Status::Differs
+    } else {
+        Status::Done
+    };
+    // both files are required
+    let old = matches.get_str(OLD).unwrap_or("");
+    let new = matches.get_str(NEW).unwrap_or("");
+    review_files(rt, Review::Diff, (old, new), differs)
+}
+
+/// Prints the cases of a table that aren't so.
+pub(crate) fn test<R>(rt: &R, matches: &ArgMatches<'_>) -> Status
+where
+    R: Files + Print + Eprint + AllocGlobal,
+{
+    // both files are required
+    let file = matches.get_str(FILE).unwrap_or("");
+    let cases = matches.get_str(CASES).unwrap_or("");
+    review_files(
+        rt,
+        Review::Each(Table::Cases),
+        (file, cases),
+        Status::Refused,
+    )
+}
+
+// `USER`, or `USER LINE`: the words of a line are one blank apart, as a router joins them.
+fn question_of(alloc: Global, user: &str, words: &[&str]) -> Result<Vec<u8>, AllocError> {
+    let mut question = Vec::new(alloc);
+    question.extend_from_slice(user.as_bytes())?;
+    for word in words {
+        question.push(b' ')?;
+        question.extend_from_slice(word.as_bytes())?;
+    }
+    Ok(question)
+}
+
+// Prints how one line is decided.
+fn explain_one<R>(rt: &R, path: &str, user: &str, words: &[&str]) -> Status
+where
+    R: Files + Print + Eprint + AllocGlobal,
+{
+    let Ok(question) = question_of(rt.alloc(), user, words) else {
+        complain(rt, path, AnswerFault::Memory);
+        return Status::OutOfMemory;
+    };
+    let mut file = match open_file(rt, path) {
+        Ok(file) => file,
+        Err(status) => return status,
+    };
+    let mut asked = question.as_slice();
+    let outcome = review_inputs(
+        rt,
+        Review::Why,
+        (path, "the question"),
+        &mut file,
+        &mut asked,
+    );
+    Status::of_review(outcome, Status::Done)
+}
+
+// Prints how each line of standard input is decided.
+fn explain_all<R>(rt: &R, path: &str) -> Status
+where
+    R: Files + Input + Print + Eprint + AllocGlobal,
+{
+    let mut file = match open_file(rt, path) {
+        Ok(file) => file,
+        Err(status) => return status,
+    };
+    let what = Review::Each(Table::Questions);
+    let names = (path, STANDARD_INPUT);
+    let outcome = review_inputs(rt, what, names, &mut file, &mut rt.reader());
+    Status::of_review(outcome, Status::Done)
+}
+
+/// Prints how lines are decided: that of the command line, or those of standard input.
+pub(crate) fn why<R>(rt: &R, matches: &ArgMatches<'_>) -> Status
+where
+    R: Files + Input + Print + Eprint + AllocGlobal,
+{
+    // the file is required
+    let path = matches.get_str(FILE).unwrap_or("");
+    match (matches.get_str(USER), matches.get_strs(LINE)) {
+        (Some(user), Some(words)) => explain_one(rt, path, user, words),
+        (Some(user), None) => explain_one(rt, path, user, &[]),
+        (None, _) => explain_all(rt, path),
+    }
+}
