@@ -81,6 +81,8 @@ def atom(choices):
 def symbol_class(choices):
     negated = choices.chance(0.3)
     items = [class_item(choices) for _ in range(choices.count(1, 3))]
+    if items[0].startswith("^") and not negated and choices.chance(0.95):
+        items.insert(0, choices.choice("ab"))
     return "[" + "^" * negated + "".join(items) + "]"
 
 
@@ -89,7 +91,7 @@ def class_item(choices):
     if choices.chance(0.6):
         return first
     last = class_symbol(choices)
-    if last.lstrip("\\") < first.lstrip("\\") and choices.chance(0.98):
+    if last[-1] < first[-1] and choices.chance(0.98):
         first, last = last, first
     return f"{first}-{last}"
 

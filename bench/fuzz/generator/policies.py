@@ -33,7 +33,7 @@ def subject_lines(choices):
     if choices.chance(0.3):
         choices.shuffle(lines)
     if choices.chance(0.1):
-        lines += chain(choices.choice([4, 6, 7, 8]))
+        lines += choices.choice([chain(4), chain(7), chain(8), chain(9)[:-1]])
     return lines
 
 
