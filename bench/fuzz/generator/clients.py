@@ -3,7 +3,7 @@
 import hashlib
 from typing import NamedTuple
 
-from reference.texts import bytes_of, text_of
+from reference.texts import bytes_of, is_name, text_of
 from reference.wire import ACCOUNTING, AUTHENTICATION, AUTHORISATION, Header, padded
 
 from .patterns import line
@@ -54,6 +54,8 @@ class Client:
             packet = self.go_on()
         else:
             packet = self.begin()
+        if self.many_logins:
+            return packet
         if choices.chance(0.04):
             packet = self.spoiled_header(packet)
         elif choices.chance(0.05):
@@ -61,6 +63,9 @@ class Client:
         return packet
 
     def session_id(self):
+        if self.many_logins:
+            self.next_id = (self.next_id + 1) % 2**32
+            return self.next_id
         if self.logins and self.choices.chance(0.05):
             return self.choices.choice(list(self.logins))
         if self.choices.chance(0.85):
@@ -336,8 +341,9 @@ class World:
         secret = self.server.desk.secret_of(user, ENABLE if enable else 1)
         return None if secret is None else text_of(secret)
 
-    def has_records(self):
-        return bool(self.server.desk.records)
+    def record_users(self):
+        """The users of the records, as far as a tally of them can be asked for."""
+        return [record.user for record in self.server.desk.records if is_name(record.user)]
 
     def patterns(self):
         return [rule.pattern for subject in self.subjects() for rule in subject.rules]

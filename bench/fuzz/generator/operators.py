@@ -91,14 +91,14 @@ class Operator:
             case "insert":
                 verdict = choices.choice(["permit", "deny"])
                 at = self.place(rules + 1)
-                return f"insert {kind} {name} {at} {verdict} {pattern(choices, 0.12)}"
+                return f"insert {kind} {name} {at} {verdict} {pattern(choices, 0.15)}"
             case "drop":
                 return f"drop {kind} {name} {self.place(rules)}"
         return f"shift {kind} {name} {self.place(rules)} {self.place(rules)}"
 
     def place(self, last):
         choices = self.choices
-        if choices.chance(0.1) or last == 0:
+        if choices.chance(0.15) or last == 0:
             return choices.choice(["0", str(last + 1), "9999", "01", "0001", "10000"])
         return str(choices.randint(1, last))
 
@@ -112,11 +112,14 @@ class Operator:
         choices = self.choices
         kind, name, _ = self.subject()
         _, user, _ = self.subject("user")
-        tally = 60 if self.world.has_records() else 10
+        recorded = self.world.record_users()
+        tally = 60 if recorded else 10
         asked = choices.kind(
             {"policy": 12, "shadow": 15, "reach": 20, "tally": tally, "why": 25, "records": 10}
         )
         match asked:
+            case "tally" if recorded and choices.chance(0.6):
+                return f"tally user {choices.choice(recorded)}"
             case "reach" | "tally":
                 return f"{asked} {kind} {name}"
             case "why":
