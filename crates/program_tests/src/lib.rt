@@ -7,6 +7,8 @@ mod devices;
 #[cfg(test)]
 mod fake;
 #[cfg(test)]
+mod help;
+#[cfg(test)]
 mod reviews;
 #[cfg(test)]
 mod running;

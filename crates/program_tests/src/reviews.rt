@@ -1,6 +1,10 @@
 //! What the reviews of policies print, and how they end.
 
 use crate::fake::Fake;
+use crate::help::{
+    DIFF_AFTER_LONG_HELP, DIFF_LONG_ABOUT, TEST_AFTER_LONG_HELP, TEST_LONG_ABOUT,
+    WHY_AFTER_LONG_HELP, WHY_LONG_ABOUT,
+};
 use crate::running::run_ends;
 use std::net::{Net, TcpListener, TcpStream};
 use std::process::Abort;
@@ -8,10 +12,6 @@ use std::sync::Wait;
 use std::test::Fail;
 use std::thread::Threads;
 use std::time::Clock;
-use tac_program::help::{
-    DIFF_AFTER_LONG_HELP, DIFF_LONG_ABOUT, TEST_AFTER_LONG_HELP, TEST_LONG_ABOUT,
-    WHY_AFTER_LONG_HELP, WHY_LONG_ABOUT,
-};
 
 const POLICY: &str = "group ops
 permit show .*

@@ -1,6 +1,10 @@
 //! What the program prints, and how it ends, by its words and its input.
 
 use crate::fake::Fake;
+use crate::help::{
+    CHECK_AFTER_LONG_HELP, CHECK_LONG_ABOUT, REPLAY_AFTER_LONG_HELP, REPLAY_LONG_ABOUT,
+    SERVE_AFTER_LONG_HELP, SERVE_LONG_ABOUT,
+};
 use std::alloc::{AllocError, Global};
 use std::net::{Net, TcpListener, TcpStream};
 use std::process::{Abort, ExitCode};
@@ -8,10 +12,6 @@ use std::sync::Wait;
 use std::test::Fail;
 use std::thread::Threads;
 use std::time::Clock;
-use tac_program::help::{
-    CHECK_AFTER_LONG_HELP, CHECK_LONG_ABOUT, REPLAY_AFTER_LONG_HELP, REPLAY_LONG_ABOUT,
-    SERVE_AFTER_LONG_HELP, SERVE_LONG_ABOUT,
-};
 use tac_program::run;
 
 /// Runs the program, and compares its status and what stands on both streams.

@@ -17,7 +17,7 @@ policy, and prints what is answered; it opens no socket.";
 pub(crate) const SERVE_ABOUT: &str = "Serves devices on a port, with a console on standard input";
 
 /// What `tacd serve --help` begins with.
-pub const SERVE_LONG_ABOUT: &str =
+pub(crate) const SERVE_LONG_ABOUT: &str =
     "Serves devices that run TACACS+ (RFC 8907) on a port, with a console on standard input.
 
 The policy is read from a file once. It is edited at the console, and an edit counts from the next
@@ -50,7 +50,8 @@ pub(crate) const SERVE_AFTER_HELP: &str = "Example:
 'tacd serve --help' describes the console; 'tacd replay --help' the lines of a policy.";
 
 /// What `tacd serve --help` ends with.
-pub const SERVE_AFTER_LONG_HELP: &str = "'tacd replay --help' describes the lines of a policy.
+pub(crate) const SERVE_AFTER_LONG_HELP: &str =
+    "'tacd replay --help' describes the lines of a policy.
 
 A worker serves one connection at a time, until the device hangs up, or has had no reply for so many
 seconds as --idle says (at most 10 before the first reply); other devices wait. Standard output has
@@ -106,7 +107,7 @@ Exit status:
 pub(crate) const CHECK_ABOUT: &str = "Reads a policy, and prints which of its rules decide nothing";
 
 /// What `tacd check --help` begins with.
-pub const CHECK_LONG_ABOUT: &str =
+pub(crate) const CHECK_LONG_ABOUT: &str =
     "Reads a policy, and prints how much it has and which of its rules decide nothing.
 
 A rule decides nothing for a user or a group if each command line that it fits is decided by a rule
@@ -122,7 +123,8 @@ pub(crate) const CHECK_AFTER_HELP: &str = "Example:
 'tacd check --help' describes what is printed; 'tacd replay --help' the lines of a policy.";
 
 /// What `tacd check --help` ends with.
-pub const CHECK_AFTER_LONG_HELP: &str = "'tacd replay --help' describes the lines of a policy.
+pub(crate) const CHECK_AFTER_LONG_HELP: &str =
+    "'tacd replay --help' describes the lines of a policy.
 
 What is printed of a policy that may stand, with the last line where no rule is shadowed:
   policy ok: S subjects, R rules
@@ -156,7 +158,7 @@ Exit status:
 pub(crate) const DIFF_ABOUT: &str = "Prints what users gain and lose by a new policy";
 
 /// What `tacd diff --help` begins with.
-pub const DIFF_LONG_ABOUT: &str =
+pub(crate) const DIFF_LONG_ABOUT: &str =
     "Prints what users gain and lose where a new policy takes the place of an old one.
 
 For each user for whom anything changes it prints the shortest command line that the new policy
@@ -177,7 +179,7 @@ pub(crate) const DIFF_AFTER_HELP: &str = "Example:
 'tacd diff --help' describes what is printed; 'tacd replay --help' the lines of a policy.";
 
 /// What `tacd diff --help` ends with.
-pub const DIFF_AFTER_LONG_HELP: &str = "'tacd replay --help' describes the lines of a policy.
+pub(crate) const DIFF_AFTER_LONG_HELP: &str = "'tacd replay --help' describes the lines of a policy.
 
 What is printed, first for the users of NEW in its order, then for those of OLD alone:
   user NAME now permits: LINE
@@ -213,7 +215,7 @@ Exit status:
 pub(crate) const WHY_ABOUT: &str = "Prints which rule decides on a command line";
 
 /// What `tacd why --help` begins with.
-pub const WHY_LONG_ABOUT: &str =
+pub(crate) const WHY_LONG_ABOUT: &str =
     "Prints which rule of a policy decides on a command line of a user, as the console of 'tacd serve'
 answers 'why'.
 
@@ -231,7 +233,7 @@ pub(crate) const WHY_AFTER_HELP: &str = "Examples:
 'tacd why --help' describes what is printed; 'tacd replay --help' the lines of a policy.";
 
 /// What `tacd why --help` ends with.
-pub const WHY_AFTER_LONG_HELP: &str = "'tacd replay --help' describes the lines of a policy.
+pub(crate) const WHY_AFTER_LONG_HELP: &str = "'tacd replay --help' describes the lines of a policy.
 
 Answers, where OWNER is 'user NAME' or 'group NAME'; the rules of an OWNER count from 1:
   permitted by OWNER rule N
@@ -264,7 +266,7 @@ Exit status:
 pub(crate) const TEST_ABOUT: &str = "Prints which cases of a table a policy doesn't meet";
 
 /// What `tacd test --help` begins with.
-pub const TEST_LONG_ABOUT: &str =
+pub(crate) const TEST_LONG_ABOUT: &str =
     "Compares a policy with a table of cases, and prints each that isn't so with the rule that decided.
 
 A case is a line 'permit USER LINE' or 'deny USER LINE'. A user who isn't in the policy meets neither,
@@ -278,7 +280,7 @@ pub(crate) const TEST_AFTER_HELP: &str = "Example:
 'tacd test --help' describes what is printed; 'tacd replay --help' the lines of a policy.";
 
 /// What `tacd test --help` ends with.
-pub const TEST_AFTER_LONG_HELP: &str = "'tacd replay --help' describes the lines of a policy.
+pub(crate) const TEST_AFTER_LONG_HELP: &str = "'tacd replay --help' describes the lines of a policy.
 
 Of CASES leading spaces, empty lines and lines that begin with '#' are passed over.
 
@@ -310,7 +312,7 @@ pub(crate) const REPLAY_ABOUT: &str =
     "Reads a script on standard input and prints the server's replies";
 
 /// What `tacd replay --help` begins with.
-pub const REPLAY_LONG_ABOUT: &str =
+pub(crate) const REPLAY_LONG_ABOUT: &str =
     "Reads a script on standard input and prints the server's replies on standard output.
 
 The script gives the key that server and devices share, a policy, and what devices send over their
@@ -324,7 +326,7 @@ pub(crate) const REPLAY_AFTER_HELP: &str = "Example:
 'tacd replay --help' describes the lines of a script.";
 
 /// What `tacd replay --help` ends with.
-pub const REPLAY_AFTER_LONG_HELP: &str = "Lines of a script, in this order:
+pub(crate) const REPLAY_AFTER_LONG_HELP: &str = "Lines of a script, in this order:
   key TEXT             line 1: the key, 1 to 128 printable ASCII characters
   the policy, any number of these:
     group NAME           begins a group; with ' in GROUP', one that has that group's rules too

@@ -4,7 +4,7 @@
 
 mod command_line;
 mod complaint;
-pub mod help;
+mod help;
 mod opening;
 mod options;
 mod program;

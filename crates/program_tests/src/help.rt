@@ -1,0 +1,281 @@
+//! The long help, as it is to be printed: what it begins with and what it ends with.
+
+pub(crate) const SERVE_LONG_ABOUT: &str =
+    "Serves devices that run TACACS+ (RFC 8907) on a port, with a console on standard input.
+
+The policy is read from a file once. It is edited at the console, and an edit counts from the next
+packet on. Edits and accounting records are kept in memory alone, and are gone when the server ends.
+
+The key is 1 to 128 printable ASCII characters. Give it by --key-file: a key on the command line can
+be seen by everyone with a login on this machine, by 'ps' for one.";
+
+pub(crate) const SERVE_AFTER_LONG_HELP: &str =
+    "'tacd replay --help' describes the lines of a policy.
+
+A worker serves one connection at a time, until the device hangs up, or has had no reply for so many
+seconds as --idle says (at most 10 before the first reply); other devices wait. Standard output has
+'listening PORT' first, and then what the console's lines are answered.
+
+Lines of the console, where a SUBJECT is 'user NAME' or 'group NAME':
+  policy               the policy as it is now
+  shadow               the rules that decide no line, for each user and group
+  reach SUBJECT        the shortest line that each of the rules decides
+  why NAME LINE        which rule decides on a line of this user
+  tally SUBJECT        what the records of a user, or of a group's users, add up to
+  records              the accounting records
+  add SUBJECT          a new user or group; with ' in GROUP', one that has that group's rules too
+  remove SUBJECT       it goes
+  move SUBJECT in GROUP, or move SUBJECT out
+  login NAME TEXT, enable NAME TEXT, clear login NAME, clear enable NAME
+  priv SUBJECT N, clear priv SUBJECT
+  insert SUBJECT N permit PATTERN, or deny PATTERN
+                       a new rule with this number
+  drop SUBJECT N       rule N goes
+  shift SUBJECT N M    rule N gets the number M
+  quit                 the server stops, as it does where the input ends
+
+An edit is answered by 'ok', and for each user whom it concerns by the shortest line that is now
+permitted, and the shortest that is now denied; or by 'refused' and why, and has changed nothing.
+A call that the server doesn't take is answered by 'hall' and why: 65536 calls are taken in all.
+
+Where the server stops, the port is closed, and all connections are closed within half a second.
+
+Example:
+  $ cat ops.policy
+  group ops
+  permit show .*
+  user bob in ops
+  $ tacd serve --port 49 --key-file tacd.key ops.policy
+  listening 49
+  insert group ops 1 deny show run.*
+  ok
+  user bob now denies: show run
+  why bob show running-config
+  denied by group ops rule 1
+  quit
+
+Exit status:
+  0  the server was stopped
+  1  the policy is refused, and why was printed, as by 'tacd check'
+  2  the command line or the key is wrong
+  3  memory ran out, or a thread could not be made
+  4  a file could not be read, the port could not be had, the console could not be read, or the
+     output could not be written, or 'close refused' was printed: the calls of all workers could
+     not be put together";
+
+pub(crate) const CHECK_LONG_ABOUT: &str =
+    "Reads a policy, and prints how much it has and which of its rules decide nothing.
+
+A rule decides nothing for a user or a group if each command line that it fits is decided by a rule
+before it, by one of them alone or by several together. Such a rule is mostly a mistake. A policy
+that is wrong is refused, and the first line that is no line of a policy is named. Where each is one,
+it is the line of a subject whose group isn't there, whose groups run in a circle or are too many.";
+
+pub(crate) const CHECK_AFTER_LONG_HELP: &str =
+    "'tacd replay --help' describes the lines of a policy.
+
+What is printed of a policy that may stand, with the last line where no rule is shadowed:
+  policy ok: S subjects, R rules
+  shadowed in SUBJECT: OWNER rule N
+                       rule N of OWNER decides no line of the user or group SUBJECT
+  none
+
+What is printed of one that is refused:
+  fault line L FAULT   line L of the file is wrong
+  fault TooManyStates SUBJECT
+                       the rules along SUBJECT and its groups are too large together
+
+Example:
+  $ cat desk.policy
+  group desk
+  permit clear (counters|arp)( .*)?
+  deny clear arp
+  user eve in desk
+  $ tacd check desk.policy
+  policy ok: 2 subjects, 2 rules
+  shadowed in group desk: group desk rule 2
+  shadowed in user eve: group desk rule 2
+
+Exit status:
+  0  the policy may stand, whether rules are shadowed or not
+  1  the policy is refused, and why was printed
+  2  the command line is wrong
+  3  memory ran out
+  4  the file could not be read, or the output could not be written";
+
+pub(crate) const DIFF_LONG_ABOUT: &str =
+    "Prints what users gain and lose where a new policy takes the place of an old one.
+
+For each user for whom anything changes it prints the shortest command line that the new policy
+permits and the old one denies, and the shortest that the new one denies and the old one permits; of
+lines of one length, the first by ASCII. So nothing is printed for a user exactly if the two policies
+decide alike on every line that he could ever give. It is what the console of 'tacd serve' answers
+to edits that make the one policy into the other.";
+
+pub(crate) const DIFF_AFTER_LONG_HELP: &str = "'tacd replay --help' describes the lines of a policy.
+
+What is printed, first for the users of NEW in its order, then for those of OLD alone:
+  user NAME now permits: LINE
+  user NAME now denies: LINE
+  same                 where there is no such user
+
+What is printed where one of them is refused; OLD is judged first:
+  PATH: fault ..       as 'tacd check' prints it
+
+Example:
+  $ cat old.policy
+  group desk
+  permit show .*
+  user eve in desk
+  $ cat new.policy
+  group desk
+  deny show run.*
+  permit show .*
+  permit ping [0-9.]+
+  user eve in desk
+  $ tacd diff old.policy new.policy
+  user eve now permits: ping .
+  user eve now denies: show run
+
+Exit status:
+  0  both policies may stand
+  1  one of them is refused, and why was printed
+  2  the command line is wrong
+  3  memory ran out
+  4  a file could not be read, or the output could not be written
+  5  with --exit-code: anyone gains or loses a line";
+
+pub(crate) const WHY_LONG_ABOUT: &str =
+    "Prints which rule of a policy decides on a command line of a user, as the console of 'tacd serve'
+answers 'why'.
+
+The words of LINE are joined by blanks, as a router joins them. Without USER, questions are read from
+standard input, a line 'USER LINE' for each, and each is printed with its answer.";
+
+pub(crate) const WHY_AFTER_LONG_HELP: &str = "'tacd replay --help' describes the lines of a policy.
+
+Answers, where OWNER is 'user NAME' or 'group NAME'; the rules of an OWNER count from 1:
+  permitted by OWNER rule N
+  denied by OWNER rule N
+  denied by default    no rule fits
+  unknown user         the policy has no such user
+
+Of standard input, at most 268435456 bytes, leading spaces, empty lines and lines that begin with '#'
+are passed over; each other line is printed, and then ': ' and its answer.
+
+What is printed where something is refused; nothing is answered then:
+  PATH: fault ..       the policy, as 'tacd check' prints it
+  fault BadQuestion    USER is no name, or LINE has a character that isn't printable ASCII
+  standard input: fault line L BadQuestion
+                       the same of line L of standard input
+
+Example:
+  $ tacd why campus.policy ben show vlan
+  permitted by group staff rule 4
+  $ echo ben reload | tacd why campus.policy
+  ben reload: denied by group engineers rule 8
+
+Exit status:
+  0  all is answered
+  1  something is refused, and why was printed
+  2  the command line is wrong
+  3  memory ran out
+  4  an input could not be read, or the output could not be written";
+
+pub(crate) const TEST_LONG_ABOUT: &str =
+    "Compares a policy with a table of cases, and prints each that isn't so with the rule that decided.
+
+A case is a line 'permit USER LINE' or 'deny USER LINE'. A user who isn't in the policy meets neither,
+so that a misspelt name is seen.";
+
+pub(crate) const TEST_AFTER_LONG_HELP: &str = "'tacd replay --help' describes the lines of a policy.
+
+Of CASES leading spaces, empty lines and lines that begin with '#' are passed over.
+
+What is printed, where ANSWER is one of those of 'tacd why':
+  line L: CASE: ANSWER for each case that isn't so, with its line in CASES
+  ok                   where all cases are so
+
+What is printed where something is refused; no case is judged then:
+  PATH: fault ..       the policy, as 'tacd check' prints it
+  PATH: fault line L BadCase
+                       line L of CASES is no case
+
+Example:
+  $ cat ben.cases
+  permit ben show vlan
+  deny ben reload
+  permit ben configure
+  $ tacd test campus.policy ben.cases
+  line 3: permit ben configure: denied by default
+
+Exit status:
+  0  all cases are so
+  1  a case isn't so, or something is refused, and that was printed
+  2  the command line is wrong
+  3  memory ran out
+  4  a file could not be read, or the output could not be written";
+
+pub(crate) const REPLAY_LONG_ABOUT: &str =
+    "Reads a script on standard input and prints the server's replies on standard output.
+
+The script gives the key that server and devices share, a policy, and what devices send over their
+connections: packets of TACACS+ authentication, authorisation and accounting (RFC 8907), of which
+every session asks for a login or a command line, or tells what was done. The whole script, at most
+268435456 bytes, is read before anything is printed.";
+
+pub(crate) const REPLAY_AFTER_LONG_HELP: &str = "Lines of a script, in this order:
+  key TEXT             line 1: the key, 1 to 128 printable ASCII characters
+  the policy, any number of these:
+    group NAME           begins a group; with ' in GROUP', one that has that group's rules too
+    user NAME            begins a user; with ' in GROUP', one that has that group's rules too
+    login TEXT           what the user above it logs in with, 1 to 128 characters
+    enable TEXT          what the user above it enables with
+    priv N               the level, 0 to 15, of the shells of the user or group above it
+    permit PATTERN       the next rule of the user or group above it
+    deny PATTERN         the next rule of the user or group above it
+  run                  ends the policy
+  events, any number of these:
+    open N               a device opens connection N, 0 to 65535
+    packet N HEX ..      it sends packets: 12 bytes of header, then the body, in the clear
+    bytes N HEX          it sends these bytes as they are
+    pieces K             from here on, what is sent comes in pieces of K bytes, 1 to 9999
+    lost N               connection N is lost
+    console LINE         an operator types LINE: an edit or a question, as at 'tacd serve'
+
+In the policy, empty lines, lines that begin with '#' and leading spaces are passed over. A NAME is
+1 to 32 of the characters A-Z a-z 0-9 _ - . @. A PATTERN, up to 200 characters long, is to fit a
+whole command line: '.' fits any character, '[a-z]' and '[^a-z]' one of a class or one that isn't in
+it, 'A|B' what A or B fits; behind a character, a class or a part in parentheses, '*' means any number
+of it, '+' at least one, and '?' at most one; a '\\' takes the next character as it is. The first rule
+that fits decides, a user's own before the group's, and a group's own before those of its group; where
+none fits, the command is denied.
+
+What is printed:
+  reply N HEX          the server sends a packet on connection N, here with its body in the clear
+  closed N             the server closes connection N; the number may be opened again
+  what a LINE of an operator is answered, which 'tacd serve --help' describes
+  fault line L FAULT   line L of the script is wrong, and nothing after it is played
+  fault TooManyStates SUBJECT
+                       the rules along SUBJECT and its groups are too large together
+  fault Memory         memory ran out: this line stands in place of all that is printed
+
+Example, in which bob, of the group ops, asks for 'show version':
+  key k
+  group ops
+  permit show .*
+  user bob in ops
+  run
+  open 1
+  packet 1 c0020100000000010000003606010101030400030d080f626f6274747930736572766963653d7368656c6c636d643d73686f77636d642d6172673d76657273696f6e
+
+It prints, where the first byte of the body, 01, says that the command is permitted:
+  reply 1 c00202000000000100000006010000000000
+  closed 1
+
+Exit status:
+  0  the whole script was played
+  1  the script has a fault, which was printed
+  2  the command line is wrong
+  3  memory ran out
+  4  the script could not be read, or the output could not be written";
