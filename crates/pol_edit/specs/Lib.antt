@@ -1,4 +1,5 @@
 pub mod EditText
 pub mod Applying
+pub mod Batches
 pub mod FaultText
 pub mod Spelling

@@ -28,7 +28,10 @@ IsFirstLarge policy (subject ∷ rest) id =
 abbrev pub IsSmall : List Subject → Type 0
 IsSmall policy = AreSmall policy policy
 
--- else the first large one is named
+-- else the first large one is named: this is what a refusal makes of it
+abbrev pub IsRefusedAs : {F : Type 0} → (EditFault → F) → List Subject → F → Type 0
+IsRefusedAs as_refusal policy fault =
+    (id : SubjectId) × (fault ≡ as_refusal (TooManyStates id)) × IsFirstLarge policy policy id
+
 abbrev pub IsRefusedFor : List Subject → EditFault → Type 0
-IsRefusedFor policy fault =
-    (id : SubjectId) × (fault ≡ TooManyStates id) × IsFirstLarge policy policy id
+IsRefusedFor policy = IsRefusedAs (λ fault. fault) policy
