@@ -1,5 +1,7 @@
 -- The line of an edit (docs/POLICY.md, "Edits").
 use Rattle.std.specs.Prelude.{ℕ, List, codes, Option, Some, None, if◌then◌else◌, option_map}
+use Rattle.std.specs.Prelude.{Bool, true, false, is_some}
+use Rattle.std.specs.Option.{option_map_or}
 use Rattle.std.specs.Str.{bytes_eq}
 use Rattle.basics.specs.Symbol.{is_text}
 use Rattle.basics.specs.Lines.{split_at_first}
@@ -150,3 +152,15 @@ edit_by word rest =
 -- the edit that a line of symbols says; nothing where it is no edit
 unfoldable pub edit_of : List ℕ → Option Edit
 edit_of line = if is_text line then (parted line >>= λ parts. edit_by parts.0 parts.1) else None
+
+-- ---- memory
+
+-- whether an edit has a secret or a pattern, which take memory to keep
+abbrev pub has_text : Edit → Bool
+has_text (SetLogin user secret) = is_some secret
+has_text (SetEnable user secret) = is_some secret
+has_text (InsertRule subject at verdict pattern) = true
+has_text edit = false
+
+abbrev pub has_text_in : Option Edit → Bool
+has_text_in edit = option_map_or has_text edit false

@@ -1,6 +1,7 @@
 //! Reading the line of an edit.
 
 ghost use Rattle.std.specs.Prelude.{◌≡◌, ◌⊎◌, ℕ, List, Option, Some, None, Ok, Err, IfOk, IfErr};
+ghost use Rattle.std.specs.Prelude.{IsTrue, OnErr};
 ghost use Rattle.std.specs.Option.{option_map};
 ghost use Rattle.pol_edit.specs.declared.edit.Edit.{Edit as EditValue};
 ghost use Rattle.pol_edit.specs.declared.edit.Edit.TheVariants.{SetLogin, SetEnable, InsertRule};
@@ -8,7 +9,7 @@ ghost use Rattle.pol_edit.specs.declared.fault.EditFault.TheVariants.{BadEdit, M
 ghost use Rattle.pol_edit.specs.Spelling.{Spells};
 ghost use Rattle.pol_edit.specs.EditText.{parted, added as added_by, add_of, move_of, secret_for};
 ghost use Rattle.pol_edit.specs.EditText.{clear_of, priv_of, insert_of, drop_of, shift_of, edit_by};
-ghost use Rattle.pol_edit.specs.EditText.{edit_of};
+ghost use Rattle.pol_edit.specs.EditText.{edit_of, has_text_in};
 
 use crate::edit::Edit;
 use crate::fault::EditFault;
@@ -61,8 +62,10 @@ fn move_subject(rest: &[u8]) -> Option<Edit>
 // `NAME TEXT`.
 #[tactic(auto, unfolding(crate::specs::EditText::secret_for))]
 fn secret(alloc: Global, rest: &[u8]) -> Result<Option<(Name, Bytes)>, AllocError>
-    ensures { IfOk result (λ read. (setting : List ℕ → Option (List ℕ) → EditValue) →
+    ensures read { IfOk result (λ read. (setting : List ℕ → Option (List ℕ) → EditValue) →
         option_map (λ parts. setting parts.0 (Some parts.1)) read ≡ secret_for setting rest.now) }
+    ensures memory { OnErr result (IsTrue (has_text_in (secret_for SetLogin rest.now))
+        × IsTrue (has_text_in (secret_for SetEnable rest.now))) }
 {
     let Some((name, text)) = split_once(rest, b' ') else {
         return Ok(None);
@@ -76,7 +79,8 @@ fn secret(alloc: Global, rest: &[u8]) -> Result<Option<(Name, Bytes)>, AllocErro
 
 // `login NAME TEXT`.
 fn login(alloc: Global, rest: &[u8]) -> Result<Option<Edit>, AllocError>
-    ensures { IfOk result (λ edit. edit ≡ secret_for SetLogin rest.now) }
+    ensures edit { IfOk result (λ edit. edit ≡ secret_for SetLogin rest.now) }
+    ensures memory { OnErr result (IsTrue (has_text_in (secret_for SetLogin rest.now))) }
 {
     let Some((user, text)) = secret(alloc, rest)? else {
         return Ok(None);
@@ -89,7 +93,8 @@ fn login(alloc: Global, rest: &[u8]) -> Result<Option<Edit>, AllocError>
 
 // `enable NAME TEXT`.
 fn enable(alloc: Global, rest: &[u8]) -> Result<Option<Edit>, AllocError>
-    ensures { IfOk result (λ edit. edit ≡ secret_for SetEnable rest.now) }
+    ensures edit { IfOk result (λ edit. edit ≡ secret_for SetEnable rest.now) }
+    ensures memory { OnErr result (IsTrue (has_text_in (secret_for SetEnable rest.now))) }
 {
     let Some((user, text)) = secret(alloc, rest)? else {
         return Ok(None);
@@ -154,7 +159,8 @@ fn placed_rule(rest: &[u8]) -> Option<(SubjectId, u16, Verdict, &[u8])>
 
 // `insert KIND NAME AT permit PATTERN` or `insert KIND NAME AT deny PATTERN`.
 fn insert_rule(alloc: Global, rest: &[u8]) -> Result<Option<Edit>, AllocError>
-    ensures { IfOk result (λ edit. edit ≡ insert_of rest.now) }
+    ensures edit { IfOk result (λ edit. edit ≡ insert_of rest.now) }
+    ensures memory { OnErr result (IsTrue (has_text_in (insert_of rest.now))) }
 {
     let Some((subject, at, verdict, pattern)) = placed_rule(rest) else {
         return Ok(None);
@@ -197,7 +203,8 @@ fn shift_rule(rest: &[u8]) -> Option<Edit>
 // An edit of this first word, which a space follows.
 #[tactic(auto, unfolding(crate::specs::EditText::edit_by))]
 fn worded(alloc: Global, word: &[u8], rest: &[u8]) -> Result<Option<Edit>, AllocError>
-    ensures { IfOk result (λ edit. edit ≡ edit_by word.now rest.now) }
+    ensures edit { IfOk result (λ edit. edit ≡ edit_by word.now rest.now) }
+    ensures memory { OnErr result (IsTrue (has_text_in (edit_by word.now rest.now))) }
 {
     if word == b"add".as_slice() {
         return Ok(add(rest));
@@ -235,7 +242,8 @@ fn worded(alloc: Global, word: &[u8], rest: &[u8]) -> Result<Option<Edit>, Alloc
 // The edit that a line of symbols says.
 #[tactic(auto, unfolding(crate::specs::EditText::edit_of))]
 fn edit(alloc: Global, line: &[u8]) -> Result<Option<Edit>, AllocError>
-    ensures { IfOk result (λ edit. edit ≡ edit_of line.now) }
+    ensures edit { IfOk result (λ edit. edit ≡ edit_of line.now) }
+    ensures memory { OnErr result (IsTrue (has_text_in (edit_of line.now))) }
 {
     if !is_text(line) {
         return Ok(None);
@@ -251,8 +259,10 @@ fn edit(alloc: Global, line: &[u8]) -> Result<Option<Edit>, AllocError>
 pub fn read_edit(alloc: Global, line: &[u8]) -> Result<Edit, EditFault>
     // Which lines are read, and as which edit.
     ensures ok { IfOk result (λ edit. edit_of line.now ≡ Some edit) }
-    ensures err { IfErr result
-        (λ fault. (fault ≡ Memory) ⊎ ((fault ≡ BadEdit) × (edit_of line.now ≡ None))) }
+    // Only an edit that has a text takes memory.
+    ensures err { IfErr result (λ fault.
+        ((fault ≡ Memory) × IsTrue (has_text_in (edit_of line.now)))
+        ⊎ ((fault ≡ BadEdit) × (edit_of line.now ≡ None))) }
 
     // What is read is spelled so.
     ensures found { IfOk result (λ edit. Spells line.now edit) }
