@@ -1,7 +1,8 @@
 //! Edits: their lines, and what they make of a policy.
 
 use crate::support::{is_shown, name, prints};
-use pol_edit::{EditFault, apply, read_edit};
+use basics::Sequence;
+use pol_edit::{BatchFault, Edit, EditFault, apply, apply_all, read_edit};
 use pol_names::SubjectId;
 use pol_text::Policy;
 use std::alloc::Global;
@@ -43,6 +44,49 @@ fn makes<R: Abort + AllocGlobal>(
 ) -> Result<(), Fail> {
     let mut policy = Policy::read(rt.alloc(), before.as_bytes())?;
     becomes(rt, &mut policy, edits, after)
+}
+
+// The edits of a line, which `; ` parts.
+fn edits(alloc: Global, lines: &str) -> Result<Sequence<Edit>, EditFault> {
+    let mut edits = Sequence::new(alloc);
+    for line in lines.split("; ") {
+        let edit = read_edit(alloc, line.as_bytes())?;
+        edits.push(edit)?;
+    }
+    Ok(edits)
+}
+
+// What they make of a policy together.
+fn edit_together(alloc: Global, policy: &mut Policy, lines: &str) -> Result<(), BatchFault> {
+    let edits = edits(alloc, lines).map_err(BatchFault::of_all)?;
+    apply_all(alloc, policy, edits.as_slice())
+}
+
+// Of the policy of the first text the edits make that of the other.
+fn makes_together<R: Abort + AllocGlobal>(
+    rt: &R,
+    before: &str,
+    lines: &str,
+    after: &str,
+) -> Result<(), Fail> {
+    let mut policy = Policy::read(rt.alloc(), before.as_bytes())?;
+    edit_together(rt.alloc(), &mut policy, lines)?;
+    prints(rt, &policy, after)
+}
+
+// They are refused so, as it is printed, and the policy is as before.
+fn refuses_together<R: Abort + AllocGlobal>(
+    rt: &R,
+    before: &str,
+    lines: &str,
+    expected: &str,
+) -> Result<(), Fail> {
+    let mut policy = Policy::read(rt.alloc(), before.as_bytes())?;
+    match edit_together(rt.alloc(), &mut policy, lines) {
+        Ok(()) => assert!(rt; false, "{lines} is accepted"),
+        Err(fault) => is_shown(rt, lines, &fault, expected)?,
+    }
+    prints(rt, &policy, before)
 }
 
 // The line is refused so, as it is printed, and the policy is as before.
@@ -261,6 +305,43 @@ fn refusals(rt: HostRuntime) -> Result<(), Fail> {
 }
 
 #[test]
+fn edits_that_are_made_together(rt: HostRuntime) -> Result<(), Fail> {
+    makes_together(
+        &rt,
+        THREE,
+        "add group net; insert group net 1 permit ping; move user bob in net; drop group all 1",
+        "group all\ngroup ops in all\nuser bob in net\ngroup net\npermit ping\n",
+    )?;
+    // An edit may undo one before it, and a subject come back as another.
+    makes_together(
+        &rt,
+        THREE,
+        "remove user bob; add user bob; login bob x; insert user bob 1 deny y; drop user bob 1",
+        "group all\npermit x\ngroup ops in all\nuser bob\nlogin x\n",
+    )
+}
+
+#[test]
+fn refusals_of_edits_that_are_made_together(rt: HostRuntime) -> Result<(), Fail> {
+    for case in REFUSED_TOGETHER.lines() {
+        let (expected, lines) = case.split_once(" | ").ok_or("no case")?;
+        refuses_together(&rt, THREE, lines, expected)?;
+    }
+    Ok(())
+}
+
+// Each refusal, by the first edit that isn't right on what those before it make.
+const REFUSED_TOGETHER: &str = "\
+at edit 1: 2 NoSuch | drop group none 1; add group all
+at edit 2: 2 NoSuch | remove user bob; login bob x
+at edit 3: 3 Exists | add group net; add group nut; add group net; drop group none 1
+at edit 2: 4 InUse | add user eve in ops; remove group ops
+at edit 2: 5 Cycle | move group ops out; move group ops in ops
+at edit 3: 7 BadIndex | drop group all 1; insert group all 1 deny y; drop group all 2
+at edit 2: 8 BadPattern 5 NothingToRepeat at 0 | login bob x; insert user bob 1 permit *
+at edit 2: 9 BadValue | priv user bob 15; priv user bob 16";
+
+#[test]
 fn chains_that_grow_too_long(rt: HostRuntime) -> Result<(), Fail> {
     // A chain that only leads through the subject counts too, and a cycle comes first.
     refuses_each(
@@ -338,5 +419,11 @@ fn printed_refusals(rt: HostRuntime) -> Result<(), Fail> {
     let ops = SubjectId::group(name(b"ops")?);
     let states = EditFault::TooManyStates(ops);
     is_shown(&rt, "states", &states, "11 TooManyStates group ops")?;
-    is_shown(&rt, "memory", &EditFault::Memory, "12 Memory")
+    is_shown(&rt, "memory", &EditFault::Memory, "12 Memory")?;
+    is_shown(
+        &rt,
+        "states of many",
+        &BatchFault::of_all(states),
+        "11 TooManyStates group ops",
+    )
 }
