@@ -32,10 +32,13 @@ Lines of the console, where a SUBJECT is 'user NAME' or 'group NAME':
                        a new rule with this number
   drop SUBJECT N       rule N goes
   shift SUBJECT N M    rule N gets the number M
+  begin, commit, abandon
+                       edits after 'begin', up to 64, are kept, and made by 'commit' all or none
   quit                 the server stops, as it does where the input ends
 
-An edit is answered by 'ok', and for each user whom it concerns by the shortest line that is now
-permitted, and the shortest that is now denied; or by 'refused' and why, and has changed nothing.
+An edit and a 'commit' are answered by 'ok', and for each user whom they concern by the shortest
+line that is now permitted, and the shortest that is now denied; or by 'refused' and why, and have
+changed nothing.
 A call that the server doesn't take is answered by 'hall' and why: 65536 calls are taken in all.
 
 Where the server stops, the port is closed, and all connections are closed within half a second.
