@@ -185,6 +185,35 @@ WRONG_BODIES = [
         'if line == "" and level is not None',
         "if level is not None",
     ),
+    # Edits that are made together.
+    WrongBody(
+        "a refused batch keeps its first edits",
+        "console.py",
+        "        return change(desk, edits.edited_together(desk.policy, kept))",
+        "        for number, edit in enumerate(kept, start=1):\n"
+        "            try:\n"
+        "                after = edits.edited_together(desk.policy, [edit])\n"
+        "            except Refused as fault:\n"
+        '                raise Refused(str(fault).replace("edit 1:", f"edit {number}:")) from None\n'
+        "            before, desk.policy = desk.policy, after\n"
+        "        return change(desk, desk.policy)",
+    ),
+    WrongBody(
+        "a policy in between may not be too large",
+        "edits.py",
+        "            policy = edit(policy)\n        except",
+        "            policy = edited(policy, edit)\n        except",
+    ),
+    WrongBody(
+        "a refused commit leaves the batch open",
+        "console.py",
+        '    kept, desk.batch = desk.batch, [] if word == "begin" else None\n',
+        '    kept, desk.batch = desk.batch, [] if word == "begin" else None\n'
+        '    if word == "commit":\n'
+        "        desk.batch = kept\n"
+        "        policy = edits.edited_together(desk.policy, kept)\n"
+        "        desk.batch = None\n",
+    ),
     # Records and the console.
     WrongBody(
         "a watchdog ends its task",

@@ -329,6 +329,9 @@ class World:
     def subjects(self):
         return self.server.desk.policy
 
+    def has_batch(self):
+        return self.server.desk.batch is not None
+
     def user(self):
         """Mostly one that is there."""
         users = [subject.name for subject in self.subjects() if subject.kind == "user"]

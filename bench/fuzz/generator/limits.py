@@ -39,8 +39,25 @@ def lines(choices):
 def events(choices):
     found = []
     for _ in range(choices.count(2, 8)):
-        found += choices.choice([state_edits, size_edits, chain_edits, many_lines])(choices)
+        kinds = [state_edits, size_edits, chain_edits, many_lines, full_batch, batch_of_few]
+        found += choices.choice(kinds)(choices)
     return found
+
+
+def full_batch(choices):
+    """About as many edits as a batch keeps."""
+    found = ["console begin"]
+    for number in range(choices.choice([63, 64, 65, 66])):
+        found.append(f"console login u s{number}")
+    return found + [f"console {choices.choice(['commit', 'abandon'])}", "console policy"]
+
+
+def batch_of_few(choices):
+    """Edits of the other kinds in one batch, with the questions that come with them."""
+    found = ["console begin"]
+    for _ in range(choices.count(1, 4)):
+        found += choices.choice([state_edits, size_edits, chain_edits])(choices)
+    return found + ["console commit", "console policy"]
 
 
 def state_edits(choices):

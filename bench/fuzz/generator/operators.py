@@ -29,13 +29,24 @@ class Operator:
         self.choices = choices
         self.world = world
         self.edits = choices.choice([0.2, 0.5, 0.8])
+        self.batches = choices.choice([0, 0.02, 0.2])
 
     def line(self):
         choices = self.choices
         if choices.chance(0.02):
             return odd_line(choices)
+        if choices.chance(self.batches):
+            return self.batch_line()
         typed = self.edit() if choices.chance(self.edits) else self.question()
         return self.spoiled(typed) if choices.chance(0.06) else typed
+
+    def batch_line(self):
+        """Mostly one that may come now."""
+        if self.choices.chance(0.1):
+            return self.choices.choice(["begin", "commit", "abandon", "begin ", "commit 1"])
+        if self.world.has_batch():
+            return self.choices.choice(["commit", "commit", "commit", "abandon"])
+        return "begin"
 
     def spoiled(self, typed):
         """One field left out, doubled or put for another, or one symbol wrong."""

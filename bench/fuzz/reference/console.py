@@ -7,20 +7,50 @@ from .policy import GROUP, USER, Refused, find, printed, refuse
 from .texts import is_name, is_text, lines_of, percent_form
 
 
+MOST_KEPT = 64
+
+
 def answer(desk, line):
-    """The answer; an edit that is accepted changes the desk's policy."""
+    """The answer; an edit or a batch that is accepted changes the desk's policy."""
     try:
-        lines = edit(desk, line) if line.partition(" ")[0] in edits.WORDS else ask(desk, line)
+        lines = said_to(desk, line)
     except Refused as fault:
         lines = [f"refused {fault}"]
     return "".join(said + "\n" for said in lines)
 
 
-def edit(desk, line):
-    before = desk.policy
-    desk.policy = edits.edited(before, line)
+def said_to(desk, line):
+    if line in ("begin", "commit", "abandon"):
+        return batch(desk, line)
+    if line.partition(" ")[0] not in edits.WORDS:
+        return ask(desk, line)
+    edit = edits.read_edit(line)
+    if desk.batch is not None:
+        return keep(desk, edit)
+    return change(desk, edits.edited(desk.policy, edit))
+
+
+def batch(desk, word):
+    """A batch is the list of the kept edits, or None."""
+    if (word == "begin") != (desk.batch is None):
+        refuse(1, "BadEdit")
+    kept, desk.batch = desk.batch, [] if word == "begin" else None
+    if word == "commit":
+        return change(desk, edits.edited_together(desk.policy, kept))
+    return ["ok"]
+
+
+def keep(desk, edit):
+    if len(desk.batch) == MOST_KEPT:
+        refuse(10, "Limit")
+    desk.batch.append(edit)
+    return [f"kept {len(desk.batch)}"]
+
+
+def change(desk, policy):
+    before, desk.policy = desk.policy, policy
     lines = ["ok"]
-    for user, permitted, denied in changes_of(before, desk.policy):
+    for user, permitted, denied in changes_of(before, policy):
         if permitted is not None:
             lines.append(f"user {user} now permits: {permitted}")
         if denied is not None:

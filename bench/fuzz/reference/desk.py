@@ -16,6 +16,7 @@ class Desk:
     def __init__(self, policy):
         self.policy = policy
         self.records = []
+        self.batch = None
 
     def user(self, name):
         place = find(self.policy, USER, name)

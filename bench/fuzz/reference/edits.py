@@ -38,13 +38,26 @@ WORDS = (
 )
 
 
-def edited(policy, line):
+def edited(policy, edit):
     """The policy after the edit, or Refused."""
-    after = read_edit(line)(policy)
-    large = first_too_large(after)
+    return not_too_large(edit(policy))
+
+
+def edited_together(policy, kept):
+    """The policy after all of the edits, or Refused with the number of the first that is."""
+    for number, edit in enumerate(kept, start=1):
+        try:
+            policy = edit(policy)
+        except Refused as fault:
+            raise Refused(f"at edit {number}: {fault}") from None
+    return not_too_large(policy)
+
+
+def not_too_large(policy):
+    large = first_too_large(policy)
     if large is not None:
         raise Refused(f"11 TooManyStates {large.label()}")
-    return after
+    return policy
 
 
 def read_edit(line):
