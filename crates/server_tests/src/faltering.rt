@@ -2,7 +2,7 @@
 
 ghost use Rattle.std.specs.Prelude.{◌≡◌};
 
-use pol_edit::{Edit, EditFault};
+use pol_edit::{BatchFault, Edit, EditFault};
 use pol_meaning::Changes;
 use std::alloc::AllocError;
 use tac_conn::{Answer, Ask};
@@ -37,11 +37,11 @@ impl Desk for Faltering {
         self.inner.ask(ask)
     }
 
-    fn edit(&mut self, edit: &Edit) -> Result<Thrice<Changes>, EditFault> {
+    fn edit_all(&mut self, edits: &[Edit]) -> Result<Thrice<Changes>, BatchFault> {
         if self.falters() {
-            return Err(EditFault::Memory);
+            return Err(BatchFault::of_all(EditFault::Memory));
         }
-        self.inner.edit(edit)
+        self.inner.edit_all(edits)
     }
 
     fn query(&mut self, query: &Query) -> Result<Thrice<Report>, QueryFault> {

@@ -8,7 +8,7 @@ ghost use Rattle.tac_desk.specs.declared.query.QueryFault.TheVariants.{NoSuch};
 ghost use Rattle.server_tests.specs.Ledger.{kept_by};
 
 use basics::Sequence;
-use pol_edit::{Edit, EditFault};
+use pol_edit::{BatchFault, Edit, EditFault};
 use pol_meaning::Changes;
 use pol_names::Kind;
 use pol_text::Policy;
@@ -100,8 +100,8 @@ impl Desk for Ledger {
         }
     }
 
-    fn edit(&mut self, _edit: &Edit) -> Result<Thrice<Changes>, EditFault> {
-        Err(EditFault::Memory)
+    fn edit_all(&mut self, _edits: &[Edit]) -> Result<Thrice<Changes>, BatchFault> {
+        Err(BatchFault::of_all(EditFault::Memory))
     }
 
     fn query(&mut self, query: &Query) -> Result<Thrice<Report>, QueryFault> {

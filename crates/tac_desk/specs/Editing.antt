@@ -1,38 +1,61 @@
--- What an edit at the desk is answered, and what it leaves.
+-- What edits at the desk are answered, and what they leave.
 use Rattle.std.specs.Prelude.{◌≡◌, List, Result, Ok, Err}
 use Rattle.pol_text.specs.declared.subject.Subject.{Subject}
 use Rattle.pol_edit.specs.Applying.{applied}
+use Rattle.pol_edit.specs.Batches.{of_all, applied_all}
 use Rattle.pol_edit.specs.declared.edit.Edit.{Edit}
 use Rattle.pol_edit.specs.declared.fault.EditFault.{EditFault}
-use Rattle.pol_meaning.specs.Sizes.{IsSmall, IsRefusedFor}
+use Rattle.pol_edit.specs.declared.batching.BatchFault.{BatchFault}
+use Rattle.pol_meaning.specs.Sizes.{IsSmall, IsRefusedAs}
 use Rattle.pol_meaning.specs.Changes.{AreChanges}
 use Rattle.pol_meaning.specs.declared.Changed.{Changed}
 use Rattle.tac_desk.specs.Meaning.{Meaning, with_policy}
 
--- an edit that the policy takes makes this policy of it: where that may stand, the
--- answer is what changes for users; else the first subject that is too large is named,
--- and nothing changes
-abbrev pub Takes : Meaning → List Subject → Result (List Changed) EditFault → Meaning → Type 0
-Takes before policy (Ok changes) after =
-    IsSmall policy × AreChanges before.policy policy changes × (after ≡ with_policy policy before)
-Takes before policy (Err fault) after = IsRefusedFor policy fault × (after ≡ before)
+-- ---- one edit, or several: they differ in what a refusal is
 
--- a refused edit changes nothing
-abbrev pub Refuses : Meaning → EditFault → Result (List Changed) EditFault → Meaning → Type 0
+-- edits that the policy takes make this policy of it: where that may stand, the answer is
+-- what changes for users; else the first subject that is too large is named, and nothing
+-- changes
+abbrev pub Takes : {F : Type 0} → (EditFault → F) → Meaning → List Subject
+    → Result (List Changed) F → Meaning → Type 0
+Takes as_refusal before policy (Ok changes) after =
+    IsSmall policy × AreChanges before.policy policy changes × (after ≡ with_policy policy before)
+Takes as_refusal before policy (Err fault) after =
+    IsRefusedAs as_refusal policy fault × (after ≡ before)
+
+-- refused edits change nothing
+abbrev pub Refuses : {F : Type 0} → Meaning → F → Result (List Changed) F → Meaning → Type 0
 Refuses before fault answer after = (answer ≡ Err fault) × (after ≡ before)
 
-abbrev pub EditsTo : Meaning → Result (List Subject) EditFault → Result (List Changed) EditFault
-    → Meaning → Type 0
-EditsTo before (Ok policy) answer after = Takes before policy answer after
-EditsTo before (Err fault) answer after = Refuses before fault answer after
+abbrev pub EditsTo : {F : Type 0} → (EditFault → F) → Meaning → Result (List Subject) F
+    → Result (List Changed) F → Meaning → Type 0
+EditsTo as_refusal before (Ok policy) answer after = Takes as_refusal before policy answer after
+EditsTo as_refusal before (Err fault) answer after = Refuses before fault answer after
+
+-- ---- one edit
 
 -- the desk answers the edit so, and stands for this from then on; the edit's own
 -- refusals come first
 abbrev pub Edits : Meaning → Edit → Result (List Changed) EditFault → Meaning → Type 0
-Edits before edit answer after = EditsTo before (applied before.policy edit) answer after
+Edits before edit answer after =
+    EditsTo (λ fault. fault) before (applied before.policy edit) answer after
 
 -- no other answer is right, and it leaves nothing else
 abbrev pub IsOnly : Meaning → Edit → Result (List Changed) EditFault → Meaning → Type 0
 IsOnly before edit answer after =
     (other : Result (List Changed) EditFault) (later : Meaning) → Edits before edit other later
+    → (answer ≡ other) × (after ≡ later)
+
+-- ---- several edits, all or none
+
+-- the desk answers the edits so, and stands for this from then on; the refusals of single
+-- edits come first, and the size is judged on the policy that all of them make
+abbrev pub EditsAll : Meaning → List Edit → Result (List Changed) BatchFault → Meaning → Type 0
+EditsAll before edits answer after =
+    EditsTo of_all before (applied_all before.policy edits) answer after
+
+-- no other answer is right, and it leaves nothing else
+abbrev pub IsOnlyAll : Meaning → List Edit → Result (List Changed) BatchFault → Meaning → Type 0
+IsOnlyAll before edits answer after =
+    (other : Result (List Changed) BatchFault) (later : Meaning) → EditsAll before edits other later
     → (answer ≡ other) × (after ≡ later)

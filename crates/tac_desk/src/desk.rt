@@ -3,6 +3,7 @@
 ghost use Rattle.std.specs.Prelude.{◌≡◌, ◌↔◌, false, Err, IsOk, IsTrue, IfOk, OnOk, OnErr};
 ghost use Rattle.tac_conn.specs.Ask.{kind_of_ask, kind_of_answer};
 ghost use Rattle.pol_edit.specs.Applying.{is_memory};
+ghost use Rattle.pol_edit.specs.Batches.{ran_out};
 ghost use Rattle.pol_meaning.specs.Memory.{UnlessMemory};
 ghost use Rattle.tac_desk.specs.Meaning.{Meaning};
 ghost use Rattle.tac_desk.specs.Asking.{asked, stores, Passes};
@@ -13,9 +14,10 @@ ghost use Rattle.tac_desk.specs.declared.query.QueryFault.TheVariants.{NoSuch};
 use crate::query::{Query, QueryFault, Report};
 use crate::state::State;
 use crate::thrice::Thrice;
-use pol_edit::{Edit, EditFault};
+use pol_edit::{BatchFault, Edit, EditFault};
 use pol_meaning::Changes;
 use std::alloc::AllocError;
+use std::slice;
 use tac_conn::{Answer, Ask};
 
 /// A desk: it answers the asks of connections, takes edits of its policy, and answers questions.
@@ -48,6 +50,22 @@ pub trait Desk: Drop {
             (editing.Edits (meaning self.old) edit.now result (meaning self.new)) }
         ensures only { UnlessMemory is_memory result
             (editing.IsOnly (meaning self.old) edit.now result (meaning self.new)) }
+        ensures err { OnErr result (meaning self.new ≡ meaning self.old) }
+    {
+        self.edit_all(slice::from_ref(edit))
+            .map_err(|refusal| refusal.fault)
+    }
+
+    /// Makes the edits one after another, all or none, and answers what they change together for
+    /// users. Refused as the first edit is that is refused on what those before it made, with its
+    /// number, and then where a subject of the last policy is too large, with the first such
+    /// subject in its order. A policy in between may be too large. Refused edits change nothing,
+    /// also where memory ran out. No edits at all are accepted, and change nothing.
+    fn edit_all(&mut self, edits: &[Edit]) -> Result<Thrice<Changes>, BatchFault>
+        ensures found { UnlessMemory ran_out result
+            (editing.EditsAll (meaning self.old) edits.now result (meaning self.new)) }
+        ensures only { UnlessMemory ran_out result
+            (editing.IsOnlyAll (meaning self.old) edits.now result (meaning self.new)) }
         ensures err { OnErr result (meaning self.new ≡ meaning self.old) };
 
     /// Answers a question, and changes nothing.

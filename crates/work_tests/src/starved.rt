@@ -3,7 +3,7 @@
 ghost use Rattle.std.specs.Prelude.{◌≡◌, []};
 
 use crate::support::{bob, closes, ends};
-use pol_edit::{Edit, EditFault};
+use pol_edit::{BatchFault, Edit, EditFault};
 use pol_meaning::Changes;
 use pol_text::Policy;
 use std::alloc::{AllocError, Global};
@@ -49,8 +49,8 @@ impl Desk for Starved {
         }
     }
 
-    fn edit(&mut self, _edit: &Edit) -> Result<Thrice<Changes>, EditFault> {
-        Err(EditFault::Memory)
+    fn edit_all(&mut self, _edits: &[Edit]) -> Result<Thrice<Changes>, BatchFault> {
+        Err(BatchFault::of_all(EditFault::Memory))
     }
 
     fn query(&mut self, query: &Query) -> Result<Thrice<Report>, QueryFault> {
