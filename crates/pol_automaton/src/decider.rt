@@ -134,6 +134,10 @@ impl Decider {
         ensures value { result ≡ count self.now.table }
         ensures residuals { (entries : List (List ℕ)) → IsDecider self.now entries
             → IsResidualCount entries result }
+
+        // There is one such number.
+        ensures only { (entries : List (List ℕ)) (count : ℕ) → IsDecider self.now entries
+            → IsResidualCount entries count → result ≡ count }
     {
         self.table.states()
     }
