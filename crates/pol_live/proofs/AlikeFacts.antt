@@ -1,6 +1,10 @@
--- What each kind of edit leaves as it was.
-use Rattle.std.proofs.Common.{◌≡◌, ℕ, ◌+◌, ◌-◌, Bool, true, false, true≢false, cond, not, ◌&&◌, List, [], ◌∷◌, ◌++◌, map, Option, None, Some, Result, Ok, Err, refl, sym, ap, ◌∙◌, nat_le, length, is_some, if◌then◌else◌}
+-- What edits leave as it was: each kind of edit, and several one after another.
+use Rattle.std.proofs.Common.{◌≡◌, ℕ, suc, ◌+◌, ◌-◌, Bool, true, false, true≢false, cond, not, ◌&&◌, List, [], ◌∷◌, ◌++◌, map, Option, None, Some, Result, Ok, Err, refl, sym, ap, subst, ◌∙◌, nat_le, length, is_some, if◌then◌else◌}
 use Rattle.std.specs.Option.{option_map}
+use Rattle.std.specs.List.{list_any, filter_map}
+use Rattle.std.proofs.lemmas.Bool.{or_parts}
+use Rattle.std.proofs.lemmas.List.Folds.{list_any-append}
+use Rattle.std.proofs.lemmas.List.Elements.{filter_map-append}
 use Rattle.std.proofs.lemmas.Option.{same_Some, none-some}
 use Rattle.pol_names.specs.declared.secret.Credential.{Credential}
 use Rattle.pol_names.specs.declared.secret.Credential.TheVariants.{Login, Enable}
@@ -16,12 +20,29 @@ use Rattle.pol_text.specs.declared.fault.ChainFault.TheVariants as chains
 use Rattle.pol_text.specs.Policy.{id_of, find_subject, all_of}
 use Rattle.pol_text.specs.Text.{new_subject}
 use Rattle.pol_text.specs.Change.{with_changed, without, is_parent, has_room_below, chain_fault, with_parent, with_secret, with_priv, with_rule_at, without_rule_at, with_rule_moved}
+use Rattle.pol_edit.specs.Batches as batches
+use Rattle.pol_edit.specs.Batches.{applied_from}
 use Rattle.pol_edit.specs.Applying.{◌>>=◌, present, has_group, added_to, removed_from, unless_chain, moved_in, set_in, pattern_read, is_number, inserted_in, dropped_in, shifted_in, applied}
 use Rattle.pol_edit.specs.declared.edit.Edit.{Edit}
 use Rattle.pol_edit.specs.declared.edit.Edit.TheVariants.{AddGroup, AddUser, Remove, SetParent, SetLogin, SetEnable, SetPriv, InsertRule, RemoveRule, MoveRule}
 use Rattle.pol_edit.specs.declared.fault.EditFault.{EditFault}
-use Rattle.pol_live.specs.Renewing.{touched, is_touched, is_move, IsAlike}
-use Rattle.pol_live.proofs.RenewFacts.{same_id_is, same_id_self}
+use Rattle.pol_live.specs.declared.touching.Touched.{Touched}
+use Rattle.pol_live.specs.Renewing.{touches, rewrites, touched_by, is_among, IsAlike}
+use Rattle.pol_live.proofs.RenewFacts.{same_id_is, same_id_self, found_id}
+
+-- ---- what is touched where nothing, or one subject is
+
+abbrev nothing : Touched
+nothing = record { all = []; rewritten = [] }
+
+abbrev moved : SubjectId → Touched
+moved at = record { all = at ∷ []; rewritten = [] }
+
+abbrev written : SubjectId → Touched
+written at = record { all = at ∷ []; rewritten = at ∷ [] }
+
+not_it : (at : SubjectId) (s : Subject) → is_among (at ∷ []) s ≡ false → same_id at (id_of s) ≡ false
+not_it at s other = (or_parts (same_id at (id_of s)) false other).0
 
 -- ---- a change of one subject
 
@@ -84,29 +105,26 @@ module _ (at : SubjectId) (f : Subject → Subject) (keeps : (s : Subject) → i
       by2 true o = parents o
       by2 false o = refl
 
--- a change of the touched subject
-pub alike_changed : (edit : Edit) (at : SubjectId) (f : Subject → Subject) (old new : List Subject) → ((s : Subject) → id_of (f s) ≡ id_of s) → touched edit ≡ Some at → is_move edit ≡ false
-    → new ≡ with_changed at f old → IsAlike edit old new
-alike_changed edit at f old new keeps touches no_move is = record {
-  untouched = λ id s found other.
-      let there = others at f keeps old id s (ap (find_subject id) (sym is) ∙ found) (ap (λ (t : Option SubjectId). is_touched t s) (sym touches) ∙ other) in
-      (s, there, refl, refl);
-  moved = λ id s found move. absurd (true≢false (sym move ∙ no_move));
+-- a change of the rules of a subject
+alike_changed : (at : SubjectId) (f : Subject → Subject) (old new : List Subject) → ((s : Subject) → id_of (f s) ≡ id_of s) → new ≡ with_changed at f old → IsAlike (written at) old new
+alike_changed at f old new keeps is = record {
+  untouched = λ id s found other. (s, others at f keeps old id s (ap (find_subject id) (sym is) ∙ found) (not_it at s other), refl, refl);
+  unwritten = λ id s found other. (s, others at f keeps old id s (ap (find_subject id) (sym is) ∙ found) (not_it at s other), refl);
 }
 
--- one of a subject's group
-pub alike_moved : (subject : SubjectId) (parent : Option (List ℕ)) (old new : List Subject) → new ≡ with_changed subject (with_parent parent) old → IsAlike (SetParent subject parent) old new
-alike_moved subject parent old new is = record {
-  untouched = λ id s found other. (s, others subject (with_parent parent) (λ _. refl) old id s (ap (find_subject id) (sym is) ∙ found) other, refl, refl);
-  moved = λ id s found move. same_rules subject (with_parent parent) (λ _. refl) old (λ _. refl) id s (ap (find_subject id) (sym is) ∙ found);
+-- one of its group
+alike_moved : (at : SubjectId) (parent : Option (List ℕ)) (old new : List Subject) → new ≡ with_changed at (with_parent parent) old → IsAlike (moved at) old new
+alike_moved at parent old new is = record {
+  untouched = λ id s found other. (s, others at (with_parent parent) (λ _. refl) old id s (ap (find_subject id) (sym is) ∙ found) (not_it at s other), refl, refl);
+  unwritten = λ id s found other. same_rules at (with_parent parent) (λ _. refl) old (λ _. refl) id s (ap (find_subject id) (sym is) ∙ found);
 }
 
--- one of neither rules nor groups
-pub alike_set : (edit : Edit) (at : SubjectId) (f : Subject → Subject) (old new : List Subject) → ((s : Subject) → id_of (f s) ≡ id_of s) → ((s : Subject) → (f s).rules ≡ s.rules)
-    → ((s : Subject) → (f s).parent ≡ s.parent) → is_move edit ≡ false → new ≡ with_changed at f old → IsAlike edit old new
-alike_set edit at f old new keeps rules parents no_move is = record {
+-- one of neither
+alike_set : (at : SubjectId) (f : Subject → Subject) (old new : List Subject) → ((s : Subject) → id_of (f s) ≡ id_of s) → ((s : Subject) → (f s).rules ≡ s.rules)
+    → ((s : Subject) → (f s).parent ≡ s.parent) → new ≡ with_changed at f old → IsAlike nothing old new
+alike_set at f old new keeps rules parents is = record {
   untouched = λ id s found other. same_both at f keeps old rules parents id s (ap (find_subject id) (sym is) ∙ found);
-  moved = λ id s found move. absurd (true≢false (sym move ∙ no_move));
+  unwritten = λ id s found other. same_rules at f keeps old rules id s (ap (find_subject id) (sym is) ∙ found);
 }
 
 -- ---- a subject that comes
@@ -124,12 +142,10 @@ found_front (y ∷ old) x id s e other = by (same_id id (id_of y)) e (λ h. foun
     by true h later = h
     by false h later = later h
 
-pub alike_added : (edit : Edit) (x : Subject) (old new : List Subject) → touched edit ≡ Some (id_of x) → is_move edit ≡ false → new ≡ old ++ x ∷ [] → IsAlike edit old new
-alike_added edit x old new touches no_move is = record {
-  untouched = λ id s found other.
-      let there = found_front old x id s (ap (find_subject id) (sym is) ∙ found) (ap (λ (t : Option SubjectId). is_touched t s) (sym touches) ∙ other) in
-      (s, there, refl, refl);
-  moved = λ id s found move. absurd (true≢false (sym move ∙ no_move));
+alike_added : (x : Subject) (old new : List Subject) → new ≡ old ++ x ∷ [] → IsAlike (written (id_of x)) old new
+alike_added x old new is = record {
+  untouched = λ id s found other. (s, found_front old x id s (ap (find_subject id) (sym is) ∙ found) (not_it (id_of x) s other), refl, refl);
+  unwritten = λ id s found other. (s, found_front old x id s (ap (find_subject id) (sym is) ∙ found) (not_it (id_of x) s other), refl);
 }
 
 -- ---- one that goes
@@ -155,10 +171,10 @@ found_without at (x ∷ old) id s e = by (same_id at (id_of x)) (same_id id (id_
     by false true h k e later = ap (λ (b : Bool). if b then Some x else find_subject id (without at old)) (sym k) ∙ e
     by false false h k e later = later (ap (λ (b : Bool). if b then Some x else find_subject id (without at old)) (sym k) ∙ e)
 
-pub alike_removed : (edit : Edit) (at : SubjectId) (old new : List Subject) → is_move edit ≡ false → new ≡ without at old → IsAlike edit old new
-alike_removed edit at old new no_move is = record {
+alike_removed : (at : SubjectId) (old new : List Subject) → new ≡ without at old → IsAlike nothing old new
+alike_removed at old new is = record {
   untouched = λ id s found other. (s, found_without at old id s (ap (find_subject id) (sym is) ∙ found), refl, refl);
-  moved = λ id s found move. absurd (true≢false (sym move ∙ no_move));
+  unwritten = λ id s found other. (s, found_without at old id s (ap (find_subject id) (sym is) ∙ found), refl);
 }
 
 -- ---- each edit
@@ -177,23 +193,23 @@ if_ok : {B : Type 0} (right : Bool) (fault : EditFault) (x b : B) → (if right 
 if_ok true fault x b e = cc
 if_ok false fault x b e = absurd cc
 
-alike_add : (edit : Edit) (kind : Kind) (name : List ℕ) (parent : Option (List ℕ)) (old new : List Subject) → touched edit ≡ Some (record { kind = kind; name = name }) → is_move edit ≡ false
-    → added_to old kind name parent ≡ Ok new → IsAlike edit old new
+alike_add : (kind : Kind) (name : List ℕ) (parent : Option (List ℕ)) (old new : List Subject) → added_to old kind name parent ≡ Ok new
+    → IsAlike (written (record { kind = kind; name = name })) old new
 unfolding added_to
-alike_add edit kind name parent old new touches no_move made =
+alike_add kind name parent old new made =
     let a = unless_ok (not (has_group parent old)) _ _ new made in
     let b = unless_ok (is_some (find_subject (record { kind = kind; name = name }) old)) _ _ new a in
     let c = unless_ok (not (all_of (λ name. has_room_below name old) parent)) _ _ new b in
     let d = unless_ok (nat_le 1024 (length old)) _ _ new c in
     let is : new ≡ old ++ new_subject kind name parent ∷ [] = cc in
-    alike_added edit (new_subject kind name parent) old new touches no_move is
+    alike_added (new_subject kind name parent) old new is
 
-alike_setting : (edit : Edit) (id : SubjectId) (right : Bool) (f : Subject → Subject) (old new : List Subject) → ((s : Subject) → id_of (f s) ≡ id_of s) → ((s : Subject) → (f s).rules ≡ s.rules)
-    → ((s : Subject) → (f s).parent ≡ s.parent) → is_move edit ≡ false → set_in old id right f ≡ Ok new → IsAlike edit old new
+alike_setting : (id : SubjectId) (right : Bool) (f : Subject → Subject) (old new : List Subject) → ((s : Subject) → id_of (f s) ≡ id_of s) → ((s : Subject) → (f s).rules ≡ s.rules)
+    → ((s : Subject) → (f s).parent ≡ s.parent) → set_in old id right f ≡ Ok new → IsAlike nothing old new
 unfolding set_in
-alike_setting edit id right f old new keeps rules parents no_move made =
+alike_setting id right f old new keeps rules parents made =
     let there = then_ok (present id old) _ new made in
-    alike_set edit id f old new keeps rules parents no_move (if_ok right _ (with_changed id f old) new there.1)
+    alike_set id f old new keeps rules parents (if_ok right _ (with_changed id f old) new there.1)
 
 secret_keeps : (which : Credential) (secret : Option (List ℕ)) (s : Subject) → id_of (with_secret which secret s) ≡ id_of s
 secret_keeps Login secret s = refl
@@ -212,22 +228,22 @@ chain_ok None policy new e = cc
 chain_ok (Some chains.Cycle) policy new e = absurd cc
 chain_ok (Some chains.TooDeep) policy new e = absurd cc
 
-alike_remove : (id : SubjectId) (old new : List Subject) → removed_from old id ≡ Ok new → IsAlike (Remove id) old new
+alike_remove : (id : SubjectId) (old new : List Subject) → removed_from old id ≡ Ok new → IsAlike nothing old new
 unfolding removed_from
 alike_remove id old new made =
     let there = then_ok (present id old) _ new made in
     let gone = unless_ok (same_kind id.kind Group && is_parent id.name old) _ _ new there.1 in
     let is : new ≡ without id old = cc in
-    alike_removed (Remove id) id old new refl is
+    alike_removed id old new is
 
-alike_move : (id : SubjectId) (parent : Option (List ℕ)) (old new : List Subject) → moved_in old id parent ≡ Ok new → IsAlike (SetParent id parent) old new
+alike_move : (id : SubjectId) (parent : Option (List ℕ)) (old new : List Subject) → moved_in old id parent ≡ Ok new → IsAlike (moved id) old new
 unfolding moved_in
 alike_move id parent old new made =
     let there = then_ok (present id old) _ new made in
     let grouped = unless_ok (not (has_group parent old)) _ _ new there.1 in
     alike_moved id parent old new (chain_ok (chain_fault (with_changed id (with_parent parent) old)) _ new grouped)
 
-alike_insert : (id : SubjectId) (at : ℕ) (verdict : Verdict) (text : List ℕ) (old new : List Subject) → inserted_in old id at verdict text ≡ Ok new → IsAlike (InsertRule id at verdict text) old new
+alike_insert : (id : SubjectId) (at : ℕ) (verdict : Verdict) (text : List ℕ) (old new : List Subject) → inserted_in old id at verdict text ≡ Ok new → IsAlike (written id) old new
 unfolding inserted_in
 alike_insert id at verdict text old new made =
     let there = then_ok (present id old) _ new made in
@@ -235,32 +251,77 @@ alike_insert id at verdict text old new made =
     let read = then_ok (pattern_read (pattern_of text)) _ new placed in
     let room = unless_ok (nat_le 256 (length there.0.rules)) _ _ new read.1 in
     let is : new ≡ with_changed id (with_rule_at (at - 1) (record { verdict = verdict; pattern = read.0 })) old = cc in
-    alike_changed (InsertRule id at verdict text) id (with_rule_at (at - 1) (record { verdict = verdict; pattern = read.0 })) old new (λ _. refl) refl refl is
+    alike_changed id (with_rule_at (at - 1) (record { verdict = verdict; pattern = read.0 })) old new (λ _. refl) is
 
-alike_drop : (id : SubjectId) (at : ℕ) (old new : List Subject) → dropped_in old id at ≡ Ok new → IsAlike (RemoveRule id at) old new
+alike_drop : (id : SubjectId) (at : ℕ) (old new : List Subject) → dropped_in old id at ≡ Ok new → IsAlike (written id) old new
 unfolding dropped_in
 alike_drop id at old new made =
     let there = then_ok (present id old) _ new made in
-    alike_changed (RemoveRule id at) id (without_rule_at (at - 1)) old new (λ _. refl) refl refl (if_ok (is_number at (length there.0.rules)) _ (with_changed id (without_rule_at (at - 1)) old) new there.1)
+    alike_changed id (without_rule_at (at - 1)) old new (λ _. refl) (if_ok (is_number at (length there.0.rules)) _ (with_changed id (without_rule_at (at - 1)) old) new there.1)
 
-alike_shift : (id : SubjectId) (from to : ℕ) (old new : List Subject) → shifted_in old id from to ≡ Ok new → IsAlike (MoveRule id from to) old new
+alike_shift : (id : SubjectId) (from to : ℕ) (old new : List Subject) → shifted_in old id from to ≡ Ok new → IsAlike (written id) old new
 unfolding shifted_in
 alike_shift id from to old new made =
     let there = then_ok (present id old) _ new made in
-    alike_changed (MoveRule id from to) id (with_rule_moved (from - 1) (to - 1)) old new (λ _. refl) refl refl
+    alike_changed id (with_rule_moved (from - 1) (to - 1)) old new (λ _. refl)
     (if_ok (is_number from (length there.0.rules) && is_number to (length there.0.rules)) _ (with_changed id (with_rule_moved (from - 1) (to - 1)) old) new there.1)
 
-pub alike : (old : List Subject) (edit : Edit) (new : List Subject) → applied old edit ≡ Ok new → IsAlike edit old new
+alike : (old : List Subject) (edit : Edit) (new : List Subject) → applied old edit ≡ Ok new → IsAlike (touched_by (edit ∷ [])) old new
 unfolding applied
-alike old (AddGroup name parent) new made = alike_add (AddGroup name parent) Group name parent old new refl refl made
-alike old (AddUser name parent) new made = alike_add (AddUser name parent) User name parent old new refl refl made
+alike old (AddGroup name parent) new made = alike_add Group name parent old new made
+alike old (AddUser name parent) new made = alike_add User name parent old new made
 alike old (Remove id) new made = alike_remove id old new made
 alike old (SetParent id parent) new made = alike_move id parent old new made
-alike old (SetLogin user secret) new made =
-    alike_setting (SetLogin user secret) (user_id user) _ (with_secret Login secret) old new (secret_keeps Login secret) (secret_rules Login secret) (secret_parent Login secret) refl made
-alike old (SetEnable user secret) new made =
-    alike_setting (SetEnable user secret) (user_id user) _ (with_secret Enable secret) old new (secret_keeps Enable secret) (secret_rules Enable secret) (secret_parent Enable secret) refl made
-alike old (SetPriv id level) new made = alike_setting (SetPriv id level) id _ (with_priv level) old new (λ _. refl) (λ _. refl) (λ _. refl) refl made
+alike old (SetLogin user secret) new made = alike_setting (user_id user) _ (with_secret Login secret) old new (secret_keeps Login secret) (secret_rules Login secret) (secret_parent Login secret) made
+alike old (SetEnable user secret) new made = alike_setting (user_id user) _ (with_secret Enable secret) old new (secret_keeps Enable secret) (secret_rules Enable secret) (secret_parent Enable secret) made
+alike old (SetPriv id level) new made = alike_setting id _ (with_priv level) old new (λ _. refl) (λ _. refl) (λ _. refl) made
 alike old (InsertRule id at verdict text) new made = alike_insert id at verdict text old new made
 alike old (RemoveRule id at) new made = alike_drop id at old new made
 alike old (MoveRule id from to) new made = alike_shift id from to old new made
+
+-- ---- several edits
+
+-- what two steps touch
+abbrev joined : Touched → Touched → Touched
+joined a b = record { all = a.all ++ b.all; rewritten = a.rewritten ++ b.rewritten }
+
+-- a subject is touched by its kind and name alone
+among_same : (ids : List SubjectId) (id : SubjectId) (m s : Subject) → id ≡ id_of m → id ≡ id_of s → is_among ids s ≡ false → is_among ids m ≡ false
+among_same ids id m s is it none = ap (λ (t : SubjectId). list_any (λ x. same_id x t) ids) (sym is ∙ it) ∙ none
+
+either : (p q : List SubjectId) (s : Subject) → is_among (p ++ q) s ≡ false → (is_among p s ≡ false) × (is_among q s ≡ false)
+either p q s none = or_parts (is_among p s) (is_among q s) (sym (list_any-append (λ id. same_id id (id_of s)) p q) ∙ none)
+
+alike_joined : (a b : Touched) (old mid new : List Subject) → IsAlike a old mid → IsAlike b mid new → IsAlike (joined a b) old new
+alike_joined a b old mid new first second = record {
+  untouched = λ id s found none.
+      let neither = either a.all b.all s none in
+      let was = second.untouched id s found neither.1 in
+      let still = among_same a.all id was.0 s (found_id id mid was.0 was.1) (found_id id new s found) neither.0 in
+      let were = first.untouched id was.0 was.1 still in
+      (were.0, were.1, were.2 ∙ was.2, were.3 ∙ was.3);
+  unwritten = λ id s found none.
+      let neither = either a.rewritten b.rewritten s none in
+      let was = second.unwritten id s found neither.1 in
+      let still = among_same a.rewritten id was.0 s (found_id id mid was.0 was.1) (found_id id new s found) neither.0 in
+      let were = first.unwritten id was.0 was.1 still in
+      (were.0, were.1, were.2 ∙ was.2);
+}
+
+alike_none : (old new : List Subject) → old ≡ new → IsAlike nothing old new
+alike_none old new same = record {
+  untouched = λ id s found none. (s, ap (find_subject id) same ∙ found, refl, refl);
+  unwritten = λ id s found none. (s, ap (find_subject id) same ∙ found, refl);
+}
+
+touched_on : (edit : Edit) (edits : List Edit) → joined (touched_by (edit ∷ [])) (touched_by edits) ≡ touched_by (edit ∷ edits)
+touched_on edit edits i = record { all = sym (filter_map-append touches (edit ∷ []) edits) i; rewritten = sym (filter_map-append rewrites (edit ∷ []) edits) i }
+
+pub alike_from : (at : ℕ) (edits : List Edit) (old new : List Subject) → applied_from at edits old ≡ Ok new → IsAlike (touched_by edits) old new
+alike_from at [] old new made = let same : old ≡ new = cc in alike_none old new same
+alike_from at (edit ∷ edits) old new made = by (applied old edit) refl made (λ mid rest. alike_from (suc at) edits mid new rest)
+  where
+    by : (first : Result (List Subject) EditFault) → applied old edit ≡ first → batches.then at first (applied_from (suc at) edits) ≡ Ok new
+        → ((mid : List Subject) → applied_from (suc at) edits mid ≡ Ok new → IsAlike (touched_by edits) mid new) → IsAlike (touched_by (edit ∷ edits)) old new
+    by (Ok mid) is rest later = subst (λ (t : Touched). IsAlike t old new) (touched_on edit edits) (alike_joined (touched_by (edit ∷ [])) (touched_by edits) old mid new (alike old edit mid is) (later mid rest))
+    by (Err fault) is rest later = absurd cc

@@ -9,3 +9,4 @@ pub mod RenewFacts
 pub mod AlikeFacts
 pub mod MeterFacts
 pub mod KeeperFacts
+pub mod PreparedFacts

@@ -1,14 +1,16 @@
--- A policy is built, and an edit prepared, in one way.
+-- A policy is built, and edits prepared, in one way.
 use Rattle.std.proofs.Common.{◌≡◌, Bool, true, false, List, [], ◌∷◌, Result, Ok, Err, IfErr, refl, sym, ap, ◌∙◌, inl, inr}
 use Rattle.basics.specs.Memory.{Except}
 use Rattle.pol_names.specs.declared.subject_id.SubjectId.{SubjectId}
 use Rattle.pol_text.specs.declared.subject.Subject.{Subject}
 use Rattle.pol_edit.specs.Applying.{applied, is_memory}
+use Rattle.pol_edit.specs.Batches.{of_all, applied_all}
+use Rattle.pol_edit.specs.declared.batching.BatchFault.{BatchFault}
 use Rattle.pol_edit.specs.declared.edit.Edit.{Edit}
 use Rattle.pol_edit.specs.declared.fault.EditFault.{EditFault}
 use Rattle.pol_edit.specs.declared.fault.EditFault.TheVariants.{BadEdit, NoSuch, Exists, InUse, Cycle, TooDeep, BadIndex, BadPattern, BadValue, Limit, TooManyStates, Memory}
-use Rattle.pol_meaning.specs.Sizes.{AreSmall, IsFirstLarge, IsRefusedFor}
-use Rattle.pol_live.specs.Live.{Builds, Step, PreparesTo, Prepares}
+use Rattle.pol_meaning.specs.Sizes.{AreSmall, IsFirstLarge, IsRefusedFor, IsRefusedAs}
+use Rattle.pol_live.specs.Live.{Builds, Step, PreparesTo, Prepares, PreparesAll}
 use Rattle.pol_meaning.specs.Memory.{UnlessMemory}
 
 -- what can't be refused but for want of memory is that
@@ -39,8 +41,8 @@ module _ (policy : List Subject) where
   none_large (s ∷ rest) id small (inl h) = small.0 h.0
   none_large (s ∷ rest) id small (inr h) = none_large rest id small.1 h.1
 
-  refused_unique : (a b : EditFault) → IsRefusedFor policy a → IsRefusedFor policy b → a ≡ b
-  refused_unique a b h k = h.1 ∙ ap TooManyStates (first_unique policy h.0 k.0 h.2 k.2) ∙ sym k.1
+  refused_unique : {F : Type 0} (as_refusal : EditFault → F) (a b : F) → IsRefusedAs as_refusal policy a → IsRefusedAs as_refusal policy b → a ≡ b
+  refused_unique as_refusal a b h k = h.1 ∙ ap (λ (id : SubjectId). as_refusal (TooManyStates id)) (first_unique policy h.0 k.0 h.2 k.2) ∙ sym k.1
 
   -- a small one is refused for want of memory alone
   pub small_memory : (r : Result (List Subject) EditFault) → AreSmall policy policy → UnlessMemory is_memory r (Builds policy r) → IfErr r (λ fault. fault ≡ Memory)
@@ -51,17 +53,21 @@ module _ (policy : List Subject) where
   only_built (Ok a) (Ok b) h k = ap Ok (h.0 ∙ sym k.0)
   only_built (Ok a) (Err b) h k = absurd (none_large policy k.0 h.1 k.2)
   only_built (Err a) (Ok b) h k = absurd (none_large policy h.0 k.1 h.2)
-  only_built (Err a) (Err b) h k = ap Err (refused_unique a b h k)
+  only_built (Err a) (Err b) h k = ap Err (refused_unique (λ fault. fault) a b h k)
 
-only_prepared_to : (before : List Subject) (made : Result (List Subject) EditFault) (a b : Result Step EditFault) → PreparesTo before made a → PreparesTo before made b → a ≡ b
-only_prepared_to before (Ok after) (Ok a) (Ok b) h k = ap Ok (h.0 ∙ sym k.0)
-only_prepared_to before (Ok after) (Ok a) (Err b) h k = absurd (none_large after after k.0 h.1 k.2)
-only_prepared_to before (Ok after) (Err a) (Ok b) h k = absurd (none_large after after h.0 k.1 h.2)
-only_prepared_to before (Ok after) (Err a) (Err b) h k = ap Err (refused_unique after a b h k)
-only_prepared_to before (Err fault) a b h k = h ∙ sym k
+only_prepared_to : {F : Type 0} (as_refusal : EditFault → F) (before : List Subject) (made : Result (List Subject) F) (a b : Result Step F)
+    → PreparesTo as_refusal before made a → PreparesTo as_refusal before made b → a ≡ b
+only_prepared_to as_refusal before (Ok after) (Ok a) (Ok b) h k = ap Ok (h.0 ∙ sym k.0)
+only_prepared_to as_refusal before (Ok after) (Ok a) (Err b) h k = absurd (none_large after after k.0 h.1 k.2)
+only_prepared_to as_refusal before (Ok after) (Err a) (Ok b) h k = absurd (none_large after after h.0 k.1 h.2)
+only_prepared_to as_refusal before (Ok after) (Err a) (Err b) h k = ap Err (refused_unique after as_refusal a b h k)
+only_prepared_to as_refusal before (Err fault) a b h k = h ∙ sym k
 
 pub only_prepared : (before : List Subject) (edit : Edit) (a b : Result Step EditFault) → Prepares before edit a → Prepares before edit b → a ≡ b
-only_prepared before edit a b = only_prepared_to before (applied before edit) a b
+only_prepared before edit a b = only_prepared_to (λ fault. fault) before (applied before edit) a b
+
+pub only_prepared_all : (before : List Subject) (edits : List Edit) (a b : Result Step BatchFault) → PreparesAll before edits a → PreparesAll before edits b → a ≡ b
+only_prepared_all before edits a b = only_prepared_to of_all before (applied_all before edits) a b
 
 pub unless_so : {X E A B : Type 0} (is_memory : E → Bool) (r : Result X E) → (A → B) → UnlessMemory is_memory r A → UnlessMemory is_memory r B
 unless_so is_memory (Ok x) so h = so h

@@ -1,4 +1,4 @@
--- What an edit leaves as it was: rules and groups of all subjects but one, and so the rules along most chains.
+-- What edits leave as it was: rules and groups of all subjects that they don't touch, and so the rules along most chains.
 use Rattle.std.proofs.Common.{◌≡◌, ℕ, zero, suc, ◌+◌, ◌-◌, ◌<◌, ◌≤◌, Bool, true, false, true≢false, cond, not, ◌&&◌, ◌||◌, List, [], ◌∷◌, ◌++◌, map, Option, None, Some, refl, sym, ap, subst, ◌∙◌, is_some, slice_get, nat_lt, length, IsTrue, if◌then◌else◌}
 use Rattle.std.specs.Option.{option_map, option_map_or, option_and_then}
 use Rattle.std.specs.List.{list_any, list_all}
@@ -10,11 +10,11 @@ use Rattle.pol_automaton.specs.Automaton.{Automaton}
 use Rattle.pol_text.specs.declared.subject.Rule.{Rule}
 use Rattle.pol_text.specs.declared.subject.Subject.{Subject}
 use Rattle.pol_text.specs.Policy.{id_of, find_subject, parent_of, has_parent, all_of, all_distinct, chain_within, Entry, entries_along, entries, own_entries, numbered, WellFormed}
-use Rattle.pol_edit.specs.declared.edit.Edit.{Edit}
 use Rattle.pol_meaning.specs.Along.{patterns_of, patterns_along}
 use Rattle.pol_live.specs.declared.parts.Parts.{Parts}
+use Rattle.pol_live.specs.declared.touching.Touched.{Touched}
 use Rattle.pol_live.specs.Kept.{IsFit, AreParts, AreAll, HaveKeepers, slot, own_patterns, has_rules, is_keeper}
-use Rattle.pol_live.specs.Renewing.{touched, is_touched, is_move, renews_own, renews_chain, LeavesOthers, IsAlike, IsKept, AreKept}
+use Rattle.pol_live.specs.Renewing.{is_among, renews_own, renews_chain, LeavesOthers, IsAlike, IsKept, AreKept}
 use Rattle.pol_live.proofs.AlongFacts.{chain_step, chain_none}
 
 -- ---- kinds and names
@@ -43,17 +43,17 @@ found_passes test id (x ∷ p) s all e = by (same_id id (id_of x)) e (found_pass
     by true h later = subst (λ t. test t ≡ true) (same_Some x s h) (and_parts (test x) (list_all test p) all).0
     by false h later = later h
 
--- ---- the rules along a chain that the edit's subject isn't on
+-- ---- the rules along a chain that no touched subject is on
 
-module _ (edit : Edit) (old new : List Subject) (alike : IsAlike edit old new) (parents : list_all (has_parent new) new ≡ true) where
+module _ (touched : Touched) (old new : List Subject) (alike : IsAlike touched old new) (parents : list_all (has_parent new) new ≡ true) where
   -- of a subject that was there with the same rules and in the same group
   abbrev Same : ℕ → Type 0
   Same most = (id : SubjectId) (s o : Subject) → find_subject id new ≡ Some s → id_of o ≡ id_of s → o.rules ≡ s.rules → o.parent ≡ s.parent
-      → list_any (is_touched (touched edit)) (chain_within most new s) ≡ false → entries_along (chain_within most old o) ≡ entries_along (chain_within most new s)
+      → list_any (is_among touched.all) (chain_within most new s) ≡ false → entries_along (chain_within most old o) ≡ entries_along (chain_within most new s)
 
   -- of a group
   same_above : (most : ℕ) (name : List ℕ) (g : Option Subject) → Same most → find_subject (group_id name) new ≡ g → is_some g ≡ true
-      → list_any (is_touched (touched edit)) (option_map_or (chain_within most new) g []) ≡ false
+      → list_any (is_among touched.all) (option_map_or (chain_within most new) g []) ≡ false
       → entries_along (option_map_or (chain_within most old) (find_subject (group_id name) old) []) ≡ entries_along (option_map_or (chain_within most new) g [])
   unfolding chain_within
   same_above most name None same at there none = absurd cc
@@ -67,8 +67,8 @@ module _ (edit : Edit) (old new : List Subject) (alike : IsAlike edit old new) (
       ap (λ (x : Option Subject). entries_along (option_map_or (chain_within (suc most) old) x [])) was.1
       ∙ same (group_id name) g was.0 at (sym (found_id (group_id name) old was.0 was.1) ∙ found_id (group_id name) new g at) was.2 was.3 none
     where
-      not_head : (most : ℕ) (g : Subject) → list_any (is_touched (touched edit)) (chain_within (suc most) new g) ≡ false → is_touched (touched edit) g ≡ false
-      not_head most g none = (or_parts (is_touched (touched edit) g) _ none).0
+      not_head : (most : ℕ) (g : Subject) → list_any (is_among touched.all) (chain_within (suc most) new g) ≡ false → is_among touched.all g ≡ false
+      not_head most g none = (or_parts (is_among touched.all g) _ none).0
 
   same_entries : (most : ℕ) → Same most
   unfolding chain_within
@@ -76,26 +76,26 @@ module _ (edit : Edit) (old new : List Subject) (alike : IsAlike edit old new) (
   same_entries (suc most) id s o found ids rules parent none =
       let own : own_entries o ≡ own_entries s = λ i. numbered (ids i) 1 (rules i) in
       let there = found_passes (has_parent new) id new s parents found in
-      let later = above s.parent there (or_parts (is_touched (touched edit) s) _ none).1 (same_entries most) in
+      let later = above s.parent there (or_parts (is_among touched.all s) _ none).1 (same_entries most) in
       ap (λ (p : Option (List ℕ)). own_entries o ++ entries_along (option_map_or (chain_within most old) (option_and_then (λ name. find_subject (group_id name) old) p) [])) parent
       ∙ (λ i. own i ++ later i)
     where
       above : (p : Option (List ℕ)) → all_of (λ name. is_some (find_subject (group_id name) new)) p ≡ true
-          → list_any (is_touched (touched edit)) (option_map_or (chain_within most new) (option_and_then (λ name. find_subject (group_id name) new) p) []) ≡ false → Same most
+          → list_any (is_among touched.all) (option_map_or (chain_within most new) (option_and_then (λ name. find_subject (group_id name) new) p) []) ≡ false → Same most
           → entries_along (option_map_or (chain_within most old) (option_and_then (λ name. find_subject (group_id name) old) p) [])
           ≡ entries_along (option_map_or (chain_within most new) (option_and_then (λ name. find_subject (group_id name) new) p) [])
       above None there none same = refl
       above (Some name) there none same = same_above most name (find_subject (group_id name) new) same refl there none
 
--- whose chain hasn't the edit's subject
-pub leaves_others : (edit : Edit) (old new : List Subject) → IsAlike edit old new → list_all (has_parent new) new ≡ true → LeavesOthers (touched edit) old new
+-- whose chain has no touched subject
+pub leaves_others : (touched : Touched) (old new : List Subject) → IsAlike touched old new → list_all (has_parent new) new ≡ true → LeavesOthers touched.all old new
 unfolding chain_within
-leaves_others edit old new alike parents id s found other =
-    let was = alike.untouched id s found (or_parts (is_touched (touched edit) s) _ other).0 in
-    let same = same_entries edit old new alike parents 8 id s was.0 found (sym (found_id id old was.0 was.1) ∙ found_id id new s found) was.2 was.3 other in
+leaves_others touched old new alike parents id s found other =
+    let was = alike.untouched id s found (or_parts (is_among touched.all s) _ other).0 in
+    let same = same_entries touched old new alike parents 8 id s was.0 found (sym (found_id id old was.0 was.1) ∙ found_id id new s found) was.2 was.3 other in
     ap (option_map (entries old)) was.1 ∙ ap Some same
 
--- ---- whether the edit's subject is on a chain, a subject at a time
+-- ---- whether a touched subject is on a chain, a subject at a time
 
 pub any_step : (test : Subject → Bool) (policy : List Subject) (subject : Subject) (i : ℕ) (parent : Option Subject) → i < 8 → parent_of policy subject ≡ parent
     → list_any test (chain_within (8 - i) policy subject) ≡ (test subject || list_any test (option_map_or (chain_within (8 - (i + 1)) policy) parent []))
@@ -141,43 +141,44 @@ kept_cases : (b : Bool) (old : List Subject) (slots : List (Option Automaton)) (
 kept_cases true old slots s kept d h e = absurd (none-some d (sym h ∙ e))
 kept_cases false old slots s kept d h e = (refl, h)
 
-module _ (edit : Edit) (old new : List Subject) (alike : IsAlike edit old new) (well : WellFormed new) (parts : Parts) (right : AreParts old parts) where
+module _ (touched : Touched) (old new : List Subject) (alike : IsAlike touched old new) (well : WellFormed new) (parts : Parts) (right : AreParts old parts) where
   -- whose own automaton isn't made anew had these rules, and is a keeper where it was one
-  had_rules : (s : Subject) → find_subject (id_of s) new ≡ Some s → renews_own edit s ≡ false
+  had_rules : (s : Subject) → find_subject (id_of s) new ≡ Some s → renews_own touched s ≡ false
       → (o : Subject) × (find_subject (id_of s) old ≡ Some o) × (o.rules ≡ s.rules) × (is_keeper o ≡ is_keeper s)
-  had_rules s found keeps = by (is_touched (touched edit) s) (is_move edit) (has_rules s) refl refl refl keeps
+  had_rules s found keeps =
+      let parts = or_parts (is_among touched.rewritten s) _ keeps in
+      by (is_among touched.all s) (has_rules s) refl refl parts.0 parts.1
     where
-      by : (t m r : Bool) → is_touched (touched edit) s ≡ t → is_move edit ≡ m → has_rules s ≡ r → (t && not (m && r)) ≡ false
+      by : (t r : Bool) → is_among touched.all s ≡ t → has_rules s ≡ r → is_among touched.rewritten s ≡ false → (t && not r) ≡ false
           → (o : Subject) × (find_subject (id_of s) old ≡ Some o) × (o.rules ≡ s.rules) × (is_keeper o ≡ is_keeper s)
-      by false m r h k l e =
+      by false r h l k e =
           let was = alike.untouched (id_of s) s found h in
           (was.0, was.1, was.2, λ i. nat_lt 0 (length (was.2 i)) || not (is_some (was.3 i)))
-      by true true true h k l e =
-          let was = alike.moved (id_of s) s found k in
+      by true true h l k e =
+          let was = alike.unwritten (id_of s) s found k in
           let its : has_rules was.0 ≡ true = ap (λ (rules : List Rule). nat_lt 0 (length rules)) was.2 ∙ l in
           (was.0, was.1, was.2, ap (λ (b : Bool). b || not (is_some was.0.parent)) its ∙ sym (ap (λ (b : Bool). b || not (is_some s.parent)) l))
-      by true true false h k l e = absurd (true≢false e)
-      by true false r h k l e = absurd (true≢false e)
+      by true false h l k e = absurd (true≢false e)
 
-  pub owns_right : (kept : List (Option Automaton)) → AreKept (renews_own edit) old parts.owns new kept → (k : ℕ) (s : Subject) (d : Automaton) → slice_get new k ≡ Some s
+  pub owns_right : (kept : List (Option Automaton)) → AreKept (renews_own touched) old parts.owns new kept → (k : ℕ) (s : Subject) (d : Automaton) → slice_get new k ≡ Some s
       → slot kept k ≡ Some d → IsFit (own_patterns s) d × (is_keeper s ≡ true)
   owns_right kept all k s d here there =
       let found = find_at new k s well.distinct here in
-      let keeps = kept_cases (renews_own edit s) old parts.owns s (slot kept k) d (all.1 k s here) there in
+      let keeps = kept_cases (renews_own touched s) old parts.owns s (slot kept k) d (all.1 k s here) there in
       let had = had_rules s found keeps.0 in
       let was = kept_was old parts.owns s had.0 (slot kept k) d keeps.1 there had.1 in
       let right_there = right.owns was.0 had.0 d was.1 was.2 in
       (subst (λ (rules : List Rule). IsFit (map (λ rule. rule.pattern) rules) d) had.2 right_there.0, sym had.3 ∙ right_there.1)
 
-  pub wholes_right : (kept : List (Option Automaton)) → AreKept (renews_chain edit new) old parts.wholes new kept → (k : ℕ) (s : Subject) (d : Automaton) → slice_get new k ≡ Some s
+  pub wholes_right : (kept : List (Option Automaton)) → AreKept (renews_chain touched new) old parts.wholes new kept → (k : ℕ) (s : Subject) (d : Automaton) → slice_get new k ≡ Some s
       → slot kept k ≡ Some d → IsFit (patterns_along new s) d
   unfolding chain_within
   wholes_right kept all k s d here there =
       let found = find_at new k s well.distinct here in
-      let keeps = kept_cases (renews_chain edit new s) old parts.wholes s (slot kept k) d (all.1 k s here) there in
-      let had = alike.untouched (id_of s) s found (or_parts (is_touched (touched edit) s) _ keeps.0).0 in
+      let keeps = kept_cases (renews_chain touched new s) old parts.wholes s (slot kept k) d (all.1 k s here) there in
+      let had = alike.untouched (id_of s) s found (or_parts (is_among touched.all s) _ keeps.0).0 in
       let was = kept_was old parts.wholes s had.0 (slot kept k) d keeps.1 there had.1 in
-      let same = same_entries edit old new alike well.parents 8 (id_of s) s had.0 found (sym (found_id (id_of s) old had.0 had.1)) had.2 had.3 keeps.0 in
+      let same = same_entries touched old new alike well.parents 8 (id_of s) s had.0 found (sym (found_id (id_of s) old had.0 had.1)) had.2 had.3 keeps.0 in
       subst (λ (es : List Entry). IsFit (patterns_of es) d) same (right.wholes was.0 had.0 d was.1 was.2)
 
   -- what is kept for a subject that was at a place, and had an automaton there
@@ -187,27 +188,27 @@ module _ (edit : Edit) (old new : List Subject) (alike : IsAlike edit old new) (
   still_some false slots s o kept e (None, found, is) was there = absurd (none-some o (sym found ∙ was))
   still_some false slots s o kept e (Some j, found, is) was there = ap is_some is ∙ there j (sym found ∙ was)
 
-  pub owns_kept : (kept : List (Option Automaton)) → HaveKeepers old parts → AreKept (renews_own edit) old parts.owns new kept → (k : ℕ) (s : Subject) → slice_get new k ≡ Some s
-      → (renews_own edit s ≡ true → slot kept k ≡ None) × (renews_own edit s ≡ false → is_keeper s ≡ true → IsTrue (is_some (slot kept k)))
+  pub owns_kept : (kept : List (Option Automaton)) → HaveKeepers old parts → AreKept (renews_own touched) old parts.owns new kept → (k : ℕ) (s : Subject) → slice_get new k ≡ Some s
+      → (renews_own touched s ≡ true → slot kept k ≡ None) × (renews_own touched s ≡ false → is_keeper s ≡ true → IsTrue (is_some (slot kept k)))
   owns_kept kept keepers all k s here = (
-    λ renewed. none (renews_own edit s) renewed (all.1 k s here),
+    λ renewed. none (renews_own touched s) renewed (all.1 k s here),
     λ keeps keeper.
         let had = had_rules s (find_at new k s well.distinct here) keeps in
-        still_some (renews_own edit s) parts.owns s had.0 (slot kept k) keeps (all.1 k s here) had.1 (λ j at. keepers j had.0 at (had.3 ∙ keeper)),
+        still_some (renews_own touched s) parts.owns s had.0 (slot kept k) keeps (all.1 k s here) had.1 (λ j at. keepers j had.0 at (had.3 ∙ keeper)),
   )
     where
       none : (b : Bool) → b ≡ true → IsKept b old parts.owns s (slot kept k) → slot kept k ≡ None
       none true e h = h
       none false e h = absurd (true≢false (sym e))
 
-  pub wholes_kept : (kept : List (Option Automaton)) → AreAll old parts → AreKept (renews_chain edit new) old parts.wholes new kept → (k : ℕ) (s : Subject) → slice_get new k ≡ Some s
-      → (renews_chain edit new s ≡ true → slot kept k ≡ None) × (renews_chain edit new s ≡ false → IsTrue (is_some (slot kept k)))
+  pub wholes_kept : (kept : List (Option Automaton)) → AreAll old parts → AreKept (renews_chain touched new) old parts.wholes new kept → (k : ℕ) (s : Subject) → slice_get new k ≡ Some s
+      → (renews_chain touched new s ≡ true → slot kept k ≡ None) × (renews_chain touched new s ≡ false → IsTrue (is_some (slot kept k)))
   unfolding chain_within
   wholes_kept kept each all k s here = (
-    λ renewed. none (renews_chain edit new s) renewed (all.1 k s here),
+    λ renewed. none (renews_chain touched new s) renewed (all.1 k s here),
     λ keeps.
-        let had = alike.untouched (id_of s) s (find_at new k s well.distinct here) (or_parts (is_touched (touched edit) s) _ keeps).0 in
-        still_some (renews_chain edit new s) parts.wholes s had.0 (slot kept k) keeps (all.1 k s here) had.1 (λ j at. each j (slice_get_within old j had.0 at)),
+        let had = alike.untouched (id_of s) s (find_at new k s well.distinct here) (or_parts (is_among touched.all s) _ keeps).0 in
+        still_some (renews_chain touched new s) parts.wholes s had.0 (slot kept k) keeps (all.1 k s here) had.1 (λ j at. each j (slice_get_within old j had.0 at)),
   )
     where
       none : (b : Bool) → b ≡ true → IsKept b old parts.wholes s (slot kept k) → slot kept k ≡ None

@@ -1,9 +1,9 @@
--- Which automata an edit makes anew.
-use Rattle.std.specs.Prelude.{◌≡◌, ℕ, List, length, slice_get, Bool, true, false, not, ◌&&◌}
+-- Which automata edits make anew.
+use Rattle.std.specs.Prelude.{◌≡◌, ℕ, List, length, slice_get, Bool, true, false, not, ◌&&◌, ◌||◌}
 use Rattle.std.specs.Prelude.{Option, Some, None}
-use Rattle.std.specs.Option.{option_map, option_map_or, option_and_then}
+use Rattle.std.specs.Option.{option_map, option_and_then}
 use Rattle.pol_automaton.specs.Automaton.{Automaton}
-use Rattle.std.specs.List.{list_any}
+use Rattle.std.specs.List.{list_any, filter_map}
 use Rattle.pol_names.specs.SubjectId.{same_id, group_id, user_id}
 use Rattle.pol_names.specs.declared.subject_id.SubjectId.{SubjectId}
 use Rattle.pol_text.specs.declared.subject.Subject.{Subject}
@@ -11,57 +11,63 @@ use Rattle.pol_text.specs.Policy.{id_of, find_subject, chain, entries}
 use Rattle.pol_edit.specs.declared.edit.Edit.{Edit}
 use Rattle.pol_edit.specs.declared.edit.Edit.TheVariants.{AddGroup, AddUser, SetParent}
 use Rattle.pol_edit.specs.declared.edit.Edit.TheVariants.{InsertRule, RemoveRule, MoveRule}
+use Rattle.pol_live.specs.declared.touching.Touched.{Touched}
 use Rattle.pol_live.specs.Kept.{has_rules, slot}
 
 -- the subject whose rules or whose group an edit may change, also one that it adds. Secrets and
 -- levels change no automaton, and whom an edit takes out is nobody's group
-abbrev pub touched : Edit → Option SubjectId
-touched (AddGroup name parent) = Some (group_id name)
-touched (AddUser name parent) = Some (user_id name)
-touched (SetParent subject parent) = Some subject
-touched (InsertRule subject at verdict pattern) = Some subject
-touched (RemoveRule subject at) = Some subject
-touched (MoveRule subject from to) = Some subject
-touched edit = None
+abbrev pub touches : Edit → Option SubjectId
+touches (AddGroup name parent) = Some (group_id name)
+touches (AddUser name parent) = Some (user_id name)
+touches (SetParent subject parent) = Some subject
+touches (InsertRule subject at verdict pattern) = Some subject
+touches (RemoveRule subject at) = Some subject
+touches (MoveRule subject from to) = Some subject
+touches edit = None
 
-abbrev pub is_touched : Option SubjectId → Subject → Bool
-is_touched id subject = option_map_or (λ id. same_id id (id_of subject)) id false
+-- the subject whose rules it may change: a move changes its group alone
+abbrev pub rewrites : Edit → Option SubjectId
+rewrites (SetParent subject parent) = None
+rewrites edit = touches edit
 
--- whether only its group changes, so that its rules stay
-abbrev pub is_move : Edit → Bool
-is_move (SetParent subject parent) = true
-is_move edit = false
+-- those of several edits
+abbrev pub touched_by : List Edit → Touched
+touched_by edits =
+    record { all = filter_map touches edits; rewritten = filter_map rewrites edits }
+
+abbrev pub is_among : List SubjectId → Subject → Bool
+is_among ids subject = list_any (λ id. same_id id (id_of subject)) ids
 
 -- the automaton of a subject's own rules is made anew if these may have changed. Of a moved subject
--- without rules it is made anew too, where it still needs one
-abbrev pub renews_own : Edit → Subject → Bool
-renews_own edit subject =
-    is_touched (touched edit) subject && not (is_move edit && has_rules subject)
+-- that is left without rules it is made anew too, where it still needs one
+abbrev pub renews_own : Touched → Subject → Bool
+renews_own touched subject = is_among touched.rewritten subject
+    || (is_among touched.all subject && not (has_rules subject))
 
--- whether the subject that was touched is on a subject's chain
-abbrev pub has_on_chain : Option SubjectId → List Subject → Subject → Bool
-has_on_chain touched policy subject = list_any (is_touched touched) (chain policy subject)
+-- whether one of these subjects is on a subject's chain
+abbrev pub has_on_chain : List SubjectId → List Subject → Subject → Bool
+has_on_chain ids policy subject = list_any (is_among ids) (chain policy subject)
 
--- that of its chain is made anew if the edit's subject is on it
-abbrev pub renews_chain : Edit → List Subject → Subject → Bool
-renews_chain edit policy subject = has_on_chain (touched edit) policy subject
+-- that of its chain is made anew if a touched subject is on it
+abbrev pub renews_chain : Touched → List Subject → Subject → Bool
+renews_chain touched policy subject = has_on_chain touched.all policy subject
 
 -- ---- what stays
 
--- a subject of the new policy that the edit doesn't touch was there, with these rules and in this
--- group; one that it moves was there with these rules
-pub record IsAlike (edit : Edit) (old new : List Subject) : Type 0 where
+-- a subject of the new policy that isn't touched was there, with these rules and in this group; one
+-- whose rules weren't rewritten was there with these rules
+pub record IsAlike (touched : Touched) (old new : List Subject) : Type 0 where
   pub untouched : (id : SubjectId) (subject : Subject) → find_subject id new ≡ Some subject
-      → is_touched (touched edit) subject ≡ false
+      → is_among touched.all subject ≡ false
       → (before : Subject) × (find_subject id old ≡ Some before)
       × (before.rules ≡ subject.rules) × (before.parent ≡ subject.parent)
-  pub moved : (id : SubjectId) (subject : Subject) → find_subject id new ≡ Some subject
-      → is_move edit ≡ true
+  pub unwritten : (id : SubjectId) (subject : Subject) → find_subject id new ≡ Some subject
+      → is_among touched.rewritten subject ≡ false
       → (before : Subject) × (find_subject id old ≡ Some before) × (before.rules ≡ subject.rules)
 
--- the rules along the chain of a subject of the new policy are as they were, if the touched one
--- isn't on it
-abbrev pub LeavesOthers : Option SubjectId → List Subject → List Subject → Type 0
+-- the rules along the chain of a subject of the new policy are as they were, if none of the touched
+-- ones is on it
+abbrev pub LeavesOthers : List SubjectId → List Subject → List Subject → Type 0
 LeavesOthers touched old new = (id : SubjectId) (subject : Subject)
     → find_subject id new ≡ Some subject → has_on_chain touched new subject ≡ false
     → option_map (entries old) (find_subject id old) ≡ Some (entries new subject)

@@ -5,7 +5,8 @@ use Rattle.pol_text.specs.declared.subject.Subject.{Subject}
 use Rattle.pol_edit.specs.declared.edit.Edit.{Edit}
 use Rattle.pol_meaning.specs.Along.{patterns_along}
 use Rattle.pol_live.specs.Kept.{has_rules, is_keeper, own_patterns}
-use Rattle.pol_live.specs.Renewing.{renews_own, renews_chain}
+use Rattle.pol_live.specs.declared.touching.Touched.{Touched}
+use Rattle.pol_live.specs.Renewing.{touched_by, renews_own, renews_chain}
 
 -- a keeper with a group has one more automaton, joined of its own and what it inherits
 abbrev pub is_joined : Subject → Bool
@@ -33,10 +34,14 @@ IsRise own joined policy rise = (owns chains : ℕ)
 abbrev pub IsBuildRise : List Subject → ℕ → Type 0
 IsBuildRise policy = IsRise is_keeper is_joined policy
 
--- an edit that makes this policy: of those alone that it makes anew
-abbrev pub IsEditRise : Edit → List Subject → ℕ → Type 0
-IsEditRise edit policy = IsRise (λ subject. is_keeper subject && renews_own edit subject)
-    (λ subject. is_joined subject && renews_chain edit policy subject) policy
+-- one in which these subjects are touched: of those alone that are made anew
+abbrev pub IsRenewalRise : Touched → List Subject → ℕ → Type 0
+IsRenewalRise touched policy = IsRise (λ subject. is_keeper subject && renews_own touched subject)
+    (λ subject. is_joined subject && renews_chain touched policy subject) policy
+
+-- one that these edits make together
+abbrev pub IsEditRise : List Edit → List Subject → ℕ → Type 0
+IsEditRise edits policy = IsRenewalRise (touched_by edits) policy
 
 -- ---- the meter, which stays at its greatest value, 2 ^ 128 - 1
 

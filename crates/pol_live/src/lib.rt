@@ -12,6 +12,7 @@ mod parts;
 mod prepared;
 mod reusing;
 mod shared;
+mod touching;
 
 pub use along::{ChainRule, rules_along};
 pub use keeping::keeper;

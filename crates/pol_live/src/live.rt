@@ -1,6 +1,6 @@
 //! A policy with its automata.
 
-ghost use Rattle.std.specs.Prelude.{◌≡◌, ◌≤◌, slice_get, is_some, None, Some, Ok, IsTrue};
+ghost use Rattle.std.specs.Prelude.{◌≡◌, ◌≤◌, slice_get, is_some, None, Some, IsTrue};
 ghost use Rattle.std.specs.Prelude.{IfOk, IfErr, IfNone, IfSome, OnOk, OnErr};
 ghost use Rattle.std.specs.Option.{option_copied};
 ghost use Rattle.pol_pattern.specs.Matching.{MatchLaw};
@@ -8,11 +8,12 @@ ghost use Rattle.pol_automaton.specs.Automaton.{IsDecider};
 ghost use Rattle.pol_text.specs.declared.subject.Subject.{Subject as SubjectValue};
 ghost use Rattle.pol_text.specs.Policy.{WellFormed, find_subject, decide};
 ghost use Rattle.pol_edit.specs.declared.fault.EditFault.TheVariants.{Memory};
-ghost use Rattle.pol_edit.specs.Applying.{applied, is_memory};
+ghost use Rattle.pol_edit.specs.Applying.{is_memory};
 ghost use Rattle.pol_meaning.specs.Along.{patterns_along as patterns};
 ghost use Rattle.pol_meaning.specs.Deciding.{DecisionLaw};
 ghost use Rattle.pol_meaning.specs.Sizes.{IsSmall};
-ghost use Rattle.pol_live.specs.Rise.{IsBuildRise, IsEditRise, Rises};
+ghost use Rattle.pol_live.specs.Renewing.{IsAlike};
+ghost use Rattle.pol_live.specs.Rise.{IsBuildRise, IsRenewalRise, Rises};
 ghost use Rattle.pol_live.specs.Live.{Builds, IsOnlyBuilt, IsDeciderFor};
 ghost use Rattle.pol_meaning.specs.Memory.{UnlessMemory};
 
@@ -21,8 +22,9 @@ use crate::deciding::decided;
 use crate::parents::{Parents, parents_of};
 use crate::parts::{Parts, lookup};
 use crate::reusing::kept_parts;
+use crate::touching::Touched;
 use pol_automaton::{Decider, Meter};
-use pol_edit::{Edit, EditFault};
+use pol_edit::EditFault;
 use pol_names::{Decision, Name, SubjectId};
 use pol_pattern::match_law;
 use pol_text::Policy;
@@ -71,23 +73,23 @@ impl Live {
         })
     }
 
-    /// The policy that an edit makes, with the automata that the edit leaves right, and the others
-    /// built anew.
+    /// The policy that edits make, with the automata that stay right where these subjects are
+    /// touched, and the others built anew.
     pub(crate) fn renewed(
         &self,
         alloc: Global,
-        edit: &Edit,
+        touched: &Touched,
         policy: Policy,
         meter: &mut Meter,
     ) -> Result<Live, EditFault>
-        requires { applied self.now edit.now ≡ Ok policy }
+        requires { IsAlike touched.now self.now policy }
         ensures found { UnlessMemory is_memory result (Builds policy result) }
-        ensures rises { OnOk result (Rises (IsEditRise edit.now policy) meter.old meter.new) }
+        ensures rises { OnOk result (Rises (IsRenewalRise touched.now policy) meter.old meter.new) }
         ensures kept { OnErr result (meter.old ≤ meter.new) }
     {
         let _ = meter.total();
         let parents = parents_of(alloc, &policy)?;
-        let mut parts = kept_parts(alloc, &self.policy, &self.parts, edit, &policy)?;
+        let mut parts = kept_parts(alloc, &self.policy, &self.parts, touched, &policy)?;
         complete(alloc, &policy, &mut parts, meter)?;
         Ok(Live {
             policy,

@@ -1,33 +1,36 @@
 //! Changes of a policy that are ready to be made.
 
-ghost use Rattle.std.specs.Prelude.{◌≡◌, ◌≤◌, ◌↔◌, IsTrue, IfOk, OnErr};
+ghost use Rattle.std.specs.Prelude.{◌≡◌, ◌≤◌, ◌↔◌, ◌∷◌, [], IsTrue, IfOk, OnErr};
 ghost use Rattle.std.specs.Option.{option_copied, option_map};
 ghost use Rattle.pol_pattern.specs.Matching.{MatchLaw};
 ghost use Rattle.pol_text.specs.Policy.{find_subject, decide, entries};
 ghost use Rattle.pol_edit.specs.Applying.{is_memory};
+ghost use Rattle.pol_edit.specs.Batches.{ran_out};
 ghost use Rattle.pol_meaning.specs.Sizes.{IsSmall};
 ghost use Rattle.pol_live.specs.Rise.{IsEditRise, Rises};
 ghost use Rattle.pol_live.specs.Live.{Prepares, IsOnlyPrepared, IsDeciderFor};
+ghost use Rattle.pol_live.specs.Live.{PreparesAll, IsOnlyPreparedAll};
 ghost use Rattle.pol_meaning.specs.Memory.{UnlessMemory};
 
 use crate::live::Live;
-use crate::reusing::{has_on_chain, touched_alone};
-use basics::StructuralEq;
+use crate::touching::{has_on_chain, touched_by};
+use basics::{Sequence, StructuralEq};
 use pol_automaton::{Decider, Meter};
-use pol_edit::{Edit, EditFault, apply};
+use pol_edit::{BatchFault, Edit, EditFault, edited};
 use pol_names::{Decision, Name, SubjectId};
 use pol_text::Policy;
 use std::alloc::Global;
 use std::marker::Model;
+use std::slice;
 
-/// An edit that was judged, with all that making it takes. A contract sees the policy that it was
-/// prepared on, and the one that it makes.
+/// Edits that were judged, with all that making them takes. A contract sees the policy that they
+/// were prepared on, and the one that they make.
 #[derive(Drop)]
 pub struct Prepared {
     before: Policy,
     after: Live,
-    // on whose chain a subject's must be for its rules to have changed
-    touched: Option<SubjectId>,
+    // one of them must be on a subject's chain for its rules to have changed
+    touched: Sequence<SubjectId>,
 }
 
 impl Model for Prepared {
@@ -58,32 +61,59 @@ impl Live {
 
         // The meter rises by the residuals of each automaton that the edit makes anew.
         ensures rises { IfOk result (λ prepared.
-            Rises (IsEditRise edit.now prepared.after) meter.old meter.new) }
+            Rises (IsEditRise (edit.now ∷ []) prepared.after) meter.old meter.new) }
         ensures kept { OnErr result (meter.old ≤ meter.new) }
     {
-        self.prepare_only(alloc, edit, meter)
+        self.prepare_all(alloc, slice::from_ref(edit), meter)
+            .map_err(|fault| fault.fault)
     }
 
-    fn prepare_only(
+    /// Makes several edits ready as one change, and changes nothing. Each is applied to the policy
+    /// that those before it make, and the first that is refused decides. Sizes are judged on the
+    /// last policy alone, as for a single edit. Automata that the edits leave right are shared, and
+    /// each of the others is built once.
+    ///
+    /// Beside the edits and the automata that are built, it takes two copies of the policy, and for
+    /// each subject on each chain a look-up and a comparison of names with each edit: half a
+    /// million comparisons at most for 64 edits.
+    pub fn prepare_all(
         &self,
         alloc: Global,
-        edit: &Edit,
+        edits: &[Edit],
         meter: &mut Meter,
-    ) -> Result<Prepared, EditFault>
-        ensures found { UnlessMemory is_memory result (Prepares self.now edit.now result) }
+    ) -> Result<Prepared, BatchFault>
+        ensures found { UnlessMemory ran_out result (PreparesAll self.now edits.now result) }
+        ensures only { UnlessMemory ran_out result (IsOnlyPreparedAll self.now edits.now result) }
+
+        // The meter rises by the residuals of each automaton that the edits together make anew.
         ensures rises { IfOk result (λ prepared.
-            Rises (IsEditRise edit.now prepared.after) meter.old meter.new) }
+            Rises (IsEditRise edits.now prepared.after) meter.old meter.new) }
+        ensures kept { OnErr result (meter.old ≤ meter.new) }
+    {
+        self.prepare_edits(alloc, edits, meter)
+    }
+
+    fn prepare_edits(
+        &self,
+        alloc: Global,
+        edits: &[Edit],
+        meter: &mut Meter,
+    ) -> Result<Prepared, BatchFault>
+        ensures found { UnlessMemory ran_out result (PreparesAll self.now edits.now result) }
+        ensures rises { IfOk result (λ prepared.
+            Rises (IsEditRise edits.now prepared.after) meter.old meter.new) }
         ensures kept { OnErr result (meter.old ≤ meter.new) }
     {
         let before = self.policy().copy(alloc)?;
-        let mut policy = self.policy().copy(alloc)?;
-        apply(alloc, &mut policy, edit)?;
-        let touched = touched_alone(&before, edit, &policy);
-        let after = self.renewed(alloc, edit, policy, meter)?;
+        let policy = edited(alloc, &before, edits)?;
+        let touched = touched_by(alloc, edits)?;
+        let after = self
+            .renewed(alloc, &touched, policy, meter)
+            .map_err(BatchFault::of_all)?;
         Ok(Prepared {
             before,
             after,
-            touched,
+            touched: touched.all,
         })
     }
 
@@ -122,7 +152,7 @@ impl Prepared {
             ≡ option_map (entries self.now.after) (find_subject subject.now self.now.after) }
     {
         match self.after.policy().find(subject) {
-            Some(subject) => !has_on_chain(&self.touched, self.after.policy(), subject),
+            Some(subject) => !has_on_chain(self.touched.as_slice(), self.after.policy(), subject),
             None => false,
         }
     }

@@ -17,10 +17,10 @@ loop-subject-preserved c =
     let here : slice_get after i ≡ Some subject = slice_get_read after (length after) i subject refl lt (sym at) in
     let many = c.loop-subject.invariant.many in
     let long = length_push c.loop-subject.kept c.in_ok-own.own in
-    let kept : IsKept (renews_own c.args.edit.now subject) c.args.before.now c.args.owns.now subject c.in_ok-own.own = rw (← c.renews_own.ensures) c.in_ok-own.ensures in
+    let kept : IsKept (renews_own c.args.touched.now subject) c.args.before.now c.args.owns.now subject c.in_ok-own.own = rw (← c.renews_own.ensures) c.in_ok-own.ensures in
     record {
       many = ap (λ (xs : List (Option Automaton)). length xs) c.in_ok-push.ensures.ok ∙ omega arith;
-      each = rw (add-one, c.in_ok-push.ensures.ok) (more_each (λ s o. IsKept (renews_own c.args.edit.now s) c.args.before.now c.args.owns.now s o) after c.loop-subject.kept c.in_ok-own.own i subject many here kept
+      each = rw (add-one, c.in_ok-push.ensures.ok) (more_each (λ s o. IsKept (renews_own c.args.touched.now s) c.args.before.now c.args.owns.now s o) after c.loop-subject.kept c.in_ok-own.own i subject many here kept
           (λ k s below its. c.loop-subject.invariant.each k s below its));
       same = c.loop-subject.invariant.same;
     }

@@ -1,13 +1,12 @@
-use Rattle.pol_live.proofs.AlikeFacts.{alike}
 use Rattle.pol_live.proofs.RenewFacts.{owns_right, wholes_right}
 use Rattle.pol_live.proofs.reusing.kept_parts.Goals as goal
 
 pub returns-clause-right : goal.returns-clause-right
 returns-clause-right c =
-    let same = alike c.args.before.now c.args.edit.now c.args.after.now c.requires.made in
+    let same = c.requires.alike in
     record {
       many_owns = c.in_ok-owns.ensures.0;
       many_wholes = c.in_ok-wholes.ensures.0;
-      owns = owns_right c.args.edit.now c.args.before.now c.args.after.now same c.subjects.ensures.well_formed c.args.parts.now c.requires.right c.in_ok-owns.owns c.in_ok-owns.ensures;
-      wholes = wholes_right c.args.edit.now c.args.before.now c.args.after.now same c.subjects.ensures.well_formed c.args.parts.now c.requires.right c.in_ok-wholes.wholes c.in_ok-wholes.ensures;
+      owns = owns_right c.args.touched.now c.args.before.now c.args.after.now same c.subjects.ensures.well_formed c.args.parts.now c.requires.right c.in_ok-owns.owns c.in_ok-owns.ensures;
+      wholes = wholes_right c.args.touched.now c.args.before.now c.args.after.now same c.subjects.ensures.well_formed c.args.parts.now c.requires.right c.in_ok-wholes.wholes c.in_ok-wholes.ensures;
     }

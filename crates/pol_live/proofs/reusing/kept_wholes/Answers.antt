@@ -17,10 +17,10 @@ loop-subject-preserved c =
     let here : slice_get after i ≡ Some subject = slice_get_read after (length after) i subject refl lt (sym at) in
     let many = c.loop-subject.invariant.many in
     let long = length_push c.loop-subject.kept c.in_ok-whole.whole in
-    let kept : IsKept (renews_chain c.args.edit.now c.args.after.now subject) c.args.before.now c.args.wholes.now subject c.in_ok-whole.whole = rw (← c.renews_chain.ensures) c.in_ok-whole.ensures in
+    let kept : IsKept (renews_chain c.args.touched.now c.args.after.now subject) c.args.before.now c.args.wholes.now subject c.in_ok-whole.whole = rw (← c.renews_chain.ensures) c.in_ok-whole.ensures in
     record {
       many = ap (λ (xs : List (Option Automaton)). length xs) c.in_ok-push.ensures.ok ∙ omega arith;
-      each = rw (add-one, c.in_ok-push.ensures.ok) (more_each (λ s o. IsKept (renews_chain c.args.edit.now c.args.after.now s) c.args.before.now c.args.wholes.now s o) after c.loop-subject.kept c.in_ok-whole.whole i subject many here kept
+      each = rw (add-one, c.in_ok-push.ensures.ok) (more_each (λ s o. IsKept (renews_chain c.args.touched.now c.args.after.now s) c.args.before.now c.args.wholes.now s o) after c.loop-subject.kept c.in_ok-whole.whole i subject many here kept
           (λ k s below its. c.loop-subject.invariant.each k s below its));
       same = c.loop-subject.invariant.same;
     }

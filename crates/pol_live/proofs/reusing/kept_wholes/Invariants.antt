@@ -8,6 +8,6 @@ abbrev pub invariant-loop-subject : goal.invariant-loop-subject
 invariant-loop-subject l = record {
   many : length l.kept ≡ l.subject-index;
   each : (k : ℕ) (subject : Subject) → k < l.subject-index → slice_get l.after k ≡ Some subject
-      → IsKept (renews_chain l.edit l.after subject) l.before l.wholes subject (slot l.kept k);
+      → IsKept (renews_chain l.touched l.after subject) l.before l.wholes subject (slot l.kept k);
   same : l.subject-items ≡ l.after;
 }

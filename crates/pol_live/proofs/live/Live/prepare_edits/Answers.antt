@@ -1,0 +1,22 @@
+use Rattle.std.proofs.Common.{◌≡◌, ◌∙◌, Ok, sym}
+use Rattle.pol_edit.specs.Batches.{applied_all}
+use Rattle.pol_live.proofs.PreparedFacts.{was_ok, alike_all, leaves, rises}
+use Rattle.pol_live.proofs.live.Live.prepare_edits.Goals as goal
+
+pub renewed-requires : goal.renewed-requires
+renewed-requires c =
+    let before = c.args.self.now in
+    let copied : c.in_ok-before.before ≡ before = c.in_ok-before.ensures ∙ c.policy.ensures.policy in
+    alike_all c.args.edits.now before c.in_ok-policy.policy c.in_ok-touched.touched c.in_ok-touched.ensures (rw (copied) at (c.in_ok-policy.ensures.exact))
+
+pub invariant_of-result : goal.invariant_of-result
+invariant_of-result c =
+    let ok = was_ok c.renewed.result c.map_err.result c.in_ok-after.after _ c.in_ok-after.was c.map_err.ensures.variant c.map_err.ensures.cases in
+    leaves c.args.edits.now c.in_ok-before.before c.in_ok-policy.policy c.in_ok-touched.touched c.in_ok-touched.ensures c.renewed.result c.in_ok-after.after ok c.renewed.ensures.found
+    c.in_ok-policy.ensures.well_formed.parents c.in_ok-policy.ensures.exact
+
+pub returns-clause-rises : goal.returns-clause-rises
+returns-clause-rises c =
+    let ok = was_ok c.renewed.result c.map_err.result c.in_ok-after.after _ c.in_ok-after.was c.map_err.ensures.variant c.map_err.ensures.cases in
+    rises c.args.edits.now c.in_ok-before.before c.in_ok-policy.policy c.in_ok-touched.touched c.in_ok-touched.ensures c.renewed.result c.in_ok-after.after ok c.renewed.ensures.found
+    c.args.meter.now c.renewed.new.meter c.renewed.ensures.rises

@@ -1,0 +1,98 @@
+//! The subjects that edits touch.
+
+ghost use Rattle.std.specs.Prelude.{◌≡◌, ◌++◌, [], IfOk, OnOk};
+ghost use Rattle.std.specs.List.{cons_option};
+ghost use Rattle.pol_live.specs.Renewing as renewing;
+ghost use Rattle.pol_live.specs.Renewing.{is_among as among, has_on_chain as on_chain};
+
+use crate::along::parent;
+use basics::Sequence;
+use pol_edit::Edit;
+use pol_names::SubjectId;
+use pol_text::{Policy, Subject};
+use std::alloc::{AllocError, Global};
+
+/// The subjects that edits touch.
+#[derive(Drop)]
+pub(crate) struct Touched {
+    /// Whose rules or whose group they may change, also those that they add.
+    pub(crate) all: Sequence<SubjectId>,
+    /// Whose rules they may change.
+    pub(crate) rewritten: Sequence<SubjectId>,
+}
+
+// The subject whose rules or whose group the edit may change, also one that it adds.
+fn touches(edit: &Edit) -> Option<SubjectId>
+    ensures { result ≡ renewing.touches edit.now }
+{
+    match edit {
+        Edit::AddGroup { name, .. } => Some(SubjectId::group(*name)),
+        Edit::AddUser { name, .. } => Some(SubjectId::user(*name)),
+        Edit::SetParent { subject, .. } => Some(*subject),
+        Edit::InsertRule { subject, .. } => Some(*subject),
+        Edit::RemoveRule { subject, .. } => Some(*subject),
+        Edit::MoveRule { subject, .. } => Some(*subject),
+        Edit::Remove { .. }
+        | Edit::SetLogin { .. }
+        | Edit::SetEnable { .. }
+        | Edit::SetPriv { .. } => None,
+    }
+}
+
+// The subject whose rules it may change.
+fn rewrites(edit: &Edit) -> Option<SubjectId>
+    ensures { result ≡ renewing.rewrites edit.now }
+{
+    match edit {
+        Edit::SetParent { .. } => None,
+        edit => touches(edit),
+    }
+}
+
+// Adds the subject, if there is one.
+fn add(subjects: &mut Sequence<SubjectId>, subject: Option<SubjectId>) -> Result<(), AllocError>
+    ensures { OnOk result (subjects.new ≡ subjects.old ++ cons_option subject []) }
+{
+    if let Some(subject) = subject {
+        subjects.push(subject)?;
+    }
+    Ok(())
+}
+
+/// The subjects that the edits touch.
+pub(crate) fn touched_by(alloc: Global, edits: &[Edit]) -> Result<Touched, AllocError>
+    ensures { IfOk result (λ touched. touched ≡ renewing.touched_by edits.now) }
+{
+    let mut all = Sequence::new(alloc);
+    let mut rewritten = Sequence::new(alloc);
+    for edit in edits {
+        add(&mut all, touches(edit))?;
+        add(&mut rewritten, rewrites(edit))?;
+    }
+    Ok(Touched { all, rewritten })
+}
+
+/// Whether the subject is one of these.
+pub(crate) fn is_among(ids: &[SubjectId], subject: &Subject) -> bool
+    ensures { result ≡ among ids.now subject.now }
+{
+    ids.contains(&subject.id())
+}
+
+/// Whether one of these is on a subject's chain. Takes no memory, and a look-up for each subject of
+/// the chain.
+pub(crate) fn has_on_chain(ids: &[SubjectId], policy: &Policy, subject: &Subject) -> bool
+    ensures { result ≡ on_chain ids.now policy.now subject.now }
+{
+    let mut present = subject;
+    'chain: for _ in 0..Policy::MAX_CHAIN {
+        if is_among(ids, present) {
+            return true;
+        }
+        match parent(policy, present) {
+            Some(group) => present = group,
+            None => return false,
+        }
+    }
+    false
+}
