@@ -10,3 +10,4 @@ pub mod AlikeFacts
 pub mod MeterFacts
 pub mod KeeperFacts
 pub mod PreparedFacts
+pub mod RiseFacts

@@ -9,7 +9,7 @@ use Rattle.pol_edit.specs.declared.batching.BatchFault.{BatchFault}
 use Rattle.pol_edit.specs.declared.edit.Edit.{Edit}
 use Rattle.pol_edit.specs.declared.fault.EditFault.{EditFault}
 use Rattle.pol_edit.specs.declared.fault.EditFault.TheVariants.{BadEdit, NoSuch, Exists, InUse, Cycle, TooDeep, BadIndex, BadPattern, BadValue, Limit, TooManyStates, Memory}
-use Rattle.pol_meaning.specs.Sizes.{AreSmall, IsFirstLarge, IsRefusedFor, IsRefusedAs}
+use Rattle.pol_meaning.specs.Sizes.{AreSmall, IsFirstLarge, IsRefusedAs}
 use Rattle.pol_live.specs.Live.{Builds, Step, PreparesTo, Prepares, PreparesAll}
 use Rattle.pol_meaning.specs.Memory.{UnlessMemory}
 

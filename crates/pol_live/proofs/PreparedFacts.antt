@@ -1,5 +1,5 @@
 -- What is renewed, where edits are prepared.
-use Rattle.std.proofs.Common.{◌≡◌, ℕ, List, ◌∷◌, [], Bool, true, Result, Ok, Err, OnOk, refl, sym, ap, subst, ◌∙◌, true≢false}
+use Rattle.std.proofs.Common.{◌≡◌, ℕ, List, true, Result, Ok, Err, OnOk, sym, ap, subst, ◌∙◌, true≢false}
 use Rattle.std.specs.Result.{is_ok, MatchResult}
 use Rattle.std.specs.List.{list_all}
 use Rattle.pol_text.specs.declared.subject.Subject.{Subject}

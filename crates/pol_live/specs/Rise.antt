@@ -43,6 +43,10 @@ IsRenewalRise touched policy = IsRise (λ subject. is_keeper subject && renews_o
 abbrev pub IsEditRise : List Edit → List Subject → ℕ → Type 0
 IsEditRise edits policy = IsRenewalRise (touched_by edits) policy
 
+-- no other number is right
+abbrev pub IsOne : (ℕ → Type 0) → Type 0
+IsOne by = (rise other : ℕ) → by rise → by other → rise ≡ other
+
 -- ---- the meter, which stays at its greatest value, 2 ^ 128 - 1
 
 abbrev pub most : ℕ

@@ -17,4 +17,5 @@ mod touching;
 pub use along::{ChainRule, rules_along};
 pub use keeping::keeper;
 pub use live::Live;
+pub use pol_names::{By, Decision, Kind, Name, SubjectId};
 pub use prepared::Prepared;

@@ -13,7 +13,7 @@ ghost use Rattle.pol_meaning.specs.Along.{patterns_along as patterns};
 ghost use Rattle.pol_meaning.specs.Deciding.{DecisionLaw};
 ghost use Rattle.pol_meaning.specs.Sizes.{IsSmall};
 ghost use Rattle.pol_live.specs.Renewing.{IsAlike};
-ghost use Rattle.pol_live.specs.Rise.{IsBuildRise, IsRenewalRise, Rises};
+ghost use Rattle.pol_live.specs.Rise.{IsBuildRise, IsOne, IsRenewalRise, Rises};
 ghost use Rattle.pol_live.specs.Live.{Builds, IsOnlyBuilt, IsDeciderFor};
 ghost use Rattle.pol_meaning.specs.Memory.{UnlessMemory};
 
@@ -109,6 +109,7 @@ impl Live {
 
         // The meter rises by the residuals of each automaton that is made.
         ensures rises { OnOk result (Rises (IsBuildRise policy) meter.old meter.new) }
+        ensures one_rise { IsOne (IsBuildRise policy) }
         ensures kept { OnErr result (meter.old ≤ meter.new) }
     {
         Live::build_anew(alloc, policy, meter)

@@ -1,13 +1,14 @@
 //! Changes of a policy that are ready to be made.
 
-ghost use Rattle.std.specs.Prelude.{◌≡◌, ◌≤◌, ◌↔◌, ◌∷◌, [], IsTrue, IfOk, OnErr};
+ghost use Rattle.std.specs.Prelude.{◌≡◌, ◌≤◌, ◌↔◌, List, ◌∷◌, [], IsTrue, IfOk, OnErr};
 ghost use Rattle.std.specs.Option.{option_copied, option_map};
 ghost use Rattle.pol_pattern.specs.Matching.{MatchLaw};
 ghost use Rattle.pol_text.specs.Policy.{find_subject, decide, entries};
+ghost use Rattle.pol_text.specs.declared.subject.Subject.{Subject as SubjectValue};
 ghost use Rattle.pol_edit.specs.Applying.{is_memory};
 ghost use Rattle.pol_edit.specs.Batches.{ran_out};
 ghost use Rattle.pol_meaning.specs.Sizes.{IsSmall};
-ghost use Rattle.pol_live.specs.Rise.{IsEditRise, Rises};
+ghost use Rattle.pol_live.specs.Rise.{IsEditRise, IsOne, Rises};
 ghost use Rattle.pol_live.specs.Live.{Prepares, IsOnlyPrepared, IsDeciderFor};
 ghost use Rattle.pol_live.specs.Live.{PreparesAll, IsOnlyPreparedAll};
 ghost use Rattle.pol_meaning.specs.Memory.{UnlessMemory};
@@ -62,6 +63,7 @@ impl Live {
         // The meter rises by the residuals of each automaton that the edit makes anew.
         ensures rises { IfOk result (λ prepared.
             Rises (IsEditRise (edit.now ∷ []) prepared.after) meter.old meter.new) }
+        ensures one_rise { (policy : List SubjectValue) → IsOne (IsEditRise (edit.now ∷ []) policy) }
         ensures kept { OnErr result (meter.old ≤ meter.new) }
     {
         self.prepare_all(alloc, slice::from_ref(edit), meter)
@@ -88,6 +90,7 @@ impl Live {
         // The meter rises by the residuals of each automaton that the edits together make anew.
         ensures rises { IfOk result (λ prepared.
             Rises (IsEditRise edits.now prepared.after) meter.old meter.new) }
+        ensures one_rise { (policy : List SubjectValue) → IsOne (IsEditRise edits.now policy) }
         ensures kept { OnErr result (meter.old ≤ meter.new) }
     {
         self.prepare_edits(alloc, edits, meter)

@@ -1,5 +1,4 @@
-use Rattle.std.proofs.Common.{◌≡◌, ◌∙◌, Ok, sym}
-use Rattle.pol_edit.specs.Batches.{applied_all}
+use Rattle.std.proofs.Common.{◌≡◌, ◌∙◌}
 use Rattle.pol_live.proofs.PreparedFacts.{was_ok, alike_all, leaves, rises}
 use Rattle.pol_live.proofs.live.Live.prepare_edits.Goals as goal
 

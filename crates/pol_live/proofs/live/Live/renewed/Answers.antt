@@ -1,4 +1,4 @@
-use Rattle.std.proofs.Common.{◌≡◌, ◌≤◌, arith}
+use Rattle.std.proofs.Common.{◌≤◌, arith}
 use Rattle.pol_live.specs.Renewing.{IsAlike, renews_own, renews_chain}
 use Rattle.pol_live.specs.Rise.{most}
 use Rattle.pol_live.proofs.RenewFacts.{owns_kept, wholes_kept}
