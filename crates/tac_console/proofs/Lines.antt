@@ -1,6 +1,7 @@
--- A line is an edit, a question, or neither, in one way.
-use Rattle.std.proofs.Common.{◌≡◌, ℕ, Bool, true, false, List, [], ◌∷◌, Some, None, Result, Ok, Err, ◌⊎◌, codes, nat_eq, inl, inr, refl, sym, ◌∙◌}
+-- A line is an edit, a question, a word of a batch, or none of them, in one way.
+use Rattle.std.proofs.Common.{◌≡◌, ℕ, Bool, true, false, List, [], ◌∷◌, Some, None, Result, Ok, Err, ◌⊎◌, codes, nat_eq, inl, inr, refl, sym, ◌∙◌, subst}
 use Rattle.std.specs.List.{list_any, starts_with}
+use Rattle.std.specs.Str.{bytes_eq}
 use Rattle.pol_edit.specs.Spelling.{SpellsWords as SpellsEditWords, Spells as SpellsEdit}
 use Rattle.pol_edit.specs.declared.edit.Edit.{Edit}
 use Rattle.pol_edit.specs.declared.edit.Edit.TheVariants.{AddGroup, AddUser, Remove, SetParent, SetLogin, SetEnable, SetPriv, InsertRule, RemoveRule, MoveRule}
@@ -8,11 +9,12 @@ use Rattle.pol_edit.specs.declared.fault.EditFault.{EditFault}
 use Rattle.pol_edit.specs.declared.fault.EditFault.TheVariants.{BadEdit, Memory}
 use Rattle.tac_desk.specs.declared.query.Query.{Query}
 use Rattle.tac_desk.specs.declared.query.Query.TheVariants.{Policy, Shadow, Reach, Tally, Why, Records}
-use Rattle.tac_console.specs.ConsoleText.{query_of}
-use Rattle.tac_console.specs.Spelling.{SpellsWords, SpellsQuery, Spells}
+use Rattle.tac_console.specs.ConsoleText.{query_of, batch_word}
+use Rattle.tac_console.specs.Spelling.{SpellsWords, SpellsQuery, IsBatchWord, Spells}
 use Rattle.tac_console.specs.declared.asked.Asked.{Asked}
 use Rattle.tac_console.specs.declared.asked.Asked.TheVariants as asks
 use Rattle.tac_console.proofs.QueryFound as found
+use Rattle.tac_console.proofs.QueryFound.{choice, word_is, done, done_is}
 use Rattle.tac_console.proofs.QueryBack as back
 
 -- whether a line begins as an edit does
@@ -53,13 +55,66 @@ apart line edit query h k =
 pub query_found : (line : List ℕ) (query : Query) → query_of line ≡ Some query → SpellsQuery line query
 query_found = found.query_found
 
+-- ---- the words of a batch
+
+no_begin : (line : List ℕ) → IsBatchWord line → begins_edit line ≡ false
+no_begin line h = elim h [ inl is ↦ rw is refl | inr other ↦ elim other [ inl is ↦ rw is refl | inr is ↦ rw is refl ] ]
+
+no_batch_query : (line : List ℕ) → IsBatchWord line → query_of line ≡ None
+unfolding query_of
+no_batch_query line h = elim h [ inl is ↦ rw is refl | inr other ↦ elim other [ inl is ↦ rw is refl | inr is ↦ rw is refl ] ]
+
+-- the word that is read is the line
+words_are : (line : List ℕ) (word : Asked) → batch_word line ≡ Some word → IsBatchWord line × Spells line word
+words_are line word e =
+    choice _ (bytes_eq line (codes "begin")) (done asks.Begin) _ (done word) e
+    (λ is made. let line_is = word_is line (codes "begin") is in (inl line_is, subst (Spells line) (done_is asks.Begin word made) line_is))
+    (λ other. choice _ (bytes_eq line (codes "commit")) (done asks.Commit) _ (done word) other
+    (λ is made. let line_is = word_is line (codes "commit") is in (inr (inl line_is), subst (Spells line) (done_is asks.Commit word made) line_is))
+    (λ other. choice _ (bytes_eq line (codes "abandon")) (done asks.Abandon) None (done word) other
+    (λ is made. let line_is = word_is line (codes "abandon") is in (inr (inr line_is), subst (Spells line) (done_is asks.Abandon word made) line_is))
+    (λ none. absurd cc)))
+
+words_back : (line : List ℕ) (word : Asked) → Spells line word → IsBatchWord line → batch_word line ≡ Some word
+words_back line (asks.Edit edit) h is = absurd (let yes = edits_begin line edit h.1 in let no = no_begin line is in cc)
+words_back line (asks.Query query) h is = absurd (let some = back.query_back line query h in let none = no_batch_query line is in cc)
+words_back line asks.Begin h is = rw h refl
+words_back line asks.Commit h is = rw h refl
+words_back line asks.Abandon h is = rw h refl
+words_back line asks.Neither h is = absurd (h.2 is)
+
+pub word_found : (line : List ℕ) (word : Asked) → batch_word line ≡ Some word → Spells line word
+word_found line word e = (words_are line word e).1
+
+-- where a word is read, the line spells nothing else
+pub word_only : (line : List ℕ) (word : Asked) → batch_word line ≡ Some word → (asked : Asked) → Spells line asked → word ≡ asked
+word_only line word e asked h = done_is word asked (sym e ∙ words_back line asked h (words_are line word e).0)
+
+-- where none is read, the line spells none
+pub no_word : (line : List ℕ) → batch_word line ≡ None → IsBatchWord line → ⊥
+no_word line none h = elim h [
+  | inl is ↦ let some = words_back line asks.Begin is (inl is) in cc
+  | inr other ↦ elim other [
+    | inl is ↦ let some = words_back line asks.Commit is (inr (inl is)) in cc
+    | inr is ↦ let some = words_back line asks.Abandon is (inr (inr is)) in cc
+  ]
+]
+
+-- ---- edits and questions
+
 same_query : (query other : Query) → Some query ≡ Some other → asks.Query query ≡ asks.Query other
 same_query query other e = cc
+
+asks_other : (line : List ℕ) (query : Query) → query_of line ≡ Some query → IsBatchWord line → ⊥
+asks_other line query e h = let none = no_batch_query line h in cc
 
 -- where a question is read, the line spells nothing else
 pub query_only : (line : List ℕ) (query : Query) → query_of line ≡ Some query → (asked : Asked) → Spells line asked → asks.Query query ≡ asked
 query_only line query e (asks.Edit edit) h = absurd (apart line edit query h (query_found line query e))
 query_only line query e (asks.Query other) h = same_query query other (sym e ∙ back.query_back line other h)
+query_only line query e asks.Begin h = absurd (asks_other line query e (inl h))
+query_only line query e asks.Commit h = absurd (asks_other line query e (inr (inl h)))
+query_only line query e asks.Abandon h = absurd (asks_other line query e (inr (inr h)))
 query_only line query e asks.Neither h = absurd (h.1 query (query_found line query e))
 
 -- where none is read, the line spells none
@@ -77,7 +132,10 @@ no_edit line fault is read edit h = elim (read edit h) [ inl made ↦ absurd cc 
 
 -- where nothing is read, the line spells nothing
 pub neither_only : (line : List ℕ) → ((edit : Edit) → SpellsEdit line edit → ⊥) → ((query : Query) → SpellsQuery line query → ⊥)
-    → (asked : Asked) → Spells line asked → asks.Neither ≡ asked
-neither_only line edits queries (asks.Edit edit) h = absurd (edits edit h)
-neither_only line edits queries (asks.Query query) h = absurd (queries query h)
-neither_only line edits queries asks.Neither h = refl
+    → (IsBatchWord line → ⊥) → (asked : Asked) → Spells line asked → asks.Neither ≡ asked
+neither_only line edits queries words (asks.Edit edit) h = absurd (edits edit h)
+neither_only line edits queries words (asks.Query query) h = absurd (queries query h)
+neither_only line edits queries words asks.Begin h = absurd (words (inl h))
+neither_only line edits queries words asks.Commit h = absurd (words (inr (inl h)))
+neither_only line edits queries words asks.Abandon h = absurd (words (inr (inr h)))
+neither_only line edits queries words asks.Neither h = refl

@@ -20,10 +20,10 @@ use Rattle.tac_console.proofs.Spaces.{parts_joined}
 
 -- ---- steps
 
-abbrev done : {A : Type 0} → A → Option A
+abbrev pub done : {A : Type 0} → A → Option A
 done x = Some x
 
-done_is : {A : Type 0} (x y : A) → done x ≡ done y → x ≡ y
+pub done_is : {A : Type 0} (x y : A) → done x ≡ done y → x ≡ y
 done_is x y e = cc
 
 -- the value of a step that was made
@@ -36,11 +36,11 @@ mapped (Some x) f y e = (x, refl, done_is (f x) y e)
 mapped None f y e = absurd cc
 
 -- a test decides
-choice : {A : Type 0} (G : Type 0) (b : Bool) (x y z : A) → cond b x y ≡ z → (b ≡ true → x ≡ z → G) → (y ≡ z → G) → G
+pub choice : {A : Type 0} (G : Type 0) (b : Bool) (x y z : A) → cond b x y ≡ z → (b ≡ true → x ≡ z → G) → (y ≡ z → G) → G
 choice G true x y z e here next = here refl e
 choice G false x y z e here next = next e
 
-word_is : (word wanted : List ℕ) → bytes_eq word wanted ≡ true → word ≡ wanted
+pub word_is : (word wanted : List ℕ) → bytes_eq word wanted ≡ true → word ≡ wanted
 word_is word wanted e = (bytes_eq-Decides word wanted).0 e
 
 -- ---- fields

@@ -1,10 +1,12 @@
--- The line of a console: an edit, a question, or neither (docs/CONSOLE.md).
+-- The line of a console: an edit, a question, a word of a batch, or none of them
+-- (docs/CONSOLE.md).
 use Rattle.std.specs.Prelude.{ℕ, List, [], codes, Bool, true, false, Option, Some, None, option_map}
 use Rattle.std.specs.Prelude.{if◌then◌else◌}
+use Rattle.std.specs.Option.{option_map_or}
 use Rattle.std.specs.Str.{bytes_eq}
 use Rattle.basics.specs.Symbol.{is_text}
 use Rattle.pol_names.specs.Name.{name_of}
-use Rattle.pol_edit.specs.EditText.{parted, subject_of, edit_of}
+use Rattle.pol_edit.specs.EditText.{parted, subject_of, edit_of, has_text}
 use Rattle.pol_edit.specs.declared.edit.Edit.{Edit}
 use Rattle.tac_desk.specs.declared.query.Query.{Query}
 use Rattle.tac_desk.specs.declared.query.Query.TheVariants.{Policy, Shadow, Reach, Tally, Why}
@@ -41,21 +43,36 @@ query_in line =
 unfoldable pub query_of : List ℕ → Option Query
 query_of line = if is_text line then query_in line else None
 
-abbrev pub asked_of : Option Query → Option Edit → Asked
-asked_of (Some query) edit = asks.Query query
-asked_of None (Some edit) = asks.Edit edit
-asked_of None None = asks.Neither
+-- the lines round the edits of a batch
+abbrev pub batch_word : List ℕ → Option Asked
+batch_word line =
+    if bytes_eq line (codes "begin") then Some asks.Begin
+    else if bytes_eq line (codes "commit") then Some asks.Commit
+    else if bytes_eq line (codes "abandon") then Some asks.Abandon
+    else None
 
--- what a line asks; no line is both an edit and a question
+abbrev pub asked_of : Option Asked → Option Query → Option Edit → Asked
+asked_of (Some word) query edit = word
+asked_of None (Some query) edit = asks.Query query
+asked_of None None (Some edit) = asks.Edit edit
+asked_of None None None = asks.Neither
+
+-- what a line asks; no line asks two of these
 abbrev pub asked_by : List ℕ → Asked
-asked_by line = asked_of (query_of line) (edit_of line)
+asked_by line = asked_of (batch_word line) (query_of line) (edit_of line)
 
--- whether reading the line may take memory: an edit may, and `why`, whose line is kept
-abbrev pub may_take_memory : Option Query → Bool
-may_take_memory None = true
-may_take_memory (Some Policy) = false
-may_take_memory (Some Shadow) = false
-may_take_memory (Some (Reach subject)) = false
-may_take_memory (Some (Tally subject)) = false
-may_take_memory (Some (Why user line)) = true
-may_take_memory (Some Records) = false
+-- ---- memory
+
+-- whether it is `why`, whose line takes memory to keep
+abbrev pub is_why : Query → Bool
+is_why (Why user line) = true
+is_why query = false
+
+abbrev pub is_why_in : Option Query → Bool
+is_why_in query = option_map_or is_why query false
+
+-- whether reading a line that asks this may take memory: where a text is kept
+abbrev pub may_take_memory : Asked → Bool
+may_take_memory (asks.Edit edit) = has_text edit
+may_take_memory (asks.Query query) = is_why query
+may_take_memory asked = false

@@ -1,6 +1,6 @@
 -- Which line of a console spells what, by cases (docs/CONSOLE.md).
 --
---   line    = edit | query
+--   line    = edit | query | "begin" | "commit" | "abandon"
 --   query   = "policy" | "shadow" | "reach " subject | "tally " subject
 --           | "why " name [ " " text ] | "records"
 use Rattle.std.specs.Prelude.{◌≡◌, ◌⊎◌, ℕ, List, [], ◌++◌, codes, IsTrue}
@@ -31,8 +31,16 @@ SpellsWords line Records = line ≡ codes "records"
 abbrev pub SpellsQuery : List ℕ → Query → Type 0
 SpellsQuery line query = IsTrue (is_text line) × SpellsWords line query
 
+-- the lines round the edits of a batch
+abbrev pub IsBatchWord : List ℕ → Type 0
+IsBatchWord line = (line ≡ codes "begin") ⊎ (line ≡ codes "commit") ⊎ (line ≡ codes "abandon")
+
 abbrev pub Spells : List ℕ → Asked → Type 0
 Spells line (asks.Edit edit) = SpellsEdit line edit
 Spells line (asks.Query query) = SpellsQuery line query
+Spells line asks.Begin = line ≡ codes "begin"
+Spells line asks.Commit = line ≡ codes "commit"
+Spells line asks.Abandon = line ≡ codes "abandon"
 Spells line asks.Neither =
     ((edit : Edit) → ¬ SpellsEdit line edit) × ((query : Query) → ¬ SpellsQuery line query)
+    × ¬ IsBatchWord line

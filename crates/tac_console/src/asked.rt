@@ -10,6 +10,12 @@ pub enum Asked {
     Edit(Edit),
     /// A question.
     Query(Query),
-    /// Neither of them, which is answered as the refusal `BadEdit` of an edit.
+    /// To keep the edits that follow, as a batch.
+    Begin,
+    /// To make the edits of the batch, all or none.
+    Commit,
+    /// To drop the edits of the batch.
+    Abandon,
+    /// None of these, which is answered as the refusal `BadEdit` of an edit.
     Neither,
 }

@@ -41,7 +41,7 @@ fn subject(words: &[u8]) -> Option<SubjectId>
 fn why(alloc: Global, words: &[u8]) -> Result<Option<Query>, AllocError>
     ensures query { IfOk result (λ query. query ≡ text.why words.now (parted words.now)) }
     ensures memory { OnErr result
-        (IsTrue (text.may_take_memory (text.why words.now (parted words.now)))) }
+        (IsTrue (text.is_why_in (text.why words.now (parted words.now)))) }
 {
     let (name, line) = match split_once(words, b' ') {
         Some(parts) => parts,
@@ -58,7 +58,7 @@ fn why(alloc: Global, words: &[u8]) -> Result<Option<Query>, AllocError>
 fn worded(alloc: Global, word: &[u8], rest: &[u8]) -> Result<Option<Query>, AllocError>
     ensures query { IfOk result (λ query. query ≡ text.query_by word.now rest.now) }
     ensures memory { OnErr result
-        (IsTrue (text.may_take_memory (text.query_by word.now rest.now))) }
+        (IsTrue (text.is_why_in (text.query_by word.now rest.now))) }
 {
     if word == b"tally".as_slice() {
         return Ok(subject(rest).map(Query::Tally));
@@ -76,7 +76,7 @@ fn worded(alloc: Global, word: &[u8], rest: &[u8]) -> Result<Option<Query>, Allo
 #[tactic(auto, unfolding(crate::specs::ConsoleText::query_of))]
 fn query(alloc: Global, line: &[u8]) -> Result<Option<Query>, AllocError>
     ensures query { IfOk result (λ query. query ≡ text.query_of line.now) }
-    ensures memory { OnErr result (IsTrue (text.may_take_memory (text.query_of line.now))) }
+    ensures memory { OnErr result (IsTrue (text.is_why_in (text.query_of line.now))) }
 {
     if !is_text(line) {
         return Ok(None);
@@ -96,19 +96,39 @@ fn query(alloc: Global, line: &[u8]) -> Result<Option<Query>, AllocError>
     }
 }
 
-/// Reads a line of a console, without its LF: an edit, a question, or neither. The error is want of
-/// memory.
+// Which word of a batch a line is, if it is one.
+fn batch_word(line: &[u8]) -> Option<Asked>
+    ensures { result ≡ text.batch_word line.now }
+{
+    if line == b"begin".as_slice() {
+        return Some(Asked::Begin);
+    }
+    if line == b"commit".as_slice() {
+        return Some(Asked::Commit);
+    }
+    if line == b"abandon".as_slice() {
+        return Some(Asked::Abandon);
+    }
+    None
+}
+
+/// Reads a line of a console, without its LF: an edit, a question, a word of a batch, or none of
+/// them. The error is want of memory.
 pub fn read_console(alloc: Global, line: &[u8]) -> Result<Asked, AllocError>
     ensures exact { IfOk result (λ asked. asked ≡ text.asked_by line.now) }
 
     // What is read is spelled so.
     ensures found { IfOk result (Spells line.now) }
 
-    // What is spelled so is read, unless memory runs out: only an edit and `why` take any.
-    ensures memory { OnErr result (IsTrue (text.may_take_memory (text.query_of line.now))) }
+    // What is spelled so is read, unless memory runs out: only the texts of edits and of `why`
+    // take any.
+    ensures memory { OnErr result (IsTrue (text.may_take_memory (text.asked_by line.now))) }
     ensures only { (asked : AskedValue) → Spells line.now asked →
         IfOk result (λ read. read ≡ asked) }
 {
+    if let Some(word) = batch_word(line) {
+        return Ok(word);
+    }
     if let Some(query) = query(alloc, line)? {
         return Ok(Asked::Query(query));
     }

@@ -18,7 +18,7 @@ pub(crate) fn question(alloc: Global, line: &[u8]) -> Result<Option<Query>, Allo
     asked.extend_from_slice(line)?;
     match read_console(alloc, asked.as_slice())? {
         Asked::Query(query) => Ok(Some(query)),
-        Asked::Edit(_) | Asked::Neither => Ok(None),
+        _ => Ok(None),
     }
 }
 
