@@ -1,5 +1,6 @@
 pub mod ConsoleText
 pub mod Spelling
+pub mod Batching
 pub mod Percent
 pub mod Answers
 pub mod Apart

@@ -3,6 +3,7 @@
 
 mod adding;
 mod asked;
+mod batching;
 mod edit_answer;
 mod faults;
 mod percent;
@@ -11,6 +12,7 @@ mod reading;
 mod rules;
 
 pub use asked::Asked;
+pub use batching::{Action, Batch, Notice};
 pub use edit_answer::write_edit_answer;
 pub use faults::{write_build_fault, write_policy_fault};
 pub use query_answer::write_query_answer;
