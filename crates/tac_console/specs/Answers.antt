@@ -14,6 +14,7 @@ use Rattle.pol_names.specs.declared.decision.Decision.{Decision}
 use Rattle.pol_names.specs.declared.subject_id.SubjectId.{SubjectId}
 use Rattle.pol_names.specs.SubjectId.{subject_text}
 use Rattle.pol_edit.specs.FaultText as edit_faults
+use Rattle.pol_edit.specs.declared.batching.BatchFault.{BatchFault}
 use Rattle.pol_edit.specs.declared.fault.EditFault.{EditFault}
 use Rattle.pol_meaning.specs.declared.Changed.{Changed}
 use Rattle.tac_request.specs.declared.record.AcctKind.{AcctKind}
@@ -26,6 +27,8 @@ use Rattle.tac_desk.specs.declared.query.Query.TheVariants as queries
 use Rattle.tac_desk.specs.declared.query.Report.{Report}
 use Rattle.tac_desk.specs.declared.query.Report.TheVariants as reports
 use Rattle.tac_desk.specs.declared.query.QueryFault.{QueryFault}
+use Rattle.tac_console.specs.declared.batching.Notice.{Notice}
+use Rattle.tac_console.specs.declared.batching.Notice.TheVariants as notices
 use Rattle.tac_console.specs.Percent.{percent_form}
 use Rattle.tac_console.specs.Reports.{shadows_text, reach_text}
 
@@ -38,7 +41,10 @@ answer_lent (Err fault) = Err fault
 abbrev pub refused : List ℕ → List ℕ
 refused fault = codes "refused " ++ fault ++ 10 ∷ []
 
--- ---- edits
+abbrev pub done : List ℕ
+done = codes "ok" ++ 10 ∷ []
+
+-- ---- edits, and batches of them
 
 -- a line where there is a text
 abbrev pub change_line : List ℕ → List ℕ → Option (List ℕ) → List ℕ
@@ -50,9 +56,23 @@ changed_lines changed =
     change_line changed.user (codes " now permits: ") changed.permits
     ++ change_line changed.user (codes " now denies: ") changed.denies
 
+abbrev pub accepted : List Changed → List ℕ
+accepted changes = done ++ flat_map changed_lines changes
+
 abbrev pub edit_answer : Result (List Changed) EditFault → List ℕ
-edit_answer (Ok changes) = codes "ok" ++ 10 ∷ flat_map changed_lines changes
+edit_answer (Ok changes) = accepted changes
 edit_answer (Err fault) = refused (edit_faults.fault_text fault)
+
+-- the changes are those of the whole batch; a refusal names the edit that is refused, if one is
+abbrev pub batch_answer : Result (List Changed) BatchFault → List ℕ
+batch_answer (Ok changes) = accepted changes
+batch_answer (Err fault) = refused (edit_faults.batch_fault_text fault)
+
+-- what is answered where the desk isn't asked
+abbrev pub notice_text : Notice → List ℕ
+notice_text notices.Done = done
+notice_text (notices.Kept number) = codes "kept " ++ decimal number ++ 10 ∷ []
+notice_text (notices.Refused fault) = refused (edit_faults.fault_text fault)
 
 -- ---- tallies
 

@@ -1,12 +1,13 @@
-//! How an edit is answered.
+//! How edits are answered, and batches of them.
 
-ghost use Rattle.std.specs.Prelude.{◌≡◌, ◌++◌, ◌∷◌, Ok, Err, IfOk, OnOk, OnErr};
+ghost use Rattle.std.specs.Prelude.{◌≡◌, ◌++◌, IfOk, OnOk, OnErr};
 ghost use Rattle.std.specs.List.{flat_map};
 ghost use Rattle.tac_console.specs.Answers as answers;
 
-use crate::adding::add;
+use crate::adding::{add, refused};
+use crate::batching::Notice;
 use basics::Bytes;
-use pol_edit::EditFault;
+use pol_edit::{BatchFault, EditFault};
 use pol_meaning::{Changed, Changes};
 use pol_names::Name;
 use std::alloc::{AllocError, Global};
@@ -44,22 +45,13 @@ fn write_changes(out: &mut Vec<u8>, changes: &[Changed]) -> io::Result<()>
     Ok(())
 }
 
-// How an accepted edit is answered.
+// How accepted edits are answered.
 fn accepted(alloc: Global, changes: &Changes) -> io::Result<Vec<u8>>
-    ensures { IfOk result (λ text. text.items ≡ answers.edit_answer (Ok changes.now)) }
+    ensures { IfOk result (λ text. text.items ≡ answers.accepted changes.now) }
 {
     let mut text = Vec::new(alloc);
     writeln!(text, "ok")?;
     write_changes(&mut text, changes.as_slice())?;
-    Ok(text)
-}
-
-// How a refused edit is answered.
-fn refused(alloc: Global, fault: EditFault) -> io::Result<Vec<u8>>
-    ensures { IfOk result (λ text. text.items ≡ answers.edit_answer (Err fault)) }
-{
-    let mut text = Vec::new(alloc);
-    writeln!(text, "refused {fault}")?;
     Ok(text)
 }
 
@@ -76,6 +68,44 @@ pub fn write_edit_answer(
 {
     match answer {
         Ok(changes) => add(out, accepted(alloc, changes)),
-        Err(fault) => add(out, refused(alloc, *fault)),
+        Err(fault) => add(out, refused(alloc, fault)),
     }
+}
+
+/// Adds how a batch of edits is answered: as one edit is, but a refusal names the edit that is
+/// refused, if one is. The error is want of memory, and adds nothing. Linear in what is added.
+pub fn write_batch_answer(
+    alloc: Global,
+    out: &mut Vec<u8>,
+    answer: &Result<&Changes, BatchFault>,
+) -> Result<(), AllocError>
+    ensures ok { OnOk result
+        (out.new.items ≡ out.old.items ++ answers.batch_answer (answers.answer_lent answer.now)) }
+    ensures err { OnErr result (out.new.items ≡ out.old.items) }
+{
+    match answer {
+        Ok(changes) => add(out, accepted(alloc, changes)),
+        Err(fault) => add(out, refused(alloc, fault)),
+    }
+}
+
+fn notice_text(alloc: Global, notice: Notice) -> io::Result<Vec<u8>>
+    ensures { IfOk result (λ text. text.items ≡ answers.notice_text notice) }
+{
+    let mut text = Vec::new(alloc);
+    match notice {
+        Notice::Done => writeln!(text, "ok")?,
+        Notice::Kept(number) => writeln!(text, "kept {number}")?,
+        Notice::Refused(fault) => return refused(alloc, &fault),
+    }
+    Ok(text)
+}
+
+/// Adds what a line is told where the desk isn't asked: `ok`, `kept K`, or why it is refused. The
+/// error is want of memory, and adds nothing.
+pub fn write_notice(alloc: Global, out: &mut Vec<u8>, notice: Notice) -> Result<(), AllocError>
+    ensures ok { OnOk result (out.new.items ≡ out.old.items ++ answers.notice_text notice) }
+    ensures err { OnErr result (out.new.items ≡ out.old.items) }
+{
+    add(out, notice_text(alloc, notice))
 }

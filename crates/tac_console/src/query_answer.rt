@@ -3,13 +3,12 @@
 ghost use Rattle.std.specs.Prelude.{◌≡◌, ◌++◌, [], ◌∷◌, ℕ, List, IsTrue, IfOk, OnOk, OnErr};
 ghost use Rattle.std.specs.Result.{ForOk};
 ghost use Rattle.pol_names.specs.declared.decision.By.TheVariants as by;
-ghost use Rattle.tac_desk.specs.FaultText as faults;
 ghost use Rattle.tac_desk.specs.Reporting.{is_report_to};
 ghost use Rattle.tac_request.specs.declared.record.Record.{Record as RecordValue};
 ghost use Rattle.tac_console.specs.Answers as answers;
 ghost use Rattle.tac_console.specs.Apart.{HasNoBlank, AreApart};
 
-use crate::adding::add;
+use crate::adding::{add, refused};
 use crate::percent::write_percent;
 use crate::rules::{write_reach, write_rows};
 use basics::Bytes;
@@ -154,15 +153,6 @@ fn report_text(alloc: Global, query: &Query, report: &Report) -> io::Result<Vec<
     Ok(text)
 }
 
-// Why a question isn't answered.
-fn refused(alloc: Global, fault: QueryFault) -> io::Result<Vec<u8>>
-    ensures { IfOk result (λ text. text.items ≡ answers.refused (faults.fault_text fault)) }
-{
-    let mut text = Vec::new(alloc);
-    writeln!(text, "refused {fault}")?;
-    Ok(text)
-}
-
 /// Adds how a question is answered, or why it isn't. The error is want of memory, and adds nothing.
 /// Linear in what is added.
 #[tactic(auto, using(crate::proofs::Apart::percent_visible, crate::proofs::Apart::records_apart))]
@@ -184,6 +174,6 @@ pub fn write_query_answer(
 {
     match answer {
         Ok(report) => add(out, report_text(alloc, query, report)),
-        Err(fault) => add(out, refused(alloc, *fault)),
+        Err(fault) => add(out, refused(alloc, fault)),
     }
 }
