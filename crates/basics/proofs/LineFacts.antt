@@ -77,7 +77,7 @@ split_case byte bytes line rest false (Some p) below h =
     let e = same_parts (byte ∷ p.0, p.1) (line, rest) h in
     ap (onto_first byte) (below p refl) ∙ ap (λ (q : List ℕ × List ℕ). q.0 ∷ lines_of q.1) e
 
--- a text with a separator has the line before it, and the lines behind it
+-- a text with a separator has the line before it, and the lines after it
 pub lines_of-split : (bytes line rest : List ℕ) → split_at_first 10 bytes ≡ Some (line, rest) → lines_of bytes ≡ line ∷ lines_of rest
 lines_of-split [] line rest h = absurd cc
 lines_of-split (byte ∷ bytes) line rest h = split_case byte bytes line rest (eqb byte 10) (split_at_first 10 bytes) (λ p e. lines_of-split bytes p.0 p.1 e) h

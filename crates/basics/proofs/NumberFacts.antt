@@ -11,7 +11,7 @@ use Rattle.basics.specs.Number.{digits_after, number_of}
 digits_after-digit : (value digit : ℕ) → digit < 10 → digits_after value ((48 + digit) ∷ []) ≡ Some (value * 10 + digit)
 digits_after-digit value digit small = grind (arith, nat_tests)
 
--- the digits behind a first byte, if that is one too
+-- the digits after a first byte, if that is a digit too
 behind : (b : Bool) (told : Option ℕ) (value : ℕ) → cond b told None ≡ Some value → (b ≡ true) × (told ≡ Some value)
 behind true told value e = (refl, e)
 behind false told value e = absurd cc

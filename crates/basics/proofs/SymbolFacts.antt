@@ -5,16 +5,16 @@ use Rattle.std.proofs.lemmas.List.Folds.{list_all-append}
 use Rattle.std.proofs.Math.Seq.{take-add}
 use Rattle.basics.specs.Symbol.{is_symbol, is_text}
 
--- a text is one in front of a place and behind it
+-- bytes are a text exactly if those before a place and those after it are
 pub parts : (n : ℕ) (bytes : List ℕ) → (is_text (take n bytes) && is_text (drop n bytes)) ≡ is_text bytes
 parts n bytes = sym (list_all-append is_symbol (take n bytes) (drop n bytes)) ∙ ap is_text (take-append-drop n bytes)
 
--- behind a text, so many bytes more
+-- so many bytes more after a text
 pub longer : (n m : ℕ) (bytes : List ℕ) → is_text (take n bytes) ≡ true → is_text (take (n + m) bytes) ≡ is_text (take m (drop n bytes))
 longer n m bytes front =
     ap is_text (take-add n m bytes) ∙ list_all-append is_symbol (take n bytes) (take m (drop n bytes)) ∙ ap (λ b. b && is_text (take m (drop n bytes))) front
 
--- bytes that begin with no text are none
+-- bytes whose beginning is no text are no text
 pub no_text : (n : ℕ) (bytes : List ℕ) → is_text (take n bytes) ≡ false → is_text bytes ≡ false
 no_text n bytes front = sym (parts n bytes) ∙ ap (λ b. b && is_text (drop n bytes)) front
 
@@ -22,7 +22,7 @@ shorter : (a b : Bool) → (a && b) ≡ true → a ≡ true
 shorter true b e = refl
 shorter false b e = e
 
--- where a text reaches beyond a place, what is behind the place tells of all
+-- where a text reaches beyond a place, the bytes after the place decide for all
 pub behind : (n m : ℕ) (bytes : List ℕ) → n ≤ m → is_text (take m bytes) ≡ true → is_text (drop n bytes) ≡ is_text bytes
 behind n m bytes le front =
     let more : n + (m - n) ≡ m = omega (arith, le) in

@@ -3,7 +3,7 @@ use Rattle.std.specs.Prelude.{◌≡◌, ◌≢◌, ◌⊎◌, ℕ, List, [], �
 use Rattle.std.specs.Prelude.{if◌then◌else◌}
 use Rattle.std.specs.Option.{option_map}
 
--- what stands before the first separator, and what stands behind it; nothing where there is none
+-- what stands before the first separator, and what stands after it; nothing without a separator
 abbrev pub split_at_first : ℕ → List ℕ → Option (List ℕ × List ℕ)
 split_at_first separator [] = None
 split_at_first separator (byte ∷ bytes) =
@@ -37,7 +37,7 @@ pub record Unread : Type 0 where
 abbrev pub BeginsWith : List ℕ → List ℕ → List ℕ → Type 0
 BeginsWith text line rest = (text ≡ line ++ 10 ∷ rest) ⊎ ((text ≡ line) × (rest ≡ []) × (text ≢ []))
 
--- the same of lines: behind the last there is none
+-- the same of lines: none follows the last
 abbrev pub TakesLine : Unread → List ℕ → Unread → Type 0
 TakesLine old line new =
     (old.text ≡ line ++ 10 ∷ new.text) ⊎ ((old.text ≡ line) × (new.text ≡ []) × (new.lines ≡ [])

@@ -4,8 +4,8 @@ use crate::sequence::Sequence;
 
 /// Types whose `==` holds exactly of values that contracts see as equal.
 ///
-/// Derive `PartialEq` and `Eq`, and let the law be found, as for `u8` below: of structs and enums
-/// over such types it mostly is.
+/// Derive `PartialEq` and `Eq`, and let the prover find the law, as for `u8` below: for structs and
+/// enums over such types it mostly does.
 pub trait StructuralEq: Eq {
     ghost use Rattle.std.specs.Prelude.{◌≡◌, ◌↔◌, IsTrue, true};
 

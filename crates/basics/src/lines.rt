@@ -8,7 +8,7 @@ ghost use Rattle.basics.specs.Lines.{without_leading_spaces as trimmed};
 use memchr::memchr;
 use std::marker::Model;
 
-/// What stands before the first separator, and what stands behind it.
+/// What stands before the first separator, and what stands after it.
 pub fn split_once(bytes: &[u8], separator: u8) -> Option<(&[u8], &[u8])>
     ensures parts { option_map (λ parts. (parts.0.now, parts.1.now)) result
         ≡ split_at_first separator bytes.now }
@@ -19,7 +19,7 @@ pub fn split_once(bytes: &[u8], separator: u8) -> Option<(&[u8], &[u8])>
     Some((&bytes[..at], &bytes[at + 1..]))
 }
 
-/// The text behind its leading spaces (0x20 alone).
+/// The text without its leading spaces (0x20 alone).
 pub fn without_leading_spaces(text: &[u8]) -> &[u8]
     ensures { result.now ≡ trimmed text.now }
 {
@@ -76,7 +76,7 @@ impl<'a> Lines<'a> {
         }
     }
 
-    /// The number of the next line, or the one behind the last where none is left.
+    /// The number of the next line; where none is left, one more than the last line's.
     pub fn number(&self) -> usize
         ensures { result ≡ self.now.number }
     {

@@ -13,14 +13,14 @@ pub fn is_symbol(byte: u8) -> bool
 // How many bytes are looked at at once.
 const BLOCK: usize = 16;
 
-// How far a byte lies behind the first symbol, in a circle of 256.
+// How far a byte lies after the first symbol, in a circle of 256.
 fn distance(byte: u8) -> u8
     ensures { IsTrue (symbol_test byte) ↔ (result ≤ 94) }
 {
     byte.wrapping_sub(b' ')
 }
 
-// Whether every byte is a symbol, told by the one that lies furthest behind the first.
+// Whether every byte is a symbol, judged by the one that lies furthest after the first.
 fn are_symbols(bytes: &[u8]) -> bool
     ensures { result ≡ text_test bytes.now }
 {
@@ -45,6 +45,6 @@ pub fn is_text(bytes: &[u8]) -> bool
         }
         start += BLOCK;
     }
-    // it begins in the block before
+    // the last block may begin within the block before
     are_symbols(last)
 }

@@ -16,7 +16,7 @@ fn key() -> Result<Key, Fail> {
     }
 }
 
-// The packet that hexadecimal digits spell, with the pad put on. A blank may stand behind its header.
+// The packet that hexadecimal digits spell, with the pad put on. A blank may follow its header.
 fn frame<R: AllocGlobal>(rt: &R, text: &str) -> Result<Frame, Fail> {
     let (header, body) = text.split_once(' ').unwrap_or((text, ""));
     let digits = format!(in rt.alloc(); "{header}{body}")?;
@@ -33,7 +33,7 @@ fn frame<R: AllocGlobal>(rt: &R, text: &str) -> Result<Frame, Fail> {
     })
 }
 
-// A packet that is sent, with the pad taken off and a blank behind the header, and whether the
+// A packet that is sent, with the pad taken off and a blank after the header, and whether the
 // connection closes.
 fn spelled<R: AllocGlobal>(rt: &R, sent: Sent, closes: bool) -> Result<String, Fail> {
     let mut bytes = Vec::from_slice(rt.alloc(), sent.as_slice())?;
@@ -138,7 +138,7 @@ fn answer(word: &str) -> Result<Answer, Fail> {
 }
 
 // Holds conversations. A paragraph is a connection, to which a line `> ANSWER HEX` hands a packet,
-// ANSWER being what the desk would say to it. Behind each stands what is said: what is asked, before
+// ANSWER being what the desk would say to it. After each stands what is said: what is asked, before
 // a colon, and what is sent. A line that begins with `#` is a comment.
 fn converses<R: Abort + AllocGlobal>(rt: &R, text: &str) -> Result<(), Fail> {
     let mut conn = Conn::new(rt.alloc());

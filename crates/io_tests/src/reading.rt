@@ -5,7 +5,7 @@ use std::process::Abort;
 use tac_io::{InputFault, read_whole};
 
 /// Gives a part of its text a read, by one letter each: `i` is an interruption, `x` another error,
-/// and a digit a read of at most so many bytes. Behind the last letter nothing is left.
+/// and a digit a read of at most so many bytes. After the last letter nothing is left.
 #[derive(Drop)]
 pub(crate) struct Scripted<'a> {
     pub(crate) letters: &'a [u8],

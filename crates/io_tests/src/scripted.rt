@@ -4,7 +4,7 @@ use std::alloc::Global;
 use std::io::{self, ErrorKind, Write};
 
 /// Answers each write by one letter: `i` is an interruption, `x` another error, and a digit a write
-/// that takes at most so many bytes. A write behind the last letter takes all.
+/// that takes at most so many bytes. A write after the last letter takes all.
 #[derive(Drop)]
 pub(crate) struct Scripted<'a> {
     pub(crate) letters: &'a [u8],

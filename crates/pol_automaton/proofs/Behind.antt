@@ -50,7 +50,7 @@ behind_none e entries whole are entry le text term h =
     let lt : entry < e.count = All-contains (λ (x : EntryTerm). x.entry < e.count) e.start (item_of entry w.1.0) whole.below w.1.1 in
     absurd (omega (arith, are.many))
 
--- the residuals behind two texts are the same exactly if the entries' are
+-- the residuals after two texts are the same exactly if the entries' are
 abbrev pub SameAfter : Entries → List ℕ → List ℕ → Type 0
 SameAfter e text other = (entry : ℕ) (term : Term) → After (HasTerm e.terms e.start entry) text term ↔ After (HasTerm e.terms e.start entry) other term
 

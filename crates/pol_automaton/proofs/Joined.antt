@@ -1,4 +1,4 @@
--- The entries of one automaton, and those of another behind them.
+-- The entries of one automaton, and those of another after them.
 use Rattle.std.proofs.Common.{◌≡◌, ◌<◌, ◌≤◌, ◌+◌, ◌-◌, ◌↔◌, ◌⊎◌, inl, inr, ℕ, IsTrue, List, [], ◌++◌, Option, None, Some, length, refl, sym, subst, ap, ◌∙◌, arith}
 use Rattle.std.specs.Prelude.{All, IfSome}
 use Rattle.std.specs.List.{AllZip}

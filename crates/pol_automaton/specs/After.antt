@@ -1,4 +1,4 @@
--- What stands behind a set of terms and a text: the derivatives of the terms by its symbols, one
+-- What remains of a set of terms after a text: the derivatives of the terms by its symbols, one
 -- after another.
 use Rattle.std.specs.Prelude.{◌↔◌, ℕ, List, [], ◌∷◌, ◌++◌}
 use Rattle.pol_pattern.specs.Flat.{Term}

@@ -18,7 +18,7 @@ use Rattle.pol_automaton.specs.declared.way.Way.TheVariants.{NowPermitted, NowDe
 use Rattle.pol_automaton.specs.Decision.{verdict_by}
 use Rattle.pol_automaton.specs.Automaton.{Automaton, state_of, first_of}
 
--- the state behind a state and a symbol
+-- the state to which a state and a symbol lead
 abbrev pub behind : Automaton → ℕ → ℕ → ℕ
 behind a state symbol = next a.table state (column_of a.alphabet symbol)
 
@@ -74,7 +74,7 @@ told_pairs alphabet a b u v s t p q = (
 
 -- ---- joined entries
 
--- the first match among entries and others behind them
+-- the first match among entries and others after them
 abbrev pub first_of_both : ℕ → Option ℕ → Option ℕ → Option ℕ
 first_of_both many (Some i) other = Some i
 first_of_both many None None = None

@@ -31,7 +31,7 @@ pub record AreResiduals (table : List Term) (items : List EntryTerm) : Type 0 wh
   pub within : All (λ item. item.term < length table) items
   pub distinct : IsDistinct table
 
--- behind the residuals at the start, the residual of an entry by the text that a word spells
+-- after the residuals at the start, the residual of an entry by the text that a word spells
 abbrev pub Behind : Alphabet → List Term → List EntryTerm → List ℕ → ℕ → Term → Type 0
 Behind alphabet table start word entry term =
     After (HasTerm table start entry) (text_of alphabet word) term
@@ -44,7 +44,7 @@ pub record LeadsTo (alphabet : Alphabet) (table : List Term) (start : List Entry
   pub members : (entry : ℕ) (term : Term)
       → HasTerm table items entry term ↔ Behind alphabet table start word entry term
 
--- words are the same if the residuals behind them are
+-- words are the same if the residuals after them are
 abbrev pub SameBehind : Alphabet → List Term → List EntryTerm → List ℕ → List ℕ → Type 0
 SameBehind alphabet table start u v =
     (entry : ℕ) (term : Term) → Behind alphabet table start u entry term
@@ -65,7 +65,7 @@ behind_longer alphabet table start u v column same entry term h =
     subst at (sym (map-append (least_of alphabet) v (column ∷ [])))
     ((after_push set (text_of alphabet v) (least_of alphabet column) term).1 other)
 
--- words are told apart by the residuals behind them
+-- words are told apart by the residuals after them
 abbrev pub residuals : Alphabet → List Term → List EntryTerm → Congruence
 residuals alphabet table start = record {
   width = alphabet.width;

@@ -18,8 +18,8 @@ use pol_scan::{Alphabet, Automaton, StateNumber, Table, scan};
 use std::alloc::{AllocError, Global};
 use std::marker::Model;
 
-/// An automaton over the residuals of entries: it tells of each text which entry is the first whose
-/// pattern holds it. It doesn't hold its patterns.
+/// An automaton over the residuals of entries: for each text it tells the first entry whose pattern
+/// holds it. It doesn't keep the patterns.
 ///
 /// A state takes a row of cells, one for each column, and 33 bytes.
 #[derive(Drop)]
@@ -193,7 +193,7 @@ impl Decider {
         self.table.run(&[])
     }
 
-    // The state behind a state and a symbol.
+    // The state to which a state and a symbol lead.
     pub(crate) fn next(&self, state: StateNumber, symbol: u8) -> StateNumber
         requires state { state < count self.now.table }
         requires symbol { IsTrue (is_symbol symbol) }

@@ -53,7 +53,7 @@ fn divide_by_term(alphabet: Alphabet, factors: &[Factor]) -> Alphabet
 }
 
 /// Divides the columns by the classes of terms: two symbols then have one column exactly if they
-/// had, and each of the classes holds both or neither. One look at each symbol for each class that
+/// had one before and each class holds both or neither. One look at each symbol for each class that
 /// the columns tell already. Takes no memory.
 #[cycle(dividing)]
 pub(crate) fn divide_by_terms(alphabet: Alphabet, terms: &[Term]) -> Alphabet

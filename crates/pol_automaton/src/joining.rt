@@ -1,4 +1,4 @@
-//! The automaton of entries and others behind them.
+//! The automaton of entries and others after them.
 
 ghost use Rattle.std.specs.Prelude.{◌≡◌, ◌<◌, ◌≤◌, ◌+◌, ◌++◌, ℕ, List, All, min, IfOk, OnOk};
 ghost use Rattle.std.specs.Prelude.{OnErr, IsErrOf};
@@ -53,7 +53,7 @@ fn firsts_of_pairs(
 impl Decider {
     ghost use Rattle.pol_automaton.specs.Automaton.{IsDecider};
 
-    /// The Decider of the entries of one, and those of another behind them. It takes time by its
+    /// The Decider of the entries of one, and those of another after them. It takes time by its
     /// states and its columns.
     pub fn join(
         alloc: Global,

@@ -24,7 +24,7 @@ fn start(first: &Decider, second: &Decider) -> Pair
     (first.start(), second.start())
 }
 
-// The states behind a pair and a symbol.
+// The states to which a pair and a symbol lead.
 fn step(first: &Decider, second: &Decider, pair: &Pair, symbol: u8) -> Pair
     requires first { pair.now.0 < count first.now.table }
     requires second { pair.now.1 < count second.now.table }

@@ -43,8 +43,8 @@ fn push_derivatives(
     Ok(())
 }
 
-/// The residuals behind residuals and a symbol. Takes the time to ask for the derivatives of each
-/// term, and to put them in order.
+/// The residuals to which residuals and a symbol lead. Takes the time to ask for the derivatives of
+/// each term, and to put them in order.
 pub(crate) fn step(
     alloc: Global,
     terms: &mut Terms,

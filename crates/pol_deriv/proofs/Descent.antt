@@ -35,7 +35,7 @@ terms_weight-item (first ∷ terms) zero term lt e = rw e (omega arith)
 terms_weight-item (first ∷ terms) (suc i) term lt e =
     omega (arith, terms_weight-item terms i term (omega arith) e)
 
--- ---- one item more, in front of those behind it
+-- ---- one item more, in front of those after it
 
 pub terms_value-before : (terms : List (Vec FactorValue)) (i : ℕ) (term : Vec FactorValue) → 0 < i → i - 1 < length terms → term ≡ get_or terms (i - 1) term
     → terms_value (drop (i - 1) terms) ≡ alt (term_value term.items) (terms_value (drop i terms))

@@ -174,7 +174,7 @@ pub record FactorsSoFar (old new : List Term) (whole behind : Term) (at : ℕ) (
   pub made : IsForm new form done
   pub pairs : done ++ linear left behind ≡ linear whole behind
 
--- what stands behind the whole has its number still
+-- what follows the whole still has its number
 pub behind_same : (old new : List Term) → Keeps old new → (number : ℕ) → number < length old → term_at new number ≡ term_at old number
 behind_same old new keeps number lt = term_means new number (term_at old number) (keeps number (term_at old number) (at_means old number lt))
 
@@ -182,7 +182,7 @@ module _ (old new : List Term) (whole behind : Term) (at : ℕ) (form : List Mon
   left_is : (term : Term) → Means new at term → so_far.left ≡ term
   left_is term means = means_one new at so_far.left term so_far.here means
 
-  -- a class is left, and what stands behind it
+  -- a class is left, and what follows it
   pub class_end : (c : Class) (rest : Term) (newer : List Term) (next : ℕ) → Means new at (put (class c) rest) → Keeps new newer → Means newer next (join_term rest behind)
       → IsForm newer (form ++ record { class = c; next = next } ∷ []) (linear whole behind)
   class_end c rest newer next means keeps at_next =

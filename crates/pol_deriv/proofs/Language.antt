@@ -5,7 +5,7 @@ use Rattle.pol_pattern.specs.Flat.{holds_symbol, class, group, star, Term, empty
 use Rattle.pol_pattern.specs.Sets.{InFactor, InTerm, InTerms}
 use Rattle.pol_residual.specs.Derivative.{IsAmong, Derivative, of_class, of_group, of_star, behind_star, DerivativeLaw}
 
--- ---- terms one behind another
+-- ---- terms one after another
 
 pub join-empty : (term : Term) → join_term term empty ≡ term
 join-empty empty = refl
@@ -97,7 +97,7 @@ module _ (symbol : ℕ) where
       let tail : back ≡ text = cc in
       record { next = rest; derivative = of_class (subst (λ (n : ℕ). IsTrue (holds_symbol c n)) same h); held = subst (InTerm rest) tail held }
 
-  -- a text of a star begins with that of one of its terms, or what stands behind has it all
+  -- a text of a star begins with a text of one of its terms, or what follows the star has all of it
   star_goes : (terms : Terms) (rest : Term) (text : List ℕ)
       → ((front : List ℕ) → InTerms terms (symbol ∷ front) → (alternative : Term) × IsAmong terms alternative × Goes alternative front)
       → (InTerm rest (symbol ∷ text) → Goes rest text)

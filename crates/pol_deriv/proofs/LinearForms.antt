@@ -43,9 +43,9 @@ mutual
     λ h. elim h [ inl p ↦ or_left (term_holds_empty first) (terms_hold_empty others) ((term_empty first).1 p) | inr q ↦ or_right (term_holds_empty first) (terms_hold_empty others) ((terms_empty others).1 q) ],
   )
 
--- ---- a term behind
+-- ---- a term that follows
 
--- a pair, with more behind its term
+-- a pair, with more after its term
 abbrev pub followed_by : Term → Class × Term → Class × Term
 followed_by behind pair = (pair.0, join_term pair.1 behind)
 
@@ -187,7 +187,7 @@ module _ (symbol : ℕ) where
               (w.0, w.1, inr w.2, w.3, w.4)
         ]
 
-  -- ---- each derivative is that of a pair, or of what stands behind
+  -- ---- each derivative is that of a pair, or of what follows
 
   mutual
     pub derives_linear : (term rest next : Term) → Derivative symbol (join_term term rest) next → Leads symbol (linear term rest) next ⊎ (IsTrue (term_holds_empty term) × Derivative symbol rest next)

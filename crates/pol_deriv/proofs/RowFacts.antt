@@ -36,7 +36,7 @@ row_more form lists place count list long row sorted members = λ column lt. by 
       λ number. subst (λ (k : ℕ). Contains list number ↔ Contains (reached (32 + k) form) number) (sym e) (members number),
     )
 
--- ---- what the lists of a row stand for
+-- ---- what the lists of a row represent
 
 -- the numbers to which a symbol leads are those of the terms to which it leads
 pub reached_stands : (symbol : ℕ) (table : List Term) (form : List Monomial) (pairs : List (Class × Term)) → IsForm table form pairs → StandsFor table (reached symbol form) (Leads symbol pairs)

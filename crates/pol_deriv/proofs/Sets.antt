@@ -74,7 +74,7 @@ same_set_law table a b distinct within_a within_b p q same =
         let w = to (term_at table n) (n, there, means) in
         subst (Contains d) (distinct w.0 n (term_at table n) w.2 means) w.1
 
--- ---- numbers that stand for terms
+-- ---- numbers that represent terms
 
 pub stands_none : (table : List Term) → StandsFor table [] (λ term. ⊥)
 stands_none table = record { sound = λ n c. absurd (none_contained n c); complete = λ term h. absurd h }

@@ -89,7 +89,7 @@ module _ (table more : List Term) where
     right.3 ∙ ap term_holds_empty (sym (node_term-kept number (nodes.Alternative first rest mark) le right)),
   )
 
--- ---- different nodes stand for different terms
+-- ---- different nodes represent different terms
 
 -- what a term says of its node
 data Front : Type 0 where
@@ -158,7 +158,7 @@ module _ (table : List Term) (distinct : IsDistinct table) where
 
 -- ---- a table with one more node
 
--- the table, where one more node stands for a term of its own
+-- the table, where one more node represents a term of its own
 module _ (list : List Node) (node : Node) (is : IsTable list) (fits : IsRight (terms_of list) (length list) node) where
   own_term : Term
   own_term = node_term (terms_of list) node
@@ -239,7 +239,7 @@ module _ (list : List Node) (node : Node) (is : IsTable list) (fits : IsRight (t
   pub push_keeps : Keeps (terms_of list) (terms_of (list ++ node ∷ []))
   push_keeps number term means = subst (λ (t : List Term). Means t number term) (sym (terms_of-push list node)) (get-append (terms_of list) (node_term (terms_of list) node ∷ []) number term means)
 
-  -- what stood for the node's term still does
+  -- what represented the node's term still does
   pub push_own : node_term (terms_of (list ++ node ∷ [])) node ≡ node_term (terms_of list) node
   unfolding longer own_term
   push_own = subst (λ (t : List Term). node_term t node ≡ node_term (terms_of list) node) (sym longer_is) own_kept

@@ -21,21 +21,20 @@ abbrev mutual
   terms_hold_empty none = false
   terms_hold_empty (alt first others) = term_holds_empty first || terms_hold_empty others
 
--- what stands behind each term of a group or a star, where this stands behind the
--- whole: a star goes on
+-- what follows each term of a group or a star, where this follows the whole: a star goes on
 abbrev pub continuation : Factor → Term → Term
 continuation (class c) behind = behind
 continuation (group terms) behind = behind
 continuation (star terms) behind = put (star terms) behind
 
--- what a part begins with, where this term stands behind it
+-- what a part begins with, where this term follows it
 abbrev mutual
   pub factor_linear : Factor → Term → List (Class × Term)
   factor_linear (class c) behind = (c, behind) ∷ []
   factor_linear (group terms) behind = terms_linear terms (continuation (group terms) behind)
   factor_linear (star terms) behind = terms_linear terms (continuation (star terms) behind)
 
-  -- what stands behind a factor begins only where the factor holds the empty text
+  -- what follows a factor counts as a beginning only where the factor holds the empty text
   pub linear : Term → Term → List (Class × Term)
   linear empty behind = []
   linear (put factor rest) behind =

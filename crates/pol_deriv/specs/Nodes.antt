@@ -1,4 +1,4 @@
--- The terms that nodes stand for, one node after another: the parts of a node stand before it.
+-- The terms that nodes represent, one node after another: the parts of a node stand before it.
 use Rattle.std.specs.Prelude.{◌≡◌, ◌<◌, ℕ, Bool, true, false, IsTrue, List, [], ◌∷◌, ◌++◌, Some}
 use Rattle.std.specs.Prelude.{slice_get, unwrap_or, fold}
 use Rattle.pol_pattern.specs.Flat.{Factor, class, group, star, Term, empty, put, Terms, none, alt}
@@ -19,7 +19,7 @@ begins_with_terms (put (group terms) rest) = true
 begins_with_terms (put (star terms) rest) = true
 begins_with_terms other = false
 
--- which of the two it is, its terms, and what stands behind it
+-- which of the two it is, its terms, and what follows it
 abbrev pub kind_of : Term → Kind
 kind_of (put (star terms) rest) = kinds.Star
 kind_of other = kinds.Group
@@ -95,7 +95,7 @@ IsRight table number (nodes.Alternative first rest mark) =
     (rest < number) × (first < number) × IsTrue (begins_with_terms (term_at table rest))
     × (mark ≡ term_holds_empty (with_alternative (term_at table first) (term_at table rest)))
 
--- each node is right, and stands for the term of its number; no two stand for one term
+-- each node is right, and represents the term of its number; no two represent one term
 pub record IsTable (list : List Node) : Type 0 where
   pub right : (number : ℕ) (node : Node) → slice_get list number ≡ Some node
       → IsRight (terms_of list) number node

@@ -20,7 +20,7 @@ pub record Grows (old new : List Term) : Type 0 where
   pub kept : Keeps old new
   pub distinct : IsDistinct new
 
--- the numbers stand for the terms of the set: each means one of them, and each of
+-- the numbers represent the terms of the set: each means one of them, and each of
 -- them is meant by one
 pub record StandsFor (table : List Term) (numbers : List ℕ) (set : Term → Type 0) : Type 0 where
   pub sound : (number : ℕ) → Contains numbers number

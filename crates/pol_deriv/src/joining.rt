@@ -1,4 +1,4 @@
-//! Terms one behind another.
+//! Terms one after another.
 
 ghost use Rattle.std.specs.Prelude.{◌≡◌, ◌<◌, length, true, IsTrue, IfOk, IfNone, IfSome};
 ghost use Rattle.pol_pattern.specs.Flat as flat;

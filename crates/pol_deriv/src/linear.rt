@@ -1,4 +1,4 @@
-//! The linear forms of terms: what a text of the term begins with, and what stands behind it then
+//! The linear forms of terms: what a text of the term begins with, and what follows it then
 //! (V. Antimirov, "Partial derivatives of regular expressions and finite automaton constructions",
 //! 1996).
 
@@ -13,7 +13,7 @@ use crate::table::Table;
 use pol_pattern::Class;
 use std::alloc::AllocError;
 
-/// By each symbol of the class one derivative is the next term.
+/// For each symbol of the class the next term is one derivative.
 #[derive(Clone, Copy)]
 pub(crate) struct Monomial {
     pub(crate) class: Class,
@@ -23,7 +23,7 @@ pub(crate) struct Monomial {
 impl Table {
     ghost use Rattle.pol_deriv.specs.Forms.{IsForm};
 
-    /// The linear form of a term, where another stands behind it.
+    /// The linear form of a term, where another follows it.
     #[cycle(linear)]
     pub(crate) fn linear(
         &mut self,
@@ -58,8 +58,8 @@ impl Table {
         }
     }
 
-    /// What stands behind each term of the group or star that a term begins with, where another
-    /// stands behind the whole.
+    /// What follows each term of the group or star that a term begins with, where another follows
+    /// the whole.
     fn continuation(&mut self, term: Number, behind: Number) -> Result<Number, AllocError>
         requires term { term < length self.old }
         requires behind { behind < length self.old }
@@ -76,8 +76,8 @@ impl Table {
         }
     }
 
-    /// The linear form of the group or star that a term begins with, where another stands behind
-    /// the term; and the rest of the term, if the group or star holds the empty text.
+    /// The linear form of the group or star that a term begins with, where another follows the
+    /// term; and the rest of the term, if the group or star holds the empty text.
     #[cycle(linear)]
     fn linear_terms(
         &mut self,

@@ -51,7 +51,7 @@ impl Lists {
         self.spans.len()
     }
 
-    /// The list so many places behind another.
+    /// The list so many places after another.
     pub(crate) fn get(&self, first: usize, offset: usize) -> &[Number]
         requires { first + offset < length self.now }
         ensures { slice_get self.now (first + offset) ≡ Some result.now }

@@ -15,10 +15,10 @@ use crate::term_set::TermSet;
 use std::alloc::{AllocError, Global};
 use std::marker::Model;
 
-/// For each symbol the derivatives by it, of the terms of which they were asked.
+/// For each term that was asked about, the derivatives by each symbol.
 #[derive(Drop)]
 pub(crate) struct Rows {
-    // of each term where its row begins among the lists
+    // for each term where its row begins among the lists
     places: Vec<Option<usize>>,
     lists: Lists,
 }
@@ -108,7 +108,7 @@ impl Rows {
         Ok(place)
     }
 
-    /// The list so many places behind the begin of a row.
+    /// The list so many places after the beginning of a row.
     pub(crate) fn list(&self, place: usize, column: usize) -> &[Number]
         requires { place + column < length self.now.lists }
         ensures { slice_get self.now.lists (place + column) ≡ Some result.now }

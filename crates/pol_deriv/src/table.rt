@@ -62,7 +62,7 @@ impl Table {
         self.nodes.as_slice()[number as usize]
     }
 
-    /// The number of the node's term, which is new where no other node stands for it.
+    /// The number of the node's term, which is new where no other node represents it.
     fn add(&mut self, node: Node) -> Result<Number, AllocError>
         requires { IsRight self.old (length self.old) node }
         ensures grows { Grows self.old self.new }
@@ -88,7 +88,7 @@ impl Table {
         self.node(number).holds_empty()
     }
 
-    /// Whether the term begins with a group or with a star, and what stands behind that.
+    /// Whether the term begins with a group or with a star, and what follows that.
     pub(crate) fn end(&self, number: Number) -> (Kind, Number)
         requires within { number < length self.now }
         requires begins { IsTrue (begins_with_terms (term_at self.now number)) }

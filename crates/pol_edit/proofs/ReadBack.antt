@@ -43,7 +43,7 @@ parent_named : (parent : List ℕ) → IsName parent → parent_of_text (codes "
 unfolding parent_of_text
 parent_named parent right = named parent right
 
--- ---- behind the first word
+-- ---- after the first word
 
 add_back : (kind : Kind) (name : List ℕ) (parent : Option (List ℕ)) → IsName name → IsParent parent
     → add_of (subject_text (record { kind = kind; name = name }) ++ parent_text parent []) ≡ Some (add_edit kind name parent)

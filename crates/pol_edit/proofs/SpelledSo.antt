@@ -113,7 +113,7 @@ parent_found text parent e =
     (parted_at text parts.0 parts.1 ∙ ap (λ (w : List ℕ). w ++ 32 ∷ parts.0.1) (word_is parts.0.0 (codes "in") is) ∙ ap (λ (t : List ℕ). codes "in " ++ t) named.0, named.1))
     (λ none. absurd cc)
 
--- ---- behind the first word
+-- ---- after the first word
 
 add_spells : (kind : Kind) (name : List ℕ) (parent : Option (List ℕ)) → IsName name → IsParent parent
     → SpellsWords (codes "add " ++ (kind_word kind ++ (name ++ parent_text parent []))) (add_edit kind name parent)

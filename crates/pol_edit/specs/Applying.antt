@@ -125,12 +125,12 @@ applied policy (MoveRule subject from to) = shifted_in policy subject from to
 
 -- ---- what a function returned, against what was wanted
 
--- whether the fault is want of memory
+-- whether the fault says that memory ran out
 abbrev pub is_memory : EditFault → Bool
 is_memory faults.Memory = true
 is_memory fault = false
 
--- whether a rule may get this number, from 1 to one behind the last
+-- whether a rule may get this number: from 1 to one more than the last
 abbrev pub has_place : List Subject → SubjectId → ℕ → Bool
 has_place policy id at =
     option_map_or (λ subject. is_number at (length subject.rules + 1))
@@ -149,9 +149,8 @@ takes_memory policy (SetEnable user secret) =
 takes_memory policy (InsertRule subject at verdict pattern) = has_place policy subject at
 takes_memory policy edit = false
 
--- the edit was made, or it was refused as wanted, and the policy is as before. Want of
--- memory stands in place of what is
--- wanted only where memory is taken
+-- the edit was made, or it was refused as wanted, and the policy is as before. The fault that
+-- memory ran out replaces what is wanted only where memory is taken
 abbrev pub Applies : Bool → List Subject → List Subject → Result (Unit {0}) EditFault
     → Result (List Subject) EditFault → Type 0
 Applies grows old new (Ok _) wanted = wanted ≡ Ok new

@@ -33,9 +33,9 @@ applied_from at (edit ∷ edits) policy =
 abbrev pub applied_all : List Subject → List Edit → Result (List Subject) BatchFault
 applied_all policy edits = applied_from 1 edits policy
 
--- ---- want of memory
+-- ---- a lack of memory
 
--- it is told of no single edit, wherever memory ran out
+-- it is reported for no single edit, wherever memory ran out
 abbrev pub ran_out : BatchFault → Bool
 ran_out fault = nat_eq fault.at 0 && is_memory fault.fault
 

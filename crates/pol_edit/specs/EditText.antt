@@ -22,7 +22,7 @@ abbrev pub ◌>>=◌ : {A B : Type 0} → Option A → (A → Option B) → Opti
 None >>= f = None
 (Some x) >>= f = f x
 
--- what stands before the first space, and what stands behind it
+-- what stands before the first space, and what stands after it
 abbrev pub parted : List ℕ → Option (List ℕ × List ℕ)
 parted text = split_at_first 32 text
 
@@ -65,7 +65,7 @@ parent_of_text text = do
   parts ← parted text
   if bytes_eq parts.0 (codes "in") then name_of parts.1 else None
 
--- ---- edits, behind their first word
+-- ---- edits, after their first word
 
 abbrev pub add_edit : Kind → List ℕ → Option (List ℕ) → Edit
 add_edit Group name parent = AddGroup name parent

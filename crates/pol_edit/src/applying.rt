@@ -285,7 +285,7 @@ fn make(alloc: Global, policy: &mut Policy, edit: &Edit) -> Result<(), EditFault
 /// Applies an edit. A refused edit leaves the policy as it was, also where memory ran out. Only a
 /// subject that is added, a secret that is set and a rule that is inserted take memory.
 pub fn apply(alloc: Global, policy: &mut Policy, edit: &Edit) -> Result<(), EditFault>
-    // Which policy it becomes, or which refusal is the first; want of memory only where memory is
+    // Which policy it becomes, or which refusal comes first. Memory runs out only where it is
     // taken.
     ensures exact { let grows = applying.takes_memory policy.old edit.now in
         GivesUnlessMemory (λ fault. applying.is_memory fault && grows) (λ _. policy.new) result

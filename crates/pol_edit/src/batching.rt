@@ -20,7 +20,7 @@ use std::fmt;
 #[derive(Clone, Copy, Debug, PartialEq, Eq)]
 pub struct BatchFault {
     /// Which edit is refused, counted from 1. It is 0 where no single edit is: the policy that all
-    /// of them make is too large, or memory ran out, wherever it did.
+    /// of them make is too large, or memory ran out anywhere.
     pub at: usize,
     pub fault: EditFault,
 }
@@ -76,8 +76,8 @@ impl<T: Drop> From<AllocFailed<T>> for BatchFault {
     }
 }
 
-/// The policy that the edits make, one after another. The first edit that is refused on what those
-/// before it make decides, and no later one is looked at. Copies the policy once.
+/// The policy that the edits make, one after another. Each edit is judged on the policy that those
+/// before it make. The first refusal ends it: no later edit is looked at. Copies the policy once.
 pub fn edited(alloc: Global, policy: &Policy, edits: &[Edit]) -> Result<Policy, BatchFault>
     ensures exact { GivesUnlessMemory ran_out (λ edited. edited) result
         (applied_all policy.now edits.now) }

@@ -27,10 +27,10 @@ pub enum EditFault {
     TooDeep,
     /// There is no rule of this number.
     BadIndex,
-    /// The rule's pattern is none.
+    /// The rule's pattern is invalid.
     BadPattern(PatternFault),
-    /// The secret is empty, has more than 128 symbols or a byte that is none, or the level is over
-    /// 15.
+    /// The secret is empty, has more than 128 symbols, or has a byte that is no symbol; or the
+    /// level is over 15.
     BadValue,
     /// There would be more than 1,024 subjects, or more than 256 rules of the subject.
     Limit,

@@ -18,7 +18,7 @@ use basics::{Bytes, is_text, split_once};
 use pol_names::{Kind, Name, SubjectId, Verdict};
 use std::alloc::{AllocError, Global};
 
-// `NAME` or `NAME in PARENT`, behind the kind.
+// `NAME` or `NAME in PARENT`, after the kind.
 fn added(kind: Kind, text: &[u8]) -> Option<Edit>
     ensures { result ≡ added_by kind text.now (parted text.now) }
 {
@@ -32,7 +32,7 @@ fn added(kind: Kind, text: &[u8]) -> Option<Edit>
     })
 }
 
-// `add KIND NAME` or `add KIND NAME in PARENT`, behind its first word, as of all that follow.
+// `add KIND NAME` or `add KIND NAME in PARENT`, after its first word, as with all that follow.
 #[tactic(auto, unfolding(crate::specs::EditText::add_of))]
 fn add(rest: &[u8]) -> Option<Edit>
     ensures { result ≡ add_of rest.now }
@@ -254,7 +254,7 @@ fn edit(alloc: Global, line: &[u8]) -> Result<Option<Edit>, AllocError>
     worded(alloc, word, rest)
 }
 
-/// Reads the line of an edit. A line that is none is `BadEdit`.
+/// Reads the line of an edit. Any other line is `BadEdit`.
 #[tactic(auto, using(crate::proofs::SpelledSo::spelled_so, crate::proofs::ReadBack::read_back))]
 pub fn read_edit(alloc: Global, line: &[u8]) -> Result<Edit, EditFault>
     // Which lines are read, and as which edit.

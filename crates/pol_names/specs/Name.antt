@@ -17,6 +17,6 @@ is_name text = (nat_lt 0 (length text) && nat_le (length text) 32) && list_all i
 abbrev pub name_of : List ℕ → Option (List ℕ)
 name_of text = if is_name text then Some text else None
 
--- the bytes, and zeros behind them up to 32
+-- the bytes, followed by zeros up to 32
 unfoldable pub filled : List ℕ → List ℕ
 filled text = text ++ replicate (32 - length text) 0

@@ -13,7 +13,7 @@ pub enum Verdict {
 }
 
 impl Verdict {
-    /// The word that such a rule begins with wherever it is written, and the space behind it.
+    /// The word that such a rule begins with wherever it is written, and the space after it.
     pub fn keyword(self) -> &'static str
         ensures { result.now ≡ verdict_word self }
     {

@@ -19,7 +19,7 @@ use std::{fmt, str};
 /// 1 to 32 bytes of `A-Z a-z 0-9 _ - . @`. A contract sees them as a list.
 #[derive(Clone, Copy, Debug)]
 pub struct Name {
-    // behind the name's bytes there are zeros
+    // zeros follow the name's bytes
     bytes: [u8; 32],
     size: u8,
 }
@@ -38,7 +38,7 @@ impl Model for Name {
     ghost inverse = { λ text. record { bytes = filled text; size = length text } };
 }
 
-// Not derived, so that contracts compare the names and not the zeros behind them.
+// Not derived, so that contracts compare the names and not the zeros after them.
 impl PartialEq for Name {
     ghost eq = { bytes_eq };
 
@@ -85,7 +85,7 @@ fn is_name(text: &[u8]) -> bool
     !text.is_empty() && text.len() <= Name::MAX_LEN && are_name_bytes(text)
 }
 
-// The text with zeros behind it.
+// The text, followed by zeros.
 fn padded(text: &[u8]) -> [u8; 32]
     requires { length text.now ≤ Name.MAX_LEN }
     ensures { result ≡ filled text.now }

@@ -18,7 +18,7 @@ pub enum Credential {
 }
 
 impl Credential {
-    /// The word that the secret is set by, and the space behind it.
+    /// The word that the secret is set by, and the space after it.
     pub fn keyword(self) -> &'static str
         ensures { result.now ≡ credential_word self }
     {
@@ -73,8 +73,8 @@ impl Secret {
     /// The most symbols that a secret has.
     pub const MAX_LEN: usize = 128;
 
-    /// The secret that the text is. A text that is none is told without a growth; the error is want
-    /// of memory.
+    /// The secret that the text is; `None` for an invalid text, which takes no memory. The error
+    /// means that memory ran out.
     pub fn read(alloc: Global, text: &[u8]) -> Result<Option<Secret>, AllocError>
         ensures read { IfOk result (λ secret. secret ≡ secret_of text.now) }
         ensures none { secret_test text.now ≡ false → result ≡ Ok None }
@@ -94,7 +94,7 @@ impl Secret {
         self.text.as_slice()
     }
 
-    /// A copy of the secret. The error is want of memory.
+    /// A copy of the secret. The error means that memory ran out.
     pub fn copy(&self, alloc: Global) -> Result<Secret, AllocError>
         ensures { IfOk result (λ copy. copy ≡ self.now) }
     {

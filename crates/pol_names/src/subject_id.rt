@@ -15,7 +15,7 @@ pub enum Kind {
 }
 
 impl Kind {
-    /// The word that such a subject begins with wherever it is named, and the space behind it.
+    /// The word that such a subject begins with wherever it is named, and the space after it.
     pub fn keyword(self) -> &'static str
         ensures value { result.now ≡ kind_word self }
         ensures fits { length result.now ≤ 6 }

@@ -114,7 +114,7 @@ unfolding items_from
 items_past [] rest place = ap (λ (p : ℕ). items_from p 0 rest) (omega arith)
 items_past (byte ∷ taken) rest place = items_past taken rest (place + 1) ∙ ap (λ (p : ℕ). items_from p 0 rest) (omega arith)
 
--- an item in front of what is read behind it
+-- an item in front of what is read after it
 item_first : (place byte : ℕ) (taken rest : List ℕ) (ends : ℕ × ℕ) (found : List (ℕ × ℕ) × ℕ) → eqb byte 93 ≡ false → item_at (byte ∷ taken ++ rest) ≡ Some (ends, suc (length taken))
     → items_from (place + 1 + length taken) 0 rest ≡ Some found → items_from place 0 (byte ∷ taken ++ rest) ≡ Some (ends ∷ found.0, found.1)
 unfolding items_from

@@ -50,7 +50,7 @@ abbrev ItemSpelled : List ℕ → (ℕ × ℕ) × ℕ → Type 0
 ItemSpelled bytes found =
     (tree : Item) × (rest : List ℕ) × (is_right_item tree ≡ true) × ((item_ends tree, length (item_bytes tree)) ≡ found) × (bytes ≡ item_bytes tree ++ rest)
 
--- what is taken behind an item's first symbol
+-- what is taken after an item's first symbol
 abbrev final_at : List ℕ → ℕ × ℕ → Option ((ℕ × ℕ) × ℕ)
 final_at bytes first =
     cond (eqb (slice_index bytes first.1) 45)
@@ -146,7 +146,7 @@ item_length (one (quoted x)) = (1, refl)
 item_length (range (plain x) final) = (suc (length (class_symbol_bytes final)), refl)
 item_length (range (quoted x) final) = (suc (suc (length (class_symbol_bytes final))), refl)
 
--- what stands behind an item
+-- what follows an item
 behind_item : (byte : ℕ) (rest back : List ℕ) (tree : Item) → byte ∷ rest ≡ item_bytes tree ++ back → drop (length (item_bytes tree) - 1) rest ≡ back
 behind_item byte rest back tree whole =
     let size = item_length tree in
@@ -202,7 +202,7 @@ ClassSpelled bytes found =
     (negated : Bool) × (first : Item) × (others : List Item) × (rest : List ℕ) × (list_all is_right_item (first ∷ others) ≡ true) × ((negated || not (begins_with_caret first)) ≡ true)
     × (class_found negated first others ≡ found) × (bytes ≡ negation_bytes negated ++ (items_bytes (first ∷ others) ++ 93 ∷ rest))
 
--- items that are not none
+-- items, at least one
 abbrev NotNone : Bool → ℕ → List ℕ → Class × ℕ → Type 0
 NotNone negated place bytes found =
     (first : Item) × (others : List Item) × (rest : List ℕ) × (list_all is_right_item (first ∷ others) ≡ true)

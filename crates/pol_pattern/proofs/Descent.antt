@@ -5,7 +5,7 @@ use Rattle.std.specs.Global.{Vec}
 use Rattle.pol_pattern.specs.Flat.{Factor, class, group, star, Term, empty, put, Terms, none, alt, factor_value, term_value, terms_value}
 use Rattle.pol_pattern.specs.declared.flat.Factor.{Factor as FactorValue}
 
--- ---- what a loop comes to, by its place
+-- ---- what a loop results in, by its place
 
 pub term_value-drop : (factors : List FactorValue) (i : ℕ) (factor : FactorValue) → i < length factors → factor ≡ get_or factors i factor
     → term_value (drop i factors) ≡ put (factor_value factor) (term_value (drop (i + 1) factors))

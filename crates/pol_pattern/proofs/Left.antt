@@ -1,4 +1,4 @@
--- What may stand behind the text so far, by the marks, for a pattern to hold the whole.
+-- What may follow the text so far, by the marks, for a pattern to hold the whole.
 use Rattle.std.proofs.Common.{◌≡◌, ◌↔◌, ◌⊎◌, ℕ, Bool, false, ◌&&◌, ◌||◌, List, [], ◌∷◌, length, take, drop, refl, sym, ap, subst, inl, inr, length-append}
 use Rattle.std.specs.Prelude.{IsTrue, slice_index_or}
 use Rattle.std.proofs.lemmas.Bool.{false≢true, or_cases, or_left, or_right, and_parts, and_from}

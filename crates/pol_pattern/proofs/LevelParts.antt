@@ -83,7 +83,7 @@ atom_part_level level atom part =
     put_level level (repeated_by (once atom) part.repeats) part.tree
     ∙ ap (λ (l : Level). alternatives_level l part.tree) (repeated_level level (once atom) part.repeats)
 
--- the parts behind the parentheses that are open, the innermost first
+-- the parts after the open parentheses, the innermost first
 abbrev pub parts_bytes : List Part → List ℕ
 parts_bytes [] = []
 parts_bytes (part ∷ parts) = 41 ∷ (part_bytes part ++ parts_bytes parts)

@@ -11,7 +11,7 @@ put_rest marks rest place =
     let none : drop (length marks - place) (drop place marks) ≡ [] = drop_all (length marks - place) (drop place marks) (omega (arith, length-drop place marks)) in
     rw none (ap (λ (t : List Bool). take place marks ++ t) (append-nil rest))
 
--- what a write of a part leaves before its end, and behind it
+-- what a write of a part leaves before its end, and after it
 pub record Writes (marks part after : List Bool) (place count next : ℕ) : Type 0 where
   pub front : take next after ≡ take place marks ++ part
   pub back : drop next after ≡ drop count (drop place marks)
@@ -69,7 +69,7 @@ terms_moved-alt term terms before symbol marks =
     let le : n ≤ n + m = omega arith in
     rw (take-take n (n + m) marks le, drop-take n m marks) refl
 
--- ---- one part further: the marks before it have moved, and those behind it have not
+-- ---- one part further: the marks before it have moved, and those after it have not
 
 regroup : (done part moved left : List Bool) → (done ++ part) ++ (moved ++ left) ≡ done ++ ((part ++ moved) ++ left)
 regroup done part moved left = simp append_assoc

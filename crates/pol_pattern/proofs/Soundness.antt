@@ -118,7 +118,7 @@ rest_close last opened flag bytes others few rest = record {
   flat = build_close opened bytes others rest;
 }
 
--- a `(` in front, whose part and the part behind its `)` become one
+-- a `(` in front, whose part and the part after its `)` become one
 open_join : (place : ℕ) (opened : List ℕ) (flag : Bool) (bytes : List ℕ) (others : List Token) → length opened < 32
     → (inner : Part) (parts : List Part) → inner.repeats ≡ [] → IsRightPart (place ∷ opened) inner → IsRightParts (place ∷ opened) parts → bytes ≡ part_bytes inner ++ parts_bytes parts
     → ((level : Level) (outer : List Level) → length outer ≡ suc (length opened) → build level outer others ≡ parts_terms (finished (part_level level inner)) outer parts)
@@ -162,7 +162,7 @@ close_in place [] flag next bytes others few e rest = absurd (refused (faults.Un
 close_in place (last ∷ opened) flag next bytes others few e rest =
     rest_close last opened flag bytes others few (subst (λ (c : Context). Rest c bytes others) (sym (ok_is (record { opened = opened; has_atom = true }) next e)) rest)
 
--- what stands behind one byte, and that byte
+-- what follows one byte, and that byte
 by_byte : (context : Context) (byte same : ℕ) (rest : List ℕ) (tokens : List Token) → byte ≡ same → Rest context (same ∷ rest) tokens → Rest context (byte ∷ rest) tokens
 by_byte context byte same rest tokens e h = subst (λ (b : ℕ). Rest context (b ∷ rest) tokens) (sym e) h
 

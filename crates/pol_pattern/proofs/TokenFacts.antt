@@ -51,7 +51,7 @@ bracket_token place size rest c e = rw e refl
 
 -- ---- what is taken is spelled
 
--- the tree of one token, and that the bytes behind it are passed over by its size
+-- the tree of one token; its size says where the bytes after it begin
 abbrev pub AtomSpelled : ℕ → List ℕ → Class → ℕ → Type 0
 AtomSpelled byte rest c size =
     (tree : Atom) × (is_right_atom tree ≡ true) × (atom_depth tree ≡ 0) × (atom_factors tree ≡ put (class c) empty) × (byte ∷ rest ≡ atom_bytes tree ++ drop (size - 1) rest)

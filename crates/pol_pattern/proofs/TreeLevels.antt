@@ -18,7 +18,7 @@ pub join_terms_assoc : (a b c : Terms) → join_terms (join_terms a b) c ≡ joi
 join_terms_assoc none b c = refl
 join_terms_assoc (alt term a) b c = ap (alt term) (join_terms_assoc a b c)
 
--- ---- the level behind each part of a tree
+-- ---- the level after each part of a tree
 
 abbrev pub repetition_level : Level → Repetition → Level
 repetition_level level (once atom) = with_atom level (atom_factors atom)

@@ -1,4 +1,4 @@
--- What lists of the code's values stand for, one behind another.
+-- What lists of the code's values represent, one after another.
 use Rattle.std.proofs.Common.{◌≡◌, List, [], ◌∷◌, ◌++◌, refl, ap}
 use Rattle.std.specs.Global.{Vec}
 use Rattle.pol_pattern.specs.Flat.{Term, empty, put, alt, join_terms, join_term, factor_value, term_value, terms_value}

@@ -42,7 +42,7 @@ mutual
     none : Terms
     alt : Term → Terms → Terms
 
--- terms one behind another, and the factors of two terms one behind another
+-- terms one after another, and the factors of two terms one after another
 abbrev pub join_terms : Terms → Terms → Terms
 join_terms none others = others
 join_terms (alt term terms) others = alt term (join_terms terms others)
@@ -66,7 +66,7 @@ abbrev mutual
   terms_size none = 0
   terms_size (alt term terms) = term_size term + terms_size terms
 
--- ---- what the code's values stand for
+-- ---- what the code's values represent
 
 abbrev pub term_of : List Factor → Term
 term_of [] = empty
@@ -76,7 +76,7 @@ abbrev pub terms_of : List (List Factor) → Terms
 terms_of [] = none
 terms_of (term ∷ terms) = alt (term_of term) (terms_of terms)
 
--- one factor, with what each inner one stands for in its place
+-- one factor, with what each inner one represents in its place
 abbrev pub factor_step : Factor-F Factor → Factor
 factor_step (Factor-F.Class c) = class c
 factor_step (Factor-F.Group terms) = group (terms_of (map (λ term. term.items) terms.items))

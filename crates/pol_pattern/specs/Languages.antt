@@ -79,7 +79,7 @@ GroupLaw =
 abbrev pub EmptyLaw : Type 0
 EmptyLaw = (text : List ℕ) → Holds [] text ↔ Empty text
 
--- a symbol that stands for itself
+-- a symbol that represents itself
 abbrev pub LiteralLaw : Type 0
 LiteralLaw =
     (symbol : ℕ) (text : List ℕ) → IsTrue (is_symbol symbol) → IsFalse (is_special symbol)

@@ -1,4 +1,4 @@
--- What a level of the code stands for.
+-- What a level of the code represents.
 use Rattle.pol_pattern.specs.Flat.{term_value, terms_value}
 use Rattle.pol_pattern.specs.Reading.{Level}
 use Rattle.pol_pattern.specs.declared.building.Level.{Level as LevelValue}

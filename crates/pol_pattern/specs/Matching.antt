@@ -29,7 +29,7 @@ abbrev mutual
   terms_positions none = 0
   terms_positions (alt term terms) = term_positions term + terms_positions terms
 
--- whether the text so far can end just behind the part
+-- whether the text so far can end just after the part
 abbrev mutual
   pub factor_ends : Factor → Bool → List Bool → Bool
   factor_ends (class c) before marks = slice_index_or marks 0 false
@@ -69,7 +69,7 @@ abbrev mutual
       term_moved term before symbol (take (term_positions term) marks)
       ++ terms_moved terms before symbol (drop (term_positions term) marks)
 
--- whether the terms hold the text so far with the rest behind it
+-- whether the terms hold the text so far with the rest after it
 abbrev pub ends_after : Terms → Bool → List Bool → List ℕ → Bool
 ends_after terms before marks [] = terms_end terms before marks
 ends_after terms before marks (symbol ∷ rest) =

@@ -1,6 +1,5 @@
--- Reading bytes from the left, with the first fault that is met. What a pattern is,
--- and its flat form, say the trees of Spelling; that both agree stands on the
--- contract of `Pattern::read`.
+-- Reading bytes from the left, with the first fault that is met. The trees of Spelling say what a
+-- pattern is and what its flat form is; the contract of `Pattern::read` says that both agree.
 use Rattle.std.specs.Prelude.{ℕ, zero, suc, ◌+◌, ◌-◌, Bool, true, false, ◌==◌, ◌&&◌, ◌||◌, not}
 use Rattle.std.specs.Prelude.{nat_lt, nat_le, if◌then◌else◌, List, [], ◌∷◌, length, drop}
 use Rattle.std.specs.Prelude.{slice_index, Option, Some, None, Result, Ok, Err, position}
@@ -43,14 +42,13 @@ item_at bytes = option_and_then (λ first.
     else Some ((first.0, first.0), first.1))
     (class_symbol_at bytes)
 
--- the item put before those behind it
+-- the item put before those that follow it
 abbrev pub with_item : ℕ × ℕ → Option (List (ℕ × ℕ) × ℕ) → Option (List (ℕ × ℕ) × ℕ)
 with_item item None = None
 with_item item (Some rest) = Some (item ∷ rest.0, rest.1)
 
--- the items up to the `]`, after these many bytes are passed over, and the place
--- behind the `]`, where
--- the first byte has this place
+-- the items up to the `]`, after these many bytes are passed over, and the place after the `]`,
+-- where the first byte has this place
 unfoldable pub items_from : ℕ → ℕ → List ℕ → Option (List (ℕ × ℕ) × ℕ)
 items_from place skip [] = None
 items_from place (suc skip) (byte ∷ rest) = items_from (place + 1) skip rest
@@ -72,7 +70,7 @@ abbrev pub class_unless_empty : Bool → List (ℕ × ℕ) × ℕ → Option (Cl
 class_unless_empty negated ([], end) = None
 class_unless_empty negated (item ∷ items, end) = Some (class_of_items negated (item ∷ items), end)
 
--- a class, behind its `[`
+-- a class, after its `[`
 unfoldable pub class_at : List ℕ → Option (Class × ℕ)
 class_at bytes =
     if slice_index bytes 0 == 94
@@ -112,7 +110,7 @@ abbrev pub closed : ℕ → List ℕ → Result Context PatternFault
 closed place [] = Err (faults.Unopened place)
 closed place (last ∷ others) = Ok (record { opened = others; has_atom = true })
 
--- the context behind a token at this place
+-- the context after a token at this place
 unfoldable pub context_after : ℕ → Token → Context → Result Context PatternFault
 context_after place (tokens.Atom c) context = Ok (record context { has_atom = true })
 context_after place (tokens.Repeat repeat) context =
@@ -138,9 +136,8 @@ tokens_from place zero context (byte ∷ rest) =
 
 -- ---- the flat form
 
--- what was read of some alternatives: those that are done, and of the present one
--- the factors before its
--- last repetition, and those of that
+-- what was read of some alternatives: those that are done, and of the present one the factors
+-- before its last repetition and the factors of that repetition
 pub record Level : Type 0 where
   pub done : Terms
   pub before : Term
@@ -164,7 +161,7 @@ finished level = join_terms level.done (alt (present level) none)
 abbrev pub with_bar : Level → Level
 with_bar level = record { done = finished level; before = empty; last = empty }
 
--- the flat form of tokens, behind what was read of the present level and of those around it
+-- the flat form of tokens, after what was read of the present level and of those around it
 unfoldable pub build : Level → List Level → List Token → Terms
 build level outer [] = finished level
 build level outer (tokens.Atom c ∷ rest) = build (with_atom level (put (class c) empty)) outer rest

@@ -22,7 +22,7 @@ use Rattle.pol_pattern.specs.declared.token.Repeat.TheVariants.{Star, Plus, Ques
 
 -- ---- syntax trees
 
--- a symbol of a class: as it is, or behind a `\`
+-- a symbol of a class: as it is, or after a `\`
 pub data ClassSymbol : Type 0 where
   plain : ℕ → ClassSymbol
   quoted : ℕ → ClassSymbol
@@ -100,11 +100,11 @@ abbrev mutual
 
 -- ---- which trees the grammar allows
 
--- the symbols that stand for something else than themselves
+-- the symbols that don't represent themselves
 abbrev pub is_special : ℕ → Bool
 is_special byte = list_any (λ special. byte == special) (codes "|*+?.[()\\")
 
--- a `]`, a `\` or a `-` stands in a class only behind a `\`
+-- a `]`, a `\` or a `-` stands in a class only after a `\`
 abbrev pub is_right_class_symbol : ClassSymbol → Bool
 is_right_class_symbol (plain symbol) =
     is_symbol symbol && not (symbol == 93 || symbol == 92 || symbol == 45)
@@ -127,7 +127,7 @@ begins_with_caret (one (quoted symbol)) = false
 begins_with_caret (range (plain symbol) final) = symbol == 94
 begins_with_caret (range (quoted symbol) final) = false
 
--- a `^` directly behind the `[` always negates
+-- a `^` directly after the `[` always negates
 abbrev mutual
   pub is_right_alternatives : Alternatives → Bool
   is_right_alternatives (single sequence) = is_right_sequence sequence

@@ -1,4 +1,4 @@
--- What each of the code's values stands for. `factor_value` is a fold, which
+-- What each of the code's values represents. `factor_value` is a fold, which
 -- computes on no variant.
 use Rattle.std.specs.Prelude.{◌≡◌, List}
 use Rattle.std.proofs.Common.{sym, ap, ◌∙◌}

@@ -79,7 +79,7 @@ fn repeated(alloc: Global, mut factors: Term, repeat: Repeat) -> Result<Term, Al
 }
 
 /// What was read of some alternatives: those that are done, and of the present one the factors
-/// before its last repetition, and those of that.
+/// before its last repetition and the factors of that repetition.
 #[derive(Drop)]
 struct Level {
     done: Vec<Term>,
@@ -98,7 +98,7 @@ impl Level {
         }
     }
 
-    /// Behind one more factor.
+    /// After one more factor.
     fn with_factor(self, factor: Factor) -> Result<Level, AllocError>
         ensures { let alone = put (factor_value factor) empty in
             IfOk result (λ level. level_value level ≡ level_with_atom (level_value self) alone) }

@@ -23,7 +23,7 @@ pub enum PatternFault {
     NothingToRepeat(usize),
     /// The class that begins here is empty, isn't closed, or has a wrong item.
     BadClass(usize),
-    /// The `\` has no symbol behind it.
+    /// No symbol follows the `\`.
     BadEscape(usize),
     /// More than 32 parentheses are open at once.
     TooDeep,

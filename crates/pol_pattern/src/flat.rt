@@ -140,6 +140,6 @@ pub enum Factor {
     Class(Class),
     /// A text of one of the terms.
     Group(Vec<Term>),
-    /// Any number of texts of the terms, one after another, none too.
+    /// Any number of texts of the terms, one after another, possibly none.
     Star(Vec<Term>),
 }

@@ -49,14 +49,14 @@ fn read_item(bytes: &[u8]) -> Option<((u8, u8), usize)>
     Some(((first, last), size + 1 + last_size))
 }
 
-/// Whether the class behind a `[` is negated.
+/// Whether the class after a `[` is negated.
 fn is_negated(bytes: &[u8]) -> bool
     ensures { result ≡ (slice_index bytes.now 0 == 94) }
 {
     bytes.first() == Some(&b'^')
 }
 
-/// The class that the bytes behind a `[` begin with, and how many of them spell it.
+/// The class that the bytes after a `[` begin with, and how many of them spell it.
 fn read_class(bytes: &[u8]) -> Option<(Class, usize)>
     ensures exact { result ≡ class_at bytes.now }
     ensures within { IfSome result (λ found. found.1 ≤ length bytes.now) }
@@ -134,7 +134,7 @@ impl Context {
         }
     }
 
-    /// The context behind a token at this place.
+    /// The context after a token at this place.
     #[tactic(auto, unfolding(crate::specs::Reading::context_after))]
     fn after(self, place: usize, token: &Token) -> Result<Context, PatternFault>
         ensures { result ≡ context_after place token.now self }

@@ -15,7 +15,7 @@ use crate::flat::{Factor, Term};
 /// How many marks there are at most.
 const MARKS: usize = 400;
 
-// ---- whether the text so far can end just behind a part, where `before` says whether it can end
+// ---- whether the text so far can end just after a part, where `before` says whether it can end
 // just before it; the part's marks come first in the given ones, and the others are handed back
 
 #[cycle(ends)]
@@ -68,7 +68,7 @@ fn terms_end<'a>(terms: &[Term], before: bool, marks: &'a [bool]) -> (bool, &'a 
 }
 
 // ---- one more symbol: moves the part's marks, which come first in the given ones; says whether
-// the text before the symbol can end just behind the part, and how many marks the part has
+// the text before the symbol can end just after the part, and how many marks the part has
 
 #[cycle(moved)]
 fn move_factor(factor: &Factor, before: bool, symbol: u8, marks: &mut [bool]) -> (bool, usize)

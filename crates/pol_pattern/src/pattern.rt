@@ -78,7 +78,7 @@ impl Pattern {
         ensures only { (flat : Terms) → Spells bytes.now flat
             → GivesUnlessMemory is_memory (λ p. p) result (Ok bytes.now) }
 
-        // What is refused before anything is built is refused without fail.
+        // What is refused before anything is built is refused even without memory.
         ensures too_long { BYTES < length bytes.now → result ≡ Err PatternFault.TooLong }
         ensures unprintable { length bytes.now ≤ BYTES → IfSome (position is_unprintable bytes.now)
             (λ place. result ≡ Err (PatternFault.Unprintable place)) }

@@ -24,8 +24,8 @@ fn capped_sum(a: usize, b: usize) -> usize
     a.saturating_add(b).min(CAP)
 }
 
-/// The sizes of what was read of some alternatives: of those that are done, and of the present one
-/// of the factors before its last repetition, and of that one's.
+/// The sizes of what was read of some alternatives: of those that are done, and of the present
+/// one's factors before its last repetition and within it.
 #[derive(Clone, Copy)]
 struct Sizes {
     done: usize,
@@ -46,7 +46,7 @@ impl Sizes {
         }
     }
 
-    /// Behind one more factor.
+    /// After one more factor.
     fn with_factor(self, size: usize, is_group: bool) -> Sizes
         ensures { (level : Level) (factors : TermValue) → self ≡ size_of level
             → size ≡ min CAP (term_size factors) → is_group ≡ is_one_group factors

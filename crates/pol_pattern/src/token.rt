@@ -2,7 +2,7 @@
 
 use crate::flat::Class;
 
-/// What may stand behind an atom.
+/// What may follow an atom.
 #[derive(Clone, Copy, Debug, PartialEq, Eq)]
 pub(crate) enum Repeat {
     /// `*`: any number of times.
@@ -16,7 +16,7 @@ pub(crate) enum Repeat {
 /// A part of a pattern that is read at once.
 #[derive(Clone, Copy, Debug)]
 pub(crate) enum Token {
-    /// A literal, a dot, a class, or a symbol behind a `\`: one symbol of the class.
+    /// A literal, a dot, a class, or a symbol after a `\`: one symbol of the class.
     Atom(Class),
     Repeat(Repeat),
     Bar,

@@ -16,12 +16,11 @@ pub data Derivative (symbol : ℕ) : Term → Term → Type 0 where
   -- of a class and the rest: the rest, if the symbol is in the class
   of_class : {c : Class} {rest : Term} → IsTrue (holds_symbol c symbol)
       → Derivative symbol (put (class c) rest) rest
-  -- of a group and the rest: those of each alternative with the rest behind it
+  -- of a group and the rest: those of each alternative with the rest after it
   of_group : {terms : Terms} {rest next : Term} (alternative : Term) → IsAmong terms alternative
       → Derivative symbol (join_term alternative rest) next
       → Derivative symbol (put (group terms) rest) next
-  -- of a star and the rest: those of each of its terms, each with the star and the
-  -- rest behind it ..
+  -- of a star and the rest: those of each of its terms, each with the star and the rest after it ..
   of_star : {terms : Terms} {alternative rest next : Term} → IsAmong terms alternative
       → Derivative symbol alternative next
       → Derivative symbol (put (star terms) rest) (join_term next (put (star terms) rest))

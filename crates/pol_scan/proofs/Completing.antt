@@ -27,7 +27,7 @@ module _ (congruence : Congruence) (table : Table) (known : IsComplete congruenc
   Walked : List ℕ → ℕ → Type 0
   Walked word state = walk table word ≡ state
 
-  -- the state to which a word leads stands for it
+  -- the state to which a word leads represents it
   walked : (word : List ℕ) → IsWord congruence.width word → Stands congruence table.words Walked word
   unfolding Walked
   walked word w = stands_on congruence table.words Walked (λ _. Unit {0}) (λ _ _ _. tt)

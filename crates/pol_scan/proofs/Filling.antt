@@ -44,7 +44,7 @@ row_end congruence words cells state filled = record {
   rows = filled.rows;
 }
 
--- the next row begins behind the words of the last
+-- the next row begins after the words of the last
 pub behind_row : (words : List (List ℕ)) (state width : ℕ) → AllPairs IsBefore words → AreBehind words state width → state + 1 < length words → AreBehind words (state + 1) 0
 behind_row words state width rising behind h k d lt =
     before_transitive (slice_index_or words k d) (longer (word_at words state) width) (longer (word_at words (state + 1)) 0)

@@ -82,7 +82,7 @@ module _ {S : Type 0} (congruence : Congruence) (leads : List ℕ → S → Type
     );
   }
 
-  -- what stands behind a state and a column is the found state that equals it
+  -- the state after a state and a column is the found state that equals it
   pub cell_at : (state column at : ℕ) (s k : S) → state < length words → leads (longer (word_at words state) column) s → slice_get states at ≡ Some k → eq s k ≡ true
       → All (λ w. IsUpTo w (longer (word_at words state) column)) words → IsCell congruence words state column at
   cell_at state column at s k from led there equal up_to =
@@ -109,7 +109,7 @@ up_to_old words word behind k d h = inr (behind k d h)
 pub up_to_new : (words : List (List ℕ)) (word : List ℕ) → All (λ w. IsBefore w word) words → All (λ w. IsUpTo w word) (words ++ word ∷ [])
 up_to_new words word behind = All-push (λ w. IsUpTo w word) words word (up_to_old words word behind) (inl refl)
 
--- the words up to the one at which the scan stands are behind the next place of the row
+-- the words up to the one at which the scan stands come before the next place of the row
 pub behind_next : (words : List (List ℕ)) (state column : ℕ) → All (λ w. IsUpTo w (longer (word_at words state) column)) words → AreBehind words state (column + 1)
 behind_next words state column up_to k d h =
     up_to_before (slice_index_or words k d) (longer (word_at words state) column) (longer (word_at words state) (column + 1))
@@ -117,7 +117,7 @@ behind_next words state column up_to k d h =
 
 -- ---- a column is followed from a found state
 
--- what is known then: the state behind it, and what the set does with it
+-- what is known then: the state after it, and what the set does with it
 pub record Follows {S : Type 0} (old : Congruence) (led : List ℕ → S → Type 0) (new : Congruence) (leads : List ℕ → S → Type 0) (eq : S → S → Bool)
     (words : List (List ℕ)) (states keys : List S) (number column at : ℕ) (is_new : Bool) (state next : S) : Type 0 where
   pub tells : (u v : List ℕ) (s t : S) → leads u s → leads v t → (eq s t ≡ true) ↔ new.same u v

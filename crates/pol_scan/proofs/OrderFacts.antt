@@ -96,7 +96,7 @@ pub before_push : (t u : List ℕ) (a b : ℕ) → IsBefore t u → IsBefore (t 
 before_push t u a b (inl h) = inl (simp length-append (omega arith))
 before_push t u a b (inr h) = inr (simp length-append (omega (arith, h.0)), lower_append t u (a ∷ []) (b ∷ []) h.1)
 
--- the lower symbol behind one text comes earlier
+-- a text with the lower symbol after it comes earlier
 pub push_before : (t : List ℕ) (a b : ℕ) → a < b → IsBefore (t ++ a ∷ []) (t ++ b ∷ [])
 push_before t a b h = inr (simp length-append, append_lower t (a ∷ []) (b ∷ []) (inl h))
 

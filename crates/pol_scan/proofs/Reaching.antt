@@ -6,7 +6,8 @@ use Rattle.pol_scan.specs.Congruence.{Congruence}
 use Rattle.pol_scan.specs.Discovery.{IsUpTo, IsCell}
 use Rattle.pol_scan.proofs.OrderUp.{up_to_transitive, up_to_longer}
 
--- a found state stands for the word: its word is the same and no later, and what is to hold of both does
+-- a found state represents the word: its word is the same and no later, and what is to hold of both
+-- does
 pub record Stands (congruence : Congruence) (words : List (List ℕ)) (holds : List ℕ → ℕ → Type 0) (word : List ℕ) : Type 0 where
   pub state : ℕ
   pub within : state < length words
@@ -28,8 +29,8 @@ module _ (congruence : Congruence) (words : List (List ℕ)) (holds : List ℕ �
     fits = fits;
   }
 
-  -- What is to hold of every word considered holds of each beginning of it. Where the row of each state that stands for
-  -- a beginning is known, a state stands for the whole word
+  -- What is to hold of every word considered holds of each beginning of it. Where the row of each
+  -- state that represents a beginning is known, a state represents the whole word
   pub stands_on : (considered : List ℕ → Type 0) → ((u rest : List ℕ) → considered (u ++ rest) → considered u)
       → ((u : List ℕ) (column : ℕ) (s : Stands congruence words holds u) → column < congruence.width → considered (longer u column) → (k : ℕ) × IsCell congruence words s.state column k × holds (longer u column) k)
       → (u rest : List ℕ) → IsWord congruence.width rest → considered (u ++ rest) → Stands congruence words holds u → Stands congruence words holds (u ++ rest)

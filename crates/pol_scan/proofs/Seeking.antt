@@ -54,7 +54,7 @@ module _ {S : Type 0} (congruence : Congruence) (leads : List ℕ → S → Type
     fits = tt;
   }
 
-  -- a word that is accepted is none that a found state stands for
+  -- no found state represents a word that is accepted
   not_stood_for : (word : List ℕ) → accepted word → ¬ (Stands congruence words Any word)
   not_stood_for word a s = seeks.none s.state [] s.within (respects word (word_at words s.state) s.alike a)
 

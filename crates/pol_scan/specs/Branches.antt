@@ -3,7 +3,7 @@ use Rattle.std.specs.Prelude.{◌<◌, ◌≤◌, ℕ, List, [], ◌∷◌, leng
 use Rattle.pol_scan.specs.Words.{with_longer}
 use Rattle.pol_scan.specs.declared.words.Branch.{Branch}
 
--- the words along the branches, behind these
+-- the words along the branches, after these
 abbrev pub words_from : List (List ℕ) → List Branch → List (List ℕ)
 words_from words branches =
     fold (λ known branch. with_longer known branch.parent branch.column) words branches

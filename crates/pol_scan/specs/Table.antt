@@ -15,7 +15,7 @@ pub record Table : Type 0 where
 abbrev pub count : Table → ℕ
 count table = length table.words
 
--- the state behind a state and a column
+-- the state to which a state and a column lead
 abbrev pub next : Table → ℕ → ℕ → ℕ
 next table state column = slice_index table.cells (state * table.width + column)
 

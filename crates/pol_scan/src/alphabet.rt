@@ -41,7 +41,7 @@ impl Model for Alphabet {
     ghost inverse = { λ a. record { width = a.width; columns = a.columns; least = a.least } };
 }
 
-// Puts its least symbol in the place of each column.
+// Replaces each column by its least symbol.
 fn spell(least: &[u8], word: &mut [u8])
     requires { IsWord (length least.now) word.old }
     ensures { word.new ≡ map (slice_index least.now) word.old }
@@ -51,7 +51,7 @@ fn spell(least: &[u8], word: &mut [u8])
     }
 }
 
-// The place of a key among the first so many, or behind them.
+// The place of a key among the first so many, or after them.
 fn place_of(keys: &[u16; SYMBOLS], many: usize, key: u16) -> usize
     requires { many ≤ SYMBOLS }
     ensures within { result ≤ many }
@@ -128,7 +128,7 @@ impl Alphabet {
     }
 
     /// The columns divided by labels, one for each symbol from the space on: two symbols have one
-    /// column exactly if they had, and have one label.
+    /// column exactly if they had one before and have one label.
     ///
     /// One look at each symbol where the columns tell the labels already. Takes no memory.
     pub fn divide(&self, labels: &[u8; SYMBOLS]) -> Alphabet
@@ -143,7 +143,7 @@ impl Alphabet {
     }
 
     /// The columns of two alphabets divided by one another: two symbols have one column exactly if
-    /// they have in both. Takes no memory.
+    /// they have one in both. Takes no memory.
     pub fn join(&self, other: &Alphabet) -> Alphabet
         ensures classes { HasClasses result
             (λ a b. SameColumn self.now a b × SameColumn other.now a b) }

@@ -38,7 +38,7 @@ fn fill_row<M: Machine>(
     requires stands { StandsAt (M.congruence machine.old) (M.leads machine.old)
         found.old.words found.old.states.keys cells.old.items number 0 }
 
-    // The next row begins behind this one.
+    // The next row begins after this one.
     ensures stands { OnOk result (StandsAt (M.congruence machine.new) (M.leads machine.new)
         found.new.words found.new.states.keys cells.new.items (number + 1) 0) }
     ensures number { OnOk result (number < length found.new.words) }

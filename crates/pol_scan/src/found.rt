@@ -49,7 +49,7 @@ pub(crate) fn begin<M: Machine>(
     })
 }
 
-// Follows a column from a found state: the state behind it, and whether that is a new one.
+// Follows a column from a found state: the state to which it leads, and whether that is a new one.
 pub(crate) fn follow<M: Machine>(
     machine: &mut M,
     found: &mut Found<M::State>,

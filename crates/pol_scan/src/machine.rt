@@ -10,8 +10,8 @@ use std::hash::Hash;
 /// A column: a number below the width of the words that it stands in.
 pub type Column = u8;
 
-/// A deterministic machine. It may learn of its states as it goes, so a step may change it. A want
-/// of memory takes nothing from what it knew.
+/// A deterministic machine. It may learn of its states as it goes, so a step may change it. Where
+/// memory runs out it forgets nothing.
 pub trait Machine {
     /// What tells words apart: words lead to equal states exactly if they are the same.
     type State: Eq + Hash + Drop;
@@ -34,7 +34,8 @@ pub trait Machine {
         ensures leads { IfOk result (λ state. leads self.new [] state) }
         ensures grows { grows self.old self.new };
 
-    /// The state behind a state and a column. It is only asked of states to which words lead.
+    /// The state to which a state and a column lead. It is only asked of states to which words
+    /// lead.
     fn step(&mut self, state: &Self::State, column: Column) -> Result<Self::State, AllocError>
         requires led { (word : List ℕ) × leads self.old word state.now }
         requires column { column < (congruence self.old).width }

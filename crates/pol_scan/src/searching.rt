@@ -22,7 +22,7 @@ fn seek_in_row<A: Acceptor>(
     requires seeks { SeeksAt (A.congruence machine.old) (A.leads machine.old)
         (A.accepted machine.old) found.old.words found.old.states.keys number 0 }
 
-    // The next row begins behind this one.
+    // The next row begins after this one.
     ensures none { IfOk result (λ r. IfNone r (SeeksAt (A.congruence machine.new)
         (A.leads machine.new) (A.accepted machine.new)
         found.new.words found.new.states.keys (number + 1) 0)) }
@@ -77,7 +77,7 @@ fn seek<A: Acceptor>(
 /// states.
 ///
 /// It stops at the first state that accepts. One step of the machine and one look-up for each state
-/// found till then and each column; of a state its word is kept, and no row.
+/// found till then and each column. It keeps the word of each state, and no rows.
 pub fn search<A: Acceptor>(
     alloc: Global,
     machine: &mut A,

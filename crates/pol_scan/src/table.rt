@@ -20,9 +20,9 @@ pub type StateNumber = u16;
 // How many states there may be.
 const MOST_STATES: usize = StateNumber::MAX as usize;
 
-/// The table of a deterministic automaton without accepting states: for each state its row, which
-/// has the state behind it for each column, and the word along which it was found. State 0 is the
-/// first.
+/// The table of a deterministic automaton without accepting states: for each state the word along
+/// which it was found, and its row, which has for each column the state to which that leads. State
+/// 0 is the first.
 ///
 /// A state takes its row of cells, and 17 bytes.
 #[derive(Debug, Drop)]
@@ -123,7 +123,7 @@ impl Table {
         self.width
     }
 
-    /// The state behind a state and a column. One look-up.
+    /// The state to which a state and a column lead. One look-up.
     pub fn next(&self, state: StateNumber, column: Column) -> StateNumber
         requires state { state < count self.now }
         requires column { column < self.now.width }

@@ -16,7 +16,7 @@ policy_lines-append [] b = refl
 policy_lines-append (subject ∷ a) b =
     ap (λ (lines : List (List ℕ)). subject_lines subject ++ lines) (policy_lines-append a b) ∙ sym (append_assoc (subject_lines subject) (policy_lines a) (policy_lines b))
 
--- one more line behind what was printed
+-- one more line after what was printed
 line_more : (start text next : List ℕ) (lines more : List (List ℕ)) → text ≡ start ++ text_of_lines lines → next ≡ text ++ text_of_lines more → next ≡ start ++ text_of_lines (lines ++ more)
 line_more start text next lines more was told =
     told ∙ ap (λ (t : List ℕ). t ++ text_of_lines more) was ∙ append_assoc start (text_of_lines lines) (text_of_lines more) ∙ ap (λ (t : List ℕ). start ++ t) (sym (text_of_lines-append lines more))

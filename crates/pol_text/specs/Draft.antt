@@ -39,7 +39,7 @@ first_failing place test [] = None
 first_failing place test (subject ∷ rest) =
     if test subject then first_failing (place + 1) test rest else Some place
 
--- whether a subject goes behind so many, of which one has its kind and name or none has
+-- whether a subject may be added after so many; there says that one of these has its kind and name
 abbrev pub place_given : Bool → ℕ → Result Unit PolicyRefusal
 place_given there count =
     if there then Err Repeated else if nat_le 1024 count then Err Limit else Ok tt

@@ -33,7 +33,7 @@ changed_by (Secret credential text) = secret_given credential text.now
 changed_by (Priv text) = with_priv text.now
 changed_by (Rule verdict text) = with_rule verdict text.now
 
--- the draft after a line that begins a subject, behind its first word
+-- the draft after a line that begins a subject, by what follows the line's first word
 abbrev pub with_heading : ℕ → Kind → List ℕ → Draft → Result Draft PolicyRefusal
 with_heading number kind rest draft =
     heading rest (split_at_first 32 rest)

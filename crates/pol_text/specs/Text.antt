@@ -51,7 +51,7 @@ named text = ok_or (name_of text) BadName
 abbrev pub is_field : List ℕ → Bool
 is_field text = not (is_some (split_at_first 32 text))
 
--- `in PARENT`, behind the name
+-- `in PARENT`, after the name
 unfoldable pub with_parent : List ℕ → List ℕ → Result (List ℕ × Option (List ℕ)) PolicyRefusal
 with_parent name rest = do
   parts ← ok_or (split_at_first 32 rest) BadLine

@@ -17,8 +17,8 @@ use pol_names::{Kind, Name, SubjectId};
 use std::alloc::Global;
 use std::marker::Model;
 
-/// The subjects read so far in order, each with the line that it begins at. Names may be wanted
-/// that are still to come, so chains are judged at the end.
+/// The subjects read so far in order, each with the line that it begins at. A subject may name a
+/// parent that is still to come, so chains are judged at the end.
 #[derive(Drop)]
 pub(crate) struct Draft {
     pub(crate) lines: Vec<usize>,
@@ -42,7 +42,7 @@ impl Model for Draft {
         × (draft.places.keys ≡ map id_of draft.subjects) };
 }
 
-// Adds the place of a subject behind so many.
+// Adds the place of a subject after so many.
 fn add_place(places: &mut IndexSet<SubjectId>, count: usize, id: SubjectId) -> Result<(), LineFault>
     ensures given { LineGives result (place_given (list_any (same_id id) places.old.keys) count) }
     ensures keys { OnOk result (places.new.keys ≡ places.old.keys ++ id ∷ []) }

@@ -13,17 +13,17 @@ use std::fmt;
 /// What is wrong with a line, or with the subject that begins there.
 #[derive(Clone, Copy, Debug, PartialEq, Eq)]
 pub enum PolicyRefusal {
-    /// The line is none of a policy's.
+    /// The line isn't a line of a policy.
     BadLine,
-    /// A field that should be a name is none.
+    /// A field that should be a name isn't one.
     BadName,
     /// The subject is there already, or has this setting already.
     Repeated,
     /// No subject begins before the line.
     NoSubject,
-    /// The rule's pattern is none.
+    /// The rule's pattern is invalid.
     BadPattern(PatternFault),
-    /// The secret is empty or has more than 128 symbols, or the level is no number up to 15.
+    /// The secret is empty or has more than 128 symbols, or the level isn't a number up to 15.
     BadValue,
     /// The subject's parent is no group of the policy.
     NoSuchParent,

@@ -170,8 +170,8 @@ impl Policy {
     }
 
     /// What the policy says of a user's line, by a search along the user's chain that keeps
-    /// nothing for the next one. Nothing where there is no such user. It takes no memory, so want
-    /// of it is never the answer.
+    /// nothing for the next one. Nothing where there is no such user. It takes no memory, so it
+    /// never answers the error.
     pub fn plain_decide(&self, user: &Name, line: &[u8]) -> Result<Option<Decision>, AllocError>
         ensures { result ≡ Ok (decide self.now user.now line.now) }
     {
@@ -181,7 +181,7 @@ impl Policy {
         }
     }
 
-    /// A copy of the policy, which shares its patterns. The error is want of memory.
+    /// A copy of the policy, which shares its patterns. The error means that memory ran out.
     pub fn copy(&self, alloc: Global) -> Result<Policy, AllocError>
         ensures { IfOk result (λ copy. copy ≡ self.now) }
     {

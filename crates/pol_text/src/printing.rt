@@ -89,7 +89,7 @@ fn print_subject(alloc: Global, text: &mut Bytes, subject: &Subject) -> Result<(
 
 impl Policy {
     /// The policy's text in its printed form: every subject in order, with its settings and its
-    /// rules, one line each. The error is want of memory.
+    /// rules, one line each. The error means that memory ran out.
     #[tactic(auto, unfolding(crate::specs::Text::text_of))]
     pub fn print(&self, alloc: Global) -> Result<Bytes, AllocError>
         ensures text { IfOk result (λ text. text ≡ text_of self.now) }

@@ -39,7 +39,7 @@ fn is_field(text: &[u8]) -> bool
     split_once(text, b' ').is_none()
 }
 
-// `NAME in PARENT`: the name, and what stands behind it and a space.
+// `NAME in PARENT`: the name, and what follows it and a space.
 #[tactic(auto, unfolding(crate::specs::Text::with_parent))]
 fn heading_below(name: &[u8], rest: &[u8]) -> Result<(Name, Option<Name>), PolicyRefusal>
     ensures { result ≡ with_parent name.now rest.now }
@@ -55,7 +55,7 @@ fn heading_below(name: &[u8], rest: &[u8]) -> Result<(Name, Option<Name>), Polic
     Ok((name, Some(parent)))
 }
 
-// `NAME` or `NAME in PARENT`, behind the first word.
+// `NAME` or `NAME in PARENT`, after the first word.
 #[tactic(auto, unfolding(crate::specs::Text::heading))]
 fn heading(rest: &[u8]) -> Result<(Name, Option<Name>), PolicyRefusal>
     ensures { result ≡ heading_wanted rest.now (split_at_first 32 rest.now) }
@@ -69,7 +69,7 @@ fn heading(rest: &[u8]) -> Result<(Name, Option<Name>), PolicyRefusal>
     }
 }
 
-// A line that begins a subject, behind its first word.
+// A line that begins a subject, after its first word.
 fn add_subject(
     alloc: Global,
     draft: Draft,
@@ -83,7 +83,7 @@ fn add_subject(
     draft.with_subject(alloc, number, kind, name, parent)
 }
 
-// What a line of this first word sets: nothing for a word that none begins with.
+// What a line of this first word sets; nothing for a word that begins no such line.
 #[tactic(auto, unfolding(crate::specs::Text::with_words))]
 fn setting_of<'a>(word: &[u8], rest: &'a [u8]) -> Option<Setting<'a>>
     requires group { bytes_eq word.now (codes "group") ≡ false }

@@ -18,7 +18,7 @@ use pol_names::{Credential, Kind, Secret, Verdict};
 use pol_pattern::{Pattern, PatternFault};
 use std::alloc::Global;
 
-/// A line of a subject, behind its first word.
+/// A line of a subject, after its first word.
 #[derive(Clone, Copy)]
 pub(crate) enum Setting<'a> {
     Secret(Credential, &'a [u8]),

@@ -110,7 +110,7 @@ impl StructuralEq for Subject {
 }
 
 impl Subject {
-    /// A subject without secrets, level and rules, which is right by the types of its names. Takes
+    /// A subject without secrets, level and rules, valid by the types of its names. Takes
     /// no memory.
     pub(crate) fn new(alloc: Global, kind: Kind, name: Name, parent: Option<Name>) -> Subject
         ensures subject { result ≡ new_subject kind name parent }
@@ -147,7 +147,7 @@ impl Subject {
         }
     }
 
-    /// Gives the user another secret, or none. By its type a secret is right.
+    /// Gives the user another secret, or none. Its type says that a secret is valid.
     pub(crate) fn set_secret(&mut self, credential: Credential, secret: Option<Secret>)
         ensures changed { self.new ≡ with_secret credential secret self.old }
         ensures right { IsTrue (all_of is_secret secret) }
@@ -158,8 +158,8 @@ impl Subject {
         }
     }
 
-    /// Puts a rule at a place, counted from 0; those from there on move up. By its type a rule's
-    /// pattern is right.
+    /// Puts a rule at a place, counted from 0; those from there on move up. Its type says that a
+    /// rule's pattern is valid.
     #[tactic(auto, unfolding(pol_pattern::specs::Reading::pattern_of))]
     pub(crate) fn insert_rule(&mut self, at: usize, rule: Rule) -> Result<(), AllocError>
         requires { at ≤ length self.old.rules }

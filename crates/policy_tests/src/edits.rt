@@ -24,7 +24,7 @@ fn edit_by_each(alloc: Global, policy: &mut Policy, lines: &str) -> Result<(), E
     Ok(())
 }
 
-// Of the policy the edits, one a line, make that of the text.
+// The edits, one a line, turn the policy into that of the text.
 fn becomes<R: Abort + AllocGlobal>(
     rt: &R,
     policy: &mut Policy,
@@ -35,7 +35,7 @@ fn becomes<R: Abort + AllocGlobal>(
     prints(rt, policy, after)
 }
 
-// Of the policy of the first text the edits, one a line, make that of the other.
+// The edits, one a line, turn the policy of the first text into that of the other.
 fn makes<R: Abort + AllocGlobal>(
     rt: &R,
     before: &str,
@@ -62,7 +62,7 @@ fn edit_together(alloc: Global, policy: &mut Policy, lines: &str) -> Result<(), 
     apply_all(alloc, policy, edits.as_slice())
 }
 
-// Of the policy of the first text the edits make that of the other.
+// The edits turn the policy of the first text into that of the other.
 fn makes_together<R: Abort + AllocGlobal>(
     rt: &R,
     before: &str,
@@ -74,7 +74,7 @@ fn makes_together<R: Abort + AllocGlobal>(
     prints(rt, &policy, after)
 }
 
-// They are refused so, as it is printed, and the policy is as before.
+// They are refused with this printed fault, and the policy is as before.
 fn refuses_together<R: Abort + AllocGlobal>(
     rt: &R,
     before: &str,
@@ -89,7 +89,7 @@ fn refuses_together<R: Abort + AllocGlobal>(
     prints(rt, &policy, before)
 }
 
-// The line is refused so, as it is printed, and the policy is as before.
+// The line is refused with this printed fault, and the policy is as before.
 fn stays<R: Abort + AllocGlobal>(
     rt: &R,
     policy: &mut Policy,
@@ -104,7 +104,7 @@ fn stays<R: Abort + AllocGlobal>(
     prints(rt, policy, before)
 }
 
-/// The line is refused so by the policy of the text.
+/// The policy of the text refuses the line with this printed fault.
 pub(crate) fn refuses<R: Abort + AllocGlobal>(
     rt: &R,
     before: &str,

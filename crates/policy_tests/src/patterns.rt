@@ -13,7 +13,7 @@ fn tells(alloc: Global, source: &[u8], text: &[u8], expected: bool) -> bool {
     }
 }
 
-// Whether the bytes are refused so, as it is printed.
+// Whether the bytes are refused with this printed fault.
 fn is_refused(alloc: Global, source: &[u8], expected: &[u8]) -> bool {
     let Some(fault) = Pattern::read(alloc, source).err() else {
         return false;
@@ -35,7 +35,7 @@ fn is_so(alloc: Global, source: &[u8], line: &[u8]) -> bool {
     }
 }
 
-// Judges the lines, each behind a mark: `/` a source, and then what is so of it. A line that begins
+// Judges the lines, each after a mark: `/` a source, and then what is so of it. A line that begins
 // with `#` is a comment.
 fn judges<R: Abort + AllocGlobal>(rt: &R, lines: &str) {
     let mut source = b"".as_slice();

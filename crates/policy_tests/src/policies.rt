@@ -8,7 +8,7 @@ use std::fmt::Write;
 use std::process::Abort;
 use std::test::Fail;
 
-// The text is refused so, as it is printed.
+// The text is refused with this printed fault.
 fn refuses<R: Abort + AllocGlobal>(rt: &R, text: &str, expected: &str) -> Result<(), Fail> {
     match Policy::read(rt.alloc(), text.as_bytes()).err() {
         Some(fault) => is_shown(rt, text, &fault, expected)?,
@@ -54,7 +54,7 @@ fn copied(alloc: Global, text: &str) -> Result<Policy, PolicyFault> {
     Ok(policy.copy(alloc)?)
 }
 
-/// The text is a policy, of which a copy is printed so.
+/// The text is a policy, and a copy of it is printed so.
 pub(crate) fn is_printed<R: Abort + AllocGlobal>(
     rt: &R,
     text: &str,
@@ -78,7 +78,7 @@ fn printed_policies(rt: HostRuntime) -> Result<(), Fail> {
     prints(&rt, &empty, "")
 }
 
-// Adds the subjects, with a comma and a blank behind each.
+// Adds the subjects, with a comma and a blank after each.
 fn push_list(list: &mut String, ids: &[SubjectId]) -> Result<(), Fail> {
     for id in ids {
         write!(list, "{id}, ")?;

@@ -1,4 +1,4 @@
-//! Patterns of every size, and each fault at every place: want of memory stands in for none of them.
+//! Patterns of every size, and each fault at every place: a lack of memory hides none of them.
 
 ghost use Rattle.std.specs.Prelude.{◌<◌};
 
@@ -45,7 +45,7 @@ fn copies_each<R: Abort + AllocGlobal>(rt: &R, source: &[u8]) {
 fn patterns_of_every_length(rt: HostRuntime) {
     copies_each(&rt, &[b'a'; 200]);
     copies_each(&rt, &[b'|'; 200]);
-    // Of every second factor a group or a star.
+    // Every second factor is a group or a star.
     let mut repeated = [b'a'; 200];
     for place in 0..100 {
         repeated[2 * place + 1] = if place < 50 { b'?' } else { b'*' };
@@ -79,7 +79,7 @@ fn refuses<R: Abort + AllocGlobal>(rt: &R, source: &[u8], expected: PatternFault
     assert_eq!(rt; fault, Some(expected), "of {} bytes", source.len());
 }
 
-// The last byte is refused so, behind as many others as its place says.
+// The last byte is refused so, after as many others as its place says.
 fn refuses_last<R: Abort + AllocGlobal>(
     rt: &R,
     other: u8,

@@ -7,7 +7,7 @@ use Rattle.pol_scan.specs.Words.{longer}
 use Rattle.pol_scan.specs.Congruence.{Congruence, Keeps, keeps_itself}
 use Rattle.scan_tests.specs.declared.remainders.Numerals.{Numerals}
 
--- the remainder behind one more digit
+-- the remainder after one more digit
 abbrev pub behind : Numerals → ℕ → ℕ → ℕ
 behind n remainder digit = (remainder * n.base + digit) % n.divisor
 

@@ -29,7 +29,7 @@ fn digits(alloc: Global, word: &[u8]) -> Result<String, AllocError> {
     Ok(text)
 }
 
-// A line for each state: its word, and the states behind it.
+// A line for each state: its word, and the states to which it leads.
 fn shown(alloc: Global, table: &Table) -> Result<String, AllocError> {
     let mut text = String::new(alloc);
     for state in 0..table.states() {

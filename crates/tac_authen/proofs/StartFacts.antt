@@ -23,7 +23,7 @@ sum-lengths : (fields : List (List ℕ)) → sum (map length fields) ≡ length 
 sum-lengths [] = refl
 sum-lengths (field ∷ fields) = omega (arith, sum_by-cons (λ x. x) (length field) (map length fields), sum-lengths fields, length-append field (concat fields))
 
--- the fields of a start behind its four cells, with their lengths
+-- the fields of a start after its four cells, with their lengths
 abbrev spelling : List ℕ → List ℕ → List ℕ → List ℕ → List ℕ
 spelling user port rem_addr extra =
     (length user ∷ length port ∷ length rem_addr ∷ length extra ∷ []) ++ user ++ port ++ rem_addr ++ extra

@@ -59,10 +59,10 @@ fn read_fields(alloc: Global, body: &[u8]) -> Result<Continue, BodyFault>
 /// The answer that a body spells (RFC 8907, section 5.3).
 ///
 /// `Short` where the fixed part isn't whole; `LengthSum` where the lengths don't add up to the
-/// body's; `Memory` where memory ran out for the fields of a body that is one.
+/// body's; `Memory` where memory ran out for the fields of a valid body.
 pub fn read_continue(alloc: Global, body: &[u8]) -> Result<Continue, BodyFault>
     ensures exact { GivesUnlessMemory is_memory (λ body. body) result (continue_of body.now) }
-    // A refusal is given without fail: only a body of its kind takes memory.
+    // Only a valid body takes memory, so an invalid one is refused in any case.
     ensures memory { result ≡ Err Memory → IsOk (continue_of body.now) }
     // No byte is lost, and none ignored.
     ensures found { IfOk result (λ answer. body.now ≡ continue_bytes answer) }

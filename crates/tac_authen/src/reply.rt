@@ -6,8 +6,8 @@ ghost use Rattle.tac_authen.specs.Reply.{is_noecho, bytes_with, reply_bytes, rep
 use arrayvec::ArrayVec;
 use tac_wire::{BodyFault, MESSAGE_MAX, Message, REPLY_MAX, message_of};
 
-/// What comes of an authentication, or is asked next (RFC 8907, section 5.2). Numbers without a
-/// name are read as they are.
+/// The result of an authentication, or what is asked next (RFC 8907, section 5.2). Numbers without
+/// a name are read as they are.
 #[derive(Clone, Copy, Debug, PartialEq, Eq)]
 pub struct AuthenStatus(pub u8);
 

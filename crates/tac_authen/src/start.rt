@@ -95,10 +95,10 @@ fn read_fields(alloc: Global, body: &[u8]) -> Result<Start, BodyFault>
 /// The start that a body spells (RFC 8907, section 5.1).
 ///
 /// `Short` where the fixed part isn't whole; `LengthSum` where the lengths don't add up to the
-/// body's; `Memory` where memory ran out for the fields of a body that is one.
+/// body's; `Memory` where memory ran out for the fields of a valid body.
 pub fn read_start(alloc: Global, body: &[u8]) -> Result<Start, BodyFault>
     ensures exact { GivesUnlessMemory is_memory (λ body. body) result (start_of body.now) }
-    // A refusal is given without fail: only a body of its kind takes memory.
+    // Only a valid body takes memory, so an invalid one is refused in any case.
     ensures memory { result ≡ Err Memory → IsOk (start_of body.now) }
     // No byte is lost, and none ignored.
     ensures found { IfOk result (λ start. body.now ≡ start_bytes start) }

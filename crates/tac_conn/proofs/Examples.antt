@@ -1,4 +1,4 @@
--- Worked cases: what packets come to.
+-- Worked cases: the outcomes of packets.
 use Rattle.std.proofs.Common.{◌≡◌, ℕ, ◌+◌, Bool, true, false, List, [], ◌∷◌, ◌++◌, length, Option, None, Some, refl}
 use Rattle.std.specs.Prelude.{codes}
 use Rattle.std.specs.Option.{option_map}
@@ -15,7 +15,7 @@ use Rattle.tac_conn.specs.Reply.{packet_of, answer_body}
 use Rattle.tac_conn.specs.Judging.{judged, closes, reply_in, reply_of}
 use Rattle.tac_conn.specs.History.{outcome, judged_after, is_closed, trail_of, open_sessions}
 
--- what is sent for a packet that came behind these, and whether the connection closes
+-- what is sent for a packet that came after these, and whether the connection closes
 abbrev says : List Packet → Packet → Option Packet × Bool
 says earlier packet = (option_map packet_of (reply_of (outcome earlier packet) Pass), closes (outcome earlier packet))
 
@@ -88,7 +88,7 @@ short_chap : says [] (authen_packet 1 1 4 9 ((1 ∷ 1 ∷ 3 ∷ 3 ∷ 1 ∷ 0 �
 unfolding outcome judged_after judged is_closed trail_of
 short_chap = refl
 
--- a body that is none closes a single connection too
+-- an invalid body closes a single connection too
 bad_start : says [] (authen_packet 0 1 4 9 (1 ∷ [])) ≡ (Some (replied 2 4 9 7 0 (codes "bad body")), true)
 unfolding outcome judged_after judged is_closed trail_of
 bad_start = refl

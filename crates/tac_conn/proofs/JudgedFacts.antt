@@ -1,4 +1,4 @@
--- All that a packet can come to, and what follows from that.
+-- All outcomes that a packet can have, and what follows from that.
 use Rattle.std.proofs.Common.{◌≡◌, ℕ, ◌+◌, ◌*◌, Bool, true, false, cond, List, [], ◌∷◌, length, Option, None, Some, Result, Ok, Err, refl, sym, subst, ap, ◌∙◌, arith}
 use Rattle.std.specs.Prelude.{IfSome, not, nat_le, nat_lt, ◌==◌, ◌||◌, ◌%◌, codes}
 use Rattle.std.specs.Result.{result_ok}
@@ -37,7 +37,8 @@ use Rattle.tac_conn.specs.Standing.{step_of, session_left, HasItsSlot, GrantsNot
 use Rattle.tac_conn.specs.Reply.{IsReplyTo, is_success, bad_body, fail, authen_error, question_to, secret_question, refusal, acct_error}
 use Rattle.tac_conn.specs.Judging.{slot_for, reply_in, ends, breaks, unserved, max_sessions, session_begun, chap_proof, is_supported, start_outcome, start_read, session_named, name_outcome, typed_outcome, continue_outcome, continue_read, line_outcome, request_read, record_outcome, acct_read, kind_of, is_in_turn, body_outcome, kind_outcome, judged, is_body, is_read, leaves_open, reply_of}
 
--- what a packet comes to, on a connection that is single or isn't, by how many sessions are open, and its own, if it is
+-- the outcome of a packet, on a connection that is single or isn't, by how many sessions are open,
+-- and its own, if it is
 pub data ComesTo (single : Bool) (count : ℕ) (known : Option Session) (packet : Packet) : Outcome → Type 0 where
   -- a START opens a session
   begins : (start : Start) → known ≡ None → start_of packet.body ≡ Ok start → is_read single count known packet ≡ true
@@ -149,7 +150,7 @@ module _ (single : Bool) (count : ℕ) (packet : Packet) where
   kind_comes known (Some kind) served =
       by_test known (is_in_turn single count known kind packet.header) _ _ (λ turn. body_comes known kind served turn) (λ h. shut)
 
-  -- whatever a packet comes to
+  -- whatever outcome a packet has
   pub judged_comes : (known : Option Session) → Comes known (judged single count known packet)
   unfolding judged
   judged_comes known = by_test known (packet.header.seq == 255) _ _ (λ h. shut) (λ h. kind_comes known (kind_of packet.header) refl)

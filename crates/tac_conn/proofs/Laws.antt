@@ -1,4 +1,4 @@
--- Laws of what packets come to, whichever came before.
+-- Laws of the outcomes of packets, whichever came before.
 use Rattle.std.proofs.Common.{◌≡◌, ℕ, ◌+◌, ◌≤◌, Bool, true, false, cond, List, [], ◌∷◌, Option, None, Some, refl, sym, ap, subst, ◌∙◌, arith, inl, inr}
 use Rattle.std.specs.Prelude.{IfSome, not}
 use Rattle.std.proofs.lemmas.Bool.{cases_lt}
@@ -17,7 +17,8 @@ use Rattle.tac_conn.proofs.CountFacts.{weight, open_sessions-step}
 use Rattle.tac_conn.proofs.JudgedFacts.{judged_grants_nothing, judged_replies_to, opens_alone}
 use Rattle.tac_conn.proofs.StandingFacts.{trail_of-own}
 
--- what holds of a silent close, and of whatever a packet is judged to come to, holds of what it comes to
+-- what holds of a silent close, and of whatever outcome a packet is judged to have, holds of its
+-- outcome
 module _ (packet : Packet) (P : Outcome → Type 0) (closed : P Close) (each : (single : Bool) (count : ℕ) (known : Option Session) → P (judged single count known packet)) where
   by_test : (b : Bool) (said : Outcome) → P said → P (cond b Close said)
   by_test true said h = closed

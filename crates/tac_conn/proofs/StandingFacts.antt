@@ -1,4 +1,4 @@
--- What is kept goes on standing for the packets that came.
+-- What is kept still represents the packets that came.
 use Rattle.std.proofs.Common.{◌≡◌, ◌≢◌, ℕ, ◌+◌, ◌<◌, ◌≤◌, Bool, true, false, cond, List, [], ◌∷◌, length, Option, None, Some, refl, sym, ap, subst, ◌∙◌, arith}
 use Rattle.std.specs.Prelude.{◌==◌, is_some, nat_le}
 use Rattle.std.proofs.lemmas.Bool.{eqb-true, eqb-false, eq-eqb, leb-false}
@@ -147,7 +147,7 @@ module _ (conn : Conn) (packet : Packet) (earlier : List Packet) (stands : Stand
   same_single : single_with conn.single packet.header ≡ is_single (packet ∷ earlier)
   same_single = ap (λ (k : Option Bool). single_with k packet.header) (stands.single alive) ∙ single_next packet earlier
 
-  -- what a packet comes to by what is kept is what it comes to by the packets
+  -- the outcome of a packet by what is kept is its outcome by the packets
   outcome_in-judged_after : outcome_in conn packet ≡ judged_after earlier packet
   unfolding outcome_in judged_after
   outcome_in-judged_after =
@@ -188,7 +188,7 @@ module _ (conn : Conn) (packet : Packet) (earlier : List Packet) (stands : Stand
     pending = last_slot _ (ap (λ (o : Outcome). slot_in (step_of [] o)) (sym judged_after-outcome));
   }
 
-  -- what is kept after a packet stands for the packets with that one
+  -- what is kept after a packet represents the packets with that one
   pub stands_next : Stands (conn_after conn packet.header (outcome_in conn packet)) (packet ∷ earlier)
   stands_next = subst (λ (o : Outcome). Stands (conn_after conn packet.header o) (packet ∷ earlier)) (sym outcome_in-judged_after) stands_by
 

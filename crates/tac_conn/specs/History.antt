@@ -87,7 +87,7 @@ is_open (packet ∷ earlier) = true
 abbrev pub open_count : (ℕ → List Packet) → List Packet → ℕ
 open_count trail packets = count_by (λ id. is_open (trail id)) (session_ids packets)
 
--- what a packet comes to behind these, by the trail of each session
+-- the outcome of a packet after these, by the trail of each session
 abbrev pub judged_by : (ℕ → List Packet) → List Packet → Packet → Outcome
 judged_by trail earlier packet =
     let id = packet.header.session in
@@ -112,7 +112,7 @@ open_session packets id = session_of id (trail_of packets id)
 abbrev pub open_sessions : List Packet → ℕ
 open_sessions packets = open_count (trail_of packets) packets
 
--- what a packet comes to behind these, on a connection that none of them closed
+-- the outcome of a packet after these, on a connection that none of them closed
 unfoldable pub judged_after : List Packet → Packet → Outcome
 judged_after earlier packet = judged_by (trail_of earlier) earlier packet
 
@@ -121,7 +121,7 @@ unfoldable pub is_closed : List Packet → Bool
 is_closed [] = false
 is_closed (packet ∷ earlier) = is_closed earlier || closes (judged_after earlier packet)
 
--- what a packet comes to that came after these on its connection: a closed connection says nothing
+-- the outcome of a packet that came after these on its connection: a closed connection says nothing
 unfoldable pub outcome : List Packet → Packet → Outcome
 outcome earlier packet = if is_closed earlier then Close else judged_after earlier packet
 

@@ -1,4 +1,4 @@
--- What one packet comes to, by its session (RFC 8907, sections 4.1 to 4.4, and 5 to 7).
+-- The outcome of one packet, by its session (RFC 8907, sections 4.1 to 4.4, and 5 to 7).
 use Rattle.std.specs.Prelude.{ℕ, ◌+◌, ◌-◌, ◌%◌, List, [], ◌∷◌, length, drop, codes, slice_index}
 use Rattle.std.specs.Prelude.{slice_range, Bool, true, false, not, ◌&&◌, ◌||◌, ◌==◌, nat_lt, nat_le}
 use Rattle.std.specs.Prelude.{Option, Some, None, is_ok, if◌then◌else◌}
@@ -38,7 +38,7 @@ use Rattle.tac_conn.specs.declared.outcome.Outcome.TheVariants.{Close}
 use Rattle.tac_conn.specs.Reply.{fail, authen_error, question_to, secret_question, refusal}
 use Rattle.tac_conn.specs.Reply.{acct_error, bad_body, answer_body}
 
--- ---- what a packet comes to
+-- ---- the outcome of a packet
 
 -- whether its session is open from then on
 abbrev pub leaves_open : Outcome → Bool
@@ -80,7 +80,7 @@ reply_in slot body = record { header = slot.header; body = body }
 abbrev pub ends : Slot → ReplyBody → Outcome
 ends slot body = Reply (reply_in slot body) (not slot.single)
 
--- a body that is none of its kind closes the connection, single or not
+-- an invalid body closes the connection, single or not
 abbrev pub breaks : Slot → Outcome
 breaks slot = Reply (reply_in slot (bad_body slot.kind)) true
 
@@ -172,7 +172,7 @@ aborted slot = if slot.single then Silent else Close
 abbrev pub session_named : Slot → Session → List ℕ → Session
 session_named slot session name = record session { last_seq = slot.header.seq; user = Some name }
 
--- the name that was asked for: the empty one is none
+-- the name that was asked for: the empty text is no name
 abbrev pub name_outcome : Slot → Session → List ℕ → Outcome
 name_outcome slot session [] = ends slot fail
 name_outcome slot session (byte ∷ name) =
@@ -254,8 +254,8 @@ kind_outcome single count session packet (Some kind) =
     then body_outcome count session (slot_for packet.header kind single) packet.body
     else Close
 
--- what a packet comes to on a connection that is single or isn't, by how many sessions are
--- open, and by its own, if that is open. After seq_no 255 there is none for a reply
+-- the outcome of a packet on a connection that is single or isn't, by how many sessions are open,
+-- and by its own, if that is open. After seq_no 255 no number is left for a reply
 unfoldable pub judged : Bool → ℕ → Option Session → Packet → Outcome
 judged single count session packet =
     if packet.header.seq == 255 then Close

@@ -79,7 +79,7 @@ secret_question =
       msg = record { items = codes "Password: " };
     })
 
--- what a user of this name is asked for: the empty name is none
+-- what a user of this name is asked for: the empty text is no name
 abbrev pub question_to : List ℕ → ReplyBody
 question_to [] = name_question
 question_to (byte ∷ name) = secret_question
@@ -126,7 +126,7 @@ acct_error text = Accounting (record { status = record { 0 = 2 }; msg = record {
 
 -- ---- what is said
 
--- the ERROR that says that a body is none of its kind
+-- the ERROR that says that a body is invalid
 abbrev pub bad_body : AskKind → ReplyBody
 bad_body about.Authentication = authen_error (codes "bad body")
 bad_body about.Authorisation = author_error (codes "bad body")

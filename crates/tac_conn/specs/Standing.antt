@@ -1,4 +1,4 @@
--- What the code keeps of a connection, and which packets that stands for.
+-- What the code keeps of a connection, and which packets that represents.
 use Rattle.std.specs.Prelude.{◌≡◌, ◌≤◌, ℕ, List, [], ◌∷◌, length, Bool, true, false, not, Option}
 use Rattle.std.specs.Prelude.{Some, None}
 use Rattle.tac_wire.specs.declared.header.Header.{Header}
@@ -20,7 +20,7 @@ use Rattle.tac_conn.specs.Sessions.{session_in, settled, HasEachOnce}
 
 -- ---- a step
 
--- what is done for a packet that comes to this: the pad is put on what is sent
+-- what is done for a packet of this outcome: the pad is put on what is sent
 abbrev pub step_of : List ℕ → Outcome → Step
 step_of key (comes_to.Question reply session) = Reply (sent key (packet_of reply)) false
 step_of key (comes_to.Reply reply ends) = Reply (sent key (packet_of reply)) ends
@@ -80,7 +80,7 @@ abbrev pub single_with : Option Bool → Header → Bool
 single_with None header = asks_single header
 single_with (Some single) header = single
 
--- what a packet comes to, by what is kept
+-- the outcome of a packet, by what is kept
 unfoldable pub outcome_in : Conn → Packet → Outcome
 outcome_in conn packet =
     let session = session_in conn.sessions packet.header.session in
@@ -92,7 +92,7 @@ is_read_in conn packet =
     let session = session_in conn.sessions packet.header.session in
     is_read (single_with conn.single packet.header) (length conn.sessions) session packet
 
--- what is kept after a packet of this header that comes to this
+-- what is kept after a packet of this header and this outcome
 abbrev pub conn_after : Conn → Header → Outcome → Conn
 conn_after conn header outcome = record conn {
   single = Some (single_with conn.single header);
@@ -119,7 +119,7 @@ IsLast None packets = Unit {0}
 IsLast (Some slot) [] = ⊥
 IsLast (Some slot) (packet ∷ earlier) = slot_in (step_of [] (outcome earlier packet)) ≡ Some slot
 
--- what is kept stands for a connection on which these packets came; of a closed one
+-- what is kept represents a connection on which these packets came; of a closed one
 -- no session matters
 pub record Stands (conn : Conn) (packets : List Packet) : Type 0 where
   pub closed : conn.closed ≡ is_closed packets

@@ -1,4 +1,4 @@
-//! What an accounting REQUEST comes to.
+//! The outcome of an accounting REQUEST.
 
 ghost use Rattle.std.specs.Prelude.{◌≡◌, is_ok, IsTrue, IfOk, OnErr};
 ghost use Rattle.std.specs.Result.{result_ok};
@@ -13,7 +13,7 @@ use std::alloc::{AllocError, Global};
 use tac_request::{AcctRequest, Record, acct_kind, read_acct_request};
 use tac_wire::well_formed;
 
-// A request that is one: its record is to be stored, where the flags are those of one.
+// A valid request: its record is to be stored, where the flags are those of a record.
 fn recorded(alloc: Global, slot: Slot, request: AcctRequest) -> Result<Outcome, AllocError>
     ensures { IfOk result
         (λ outcome. outcome ≡ judging.record_outcome slot request (kind_of request.flags)) }
@@ -25,7 +25,7 @@ fn recorded(alloc: Global, slot: Slot, request: AcctRequest) -> Result<Outcome, 
     Ok(Outcome::Asks(Ask::Account(record), slot))
 }
 
-/// What the body of a REQUEST comes to.
+/// The outcome of the body of a REQUEST.
 pub(crate) fn judge_record(alloc: Global, slot: Slot, body: &[u8]) -> Result<Outcome, AllocError>
     ensures outcome { IfOk result
         (λ outcome. outcome ≡ judging.acct_read slot (result_ok (acct_request_of body.now))) }

@@ -1,4 +1,4 @@
-//! What an authorisation REQUEST comes to.
+//! The outcome of an authorisation REQUEST.
 
 ghost use Rattle.std.specs.Prelude.{◌≡◌, is_ok, IsTrue, IfOk, OnErr};
 ghost use Rattle.std.specs.Result.{result_ok};
@@ -13,7 +13,7 @@ use std::alloc::{AllocError, Global};
 use tac_request::{AuthorRequest, LineOf, read_author_request, request_line};
 use tac_wire::well_formed;
 
-// A request that is one.
+// A valid request.
 fn requested(alloc: Global, slot: Slot, request: AuthorRequest) -> Result<Outcome, AllocError>
     ensures { IfOk result
         (λ outcome. outcome ≡ judging.line_outcome slot request.user (line_of request.args)) }
@@ -32,7 +32,7 @@ fn requested(alloc: Global, slot: Slot, request: AuthorRequest) -> Result<Outcom
     Ok(outcome)
 }
 
-/// What the body of a REQUEST comes to.
+/// The outcome of the body of a REQUEST.
 pub(crate) fn judge_request(alloc: Global, slot: Slot, body: &[u8]) -> Result<Outcome, AllocError>
     ensures outcome { IfOk result
         (λ outcome. outcome ≡ judging.request_read slot (result_ok (author_request_of body.now))) }

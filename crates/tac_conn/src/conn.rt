@@ -67,7 +67,7 @@ impl Conn {
         self.pending
     }
 
-    // What a packet comes to, on a connection that is open.
+    // The outcome of a packet, on a connection that is open.
     #[tactic(auto, unfolding(crate::specs::Standing::outcome_in, crate::specs::Standing::is_read_in))]
     fn judge(&self, packet: &Packet) -> Result<Outcome, AllocError>
         ensures outcome { IfOk result
@@ -84,7 +84,7 @@ impl Conn {
         )
     }
 
-    // Does what a packet of this header comes to.
+    // Does what follows from the outcome of a packet of this header.
     fn follow(&mut self, key: &Key, header: &Header, outcome: Outcome) -> Result<Step, AllocError>
         ensures ok { OnOk result (self.new ≡ standing.conn_after self.old header.now outcome) }
         ensures step { IfOk result (λ step. step ≡ standing.step_of key.now outcome) }
@@ -118,11 +118,11 @@ impl Conn {
 
     /// Takes a packet that came, with the pad on its body, where no answer is waited for.
     ///
-    /// A closed connection answers [`Step::Close`] and stays as it is. The error is want of memory:
-    /// nothing has changed, and the packet is gone.
+    /// A closed connection answers [`Step::Close`] and stays as it is. The error means that memory
+    /// ran out: nothing has changed, and the packet is gone.
     pub fn take(&mut self, key: &Key, frame: Frame) -> Result<Step, AllocError>
         requires { standing.pending_of self.old ≡ None }
-        // What is done is what the packet comes to, by the clear packets that came before it.
+        // What is done is the packet's outcome, by the clear packets that came before it.
         ensures step { (earlier : List PacketValue) → standing.Stands self.old earlier →
             let outcome = history.outcome earlier (clear key.now frame) in
             IfOk result (λ step. step ≡ standing.step_of key.now outcome) }
@@ -134,7 +134,7 @@ impl Conn {
         ensures closed { IsTrue (standing.closed_of self.old) →
             (result ≡ Ok steps.Close) × (self.new ≡ self.old) }
         ensures err { OnErr result (self.new ≡ self.old) }
-        // Only a packet that is read takes memory: what is refused as it stands is so without fail.
+        // Only a packet that is read takes memory, so any other is refused in any case.
         ensures memory { (earlier : List PacketValue) → standing.Stands self.old earlier →
             OnErr result (IsTrue (history.is_read_after earlier (clear key.now frame))) }
 

@@ -1,4 +1,4 @@
-//! What an answer of the client within an authentication comes to.
+//! The outcome of an answer of the client within an authentication.
 
 ghost use Rattle.std.specs.Prelude.{◌≡◌, is_ok, IsTrue, IfOk, OnErr};
 ghost use Rattle.std.specs.Result.{result_ok};
@@ -25,7 +25,7 @@ fn aborted(slot: Slot) -> Outcome
     }
 }
 
-// The name that was asked for: the empty one is none.
+// The name that was asked for: the empty text is no name.
 fn named(slot: Slot, session: &Session, name: Bytes) -> Outcome
     ensures { result ≡ judging.name_outcome slot session.now name }
 {
@@ -57,7 +57,7 @@ fn typed(alloc: Global, slot: Slot, session: &Session, text: Bytes) -> Result<Ou
     Ok(Outcome::Asks(ask, slot))
 }
 
-// A CONTINUE that is one.
+// A valid CONTINUE.
 fn answered(
     alloc: Global,
     slot: Slot,
@@ -72,7 +72,7 @@ fn answered(
     typed(alloc, slot, session, answer.user_msg)
 }
 
-/// What the body of a CONTINUE comes to in this session.
+/// The outcome of the body of a CONTINUE in this session.
 pub(crate) fn judge_continue(
     alloc: Global,
     slot: Slot,

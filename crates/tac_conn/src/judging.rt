@@ -1,4 +1,4 @@
-//! What a clear packet comes to, by its session.
+//! The outcome of a clear packet, by its session.
 
 ghost use Rattle.std.specs.Prelude.{◌≡◌, ◌<◌, is_ok, IsTrue, IfOk, OnErr};
 ghost use Rattle.std.specs.Option.{option_copied};
@@ -84,9 +84,9 @@ fn judge_body(
     }
 }
 
-/// What a clear packet comes to on a connection that is single or isn't, with so many sessions
-/// open, its own among them where it is open. The error is want of memory, for a packet that is
-/// read.
+/// The outcome of a clear packet on a connection that is single or isn't, with so many sessions
+/// open, its own among them where it is open. The error means that memory ran out, for a packet
+/// that is read.
 #[tactic(auto, unfolding(crate::specs::Judging::judged))]
 pub(crate) fn judge(
     alloc: Global,

@@ -1,4 +1,4 @@
-//! What a packet comes to.
+//! The outcome of a packet.
 
 ghost use Rattle.std.specs.Prelude.{◌≡◌, ◌<◌};
 ghost use Rattle.tac_conn.specs.Judging as judging;
@@ -9,7 +9,7 @@ use crate::session::Session;
 use crate::step::{Sent, Step};
 use tac_wire::{Header, Key};
 
-/// What a packet comes to. Contracts speak of it; no public call takes or gives one.
+/// The outcome of a packet. Contracts speak of it; no public call takes or gives one.
 #[derive(Debug, Drop)]
 pub enum Outcome {
     /// A reply that asks the client for more, and its session, which is open from then on.
@@ -80,7 +80,7 @@ pub(crate) fn ends(slot: Slot, body: ReplyBody) -> Outcome
     Outcome::Reply(reply_in(slot, body), !slot.single)
 }
 
-/// The answer to a body that is none of its kind, which closes the connection.
+/// The answer to an invalid body, which closes the connection.
 pub(crate) fn breaks(slot: Slot) -> Outcome
     ensures { result ≡ judging.breaks slot }
 {

@@ -154,7 +154,7 @@ pub(crate) fn acct_error(text: &[u8]) -> ReplyBody
     })
 }
 
-/// The ERROR that says that a body is none of its kind.
+/// The ERROR that says that a body is invalid.
 pub(crate) fn bad_body(kind: AskKind) -> ReplyBody
     ensures { result ≡ replies.bad_body kind }
 {

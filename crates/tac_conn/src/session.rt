@@ -16,7 +16,7 @@ pub(crate) struct Session {
     /// The seq_no of the last reply. The session's next packet has the one after it.
     pub(crate) last_seq: u8,
     pub(crate) service: Service,
-    /// The user whose password is asked for; with none, the name is.
+    /// The user whose password is asked for. Without one the name is asked for.
     pub(crate) user: Option<Bytes>,
 }
 

@@ -1,4 +1,4 @@
-//! What a START comes to.
+//! The outcome of a START.
 
 ghost use Rattle.std.specs.Prelude.{◌≡◌, ◌≤◌, length, is_ok, IsTrue, IfOk, OnErr};
 ghost use Rattle.std.specs.Result.{result_ok};
@@ -106,7 +106,7 @@ fn at_once(alloc: Global, slot: Slot, start: Start) -> Result<Outcome, AllocErro
     chap(alloc, slot, start)
 }
 
-// A START that is one, with so many sessions open.
+// A valid START, with so many sessions open.
 fn started(alloc: Global, count: usize, slot: Slot, start: Start) -> Result<Outcome, AllocError>
     ensures { IfOk result (λ outcome. outcome ≡ judging.start_outcome count slot start) }
 {
@@ -119,7 +119,7 @@ fn started(alloc: Global, count: usize, slot: Slot, start: Start) -> Result<Outc
     at_once(alloc, slot, start)
 }
 
-/// What the body of a START comes to, with so many sessions open.
+/// The outcome of the body of a START, with so many sessions open.
 pub(crate) fn judge_start(
     alloc: Global,
     count: usize,

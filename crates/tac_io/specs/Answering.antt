@@ -26,7 +26,7 @@ abbrev pub IsCutOff : Option (List ℕ) → Option (List ℕ) → List ℕ → T
 IsCutOff before after bytes =
     (n : ℕ) × (n < length bytes) × Appends before after (take n bytes)
 
--- ---- what an input comes to, by a relation between inputs, outputs and ends
+-- ---- the result of an input, by a relation between inputs, outputs and ends
 
 abbrev pub ComesTo : {End : Type 0} → (List ℕ → List ℕ → End → Type 0) → Option (List ℕ) → List ℕ
     → End → Type 0

@@ -57,7 +57,7 @@ untold : (test : Bool) (value : ℕ) → (test ≡ true → ⊥) → cond test (
 untold true value fails = absurd (fails refl)
 untold false value fails = refl
 
--- what isn't digits tells none
+-- what isn't digits tells no seconds
 pub seconds_of-none : (text : List ℕ) → list_all is_ascii_digit text ≡ false → seconds_of text ≡ None
 seconds_of-none text others = untold _ _ (λ test. absurd (false≢true (sym others ∙ (and_parts _ _ (and_parts _ _ test).0).1)))
 

@@ -36,7 +36,7 @@ abbrev pub flagged : ℕ → Result AuthorRequest BodyFault → Result AcctReque
 flagged flags (Ok fields) = Ok (with_flags flags fields)
 flagged flags (Err fault) = Err fault
 
--- the request that a body spells, or the first fault: behind the flags it is that
+-- the request that a body spells, or the first fault: after the flags it is that
 -- of an authorisation request
 abbrev pub acct_request_of : List ℕ → Result AcctRequest BodyFault
 acct_request_of [] = Err Short

@@ -38,8 +38,8 @@ level_of argument =
     let level = digits_value 10 (drop 9 argument) in
     if nat_lt level 256 && bytes_eq argument (level_argument level) then Some level else None
 
--- what the arguments of a reply carry: none no level, one its level; other
--- arguments are none of this server's
+-- the level that the arguments of a reply carry: no arguments carry none, and one argument its
+-- level; this server sends no other arguments
 abbrev pub level_among : List (List ℕ) → Option (Option ℕ)
 level_among [] = Some None
 level_among (argument ∷ []) = option_map (λ level. Some level) (level_of argument)

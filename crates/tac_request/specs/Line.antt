@@ -20,7 +20,7 @@ value_under name arg =
 abbrev pub values_under : List ℕ → List (List ℕ) → List (List ℕ)
 values_under name args = filter_map (value_under name) args
 
--- a word of the line, behind a space
+-- a word of the line, after a space
 abbrev pub spaced : List ℕ → List ℕ
 spaced word = 32 ∷ word
 

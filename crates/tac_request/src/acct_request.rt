@@ -25,7 +25,7 @@ pub struct AcctRequest {
     pub args: Sequence<Bytes>,
 }
 
-// The flags, and behind them the fields that an authorisation request has too.
+// The flags, followed by the fields that an authorisation request has too.
 fn read_fields(alloc: Global, body: &[u8]) -> Result<AcctRequest, BodyFault>
     ensures exact { GivesUnlessMemory is_memory (λ body. body) result (acct_request_of body.now) }
     ensures memory { result ≡ Err Memory → IsOk (acct_request_of body.now) }
@@ -59,11 +59,11 @@ fn read_fields(alloc: Global, body: &[u8]) -> Result<AcctRequest, BodyFault>
 /// The request that a body spells (RFC 8907, section 7.1).
 ///
 /// `Short` where the fixed part, with the lengths of the arguments, isn't whole; `LengthSum` where
-/// the lengths don't add up to the body's; `Memory` where memory ran out for the
-/// fields of a body that is one.
+/// the lengths don't add up to the body's; `Memory` where memory ran out for the fields of a valid
+/// body.
 pub fn read_acct_request(alloc: Global, body: &[u8]) -> Result<AcctRequest, BodyFault>
     ensures exact { GivesUnlessMemory is_memory (λ body. body) result (acct_request_of body.now) }
-    // A refusal is given without fail: only a body of its kind takes memory.
+    // Only a valid body takes memory, so an invalid one is refused in any case.
     ensures memory { result ≡ Err Memory → IsOk (acct_request_of body.now) }
     // No byte is lost, and none ignored.
     ensures found { IfOk result (λ request. body.now ≡ acct_request request) }

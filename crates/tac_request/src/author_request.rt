@@ -71,11 +71,11 @@ fn read_fields(alloc: Global, body: &[u8]) -> Result<AuthorRequest, BodyFault>
 /// The request that a body spells (RFC 8907, section 6.1).
 ///
 /// `Short` where the fixed part, with the lengths of the arguments, isn't whole; `LengthSum` where
-/// the lengths don't add up to the body's; `Memory` where memory ran out for the
-/// fields of a body that is one.
+/// the lengths don't add up to the body's; `Memory` where memory ran out for the fields of a valid
+/// body.
 pub fn read_author_request(alloc: Global, body: &[u8]) -> Result<AuthorRequest, BodyFault>
     ensures exact { GivesUnlessMemory is_memory (λ body. body) result (author_request_of body.now) }
-    // A refusal is given without fail: only a body of its kind takes memory.
+    // Only a valid body takes memory, so an invalid one is refused in any case.
     ensures memory { result ≡ Err Memory → IsOk (author_request_of body.now) }
     // No byte is lost, and none ignored.
     ensures found { IfOk result (λ request. body.now ≡ author_request request) }

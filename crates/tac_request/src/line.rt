@@ -52,7 +52,7 @@ pub(crate) fn first_value<'a>(args: &'a [Bytes], name: &[u8]) -> Option<&'a [u8]
     None
 }
 
-// Adds each `cmd-arg` behind a space.
+// Adds a space and the value of each `cmd-arg`.
 fn add_cmd_args(line: &mut Bytes, args: &[Bytes]) -> Result<(), AllocError>
     ensures { OnOk result
         (line.new ≡ line.old ++ flat_map spaced (values_under CMD_ARG.now args.now)) }
@@ -67,7 +67,7 @@ fn add_cmd_args(line: &mut Bytes, args: &[Bytes]) -> Result<(), AllocError>
 }
 
 /// The command line that a request's arguments make (RFC 8907, section 6.1): the value of the first
-/// `cmd`, and for each `cmd-arg` a space and its value. The error is want of memory.
+/// `cmd`, and for each `cmd-arg` a space and its value. The error means that memory ran out.
 pub fn request_line(alloc: Global, args: &[Bytes]) -> Result<LineOf, AllocError>
     ensures value { IfOk result (λ line. line ≡ line_of args.now) }
     // Only a line takes memory.

@@ -127,11 +127,11 @@ fn printable_line(alloc: Global, args: &[Bytes]) -> Result<Option<Bytes>, AllocE
 }
 
 impl Record {
-    /// What is kept of a request that tells of this kind. The error is want of memory.
+    /// What is kept of a request that tells of this kind. The error means that memory ran out.
     ///
     /// Of the arguments (RFC 8907, section 8.3) the first of a name counts, and one without `=` or
-    /// `*` has no name. An `elapsed_time` can be used if it is one or more decimal digits, leading
-    /// zeros among them, of a value below 2^32. The line is that of [`request_line`].
+    /// `*` has no name. An `elapsed_time` can be used if it is one or more decimal digits, also
+    /// with leading zeros, of a value below 2^32. The line is that of [`request_line`].
     pub fn from_request(
         alloc: Global,
         request: AcctRequest,
@@ -156,7 +156,7 @@ impl Record {
         })
     }
 
-    /// An equal record. The error is want of memory.
+    /// An equal record. The error means that memory ran out.
     pub fn copy(&self, alloc: Global) -> Result<Record, AllocError>
         ensures { IfOk result (λ copy. copy ≡ self.now) }
     {

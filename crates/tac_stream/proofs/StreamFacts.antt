@@ -99,7 +99,7 @@ module _ (law : (bytes more : List ℕ) → cut (bytes ++ more) ≡ continued (c
 
 -- ---- the same packets
 
--- it stands for the same, closed or not
+-- it represents the same, closed or not
 stands_same : (key : List ℕ) (old new : Stream) (bytes : List ℕ) (taken : ℕ) → new.framer ≡ old.framer → new.conn ≡ old.conn → Stands key old bytes taken → Stands key new bytes taken
 stands_same key old new bytes taken framer conn s = record { held = s.held; framer = framer ∙ s.framer; left = s.left; within = s.within; conn = rw conn s.conn }
 
@@ -254,7 +254,7 @@ module _ (items : (bytes : List ℕ) → cut bytes ≡ parts_by cut (first_item 
   packet_left (nexts.Fault reason) e packet = absurd packet
   packet_left nexts.Ended e packet = absurd packet
 
-  -- nothing is read behind what stands first
+  -- nothing is read after what stands first
   pub close_turn : (next : Next) → next ≡ next_of old.framer → ((reason : FrameFault) × (next ≡ nexts.Fault reason)) ⊎ (next ≡ nexts.Ended) → Close ≡ next_turn key bytes taken
   close_turn next f (inl (reason, e)) = fault_turn reason (sym e ∙ f)
   close_turn next f (inr e) = ended_turn (sym e ∙ f)

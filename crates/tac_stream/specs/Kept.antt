@@ -1,4 +1,4 @@
--- What is kept of a connection, and what it stands for.
+-- What is kept of a connection, and what it represents.
 use Rattle.std.specs.Prelude.{◌≡◌, ◌≤◌, ◌<◌, ℕ, suc, List, length, take, drop, Bool, true, false}
 use Rattle.std.specs.Prelude.{Option, Some, None, Result, Ok, Err}
 use Rattle.std.specs.declared.alloc.AllocError.{AllocError}
@@ -21,9 +21,8 @@ pending_of stream = conns.pending_of stream.conn
 abbrev pub IsReady : Stream → Type 0
 IsReady stream = (closed_of stream ≡ false) × (pending_of stream ≡ None)
 
--- it stands for a connection on which these bytes came: so many of their packets were
--- taken, and what is held has the
--- others, and the same tail
+-- it represents a connection on which these bytes came: so many of their packets were taken, and
+-- what is held has the others, and the same tail
 pub record Stands (key : List ℕ) (stream : Stream) (bytes : List ℕ) (taken : ℕ) : Type 0 where
   pub held : List ℕ
   pub framer : stream.framer ≡ unread held
@@ -31,8 +30,8 @@ pub record Stands (key : List ℕ) (stream : Stream) (bytes : List ℕ) (taken :
   pub within : taken ≤ length (cut bytes).packets
   pub conn : conns.Stands stream.conn (packets_of key (take taken (cut bytes).packets))
 
--- what it stands for after this turn: the packet was taken, if there was one;
--- closed, it stands for nothing
+-- what it represents after this turn: the packet was taken, if there was one; closed, it represents
+-- nothing
 abbrev pub StandsAfter : Turn → List ℕ → Stream → List ℕ → ℕ → Type 0
 StandsAfter (Reply reply ends) key stream bytes taken = Stands key stream bytes (suc taken)
 StandsAfter (Asks ask slot) key stream bytes taken = Stands key stream bytes (suc taken)

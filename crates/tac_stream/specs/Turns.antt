@@ -25,9 +25,8 @@ turn_of (steps.Asks ask slot) = Asks ask slot
 turn_of steps.Silent = Silent
 turn_of steps.Close = Close
 
--- what is done for the first of these packets, where others came earlier, the latest
--- first; behind the packets stands the tail, and a header that is refused closes the
--- connection
+-- what is done for the first of these packets, where others came earlier, the latest first. The
+-- tail follows the packets; a header that is refused closes the connection
 abbrev pub turn_by : List ℕ → List Packet → List Frame → Tail → Turn
 turn_by key earlier (frame ∷ frames) tail =
     turn_of (step_of key (outcome earlier (clear key frame)))
@@ -50,7 +49,7 @@ pub record IsForFirst (key bytes : List ℕ) (taken : ℕ) (turn : Turn) : Type 
       turn ≡ turn_of
       (step_of key (outcome (packets_of key (take taken (cut bytes).packets)) (clear key frame)))
 
--- no packet is left, and the turn is the one for what stands behind them
+-- no packet is left, and the turn is the one for what follows them
 pub record IsForTail (key bytes : List ℕ) (taken : ℕ) (turn : Turn) : Type 0 where
   pub left : drop taken (cut bytes).packets ≡ []
   pub is : turn ≡ turn_by key (packets_of key (take taken (cut bytes).packets)) [] (cut bytes).tail

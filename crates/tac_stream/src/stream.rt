@@ -47,8 +47,8 @@ impl Stream {
         }
     }
 
-    /// Takes the next bytes that came; nothing once the connection is closed. The error is want of
-    /// memory, and changes nothing. Amortised linear in the piece.
+    /// Takes the next bytes that came, and does nothing once the connection is closed. The error
+    /// means that memory ran out; nothing has changed then. Amortised linear in the piece.
     pub fn feed(&mut self, piece: &[u8]) -> Result<(), AllocError>
         ensures stands { (key bytes : List ℕ) (taken : ℕ) → kept.closed_of self.old ≡ false →
             kept.Stands key self.old bytes taken →
@@ -93,8 +93,8 @@ impl Stream {
     /// Tells what is to be done next, and takes the packet that it is done for.
     ///
     /// A closed connection answers [`Turn::Close`] and stays as it is; so does one that waits for
-    /// an answer, which then closes. The error is want of memory for a packet: that packet is
-    /// gone, and the connection is closed.
+    /// an answer, which then closes. The error means that memory ran out for a packet: that packet
+    /// is gone, and the connection is closed.
     pub fn next(&mut self, key: &Key) -> Result<Turn, AllocError>
         ensures turn { (bytes : List ℕ) (taken : ℕ) → kept.IsReady self.old →
             kept.Stands key.now self.old bytes taken →

@@ -23,7 +23,7 @@ or_false false = refl
 eqb-suc : (a b : ℕ) → eqb (suc a) (suc b) ≡ eqb a b
 eqb-suc a b = grind (arith)
 
--- one more entry, behind the others
+-- one more entry, after the others
 pub stands_at-push : (test : Entry → Bool) (xs : List Entry) (e : Entry) (place : ℕ) → stands_at test (xs ++ e ∷ []) place ≡ (stands_at test xs place || (eqb place (length xs) && test e))
 stands_at-push test [] e zero = refl
 stands_at-push test [] e (suc place) =

@@ -20,7 +20,7 @@ items entries = map (λ entry. entry.item) entries
 abbrev pub IsFull : Contents → Type 0
 IsFull book = length book.entries ≡ book.limit
 
--- the book with one more entry, behind the others
+-- the book with one more entry, after the others
 abbrev pub with_entry : Record → Bool → Contents → Contents
 with_entry item denied book =
     record book { entries = book.entries ++ record { item = item; denied = denied } ∷ [] }

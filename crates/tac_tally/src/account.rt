@@ -71,7 +71,7 @@ impl Account {
         }
     }
 
-    // One more record of the user, behind all others in the book.
+    // One more record of the user, after all others in the book.
     pub(crate) fn enter(
         &mut self,
         alloc: Global,

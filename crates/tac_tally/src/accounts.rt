@@ -36,7 +36,7 @@ impl Accounts {
         self.by_user.get(user)
     }
 
-    // Counts one more record, behind all others in the book. One look-up.
+    // Counts one more record, after all others in the book. One look-up.
     pub(crate) fn enter(
         &mut self,
         record: &Record,
@@ -61,7 +61,7 @@ impl Accounts {
         Ok(())
     }
 
-    // A record's mark is another from now on. One look-up.
+    // Counts a record by another mark from now on. One look-up.
     pub(crate) fn remark(&mut self, record: &Record, was: bool, denied: bool)
         requires { (entries : List Entry) × (place : ℕ) × Run entries self.old
             × (length entries < 2 ^ 64)

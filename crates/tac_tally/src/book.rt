@@ -107,13 +107,13 @@ impl Book {
         self.records.len() >= self.limit
     }
 
-    /// Stores a record behind the others, with its mark: whether the present policy denies its
+    /// Stores a record after the others, with its mark: whether the present policy denies its
     /// line, false where it has none. A repeat is another record. A look-up of its user, and for
     /// one that begins or ends a task a look-up among the user's open tasks.
     pub fn store(&mut self, record: Record, denied: bool) -> Result<(), StoreFault>
         ensures ok { OnOk result (self.new ≡ with_entry «record» denied self.old) }
 
-        // The limit comes first: want of memory is only told of a book with room.
+        // The limit comes first: memory runs out only for a book with room.
         ensures full { (result ≡ Err Full) ↔ IsFull self.old }
 
         // A refused store changes nothing.

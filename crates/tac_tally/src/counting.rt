@@ -46,7 +46,7 @@ impl Book {
 
     /// The sum of the tallies of the policy's users whose chain holds the group: those of the group
     /// itself, and of the groups below it. Records of users that aren't in the policy don't count,
-    /// and a group that isn't there has no users. The error is want of memory.
+    /// and a group that isn't there has no users. The error means that memory ran out.
     /// One pass over the policy's subjects, with a look-up for each of these users.
     pub fn group_tally(
         &self,

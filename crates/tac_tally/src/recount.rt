@@ -114,7 +114,7 @@ impl Book {
     /// Works out anew, by `decide` of user and line, the marks of the records of these users:
     /// whether the line is denied. A record without a line isn't denied, and `decide` isn't asked
     /// of it.
-    /// The book stays as it is; the error is want of memory, here or in `decide`.
+    /// The book stays as it is; the error means that memory ran out, here or in `decide`.
     /// One look-up for each user, and then these users' records alone.
     pub fn recount<F: FnMut(&[u8], &[u8]) -> Result<bool, AllocError>>(
         &self,
@@ -123,10 +123,10 @@ impl Book {
         decide: F,
     ) -> Result<Recount, AllocError>
         requires { F.IsAlwaysCallable decide }
-        // For the present records, as `settle` asks.
+        // For the present records, as `settle` requires.
         ensures size { IfOk result (λ recount. length recount ≡ length self.now.entries) }
 
-        // Whatever `decide` is known to compute, the marks are by that.
+        // Whatever `decide` is known to compute, the marks say.
         ensures marks { IfOk result (λ recount. (denies : List ℕ → List ℕ → Bool)
             → Computes F.FnMut denies decide
             → recount ≡ recount_of denies users.now (items self.now.entries)) }
@@ -148,10 +148,10 @@ impl Book {
         decide: F,
     ) -> Result<Recount, AllocError>
         requires { F.IsAlwaysCallable decide }
-        // For the present records, as `settle` asks.
+        // For the present records, as `settle` requires.
         ensures size { IfOk result (λ recount. length recount ≡ length self.now.entries) }
 
-        // Whatever `decide` is known to compute, once the marks are put in all are by that.
+        // Whatever `decide` is known to compute, all marks say once they are put in.
         ensures settles { IfOk result (λ recount. (denies : List ℕ → List ℕ → Bool)
             → Computes F.FnMut denies decide
             → settled recount self.now.entries ≡ marked denies (items self.now.entries)) }

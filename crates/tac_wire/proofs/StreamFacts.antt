@@ -63,7 +63,7 @@ first_item-whole bytes frame rest e =
           record { long = omega (arith, length-drop 12 bytes, parts.0); behind = parts.1 ∙ at }
     ]
 
--- ---- more bytes behind an item
+-- ---- more bytes after an item
 
 packet_item-append : (header : Header) (tail more : List ℕ) (frame : Frame) (rest : List ℕ) → packet_item header tail ≡ whole frame rest → packet_item header (tail ++ more) ≡ whole frame (rest ++ more)
 packet_item-append header tail more frame rest e =
@@ -144,7 +144,7 @@ cut_within-cut : (most : ℕ) (bytes : List ℕ) → length bytes ≤ most → c
 unfolding cut
 cut_within-cut most bytes h = enough_room most (length bytes) bytes h (omega arith)
 
--- the parts of a stream are those of its first item and of what is behind it
+-- the parts of a stream are those of its first item and of what follows it
 pub cut-items : (bytes : List ℕ) → cut bytes ≡ parts_by cut (first_item bytes) bytes
 unfolding cut_within
 cut-items bytes =
@@ -158,7 +158,7 @@ continued-behind : (frame : Frame) (packets : List Frame) (tail : Tail) (more : 
 continued-behind frame packets (open_end bytes) more = refl
 continued-behind frame packets (fault reason) more = refl
 
--- the parts of the whole stream, where those of what is behind the first item are so
+-- the parts of the whole stream, where those of what follows the first item are so
 continued_by : (bytes more : List ℕ) (item : Item) → first_item bytes ≡ item → ((frame : Frame) (rest : List ℕ) → first_item bytes ≡ whole frame rest → cut (rest ++ more) ≡ continued (cut rest) more) → cut (bytes ++ more) ≡ continued (cut bytes) more
 continued_by bytes more (whole frame rest) e h =
     let one : cut bytes ≡ before_parts (frame ∷ []) (cut rest) = cut-items bytes ∙ ap (λ (it : Item). parts_by cut it bytes) e in

@@ -37,14 +37,14 @@ header_fault header =
 abbrev pub frame_bytes : Frame → List ℕ
 frame_bytes frame = header_bytes frame.header ++ frame.body
 
--- what a stream begins with: a whole packet, with what is behind it; a header that
+-- what a stream begins with: a whole packet, with what follows it; a header that
 -- is refused; or neither yet
 pub data Item : Type 0 where
   whole : Frame → List ℕ → Item
   refused : FrameFault → Item
   unfinished : Item
 
--- the item of a header that is taken, and what is behind it
+-- the item of a header that is taken, and what follows it
 abbrev pub packet_item : Header → List ℕ → Item
 packet_item header rest =
     if nat_le header.length (length rest)
@@ -52,7 +52,7 @@ packet_item header rest =
     (drop header.length rest)
     else unfinished
 
--- the item of a header, with its fault if it has one, and what is behind it
+-- the item of a header, with its fault if it has one, and what follows it
 abbrev pub header_item : Option FrameFault → Header → List ℕ → Item
 header_item (Some fault) header rest = refused fault
 header_item None header rest = packet_item header rest
@@ -74,7 +74,7 @@ IsTaken frame =
 
 -- ---- a whole stream
 
--- what is behind the last packet: bytes that are no whole item yet, or the header that was refused
+-- what follows the last packet: bytes that are no whole item yet, or the header that was refused
 pub data Tail : Type 0 where
   open_end : List ℕ → Tail
   fault : FrameFault → Tail
@@ -92,7 +92,7 @@ only tail = record { packets = []; tail = tail }
 abbrev pub behind : List Frame → Parts → Parts
 behind packets parts = record parts { packets = packets ++ parts.packets }
 
--- the parts of bytes that begin with this item, by the parts of what is behind it
+-- the parts of bytes that begin with this item, by the parts of what follows it
 abbrev pub parts_by : (List ℕ → Parts) → Item → List ℕ → Parts
 parts_by parts_of (whole frame rest) bytes = behind (frame ∷ []) (parts_of rest)
 parts_by parts_of (refused reason) bytes = only (fault reason)

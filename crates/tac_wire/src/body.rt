@@ -34,7 +34,7 @@ impl From<AllocError> for BodyFault {
     }
 }
 
-/// What was read of a body; nothing where it is none of its kind. The error is want of memory.
+/// What was read of a body; nothing for an invalid one. The error means that memory ran out.
 pub fn well_formed<T>(read: Result<T, BodyFault>) -> Result<Option<T>, AllocError>
     ensures told { (wanted : Result T Fault)
         → GivesUnlessMemory is_memory (λ body. body) read wanted
@@ -68,7 +68,7 @@ pub fn message_of(text: &[u8]) -> Message
 }
 
 /// Copies the fields of these lengths that the bytes begin with, one after another. The lengths
-/// add up to no more than there are bytes. The error is want of memory.
+/// add up to no more than there are bytes. The error means that memory ran out.
 pub fn cut(alloc: Global, lengths: &[u8], bytes: &[u8]) -> Result<Sequence<Bytes>, AllocError>
     requires { sum lengths.now ≤ length bytes.now }
     ensures { IfOk result (λ fields. fields ≡ fields_of lengths.now bytes.now) }

@@ -15,7 +15,7 @@ pub struct Frame {
 
 impl Frame {
     /// The longest body that is taken: that of an authentication CONTINUE with two fields of 65,535
-    /// bytes behind its five fixed ones.
+    /// bytes after its five fixed ones.
     pub const MAX_BODY: u32 = 131_075;
 }
 

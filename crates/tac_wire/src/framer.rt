@@ -108,8 +108,8 @@ impl Framer {
         self.ended = true;
     }
 
-    /// Takes the next piece of the stream; nothing after a fault was told. The error is want of
-    /// memory, and changes nothing.
+    /// Takes the next piece of the stream, and does nothing once a fault was told. The error means
+    /// that memory ran out; nothing has changed then.
     pub fn feed(&mut self, piece: &[u8]) -> Result<(), AllocError>
         ensures ok { OnOk result (self.new ≡ stream.fed self.old piece.now) }
         ensures err { OnErr result (self.new ≡ self.old) }
@@ -126,13 +126,13 @@ impl Framer {
         self.buffer.extend_from_slice(piece)
     }
 
-    /// Tells what stands first in what is held, and removes it; a fault is told once. The error is
-    /// want of memory for a packet's body, and changes nothing.
+    /// Tells what stands first in what is held, and removes it. A fault is told once. The error
+    /// means that memory ran out for a packet's body; nothing has changed then.
     pub fn next(&mut self) -> Result<Next, AllocError>
         ensures told { IfOk result (λ next. next ≡ stream.next_of self.old) }
         ensures left { OnOk result (self.new ≡ stream.left_of self.old) }
         ensures err { OnErr result (self.new ≡ self.old) }
-        // Only a packet takes memory, for its body: all else is told without fail.
+        // Only a packet takes memory, for its body; all else is told in any case.
         ensures memory { OnErr result (stream.IsPacket (stream.next_of self.old)) }
         // No byte is lost, and none is added.
         ensures found { IfOk result (λ next. stream.WasInFront next self.old self.new) }

@@ -9,7 +9,7 @@ use std::process::Abort;
 use std::test::Fail;
 use tac_tally::{AcctKind, Book, Record, StoreFault, Tally};
 
-// The first word of a text, and what is behind the blank.
+// The first word of a text, and what follows the blank.
 fn word(text: &str) -> (&str, &str) {
     text.split_once(' ').unwrap_or((text, ""))
 }
@@ -28,7 +28,7 @@ fn field(alloc: Global, word: &str) -> Result<Bytes, AllocError> {
     Bytes::from_slice(alloc, if word == "_" { b"" } else { word.as_bytes() })
 }
 
-// The record that `USER KIND TASK SECONDS` tells, and a line, where one is behind it.
+// The record that `USER KIND TASK SECONDS` tells, and a line, where one follows.
 fn record(alloc: Global, words: &str) -> Result<Record, Fail> {
     let (user, rest) = word(words);
     let (verb, rest) = word(rest);

@@ -77,7 +77,7 @@ fn push_numbers(text: &mut String, numbers: &[u32]) -> Result<(), Fail> {
     Ok(())
 }
 
-/// An answer of numbers, fields and arguments, each behind a blank.
+/// An answer of numbers, fields and arguments, each after a blank.
 pub(crate) fn shown(
     alloc: Global,
     numbers: &[u32],
@@ -91,7 +91,7 @@ pub(crate) fn shown(
     Ok(text)
 }
 
-/// An answer of one word, which is none of those.
+/// An answer of one word, for whatever has none of those.
 pub(crate) fn told<W: Debug + Drop>(alloc: Global, word: W) -> Result<String, Fail> {
     let text = format!(in alloc; " {word:?}")?;
     Ok(text)
@@ -126,7 +126,7 @@ fn is_answered<R: Abort + AllocGlobal>(rt: &R, line: &str) -> Result<(), Fail> {
     Ok(())
 }
 
-/// Compares what each line's call answers with what stands behind its ` =`. A line that begins with
+/// Compares what each line's call answers with what follows its ` =`. A line that begins with
 /// `#` is a comment.
 pub(crate) fn answers<R: Abort + AllocGlobal>(rt: &R, text: &str) -> Result<(), Fail> {
     for line in text.lines() {

@@ -1,4 +1,4 @@
--- The state behind the place is a new one, with the last word, or one that is there.
+-- The state after the place is a new one, with the last word, or one that is there.
 use Rattle.std.proofs.Common.{arith}
 use Rattle.pol_scan.specs.Words.{word_at}
 use Rattle.pol_scan.proofs.Lists.{length-zip}
