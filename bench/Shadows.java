@@ -11,7 +11,7 @@ import java.util.Map;
  * The shadow report by a general library of automata, for bench/analysis to be measured against.
  *
  * <p>Standard input has the patterns along the chain of each subject, one a line, and an empty line
- * behind each subject. Of each entry that no text reaches, a line "SUBJECT ENTRY" is printed, both
+ * after each subject. Of each entry that no text reaches, a line "SUBJECT ENTRY" is printed, both
  * counted from 1.
  */
 public final class Shadows {

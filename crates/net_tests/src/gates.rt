@@ -1,5 +1,5 @@
-//! Two workers at a gate by which neither is done before the other has begun: what holds one of
-//! them up for the other never opens it.
+//! Two workers at a gate that lets neither finish before the other has begun. A server that holds
+//! one of them up for the other never opens it.
 
 use crate::clients::{hall_of, key, permissions, questions, seats_of, two_asked};
 use std::alloc::{AllocError, Global};
@@ -15,7 +15,7 @@ use tac_wire::Key;
 
 const PAUSE: u64 = 50;
 
-// What stands for this seat where it is the one that is held.
+// The value of `held` where this seat is the one that is held.
 fn as_held(seat: u32) -> u64 {
     u64::from(seat) + 1
 }

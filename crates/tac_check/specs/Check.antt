@@ -41,7 +41,7 @@ pub record IsBuilt (policy : List Subject) (output : List ℕ) (end : CheckEnd) 
   pub builds : Builds policy built
   pub prints : PrintsBuilt built output end
 
--- the policy of a text, or the first refusal with its line. No text is refused for want of memory
+-- the policy of a text, or the first refusal with its line. A lack of memory refuses no text
 abbrev pub IsCheckOf : Result (List Subject) PolicyFault → List ℕ → CheckEnd → Type 0
 IsCheckOf (Ok policy) output end = IsBuilt policy output end
 IsCheckOf (Err (policies.Refused line refusal)) output end =

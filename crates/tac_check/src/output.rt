@@ -26,7 +26,7 @@ fn count_rules(policy: &Policy) -> usize
     rules
 }
 
-// The error is want of memory.
+// The error means that memory ran out.
 fn write_counts(out: &mut Vec<u8>, policy: &Policy) -> Result<(), AllocError>
     ensures { OnOk result (out.new.items ≡ out.old.items ++ ok_line policy.now) }
 {
@@ -49,7 +49,7 @@ fn report(alloc: Global, live: &Live) -> Result<(Vec<u8>, CheckEnd), AllocError>
     Ok((text, CheckEnd::Sound))
 }
 
-// How it is told that a policy may not stand.
+// What is printed of a policy that may not stand.
 fn too_large(alloc: Global, fault: EditFault) -> Result<(Vec<u8>, CheckEnd), AllocError>
     requires { IsTrue (is_build_fault fault) }
     ensures { IfOk result (λ output. PrintsBuilt (Err fault) output.0.items output.1) }
@@ -59,7 +59,7 @@ fn too_large(alloc: Global, fault: EditFault) -> Result<(Vec<u8>, CheckEnd), All
     Ok((text, CheckEnd::Refused))
 }
 
-// What a policy prints that was read, and how its check ends.
+// What the check prints of a policy that was read, and how it ends.
 fn output_of_policy(alloc: Global, policy: Policy) -> Result<(Vec<u8>, CheckEnd), AllocError>
     ensures { IfOk result (λ output. IsWorkedOutOf (Ok policy) output.0.items output.1) }
 {
@@ -71,7 +71,7 @@ fn output_of_policy(alloc: Global, policy: Policy) -> Result<(Vec<u8>, CheckEnd)
     }
 }
 
-// How it is told that a text is no policy.
+// What is printed of a text that is no policy.
 fn no_policy(alloc: Global, fault: PolicyFault) -> Result<(Vec<u8>, CheckEnd), AllocError>
     ensures { IfOk result (λ output.
         (output.0.items ≡ policy_fault fault) × (output.1 ≡ CheckEnd.Refused)) }

@@ -39,7 +39,7 @@ absorbed : (first all : Bool) → (first ≡ true → all ≡ true) → (first |
 absorbed true all h = sym (h refl)
 absorbed false all h = refl
 
--- ---- one packet, and those behind it
+-- ---- one packet, and those after it
 
 module _ (asks : List Ask) (say : Meaning → List Meaning → Said) (later : Bool) where
   behind_close : (said : Said) (ask : Ask) (meanings : List Meaning) (single : Bool)

@@ -1,4 +1,4 @@
--- What the desk of a hall stood for at the places of a seat's calls.
+-- What the desk of a hall represented at the places of a seat's calls.
 use Rattle.std.proofs.Common.{◌≡◌, ℕ, suc, List, [], ◌∷◌, ◌++◌, map, take, length, length-append, Bool, true, false, ◌==◌, cond, refl, sym, ap, subst, ◌∙◌, append_assoc, append-nil, arith}
 use Rattle.std.proofs.Math.Seq.{take-append_seam}
 use Rattle.tac_conn.specs.declared.ask.Answer.{Answer}
@@ -17,7 +17,7 @@ use Rattle.tac_net.proofs.SharedFacts.{sent_on, sent_stream_law}
 
 -- ---- the calls of a log, one after another
 
--- each of these calls, behind the first, was answered by what the desk stood for after those before
+-- each of these calls after the first was answered by what the desk represented after those before
 abbrev Answered : Meaning → List Entry → List Entry → Type 0
 Answered base first [] = Unit {0}
 Answered base first (entry ∷ log) =
@@ -38,7 +38,7 @@ answered base log last (and_then {log = before} {was = was} {now = now} entry le
 
 -- ---- the calls of a view
 
--- each was answered by what the desk stood for at its place
+-- each was answered by what the desk represented at its place
 abbrev Viewed : Meaning → List Entry → List Made → Type 0
 Viewed base log [] = Unit {0}
 Viewed base log (made ∷ view) =

@@ -20,7 +20,7 @@ use Rattle.tac_desk.specs.Serving.{Said, says, behind, unless_closed, said_to, s
 use Rattle.tac_desk.proofs.ServingFacts.{packets_of-append, said_to-append, unless_closed-same, unless_closed-joined}
 use Rattle.tac_net.specs.Shared.{says_shared, said_shared, answers_by, along, packets_in, said_shared_on, PieceLaw, AloneLaw, AloneStreamLaw, SentLaw, SentStreamLaw}
 
--- ---- one packet, and those behind it
+-- ---- one packet, and those after it
 
 module _ (asks : List Ask) (sends : List Answer → List Sending) (say : Meaning → List Meaning → Said)
     (same : (next : Meaning) (meanings : List Meaning) → packets_in (sends (answers_by meanings asks)) ≡ (say next meanings).sent) where

@@ -21,8 +21,8 @@ Refuses CloseRefused old new = Appends old new refused_line
 Refuses WriteFault old new = WritesBeginning refused_line old new
 Refuses fault old new = ⊥
 
--- what these seats did is one legal history of a desk that stood for this at first, no longer than
--- the hall's log may be: it has of each seat exactly its view, and no other call
+-- what these seats did is one legal history of a desk that represented this at first, no longer
+-- than the hall's log may be: it has of each seat exactly its view, and no other call
 pub record IsSettled (hall : Opening) (seats : List Sitting) : Type 0 where
   pub log : List Entry
   pub last : Meaning

@@ -11,7 +11,7 @@ use Rattle.tac_net.specs.declared.fault.ServeFault.TheVariants.{WriteFault, Memo
 abbrev pub listening_line : ℕ → List ℕ
 listening_line port = codes "listening " ++ decimal port ++ 10 ∷ []
 
--- the first line was written, or a beginning of it; or nothing, for want of memory
+-- the first line was written, or a beginning of it; or nothing, where memory ran out
 abbrev pub Announces : Result (Unit {0}) ServeFault → ℕ → Option (List ℕ) → Option (List ℕ) → Type 0
 Announces (Ok _) port old new = Appends old new (listening_line port)
 Announces (Err WriteFault) port old new = WritesBeginning (listening_line port) old new

@@ -11,8 +11,8 @@ use Rattle.tac_hall.specs.Worked.{Exchange, answers_of, Calling, IsServed}
 use Rattle.tac_desk.specs.Serving.{sent_bytes}
 use Rattle.tac_net.specs.Shared.{said_shared_on, packets_in}
 
--- a desk that stood for the base at first, and took the calls of this log, stood for these meanings
--- at the places of these exchanges: for each, after the calls before its place
+-- a desk that represented the base at first, and took the calls of this log, represented these
+-- meanings at the places of these exchanges: for each, after the calls before its place
 abbrev pub StoodAt : Meaning → List Entry → List Exchange → List Meaning → Type 0
 StoodAt base log [] [] = Unit {0}
 StoodAt base log (exchange ∷ made) (meaning ∷ meanings) =
@@ -20,7 +20,7 @@ StoodAt base log (exchange ∷ made) (meaning ∷ meanings) =
 StoodAt base log made meanings = ⊥
 
 -- what is sent for these bytes by the answers of these exchanges is what a server says to them
--- whose desk stands at each ask for what the desk of the hall stood for at its place
+-- whose desk represents, at each ask, what the desk of the hall represented at its place
 pub record IsSaid (key bytes : List ℕ) (base : Meaning) (log : List Entry) (made : List Exchange)
     : Type 0 where
   pub meanings : List Meaning
@@ -32,8 +32,8 @@ pub record IsSaid (key bytes : List ℕ) (base : Meaning) (log : List Entry) (ma
       bytes_sent key (served key bytes (answers_of made))
       ≡ sent_bytes key (said_shared_on key base bytes meanings).sent
 
--- it is so of each connection that a worker served, wherever a legal history has exactly the view
--- of its seat, with what that called later
+-- this is true of each connection that a worker served, wherever a legal history has exactly the
+-- view of its seat, with what that called later
 abbrev pub PlacesLaw : Type 0
 PlacesLaw =
     (end : End) (key : List ℕ) (was now : Calling) (before after old new : Option (List ℕ))

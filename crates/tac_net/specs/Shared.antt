@@ -19,9 +19,9 @@ use Rattle.tac_desk.specs.Serving.{sent_bytes}
 
 -- ---- a server whose desk others use too
 
--- what is said to a packet that comes to this, and then to those behind it: an ask finds the desk
--- standing for the first of these meanings, whatever it stood for before, and leaves the others to
--- those behind it; where there is none the ask isn't made, and no more is said
+-- what is said to a packet of this outcome, and then to those after it. Where it asks, the desk
+-- represents the first of these meanings, whatever it represented before, and the other meanings
+-- are left to those after it; without a meaning the ask isn't made, and no more is said
 abbrev pub says_shared : Meaning → Outcome → List Meaning → (Meaning → List Meaning → Said) → Said
 says_shared now (Asks ask slot) [] later = record { sent = []; closes = false; meaning = now }
 says_shared now (Asks ask slot) (meaning ∷ meanings) later =
@@ -30,9 +30,9 @@ says_shared now outcome meanings later =
     unless_closed (says now outcome) (λ next. later next meanings)
 
 -- what is said to these packets, one after another, on a connection on which others came earlier,
--- the latest first, where the desk stands for the first of these meanings at their first ask, for
--- the second at the second, and so on: others may have asked and edited in between. What it stands
--- for before the first ask changes nothing of what is sent
+-- the latest first, where the desk represents the first of these meanings at their first ask, the
+-- second at the second, and so on: others may have asked and edited in between. What it represents
+-- before the first ask changes nothing of what is sent
 unfoldable pub said_shared : List ℕ → Meaning → List Packet → List Frame → Tail → List Meaning
     → Said
 said_shared key now earlier [] tail meanings =
@@ -46,8 +46,8 @@ abbrev pub said_shared_on : List ℕ → Meaning → List ℕ → List Meaning �
 said_shared_on key now bytes meanings =
     let parts = cut bytes in said_shared key now [] parts.packets parts.tail meanings
 
--- what a desk stands for at each of these asks where nothing comes in between: at the first for
--- this, at each other for what the one before left
+-- what a desk represents at each of these asks where nothing comes in between: at the first this,
+-- at each other what the one before left
 abbrev pub along : Meaning → List Ask → List Meaning
 along meaning [] = []
 along meaning (ask ∷ asks) = meaning ∷ along (asked meaning ask).meaning asks
@@ -87,8 +87,8 @@ answers_by meanings asks = map (λ one. (asked one.0 one.1).answer) (zip meaning
 abbrev pub packets_in : List Sending → List Packet
 packets_in sendings = map (λ sending. sending.packet) sendings
 
--- by the answers of a desk that stands for these meanings at the asks, exactly the packets are sent
--- that a server says whose desk does
+-- by the answers of a desk that represents these meanings at the asks, exactly the packets are sent
+-- that a server with such a desk says
 abbrev pub SentLaw : Type 0
 SentLaw =
     (key : List ℕ) (now : Meaning) (earlier : List Packet) (frames : List Frame) (tail : Tail)

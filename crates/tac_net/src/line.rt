@@ -6,8 +6,8 @@ use std::io::{self, ErrorKind, Read, Write};
 use std::net::TcpStream;
 use std::time::{Clock, Duration, Instant};
 
-/// How long one read or write waits at most, in milliseconds, before it is looked at whether the
-/// connection is to be given up.
+/// How long one read or write waits at most, in milliseconds, before the worker checks whether to
+/// give the connection up.
 const WAIT: u64 = 250;
 
 /// A connection, which is given up where its device is silent for too long, or the server stops.
@@ -23,7 +23,7 @@ pub(crate) struct Line<'a, C> {
     waits: Cell<Option<Instant>>,
 }
 
-// A wait that came to its end is an interruption, after which the caller tries again.
+// A wait that timed out is an interruption, after which the caller tries again.
 fn interrupted(error: io::Error) -> io::Error {
     if error.kind() == ErrorKind::WouldBlock {
         return io::Error::from(ErrorKind::Interrupted);
@@ -32,7 +32,7 @@ fn interrupted(error: io::Error) -> io::Error {
 }
 
 impl<'a, C: Clock> Line<'a, C> {
-    /// A connection that was just accepted. The error is that the system takes no time-outs.
+    /// A connection that was just accepted. The error means that the system takes no time-outs.
     pub(crate) fn new(
         stream: &'a TcpStream,
         clock: &'a C,
@@ -54,7 +54,7 @@ impl<'a, C: Clock> Line<'a, C> {
     }
 
     // Fails where the server stops, or so much time has passed since then that the device is given
-    // up. Nobody is given up by a clock that can't be read.
+    // up. Where the clock can't be read nobody is given up.
     fn judge(&self, since: Option<Instant>) -> io::Result<()> {
         if self.vigil.is_stopping() {
             return Err(io::Error::from(ErrorKind::ConnectionAborted));

@@ -29,7 +29,7 @@ impl Pause {
         self.milliseconds = self.milliseconds.saturating_mul(2).min(LONGEST);
     }
 
-    /// There is no more need of pauses: the next one is a first one.
+    /// Pauses are over for now: the next one is a first one.
     pub(crate) fn end(&mut self) {
         self.milliseconds = FIRST;
     }

@@ -38,12 +38,12 @@ pub(crate) fn serve_under<R: Threads + Wait + Clock + Sync, D: Desk + Send, G: G
 /// Serves a hall on the network: for each seat there is a worker in a thread of its own, which
 /// serves so many connections, one after another.
 ///
-/// Answered are the seats in their order, each with the end of its last connection, Finished where
-/// there was none. A worker stops before its last connection at the ends Stopped, LogFull, Held and
-/// NoSeat alone; a connection that can't be accepted counts as one that ended as ReadFault, and is
-/// followed by a pause of 50 milliseconds, of twice as many after the next, and so on up to a
-/// second. The error is that there is no memory for this list or the threads' parts of it; then the
-/// seats are gone.
+/// The result has the seats in their order, each with the end of its last connection, Finished
+/// where there was none. A worker stops before its last connection at the ends Stopped, LogFull,
+/// Held and NoSeat alone; a connection that can't be accepted counts as one that ended as
+/// ReadFault, and is followed by a pause of 50 milliseconds, of twice as many after the next, and
+/// so on up to a second. The error means that memory ran out for this list or the threads' parts of
+/// it; then the seats are gone.
 ///
 /// It may wait for clients as long as they please.
 pub fn serve_on<R: Threads + Wait + Clock + Sync, D: Desk + Send, G: Gate + Sync>(

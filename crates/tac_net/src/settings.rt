@@ -13,7 +13,7 @@ pub struct Settings {
     pub workers: u32,
     /// How many connections each worker serves, one after another.
     pub connections: u32,
-    /// After how many seconds without a reply a connection is given up; never, if they are none.
+    /// After how many seconds without a reply a connection is given up; never, if that is 0.
     /// Before the first reply ten seconds are enough.
     pub idle: u32,
 }

@@ -7,10 +7,10 @@ use std::time::{Clock, Duration};
 /// How long a device may be silent before its first reply, in seconds.
 const FIRST_IDLE: u64 = 10;
 
-/// How often it is looked at whether another worker has begun, in milliseconds.
+/// How long a wait for new workers pauses between two glances, in milliseconds.
 const GLANCE: u64 = 1;
 
-/// At how many glances one after another no worker has to begin until it is given up: two seconds.
+/// After how many glances without a new worker a wait gives up: two seconds.
 const MOST_GLANCES: u32 = 2_000;
 
 /// How patient a server is with its devices, how many of its workers have begun, and whether it is
@@ -23,8 +23,8 @@ pub(crate) struct Vigil {
 }
 
 impl Vigil {
-    /// Of a server that gives a connection up after so many seconds without a reply; never, if
-    /// they are none.
+    /// The vigil of a server that gives a connection up after so many seconds without a reply;
+    /// never, if that is 0.
     pub(crate) fn new(idle: u32) -> Vigil {
         Vigil {
             idle: u64::from(idle),
@@ -52,8 +52,8 @@ impl Vigil {
     }
 
     /// Waits until so many workers have begun. Where threads can't be made the closures of workers
-    /// run one after another, so that none begins while another serves: it is given up after two
-    /// seconds in which none did.
+    /// run one after another, so that none begins while another serves. The wait gives up after two
+    /// seconds in which none begins.
     pub(crate) fn have_begun<C: Clock>(&self, clock: &C, workers: u32) -> bool {
         let mut seen = 0;
         let mut glances = 0_u32;

@@ -108,7 +108,7 @@ fn serve_one<R: Wait + Clock, D: Desk, G: Gate>(
 }
 
 /// Serves so many connections, one after another, unless one ends as Stopped, LogFull, Held or
-/// NoSeat before. Answered are the seat and the last end, Finished where there was no connection.
+/// NoSeat before. The result has the seat and the last end, Finished where there was no connection.
 pub(crate) fn serve_all<R: Wait + Clock, D: Desk, G: Gate>(
     rt: &R,
     listener: &TcpListener,

@@ -9,7 +9,7 @@ use Rattle.tac_check.specs.Check.{IsCheckOf}
 use Rattle.tac_check.specs.declared.checking.CheckEnd.TheVariants.{Refused}
 
 -- a policy that may stand has a desk, which accepts 1,000,000 records, and nothing is printed; of
--- one that is refused is printed what its check prints
+-- one that is refused, what its check prints is printed
 abbrev pub IsDeskOf : Result (List Subject) PolicyFault → List ℕ → Option Metered → Type 0
 IsDeskOf (Ok policy) printed (Some desk) =
     Opens policy 1000000 (Ok desk.meaning) × (printed ≡ [])

@@ -42,7 +42,7 @@ pub(crate) fn open_file<R: Files + Eprint>(rt: &R, path: &str) -> Result<R::File
     }
 }
 
-// How it is told why there is no desk, unless that is want of memory.
+// What is printed where there is no desk, unless memory ran out.
 fn refusal(alloc: Global, fault: EditFault) -> Result<Vec<u8>, AllocError>
     requires { IsTrue (is_build_fault fault) }
     ensures told { IfOk result (λ printed. printed.items ≡ build_fault fault) }
@@ -58,7 +58,7 @@ fn refusal(alloc: Global, fault: EditFault) -> Result<Vec<u8>, AllocError>
     }
 }
 
-// The desk of a policy, behind which nothing is printed; or how it is told that there is none.
+// The desk of a policy, and nothing to print; or no desk, and what is printed instead.
 fn desk_of_policy(alloc: Global, policy: Policy) -> Result<(Vec<u8>, Option<LiveDesk>), AllocError>
     ensures { IfOk result (λ opened. IsDeskOf (Ok policy) opened.0.items opened.1) }
 {
@@ -96,8 +96,8 @@ fn answer<R: Read>(alloc: Global, reader: &mut R) -> Result<(Vec<u8>, Option<Liv
     Ok((printed, desk))
 }
 
-/// Makes the desk of the policy whose text the reader gives. There is none where the policy is
-/// refused: then why is written, as by a check. The whole text is read first.
+/// Makes the desk of the policy whose text the reader gives. Where the policy is refused there is
+/// no desk, and the reason is written as by a check. The whole text is read first.
 pub(crate) fn open_desk<R: Read, W: Write>(
     alloc: Global,
     reader: &mut R,

@@ -80,7 +80,7 @@ impl Status {
         }
     }
 
-    /// The status of a server that came to no good end.
+    /// The status of a server that failed.
     pub(crate) fn of_serving(fault: ServeFault) -> Status
         ensures memory { fault ≡ ServeFault.Memory → result ≡ Status.OutOfMemory }
         ensures read { fault ≡ ServeFault.ReadFault → result ≡ Status.Failed }
@@ -108,7 +108,7 @@ impl Status {
         }
     }
 
-    /// The status where a file could not be opened, or a port not be had.
+    /// The status where a file could not be opened, or a port not be bound.
     pub(crate) fn of_unopened(kind: IoErrorKind) -> Status
         ensures memory { kind ≡ IoErrorKind.OutOfMemory → result ≡ Status.OutOfMemory }
         ensures failed { kind ≢ IoErrorKind.OutOfMemory → result ≡ Status.Failed }

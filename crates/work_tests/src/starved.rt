@@ -15,7 +15,7 @@ use tac_desk::{Desk, Query, QueryFault, Report, State, Thrice};
 use tac_desks::PlainDesk;
 use tac_hall::{Hall, Seat};
 
-// Never has a record, and would take nine. A contract sees the desk inside.
+// Never has a record, though its limit is nine. A contract sees the desk inside.
 #[derive(Drop)]
 struct Starved {
     inner: PlainDesk,

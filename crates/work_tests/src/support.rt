@@ -31,7 +31,7 @@ pub(crate) fn hall_of<R: AllocGlobal>(rt: &R, limit: usize) -> Result<Hall<Plain
     Ok(Hall::new(rt, desk, limit)?)
 }
 
-// What stands for letters, and the key.
+// The packets that letters represent, and the key.
 #[derive(Drop)]
 struct Packets {
     key: Key,
@@ -57,7 +57,7 @@ struct Seen {
     heard: u64,
 }
 
-// Serves what these letters stand for, to a writer with so much room, by a gate that lets so many
+// Serves what these letters represent, to a writer with so much room, by a gate that lets so many
 // calls pass.
 fn serves<D: Desk, R: Wait + AllocGlobal>(
     rt: &R,
@@ -127,7 +127,7 @@ fn shown(alloc: Global, seen: &Seen) -> Result<String, Fail> {
 }
 
 /// A worker at this hall, as a line `LETTERS ROOM CALLS = END RECEIPTS BYTES REPLIES` says; `-`
-/// stands for no letters. The seat comes back.
+/// means no letters. The seat comes back.
 pub(crate) fn ends<D: Desk, R: Wait + AllocGlobal>(
     rt: &R,
     hall: &Hall<D>,

@@ -10,7 +10,7 @@ use tac_desks::PlainDesk;
 use tac_hall::{End, Hall, OpenGate, Seat, Worked, work};
 use tac_wire::Key;
 
-// What a connection comes to: its end, how many receipts there are, and what is written.
+// The result of a connection: its end, how many receipts there are, and what is written.
 #[derive(Clone, Copy)]
 struct Wanted<'a> {
     end: End,
@@ -18,7 +18,7 @@ struct Wanted<'a> {
     written: &'a [u8],
 }
 
-// Serves a connection, which has to come to this. The seat comes back.
+// Serves a connection, which has to have this result. The seat comes back.
 fn serves<R: Wait + Abort>(
     rt: &R,
     hall: &Hall<PlainDesk>,
@@ -46,7 +46,7 @@ const FAILING: Manner = Manner {
     fails: true,
 };
 
-// A writer has room for a beginning of the reply, and behind it does as its manner says. The call
+// A writer has room for a beginning of the reply, and after it does as its manner says. The call
 // is made in any case.
 fn writes_a_beginning<R: Wait + Abort + AllocGlobal>(
     rt: &R,
@@ -86,7 +86,7 @@ fn a_writer_that_fails(rt: HostRuntime) -> Result<(), Fail> {
     closes(rt.alloc(), hall, seat, 38)
 }
 
-// A reader fails behind a beginning of the packet, which comes in pieces of at most this size. No
+// A reader fails after a beginning of the packet, which comes in pieces of at most this size. No
 // call is made until the packet is there, and then the reader isn't asked again.
 fn reads_a_beginning<R: Wait + Abort + AllocGlobal>(
     rt: &R,

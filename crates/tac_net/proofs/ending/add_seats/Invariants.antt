@@ -3,6 +3,6 @@ use Rattle.tac_hall.specs.Seat.{Sitting}
 use Rattle.tac_hall.specs.declared.worked.End.{End}
 use Rattle.tac_net.proofs.ending.add_seats.Given as goal
 
--- the seats so far stand behind those that were there
+-- the seats so far follow those that were there
 abbrev pub invariant-workers : goal.invariant-workers
 invariant-workers l = l.seats.items ≡ l.fn.seats.items ++ map (λ (one : Sitting × End). one.0) l.yielded
