@@ -98,7 +98,7 @@ fn list_is_so(alloc: Global, list: &str, said: &[u8]) -> Result<bool, Fail> {
     read_are_so(alloc, &mut patterns, list, said)
 }
 
-// Judges the lines: behind a `/` a list of patterns, and then what is so of it. A line that begins
+// Judges the lines: after a `/` a list of patterns, and then what is so of it. A line that begins
 // with `#` is a comment.
 fn judges_lists<R: Abort + AllocGlobal>(rt: &R, lines: &str) -> Result<(), Fail> {
     let mut list = "";

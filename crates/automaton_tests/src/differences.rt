@@ -1,6 +1,6 @@
 //! The least text whose decision changes from one list of rules to another.
 //!
-//! Rules stand in a line, with a `;` between two: behind a `+` what is permitted, behind a `-` what
+//! Rules stand in a line, with a `;` between two: after a `+` what is permitted, after a `-` what
 //! is denied.
 
 use crate::lists::{NONE, add};
@@ -89,7 +89,7 @@ fn least(alloc: Global, change: Change) -> Result<Option<Vec<u8>>, Fail> {
     with_verdicts(alloc, change, &mut old_verdicts, &mut new_verdicts)
 }
 
-// Whether the least text that changes this way is this one; `!` stands for none.
+// Whether the least text that changes this way is this one; `!` means none.
 fn is_least(alloc: Global, change: Change, expected: &[u8]) -> Result<bool, Fail> {
     match least(alloc, change)? {
         Some(text) => Ok(text.as_slice() == expected),
@@ -98,7 +98,7 @@ fn is_least(alloc: Global, change: Change, expected: &[u8]) -> Result<bool, Fail
 }
 
 /// `+TEXT: RULES => RULES`: the least text that is permitted by the second and denied by the first,
-/// or behind a `-` the other way; `!` where there is none.
+/// or after a `-` the other way; `!` where there is none.
 #[derive(Drop)]
 struct ChangeCases;
 

@@ -248,7 +248,7 @@ fn becomes_stale(alloc: Global, live: &mut Live, first: &str, second: &str) -> R
     is_stale_behind(alloc, live, first, &second)
 }
 
-/// `stale: EDIT => EDIT` where making the first leaves the second behind, else `fits: ..`.
+/// `stale: EDIT => EDIT` where the second no longer fits once the first is made, else `fits: ..`.
 #[derive(Drop)]
 struct Fitting {
     live: Live,

@@ -265,8 +265,8 @@ fn holds<R: Abort>(rt: &R, conversation: &mut Conversation, lines: &str) -> Resu
 
 /// Holds a conversation with the policy of this text.
 ///
-/// Behind `> ` stands an edit, or a question: `why NAME LINE`, `states SUBJECT`, `reach SUBJECT`,
-/// `shadow` or `policy`. Behind each come the lines that are answered: to an edit `ok` and what it
+/// After `> ` stands an edit, or a question: `why NAME LINE`, `states SUBJECT`, `reach SUBJECT`,
+/// `shadow` or `policy`. After each come the lines that are answered: to an edit `ok` and what it
 /// changes, or its refusal; to `reach` each rule with its least line; to `shadow` each subject with
 /// a rule that decides none of its lines. A line that begins with `#` is a comment.
 pub(crate) fn converses<R: Abort + AllocGlobal>(

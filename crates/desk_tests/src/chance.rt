@@ -2,7 +2,7 @@
 
 use std::alloc::{AllocError, Global};
 
-// The calls, of which each line is as likely as any other. Each word in capitals stands for one of
+// The calls, of which each line is as likely as any other. Each word in capitals represents one of
 // its choices.
 const CALLS: &str = "? login USER SECRET
 ? login USER SECRET
@@ -42,7 +42,7 @@ const CALLS: &str = "? login USER SECRET
 // Asks for a shell, of which the level is told. By chance no such call comes.
 const SHELL: &str = "? run ann \n";
 
-// What a word may stand for, a line each.
+// What a word may represent, a line each.
 fn choices(word: &str) -> Option<&'static str> {
     match word {
         "USER" => Some("bob\neve\nann\nzed"),
@@ -80,7 +80,7 @@ impl Chance {
         lines.lines().nth(at).unwrap_or("")
     }
 
-    // What stands for a word of a call.
+    // What a word of a call represents.
     fn word(&mut self, word: &'static str) -> &'static str {
         match choices(word) {
             Some(lines) => self.line(lines),

@@ -32,7 +32,7 @@ pub(crate) fn console<D: Desk>(
     }
 }
 
-// A record; the empty line stands for none.
+// A record; the empty line means none.
 fn record(user: Bytes, kind: AcctKind, task: Bytes, elapsed: u32, line: Bytes) -> Record {
     Record {
         user,
@@ -43,7 +43,7 @@ fn record(user: Bytes, kind: AcctKind, task: Bytes, elapsed: u32, line: Bytes) -
     }
 }
 
-// What stands behind a `%`: two digits, and bytes that stand for themselves; or nothing.
+// What follows a `%`: two digits, and bytes that represent themselves; or nothing.
 fn push_shown(bytes: &mut Bytes, part: &[u8]) -> Result<(), AllocError> {
     if let [high, low, rest @ ..] = part {
         bytes.push(digit(*high) << 4 | digit(*low))?;
@@ -74,7 +74,7 @@ fn digit(byte: u8) -> u8 {
     }
 }
 
-// The first word of a text, and what is behind the space.
+// The first word of a text, and what follows the space.
 fn word(text: &str) -> (&str, &str) {
     text.split_once(' ').unwrap_or((text, ""))
 }
@@ -245,8 +245,8 @@ fn holds<R: Abort + AllocGlobal>(
 
 /// Holds conversations with desks of a policy, which keep at most so many records.
 ///
-/// A paragraph is a conversation: behind `> ` a line of the console, behind `? ` what a connection
-/// asks, and behind each the lines that are answered. A line that begins with `#` is a comment.
+/// A paragraph is a conversation: after `> ` a line of the console, after `? ` what a connection
+/// asks, and after each the lines that are answered. A line that begins with `#` is a comment.
 pub(crate) fn converses<R: Abort + AllocGlobal>(
     rt: &R,
     policy: &str,

@@ -11,7 +11,7 @@ pub(crate) struct Manner {
     pub(crate) piece: usize,
     /// Each read is interrupted once before it is done.
     pub(crate) interrupted: bool,
-    /// Behind the last byte it fails.
+    /// After the last byte it fails.
     pub(crate) fails: bool,
 }
 

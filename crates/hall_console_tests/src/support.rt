@@ -64,7 +64,7 @@ fn push_line(out: &mut Vec<u8>, line: &str) -> Result<(), AllocError> {
     Ok(())
 }
 
-// The lines behind `> `, and all others: what is typed, and what is printed.
+// The lines after `> `, and all others: what is typed, and what is printed.
 fn parts<R: AllocGlobal>(rt: &R, talk: &str) -> Result<(Vec<u8>, Vec<u8>), Fail> {
     let mut typed = Vec::new(rt.alloc());
     let mut printed = Vec::new(rt.alloc());
@@ -113,7 +113,7 @@ fn talks<R: Wait + AllocGlobal>(
     Ok(())
 }
 
-/// The lines behind `> ` are typed at the console of a hall whose log takes so many calls; then all
+/// The lines after `> ` are typed at the console of a hall whose log takes so many calls; then all
 /// others are printed, and so many calls were made, the Stop among them. However the input comes.
 pub(crate) fn converses<R: Wait + AllocGlobal>(
     rt: &R,

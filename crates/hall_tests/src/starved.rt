@@ -16,7 +16,7 @@ use tac_desk::{Desk, Query, QueryFault, Report, State, Thrice};
 use tac_desks::PlainDesk;
 use tac_hall::Hall;
 
-// Never has a record, and would take nine. A contract sees the desk inside.
+// Never has a record, though its limit is nine. A contract sees the desk inside.
 #[derive(Drop)]
 struct Starved {
     inner: PlainDesk,
@@ -105,7 +105,7 @@ fn a_record_that_is_not_stored(rt: HostRuntime) -> Result<(), Fail> {
     )
 }
 
-// That the log is full comes before want of memory.
+// That the log is full comes before a lack of memory.
 #[test]
 fn a_record_for_a_full_log(rt: HostRuntime) -> Result<(), Fail> {
     starves(

@@ -32,7 +32,7 @@ pub(crate) fn hall_of<R: AllocGlobal>(
     Ok(Hall::new(rt, desk, limit)?)
 }
 
-// The first word of a text, and what is behind the space.
+// The first word of a text, and what follows the space.
 fn word(text: &str) -> (&str, &str) {
     text.split_once(' ').unwrap_or((text, ""))
 }
@@ -124,7 +124,7 @@ fn show(out: &mut String, told: &Result<Receipt, HallFault>) -> Result<(), Alloc
     }
 }
 
-// Makes a call by a seat; this has to be what comes of it.
+// Makes a call by a seat, which has to have this result.
 fn says<D: Desk, R: Wait + AllocGlobal>(
     rt: &R,
     hall: &Hall<D>,
@@ -218,15 +218,15 @@ fn are_entries(alloc: Global, log: &[Entry], lines: &str) -> Result<bool, Fail> 
     Ok(left.is_empty())
 }
 
-// Whether a desk of this policy, without records, stands for this.
+// Whether a desk of this policy, without records, represents this.
 fn is_state_of(alloc: Global, state: &State, policy: &str) -> Result<bool, Fail> {
     let desk = desk_of(alloc, policy)?;
     let wanted = desk.state()?;
     Ok(wanted.same(state))
 }
 
-// What a hall kept: its desk stood for bob's policy at first, took these calls, each with its
-// answer, and stands for this policy now.
+// What a hall kept: its desk represented bob's policy at first, took these calls, each with its
+// answer, and represents this policy now.
 fn has_kept(
     alloc: Global,
     settled: &Settled<PlainDesk>,
@@ -247,7 +247,7 @@ fn has_kept(
 }
 
 /// The hall, of bob's policy at first, is closed with these seats. Each line is
-/// `SEAT CALL = ANSWER`, an entry of its log, and its desk stands for this policy.
+/// `SEAT CALL = ANSWER`, an entry of its log, and its desk represents this policy.
 pub(crate) fn closes_with(
     alloc: Global,
     hall: Hall<PlainDesk>,
@@ -276,7 +276,7 @@ pub(crate) fn seats_of<D: Desk, R: Wait + AllocGlobal>(
 }
 
 /// Each line is `SEAT CALL = PLACE ANSWER`, or `SEAT CALL = REFUSAL`, at this hall, with its first
-/// two seats; behind them the hall is closed, and its log has so many calls.
+/// two seats; after them the hall is closed, and its log has so many calls.
 pub(crate) fn converses_in<D: Desk, R: Wait + AllocGlobal>(
     rt: &R,
     hall: Hall<D>,

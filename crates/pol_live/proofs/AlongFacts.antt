@@ -23,7 +23,7 @@ chain_none policy subject i past =
     let none_left : 8 - i ≡ 0 = omega arith in
     ap (λ (n : ℕ). chain_within n policy subject) none_left
 
--- what is left of the entries, at a subject and behind it
+-- what is left of the entries, at a subject and after it
 pub entries_step : (policy : List Subject) (subject : Subject) (i : ℕ) (parent : Option Subject) → i < 8 → parent_of policy subject ≡ parent
     → entries_along (chain_within (8 - i) policy subject) ≡ own_entries subject ++ entries_along (option_map_or (chain_within (8 - (i + 1)) policy) parent [])
 entries_step policy subject i parent lt e = ap entries_along (chain_step policy subject i parent lt e)

@@ -12,7 +12,7 @@ module _ (policy : List Subject) where
   more_small (s ∷ rest) zero subject lt at small here = (let P : Subject → Type 0 = λ s. ¬ (IsLarge policy s) in subst P (sym at) here, tt)
   more_small (s ∷ rest) (suc i) subject lt at small here = (small.0, more_small rest i subject (omega arith) at small.1 here)
 
-  -- behind small ones it is the first that is large
+  -- after small ones it is the first that is large
   pub first_large : (subjects : List Subject) (i : ℕ) (subject : Subject) → i < length subjects → get_or subjects i subject ≡ subject
       → AreSmall policy (take i subjects) → IsLarge policy subject → IsFirstLarge policy subjects (id_of subject)
   first_large [] i subject lt at small here = absurd (omega arith)

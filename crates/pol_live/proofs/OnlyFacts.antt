@@ -13,7 +13,7 @@ use Rattle.pol_meaning.specs.Sizes.{AreSmall, IsFirstLarge, IsRefusedAs}
 use Rattle.pol_live.specs.Live.{Builds, Step, PreparesTo, Prepares, PreparesAll}
 use Rattle.pol_meaning.specs.Memory.{UnlessMemory}
 
--- what can't be refused but for want of memory is that
+-- a refusal that only a lack of memory allows says that memory ran out
 memory_alone : {X : Type 0} (fault : EditFault) → ¬ X → Except (is_memory fault) X → fault ≡ Memory
 memory_alone Memory never h = refl
 memory_alone BadEdit never h = absurd (never h)
@@ -44,7 +44,7 @@ module _ (policy : List Subject) where
   refused_unique : {F : Type 0} (as_refusal : EditFault → F) (a b : F) → IsRefusedAs as_refusal policy a → IsRefusedAs as_refusal policy b → a ≡ b
   refused_unique as_refusal a b h k = h.1 ∙ ap (λ (id : SubjectId). as_refusal (TooManyStates id)) (first_unique policy h.0 k.0 h.2 k.2) ∙ sym k.1
 
-  -- a small one is refused for want of memory alone
+  -- a small one is refused only where memory runs out
   pub small_memory : (r : Result (List Subject) EditFault) → AreSmall policy policy → UnlessMemory is_memory r (Builds policy r) → IfErr r (λ fault. fault ≡ Memory)
   small_memory (Ok built) small h = tt
   small_memory (Err fault) small h = memory_alone fault (λ refused. none_large policy refused.0 small refused.2) h

@@ -51,7 +51,7 @@ got (Some x) xs i there same = let within : i < length xs = grind (arith, nat_te
 
 -- ---- entries by their places
 
--- in front, or behind
+-- before, or after
 get_front : {X : Type 0} (xs ys : List X) (k : ℕ) → k < length xs → slice_get (xs ++ ys) k ≡ slice_get xs k
 get_front [] ys k lt = absurd (omega arith)
 get_front (x ∷ xs) ys zero lt = refl
@@ -98,7 +98,7 @@ place_here policy subject i parent left rule lt e at =
     ∙ numbered_at (id_of subject) 1 subject.rules left rule at
     ∙ ap (λ (m : ℕ). Some (record { owner = id_of subject; number = m; rule = rule })) number
 
--- one behind its own
+-- one after its own
 pub place_later : (policy : List Subject) (subject : Subject) (i : ℕ) (parent : Option Subject) (left : ℕ) → i < 8 → parent_of policy subject ≡ parent → slice_get subject.rules left ≡ None
     → slice_get (entries_along (chain_within (8 - i) policy subject)) left
     ≡ slice_get (entries_along (option_map_or (chain_within (8 - (i + 1)) policy) parent [])) (left - length subject.rules)

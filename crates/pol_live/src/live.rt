@@ -104,7 +104,7 @@ impl Live {
         ensures found { UnlessMemory is_memory result (Builds policy result) }
         ensures only { UnlessMemory is_memory result (IsOnlyBuilt policy result) }
 
-        // A policy that may stand is refused for want of memory alone.
+        // A policy that may stand is refused only where memory runs out.
         ensures small { IsSmall policy → IfErr result (λ fault. fault ≡ Memory) }
 
         // The meter rises by the residuals of each automaton that is made.

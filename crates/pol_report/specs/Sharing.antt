@@ -46,7 +46,7 @@ abbrev pub AreKnown : List Subject → List Subject → BTreeMap ℕ Known → T
 AreKnown before after known = (place : ℕ) (found : Known) → get nat_cmp known place ≡ Some found
     → IsDifference (along_at before found.before) (along_at after (Some place)) found.difference
 
--- what changes for the user is listed behind the others, if anything does
+-- what changes for the user is listed after the others, if anything does
 pub record IsListed (before after : List Subject) (user : List ℕ) (old new : List Changed)
     : Type 0 where
   pub changed : Changed

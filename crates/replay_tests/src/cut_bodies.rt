@@ -1,4 +1,4 @@
-//! Bodies that are cut short, each answered as its kind answers what is no body of it.
+//! Bodies that are cut short, each answered as its kind answers an invalid body.
 
 use crate::support::{BAD_BODY, BOB, PERMITTED, joined, packet, plays};
 use std::process::Abort;

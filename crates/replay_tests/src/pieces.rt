@@ -14,14 +14,14 @@ fn pieces_of_any_size(rt: HostRuntime) -> Result<(), Fail> {
          c0020104.00000002.00000036.06010101030400030d080f'bobtty0service=shellcmd=showcmd-arg=version'
         reply 1 c0020204.00000001.00000006.010000000000
         reply 1 c0020204.00000002.00000006.010000000000",
-        // A whole login on a line, and a packet behind it, which is dropped.
+        // A whole login on a line, and a packet after it, which is dropped.
         "packet 1 c0010100.00000001.00000008.0101010100000000 c0010300.00000001.00000008.0003000000'bob' \
          c0010500.00000001.0000000b.0006000000'secret' c0010100.00000001.00000008.0101010100000000
         reply 1 c0010200.00000001.00000010.0400000a0000'Username: '
         reply 1 c0010400.00000001.00000010.0501000a0000'Password: '
         reply 1 c0010600.00000001.00000006.010000000000
         closed 1",
-        // A header that closes, behind a packet and with bytes behind it.
+        // A header that closes, after a packet and with bytes after it.
         "packet 1 c0010104.00000001.00000008.0101010100000000 c2010104.00000002.00000001.00 c0090104.00000003.00000000
         reply 1 c0010204.00000001.00000010.0400000a0000'Username: '
         closed 1",

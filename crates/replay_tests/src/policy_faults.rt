@@ -76,7 +76,7 @@ fn lines_that_are_none(rt: HostRuntime) -> Result<(), Fail> {
     ];
     for line in &lines {
         faults(&rt, line, "2 1 BadLine")?;
-        // Also behind other lines.
+        // Also after other lines.
         faults_after(&rt, "group ops\n\n# none\n", line, "5 1 BadLine")?;
     }
     Ok(())

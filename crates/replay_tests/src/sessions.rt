@@ -202,7 +202,7 @@ fn packets_out_of_turn(rt: HostRuntime) -> Result<(), Fail> {
         "c0020100.00000002.00000000",
     ];
     close(&rt, NOT_SINGLE, &others)?;
-    // Behind the name the number goes up.
+    // After the name the number goes up.
     let named = "
         packet 1 c0010104.00000001.00000008.0101010100000000
         reply 1 c0010204.00000001.00000010.0400000a0000'Username: '

@@ -107,7 +107,7 @@ fn is_event(line: &str) -> bool {
     matches!(word, "open" | "packet" | "bytes" | "pieces" | "lost")
 }
 
-// Adds a line as it stands, behind these words.
+// Adds a line as it stands, after these words.
 fn push_as_is(text: &mut String, start: &str, line: &str) -> Result<(), Fail> {
     text.push_str(start)?;
     text.push_str(line)?;
@@ -115,7 +115,7 @@ fn push_as_is(text: &mut String, start: &str, line: &str) -> Result<(), Fail> {
     Ok(())
 }
 
-// Plays what a conversation came to so far.
+// Plays what there is of a conversation so far.
 fn comes_to<R: Abort + AllocGlobal>(rt: &R, script: &str, output: &str) -> Result<(), Fail> {
     if output.contains("fault ") {
         stops(rt, &[script], output)
@@ -126,9 +126,9 @@ fn comes_to<R: Abort + AllocGlobal>(rt: &R, script: &str, output: &str) -> Resul
 
 /// Plays conversations under a policy, each on its own, with connection 1 open.
 ///
-/// A paragraph is a conversation: lines of a script, and behind each line what it prints. In these
-/// lines dots drop out, and text in single quotes stands for its bytes in hexadecimal digits. What
-/// stands behind `> ` is said at the console, and the lines behind it are the answer: all of these
+/// A paragraph is a conversation: lines of a script, and after each line what it prints. In these
+/// lines dots drop out, and text in single quotes represents its bytes in hexadecimal digits. What
+/// stands after `> ` is said at the console, and the lines after it are the answer: all of these
 /// are taken as they stand. A line that begins with `#` is a comment.
 pub(crate) fn converses<R: Abort + AllocGlobal>(
     rt: &R,
@@ -169,7 +169,7 @@ pub(crate) fn converses<R: Abort + AllocGlobal>(
     comes_to(rt, script.as_str(), output.as_str())
 }
 
-/// What a body is sent as: a line of hexadecimal digits, behind its header.
+/// What a body is sent as: a line of hexadecimal digits, after its header.
 fn spelled<R: AllocGlobal>(
     rt: &R,
     start: &str,

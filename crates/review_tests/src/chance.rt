@@ -2,7 +2,7 @@
 
 use std::alloc::{AllocError, Global};
 
-// The edits, of which each line is as likely as any other. Each word in capitals stands for one of
+// The edits, of which each line is as likely as any other. Each word in capitals represents one of
 // its choices.
 const EDITS: &str = "add user USER in GROUP
 add user USER in GROUP
@@ -21,7 +21,7 @@ drop SUBJECT PLACE
 shift SUBJECT PLACE PLACE
 shift SUBJECT PLACE PLACE";
 
-// What a word may stand for, a line each.
+// What a word may represent, a line each.
 fn choices(word: &str) -> Option<&'static str> {
     match word {
         "USER" => Some("bob\neve\nann\nzed"),
@@ -56,7 +56,7 @@ impl Chance {
         lines.lines().nth(at).unwrap_or("")
     }
 
-    // What stands for a word of an edit.
+    // What a word of an edit represents.
     fn word(&mut self, word: &'static str) -> &'static str {
         match choices(word) {
             Some(lines) => self.line(lines),

@@ -18,7 +18,7 @@ fn run(
     review(alloc, what, names, &mut one, &mut two, out)
 }
 
-/// What the review prints, behind how it ends.
+/// What the review prints, after how it ends.
 pub(crate) fn reviewed(alloc: Global, what: Review, one: &str, two: &str) -> Result<String, Fail> {
     let mut out = Vec::new(alloc);
     let Ok(end) = run(alloc, what, one, two, &mut out) else {

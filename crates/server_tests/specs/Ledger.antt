@@ -1,4 +1,4 @@
--- What the desk stands for that keeps its records backwards.
+-- What a desk that keeps its records backwards represents.
 use Rattle.std.specs.Prelude.{[], reverse}
 use Rattle.tac_desk.specs.Meaning.{Meaning}
 use Rattle.server_tests.specs.declared.ledger.Ledger.{Ledger}

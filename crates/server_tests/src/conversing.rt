@@ -82,7 +82,7 @@ fn happen<D: Desk>(
     }
 }
 
-// What is wanted of the server: the bytes of a packet behind `< `, else a line.
+// What is wanted of the server: the bytes of a packet after `< `, else a line.
 fn want(alloc: Global, line: &str, wanted: &mut Vec<u8>) -> Result<(), Fail> {
     match line.strip_prefix("< ") {
         Some(digits) => {
@@ -141,8 +141,8 @@ fn holds<R: Abort, D: Desk>(
 
 /// Holds a conversation with a server over this desk.
 ///
-/// Behind `> ` stands an event: `open NUMBER`, `lost NUMBER`, `hand NUMBER DIGITS DIGITS ..` (the
-/// bytes of packets, on whose bodies the pad is put), or else a line of the console. Behind each
+/// After `> ` stands an event: `open NUMBER`, `lost NUMBER`, `hand NUMBER DIGITS DIGITS ..` (the
+/// bytes of packets, on whose bodies the pad is put), or else a line of the console. After each
 /// comes what is given out: `< DIGITS`, a packet; `closed`, where a connection is; a refusal,
 /// `memory` among them; or the console's lines. A line that begins with `#` is a comment.
 pub(crate) fn converses<R: Abort + AllocGlobal, D: Desk>(

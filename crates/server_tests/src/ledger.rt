@@ -1,4 +1,4 @@
-//! A desk that keeps what it stands for in a way of its own.
+//! A desk that keeps what it represents in a way of its own.
 
 ghost use Rattle.std.specs.Prelude.{◌≡◌, true, reverse, Err, IsOk, IfOk, OnOk, OnErr};
 ghost use Rattle.pol_meaning.specs.Memory.{UnlessMemory};

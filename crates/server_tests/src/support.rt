@@ -25,7 +25,7 @@ pub(crate) fn plain(alloc: Global, policy: &str, limit: usize) -> Result<PlainDe
     Ok(PlainDesk::new(alloc, policy, limit)?)
 }
 
-/// The same, to which memory runs out once, at the edit behind so many.
+/// The same, to which memory runs out once, at the edit after so many.
 pub(crate) fn faltering(alloc: Global, policy: &str, before: u32) -> Result<Faltering, Fail> {
     Ok(Faltering {
         inner: plain(alloc, policy, 9)?,

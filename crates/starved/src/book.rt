@@ -75,7 +75,7 @@ fn stored(alloc: Global, book: &mut Book, records: &[Record]) -> Result<Finding,
     }
 }
 
-// Stores the last of these records behind the others. One that found no memory can be stored later.
+// Stores the last of these records after the others. One that found no memory can be stored later.
 fn store_last(alloc: Global, records: &[Record]) -> Result<Finding, Trouble> {
     let mut book = Book::new(alloc, LIMIT);
     if let [before @ .., _] = records {

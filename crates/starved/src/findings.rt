@@ -1,9 +1,9 @@
-//! What a case comes to.
+//! The result of a case.
 
 use std::alloc::{AllocError, AllocFailed};
 use std::{fmt, io};
 
-/// What the call came to, where all that stands after it is right.
+/// The result of the call, where all that stands after it is right.
 #[derive(Clone, Copy, Debug, PartialEq, Eq)]
 pub(crate) enum Finding {
     /// It did what was asked.

@@ -2,7 +2,7 @@
 //! stands after it. It is for runs to which memory is refused: `bench/memory` refuses one growth
 //! after another.
 //!
-//! It prints in a word what the call came to: `made`; `memory`, where it ran out and all is as
+//! It prints the result of the call in a word: `made`; `memory`, where it ran out and all is as
 //! before; `accepted`, where it ran out and the edit of a console's line stands; `served K`, where
 //! it ran out after K packets of a piece, which have their replies. If what stands is wrong it says
 //! so on standard error, with status 1. If memory runs out before the call or after it, nothing is

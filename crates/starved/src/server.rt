@@ -56,7 +56,7 @@ fn started(alloc: Global) -> Result<Server<LiveDesk>, Trouble> {
     }
 }
 
-// The call, of which a refusal is none that is wanted unless it is for want of memory.
+// The call. The only refusal that is right is one for a lack of memory.
 fn opened(server: &mut Server<LiveDesk>, conn: u32) -> Result<Finding, Trouble> {
     match server.open(conn) {
         Ok(()) => Ok(Finding::Made),

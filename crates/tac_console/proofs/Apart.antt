@@ -24,7 +24,7 @@ parts_are a b x y e =
     let same : (let p : List ℕ × List ℕ = (a, x) in p) ≡ (b, y) = cc in
     (ap (λ (p : List ℕ × List ℕ). p.0) same, ap (λ (p : List ℕ × List ℕ). p.1) same)
 
--- fields without the separator that stands behind them are told apart, and so is what follows
+-- fields without the separator that follows them are told apart, and so is what follows
 split_same : (separator : ℕ) (a b x y : List ℕ) → is_without separator a ≡ true → is_without separator b ≡ true
     → a ++ separator ∷ x ≡ b ++ separator ∷ y → (a ≡ b) × (x ≡ y)
 split_same separator a b x y h k same =
@@ -73,7 +73,7 @@ kinds_apart Update Update e = refl
 seconds_apart : (m n : ℕ) → m < 2 ^ 32 → n < 2 ^ 32 → decimal m ≡ decimal n → m ≡ n
 seconds_apart m n small_m small_n same = decimal_injective m n (omega arith) (omega arith) same
 
--- seconds alone have no blank behind them
+-- seconds alone have no blank after them
 alone_apart : (m n : ℕ) (line : List ℕ) → decimal m ++ [] ≡ decimal n ++ line_field (Some line) → ⊥
 alone_apart m n line same =
     let alone : split_at_first 32 (decimal m ++ []) ≡ None = ap (split_at_first 32) (append-nil (decimal m)) ∙ split_whole 32 (decimal m) (decimal_without 32 m (lit< tt)) in

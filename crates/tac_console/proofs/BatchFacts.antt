@@ -8,7 +8,7 @@ use Rattle.tac_console.specs.declared.asked.Asked.{Asked}
 use Rattle.tac_console.specs.declared.asked.Asked.TheVariants as asks
 use Rattle.tac_console.specs.Batching.{most, has_room, batch_behind, edits_in, goes_on, HasFirst}
 
--- a batch behind these lines, whatever it had kept before
+-- a batch after these lines, whatever it had kept before
 HasThen : List Asked → Type 0
 HasThen lines = (kept : List Edit) → length kept ≤ most → batch_behind (Some kept) lines ≡ Some (take most (kept ++ edits_in lines))
 

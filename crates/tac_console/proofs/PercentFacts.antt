@@ -81,7 +81,7 @@ decimal_visible n = onto_visible 64 n [] refl
 glyphs_apart : (d e : ℕ) → d < 16 → e < 16 → digit_glyph true d ≡ digit_glyph true e → d ≡ e
 glyphs_apart d e small_d small_e same = grind (arith, nat_tests)
 
--- the first byte shown, and what is behind it
+-- the first byte shown, and what follows it
 first_shown : (a b : ℕ) (x y : List ℕ) → a < 256 → b < 256 → shown_byte a ++ x ≡ shown_byte b ++ y → (a ≡ b) × (x ≡ y)
 first_shown a b x y small_a small_b same = shown (is_plain a) (is_plain b) refl refl same
   where

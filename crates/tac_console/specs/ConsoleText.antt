@@ -39,7 +39,7 @@ query_in line =
     else if bytes_eq line (codes "records") then Some Records
     else by_word (parted line)
 
--- the question that a line of symbols says; nothing where it is none
+-- the question that a line of symbols says; nothing where it says no question
 unfoldable pub query_of : List ℕ → Option Query
 query_of line = if is_text line then query_in line else None
 

@@ -1,4 +1,4 @@
--- How it is told that a policy can't stand (docs/SCRIPT.md, "Faults"). Every line ends in LF.
+-- What is printed of a policy that can't stand (docs/SCRIPT.md, "Faults"). Every line ends in LF.
 use Rattle.std.specs.Prelude.{ℕ, List, [], ◌∷◌, ◌++◌, codes, Bool, true, false}
 use Rattle.std.specs.Fmt.{decimal}
 use Rattle.pol_names.specs.SubjectId.{subject_text}

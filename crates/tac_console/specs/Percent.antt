@@ -4,7 +4,7 @@ use Rattle.std.specs.Prelude.{if◌then◌else◌}
 use Rattle.std.specs.List.{flat_map}
 use Rattle.std.specs.Fmt.{digit_glyph}
 
--- a byte that stands for itself: a symbol, but neither the blank nor `%`
+-- a byte that represents itself: a symbol, but neither the blank nor `%`
 abbrev pub is_plain : ℕ → Bool
 is_plain byte = nat_le 0x21 byte && nat_le byte 0x7E && not (byte == 37)
 

@@ -79,7 +79,7 @@ impl Batch {
 
     /// Takes what a line asks, and answers what is to be done for it. Amortised constant time.
     ///
-    /// The error is want of memory, which keeping an edit takes. Then no batch is open any more.
+    /// The error means that memory ran out to keep an edit. Then no batch is open any more.
     #[tactic(auto, using(crate::proofs::BatchFacts::has_first))]
     pub fn take(&mut self, alloc: Global, asked: Asked) -> Result<Action, AllocError>
         ensures action { IfOk result (λ action. action ≡ batches.action_of self.old asked) }

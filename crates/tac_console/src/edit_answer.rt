@@ -56,7 +56,7 @@ fn accepted(alloc: Global, changes: &Changes) -> io::Result<Vec<u8>>
 }
 
 /// Adds how an edit is answered: `ok`, and a line for each decision that it changes, or why it is
-/// refused. The error is want of memory, and adds nothing. Linear in what is added.
+/// refused. The error means that memory ran out; nothing is added then. Linear in what is added.
 pub fn write_edit_answer(
     alloc: Global,
     out: &mut Vec<u8>,
@@ -73,7 +73,8 @@ pub fn write_edit_answer(
 }
 
 /// Adds how a batch of edits is answered: as one edit is, but a refusal names the edit that is
-/// refused, if one is. The error is want of memory, and adds nothing. Linear in what is added.
+/// refused, if one is. The error means that memory ran out; nothing is added then. Linear in what
+/// is added.
 pub fn write_batch_answer(
     alloc: Global,
     out: &mut Vec<u8>,
@@ -102,7 +103,7 @@ fn notice_text(alloc: Global, notice: Notice) -> io::Result<Vec<u8>>
 }
 
 /// Adds what a line is told where the desk isn't asked: `ok`, `kept K`, or why it is refused. The
-/// error is want of memory, and adds nothing.
+/// error means that memory ran out; nothing is added then.
 pub fn write_notice(alloc: Global, out: &mut Vec<u8>, notice: Notice) -> Result<(), AllocError>
     ensures ok { OnOk result (out.new.items ≡ out.old.items ++ answers.notice_text notice) }
     ensures err { OnErr result (out.new.items ≡ out.old.items) }

@@ -1,4 +1,4 @@
-//! How it is told that a policy can't stand.
+//! What is printed of a policy that can't stand.
 
 ghost use Rattle.std.specs.Prelude.{◌≡◌, ◌++◌, IsTrue, IfOk, OnOk, OnErr};
 ghost use Rattle.tac_console.specs.Faults as faults;
@@ -35,7 +35,7 @@ fn build_fault(alloc: Global, fault: EditFault) -> io::Result<Vec<u8>>
 }
 
 /// Adds the line that says why a text is no policy: `fault line L N REFUSAL`, where L is the line
-/// that the fault names. The error is want of memory, and adds nothing.
+/// that the fault names. The error means that memory ran out; nothing is added then.
 pub fn write_policy_fault(
     alloc: Global,
     out: &mut Vec<u8>,
@@ -47,14 +47,14 @@ pub fn write_policy_fault(
     add(out, policy_fault(alloc, fault))
 }
 
-/// Adds the line that says why a policy isn't built: `fault TooManyStates SUBJECT`. The error is
-/// want of memory, and adds nothing.
+/// Adds the line that says why a policy isn't built: `fault TooManyStates SUBJECT`. The error means
+/// that memory ran out; nothing is added then.
 pub fn write_build_fault(
     alloc: Global,
     out: &mut Vec<u8>,
     fault: EditFault,
 ) -> Result<(), AllocError>
-    // The fault is one of a build: too many states, or want of memory.
+    // The fault is one of a build: too many states, or a lack of memory.
     requires { IsTrue (faults.is_build_fault fault) }
     ensures ok { OnOk result (out.new.items ≡ out.old.items ++ faults.build_fault fault) }
     ensures err { OnErr result (out.new.items ≡ out.old.items) }

@@ -6,7 +6,7 @@ ghost use Rattle.tac_console.specs.Percent.{is_plain as plain_test, shown_byte, 
 
 use std::alloc::AllocError;
 
-// Whether the byte stands for itself.
+// Whether the byte represents itself.
 fn is_plain(byte: u8) -> bool
     ensures { result ≡ plain_test byte }
 {

@@ -153,8 +153,8 @@ fn report_text(alloc: Global, query: &Query, report: &Report) -> io::Result<Vec<
     Ok(text)
 }
 
-/// Adds how a question is answered, or why it isn't. The error is want of memory, and adds nothing.
-/// Linear in what is added.
+/// Adds how a question is answered, or why it isn't. The error means that memory ran out; nothing
+/// is added then. Linear in what is added.
 #[tactic(auto, using(crate::proofs::Apart::percent_visible, crate::proofs::Apart::records_apart))]
 pub fn write_query_answer(
     alloc: Global,

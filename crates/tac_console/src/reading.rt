@@ -113,7 +113,7 @@ fn batch_word(line: &[u8]) -> Option<Asked>
 }
 
 /// Reads a line of a console, without its LF: an edit, a question, a word of a batch, or none of
-/// them. The error is want of memory.
+/// them. The error means that memory ran out.
 pub fn read_console(alloc: Global, line: &[u8]) -> Result<Asked, AllocError>
     ensures exact { IfOk result (λ asked. asked ≡ text.asked_by line.now) }
 

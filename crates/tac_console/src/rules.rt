@@ -84,8 +84,8 @@ pub(crate) fn write_reach(out: &mut Vec<u8>, rows: &[Reached]) -> io::Result<()>
     Ok(())
 }
 
-/// Adds the rules that decide nothing, a line each, or `none`. The error is want of memory, and
-/// adds nothing. Linear in what is added.
+/// Adds the rules that decide nothing, a line each, or `none`. The error means that memory ran out;
+/// nothing is added then. Linear in what is added.
 pub fn write_shadows(alloc: Global, out: &mut Vec<u8>, rows: &[Shadowed]) -> Result<(), AllocError>
     ensures ok { OnOk result (out.new.items ≡ out.old.items ++ reports.shadows_text rows.now) }
     ensures err { OnErr result (out.new.items ≡ out.old.items) }

@@ -16,7 +16,7 @@ abbrev pub unnumbered : {X : Type 0} → Result X BatchFault → Result X EditFa
 unnumbered (Ok value) = Ok value
 unnumbered (Err refusal) = Err refusal.fault
 
--- where a batch is refused for want of memory, its edit is
+-- where a batch is refused because memory ran out, so is its edit
 except_so : {A B : Type 0} (all memory : Bool) → (A → B) → Except (all && memory) A → Except memory B
 except_so true true so h = tt
 except_so true false so h = so h

@@ -87,7 +87,7 @@ module _ (key : List ℕ) where
   closing_next true said next e h = ap (λ (s : Said). s.closes) (unless_closed-true said next e) ∙ e
   closing_next false said next e h = ap (λ (s : Said). s.closes) (unless_closed-false said next e) ∙ h
 
-  -- behind a header that is refused nothing is said
+  -- after a header that is refused nothing is said
   said_to-fault : (frames : List Frame) (meaning : Meaning) (earlier : List Packet) (tail : Tail) → closed_by tail ≡ true → (said_to key meaning earlier frames tail).closes ≡ true
   said_to-fault [] meaning earlier tail e = ap (λ (s : Said). s.closes) (said_to-none meaning earlier tail) ∙ e
   said_to-fault (frame ∷ frames) meaning earlier tail e =

@@ -26,7 +26,7 @@ use Rattle.tac_conn.specs.declared.ask.Answer.TheVariants.{Pass, Fail, UnknownUs
 use Rattle.tac_conn.specs.declared.ask.Answer.TheVariants.{Denied, Permitted, Stored, BookFull}
 use Rattle.tac_desk.specs.Meaning.{Meaning}
 
--- the user of this name; what is no name names none
+-- the user of this name; a text that is no name names nobody
 abbrev pub user_named : List Subject → List ℕ → Option Subject
 user_named policy text = option_and_then (λ name. find_subject (user_id name) policy) (name_of text)
 
@@ -98,12 +98,12 @@ is_full meaning = length meaning.records == meaning.limit
 
 -- ---- all of these
 
--- an answer, and what the desk stands for from then on
+-- an answer, and what the desk represents from then on
 pub record Answered : Type 0 where
   pub answer : Answer
   pub meaning : Meaning
 
--- the record behind the others; none goes beyond the limit
+-- the record after the others; none goes beyond the limit
 abbrev pub stored : Meaning → Record → Answered
 stored meaning item =
     if is_full meaning then record { answer = BookFull; meaning = meaning }
@@ -112,7 +112,7 @@ stored meaning item =
       meaning = record meaning { records = meaning.records ++ item ∷ [] };
     }
 
--- the answer to what is asked, and what the desk stands for from then on
+-- the answer to what is asked, and what the desk represents from then on
 abbrev pub asked : Meaning → Ask → Answered
 asked meaning (Authenticate user service proof) =
     record { answer = authentication meaning.policy user service proof; meaning = meaning }

@@ -34,7 +34,7 @@ EditsTo as_refusal before (Err fault) answer after = Refuses before fault answer
 
 -- ---- one edit
 
--- the desk answers the edit so, and stands for this from then on; the edit's own
+-- the desk answers the edit so, and represents this from then on; the edit's own
 -- refusals come first
 abbrev pub Edits : Meaning → Edit → Result (List Changed) EditFault → Meaning → Type 0
 Edits before edit answer after =
@@ -48,7 +48,7 @@ IsOnly before edit answer after =
 
 -- ---- several edits, all or none
 
--- the desk answers the edits so, and stands for this from then on; the refusals of single
+-- the desk answers the edits so, and represents this from then on; the refusals of single
 -- edits come first, and the size is judged on the policy that all of them make
 abbrev pub EditsAll : Meaning → List Edit → Result (List Changed) BatchFault → Meaning → Type 0
 EditsAll before edits answer after =

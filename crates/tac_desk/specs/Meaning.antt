@@ -1,4 +1,4 @@
--- What a desk stands for. How it keeps that (marks, counts, automata, what it
+-- What a desk represents. How it keeps that (marks, counts, automata, what it
 -- remembers) shows in no answer.
 use Rattle.std.specs.Prelude.{ℕ, List, []}
 use Rattle.pol_text.specs.declared.subject.Subject.{Subject}

@@ -104,7 +104,7 @@ is_report_to (queries.Why user line) (reports.Why decision) = true
 is_report_to queries.Records (reports.Records records) = true
 is_report_to _ _ = false
 
--- whether the fault is want of memory
+-- whether the fault says that memory ran out
 abbrev pub is_memory : QueryFault → Bool
 is_memory NoSuch = false
 is_memory Memory = true

@@ -17,8 +17,8 @@ use Rattle.tac_stream.specs.Turns.{packets_of}
 use Rattle.tac_desk.specs.Meaning.{Meaning}
 use Rattle.tac_desk.specs.Asking.{Answered, asked}
 
--- what is sent, in clear packets, whether the connection is closed then, and what the desk stands
--- for from then on
+-- what is sent, in clear packets, whether the connection is closed then, and what the desk
+-- represents from then on
 pub record Said : Type 0 where
   pub sent : List Packet
   pub closes : Bool
@@ -34,7 +34,7 @@ answered slot told = record {
   meaning = told.meaning;
 }
 
--- what is said to a packet that comes to this
+-- what is said to a packet of this outcome
 abbrev pub says : Meaning → Outcome → Said
 says meaning (Question reply session) =
     record { sent = packet_of reply ∷ []; closes = false; meaning = meaning }
@@ -46,7 +46,7 @@ says meaning Close = record { sent = []; closes = true; meaning = meaning }
 
 -- ---- to a stream
 
--- what is said behind what was sent before
+-- what is said after what was sent before
 abbrev pub behind : List Packet → Said → Said
 behind sent said = record said { sent = sent ++ said.sent }
 
@@ -60,8 +60,8 @@ closed_by (open_end bytes) = false
 closed_by (fault reason) = true
 
 -- what is said to these packets, one after another, on a connection on which others came earlier,
--- the latest first: to each by what the desk stands for after the one before, until the connection
--- closes; behind them stands the tail
+-- the latest first: to each by what the desk represents after the one before, until the connection
+-- closes; the tail follows them
 unfoldable pub said_to : List ℕ → Meaning → List Packet → List Frame → Tail → Said
 said_to key meaning earlier [] tail =
     record { sent = []; closes = closed_by tail; meaning = meaning }

@@ -1,4 +1,4 @@
-//! What a desk is, however it keeps what it stands for.
+//! What a desk is, however it keeps what it represents.
 
 ghost use Rattle.std.specs.Prelude.{◌≡◌, ◌↔◌, false, Err, IsOk, IsTrue, IfOk, OnOk, OnErr};
 ghost use Rattle.tac_conn.specs.Ask.{kind_of_ask, kind_of_answer};
@@ -21,13 +21,13 @@ use std::slice;
 use tac_conn::{Answer, Ask};
 
 /// A desk: it answers the asks of connections, takes edits of its policy, and answers questions.
-/// Each call is one step, and what it answers depends on what the desk stands for, and on nothing
+/// Each call is one step, and what it answers depends on what the desk represents, and on nothing
 /// else: the policy, the accepted records, and how many are accepted.
 pub trait Desk: Drop {
-    /// What the desk stands for.
+    /// What the desk represents.
     ghost meaning: { Self → Meaning };
 
-    /// Answers what is asked for a packet. A refusal is want of memory.
+    /// Answers what is asked for a packet. A refusal means that memory ran out.
     fn ask(&mut self, ask: &Ask) -> Result<Answer, AllocError>
         ensures answer { IfOk result (λ answer.
             answer ≡ (asked (meaning self.old) ask.now).answer) }
@@ -81,7 +81,7 @@ pub trait Desk: Drop {
             result ≡ Err NoSuch }
         ensures after { meaning self.new ≡ meaning self.old };
 
-    /// What the desk stands for. The error is want of memory.
+    /// What the desk represents. The error means that memory ran out.
     fn state(&self) -> Result<State, AllocError>
         ensures { IfOk result (λ state. state ≡ meaning self.now) };
 }

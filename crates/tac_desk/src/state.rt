@@ -1,4 +1,4 @@
-//! What a desk stands for, as a value of its own.
+//! What a desk represents, as a value of its own.
 
 ghost use Rattle.std.specs.Prelude.{◌≡◌, ◌↔◌, IsTrue};
 
@@ -7,7 +7,7 @@ use pol_text::Policy;
 use std::marker::Model;
 use tac_tally::Record;
 
-/// What a desk stands for, apart from the desk. A contract sees that meaning.
+/// What a desk represents, apart from the desk. A contract sees that meaning.
 #[derive(Drop)]
 pub struct State {
     pub policy: Policy,

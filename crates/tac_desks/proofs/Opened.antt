@@ -1,4 +1,4 @@
--- What a desk that is made of a policy stands for.
+-- What a desk that is made of a policy represents.
 use Rattle.std.proofs.Common.{◌≡◌, ℕ, List, Ok, Err, refl, sym, ap}
 use Rattle.pol_text.specs.declared.subject.Subject.{Subject}
 use Rattle.pol_edit.specs.declared.fault.EditFault.{EditFault}

@@ -1,4 +1,4 @@
--- What a desk that searches and counts each time keeps, and what that stands for.
+-- What a desk that searches and counts each time keeps, and what that represents.
 use Rattle.std.specs.Prelude.{List}
 use Rattle.pol_text.specs.declared.subject.Subject.{Subject}
 use Rattle.tac_tally.specs.Book.{Entry, Contents, items}

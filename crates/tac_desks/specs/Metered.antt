@@ -1,4 +1,4 @@
--- What a desk that keeps automata and marks stands for, how much building the automata made,
+-- What a desk that keeps automata and marks represents, how much building the automata made,
 -- and what holds of the marks.
 use Rattle.std.specs.Prelude.{◌≡◌, ℕ, List, map, Result, Ok, Err}
 use Rattle.pol_text.specs.declared.subject.Subject.{Subject}

@@ -1,4 +1,4 @@
--- What a desk that was just made stands for.
+-- What a desk that was just made represents.
 use Rattle.std.specs.Prelude.{◌≡◌, ℕ, List, Result, Ok, Err}
 use Rattle.pol_text.specs.declared.subject.Subject.{Subject}
 use Rattle.pol_edit.specs.declared.fault.EditFault.{EditFault}

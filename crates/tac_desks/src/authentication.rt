@@ -34,7 +34,7 @@ fn is_proof_of(secret: &[u8], proof: &Proof) -> bool
     }
 }
 
-// The user of this name; what is no name names none.
+// The user of this name; a text that is no name names nobody.
 fn user_of<'a>(policy: &'a Policy, name: &[u8]) -> Option<&'a Subject>
     ensures { option_copied result ≡ asking.user_named policy.now name.now }
 {

@@ -35,7 +35,7 @@ use tac_tally::{Book, Record};
 /// A desk that keeps the automata of its policy, the decisions on the lines that were asked last,
 /// and beside each record whether the policy denies its line. A line is decided by what is
 /// remembered, or by a walk along it, and an edit works out anew only what it changes.
-/// A contract sees what the desk stands for, and its meter.
+/// A contract sees what the desk represents, and its meter.
 #[derive(Drop)]
 pub struct LiveDesk {
     alloc: Global,

@@ -27,7 +27,7 @@ use tac_tally::{Book, Record};
 
 /// A desk that keeps the policy and the records, and nothing that follows from them: each ask
 /// searches the policy from the top, each tally counts over all records, and each edit and each
-/// report of rules builds the automata of all subjects. A contract sees what it stands for.
+/// report of rules builds the automata of all subjects. A contract sees what it represents.
 #[derive(Drop)]
 pub struct PlainDesk {
     alloc: Global,

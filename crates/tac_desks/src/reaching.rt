@@ -17,7 +17,7 @@ use pol_text::Policy;
 use std::alloc::{AllocError, Global};
 use tac_desk::{QueryFault, Report};
 
-/// The policy with all its automata. It may stand, so that nothing but memory can be wanting.
+/// The policy with all its automata. It may stand, so only memory can run short.
 pub(crate) fn live_policy(alloc: Global, policy: &Policy) -> Result<Live, AllocError>
     requires { IsSmall policy.now }
     ensures { IfOk result (λ live. live ≡ policy.now) }

@@ -114,7 +114,7 @@ impl Remembered {
     /// What the policy says of a user's line, by what is remembered, or else by its automata.
     /// Nothing where there is no such user. Without memory nothing new is remembered. Looking for a
     /// line takes memory only where it is longer than all that were found in a row right before it;
-    /// so behind one that was not found it does, unless the line is empty.
+    /// so it does after one that was not found, unless the line is empty.
     pub(crate) fn decide(
         &mut self,
         alloc: Global,

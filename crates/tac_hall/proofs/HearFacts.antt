@@ -9,7 +9,7 @@ use Rattle.tac_hall.specs.declared.worked.End.{End}
 use Rattle.tac_hall.specs.declared.worked.End.TheVariants.{Memory}
 use Rattle.tac_hall.specs.Working.{Prolongs, HearsMore, Heard}
 
--- behind a header that is refused no packet comes; else the open end goes on
+-- after a header that is refused no packet comes; else the open end goes on
 pub prolongs_cut : (piece : List ℕ) → ((bytes more : List ℕ) → cut (bytes ++ more) ≡ continued (cut bytes) more) → Prolongs piece
 prolongs_cut piece law = λ bytes. by_tail bytes (cut bytes).packets (cut bytes).tail refl
   where

@@ -15,12 +15,12 @@ behind : (first rest whole last : Bool) → (first || rest) ≡ false → (rest 
 behind true rest whole last h k = cc
 behind false rest whole last h k = k h
 
--- whether there is a Stop behind a log without one is whether the last call is one
+-- a log without a Stop has one after one more call exactly if that call is a Stop
 pub closed_behind : (log : List Entry) (entry : Entry) → is_closed log ≡ false → is_closed (log ++ entry ∷ []) ≡ is_stop entry.call
 closed_behind [] entry h = or_false (is_stop entry.call)
 closed_behind (first ∷ log) entry h = behind (is_stop first.call) (is_closed log) (is_closed (log ++ entry ∷ [])) (is_stop entry.call) h (closed_behind log entry)
 
--- the room is lawful with the call behind its log
+-- the room is lawful with the call after its log
 pub lawful_behind : (base : Meaning) (log : List Entry) (was now : Meaning) (limit seats : ℕ) (entry : Entry) → IsLawful (contents base log was limit seats)
     → is_closed log ≡ false → length log < limit → Answers was entry.call entry.answer now → IsLawful (contents base (log ++ entry ∷ []) now limit seats)
 lawful_behind base log was now limit seats entry lawful goes_on room answers =

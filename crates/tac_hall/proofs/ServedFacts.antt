@@ -24,7 +24,7 @@ use Rattle.tac_hall.specs.Working.{Handled, GoesOn}
 pub packets_of-append : (key : List ℕ) (first second : List Frame) → packets_of key (first ++ second) ≡ packets_of key second ++ packets_of key first
 packets_of-append key first second = ap reverse (map-append (clear key) first second) ∙ reverse-append (map (clear key) first) (map (clear key) second)
 
--- the packets of the second behind those of the first
+-- the packets of the second after those of the first
 history : (key : List ℕ) (first second : List Frame) (earlier : List Packet)
     → packets_of key second ++ (packets_of key first ++ earlier) ≡ packets_of key (first ++ second) ++ earlier
 history key first second earlier =

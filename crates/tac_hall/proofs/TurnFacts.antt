@@ -31,7 +31,7 @@ use Rattle.tac_hall.specs.Worked.{Exchange, asks_of, answers_of, Calling, Makes,
 use Rattle.tac_hall.specs.Working.{Handled, GoesOn, IsUncalled, Replies, taken_of, left_of, Turned}
 use Rattle.tac_hall.proofs.ServedFacts.{packets_of-append, makes_none}
 
--- ---- what a packet comes to, by its turn
+-- ---- the outcome of a packet, by its turn
 
 abbrev pub ServesBy : Turn → List ℕ → Outcome → Type 0
 ServesBy (Reply bytes ends) key came =
@@ -114,7 +114,7 @@ module _ (key : List ℕ) (earlier : List Packet) (frame : Frame) where
   unfolding asks_in
   asks_first more = refl
 
-  -- a packet is sent for it, behind which the connection closes or not
+  -- a packet is sent for it, after which the connection closes or not
   pub record IsSaid (made : List Exchange) (sending : Sending) (ends : Bool) : Type 0 where
     pub served : (more : List Frame) (later : List Answer)
         → served_to key earlier (frame ∷ more) (answers_of made ++ later) ≡ sending ∷ (if ends then [] else served_to key (clear key frame ∷ earlier) more later)
@@ -218,7 +218,7 @@ asks_at_end key earlier = refl
 
 -- ---- ends
 
--- nothing was done for what is left, for want of memory
+-- nothing was done for what is left, because memory ran out
 pub ends_memory : (key : List ℕ) (asked : List Ask) (sent_by : List Answer → List Sending) (was : Calling) (old : Option (List ℕ)) → Ends Memory key asked sent_by was was old old
 ends_memory key asked sent_by was old = record {
   made = [];

@@ -41,7 +41,7 @@ serving_first key was before old stream ready stands = record {
 }
 
 module _ (key : List ℕ) (was now : Calling) (before after old mid : Option (List ℕ)) (stream : Stream) (s : Serving key was now before after old mid stream) where
-  -- what is done behind the packets that were taken
+  -- what is done after the packets that were taken
   behind_front : (T : List Packet → Type 0) → T (packets_of key (take s.taken (cut s.input).packets)) → T (packets_of key (take s.taken (cut s.input).packets) ++ [])
   behind_front T t = subst T (sym (append-nil (packets_of key (take s.taken (cut s.input).packets)))) t
 

@@ -22,7 +22,7 @@ use Rattle.tac_hall.specs.declared.entry.Entry.{Entry}
 
 -- ---- one call
 
--- an edit was answered so; for want of memory it may be refused, which changes nothing
+-- an edit was answered so; where memory ran out it may be refused, which changes nothing
 abbrev pub AnswersEdit : Meaning → Edit → Result (List Changed) EditFault → Meaning → Type 0
 AnswersEdit was edit answer now =
     UnlessMemory is_memory answer (editing.Edits was edit answer now) × OnErr answer (now ≡ was)
@@ -32,7 +32,7 @@ abbrev pub AnswersQuery : Meaning → Query → Result Report QueryFault → Mea
 AnswersQuery was query answer now =
     UnlessMemory reporting.is_memory answer (reporting.Reports was query answer) × (now ≡ was)
 
--- a desk that stood for the one meaning answers the call so, and stands for the other
+-- a desk that represented the one meaning answers the call so, and represents the other
 -- from then on; an answer is of
 -- its call's kind
 abbrev pub Answers : Meaning → Call → CallAnswer → Meaning → Type 0
@@ -74,9 +74,8 @@ abbrev pub is_closed : List Entry → Bool
 is_closed [] = false
 is_closed (entry ∷ entries) = is_stop entry.call || is_closed entries
 
--- a desk that stood for the base took these calls, answered each by what it stood for
--- then, and stands for this after
--- the last of them; a Stop is the last
+-- a desk that represented the base took these calls, answered each by what it represented then, and
+-- represents this after the last of them; a Stop is the last
 pub data Legal (base : Meaning) : List Entry → Meaning → Type 0 where
   at_first : Legal base [] base
   and_then : {log : List Entry} {was now : Meaning} (entry : Entry) → Legal base log was

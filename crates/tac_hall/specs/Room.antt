@@ -13,7 +13,7 @@ use Rattle.tac_hall.specs.declared.laws.Done.{Done}
 use Rattle.tac_hall.specs.declared.laws.Done.TheVariants as done
 use Rattle.tac_hall.specs.History.{Answers, IsOfKind, is_closed, Legal}
 
--- what the desk stood for at first, the calls since then, what it stands for now, how many
+-- what the desk represented at first, the calls since then, what it represents now, how many
 -- calls the log takes, and how
 -- many seats were made
 pub record Contents : Type 0 where
@@ -31,7 +31,7 @@ contents base log meaning limit seats =
 abbrev pub most_seats : ℕ
 most_seats = 64
 
--- the log is a legal history from the base to what the desk stands for
+-- the log is a legal history from the base to what the desk represents
 pub record IsLawful (room : Contents) : Type 0 where
   pub legal : Legal room.base room.log room.meaning
   pub within : length room.log ≤ room.limit
@@ -54,7 +54,7 @@ Judges room (Err LogFull) = (is_closed room.log ≡ false) × (length room.log �
 Judges room (Err fault) = ⊥
 
 -- a call was answered: it is the last of the log, and nothing else has changed but
--- what the desk stands for
+-- what the desk represents
 pub record IsCalled (was : Contents) (seat : ℕ) (call : Call) (done : Called) (now : Contents) :
     Type 0 where
   pub goes_on : is_closed was.log ≡ false
@@ -68,8 +68,8 @@ pub record IsCalled (was : Contents) (seat : ℕ) (call : Call) (done : Called) 
   pub limit : now.limit ≡ was.limit
   pub seats : now.seats ≡ was.seats
 
--- a call is refused after a Stop, else where the log is full, else perhaps for want of
--- memory; that changes nothing
+-- a call is refused after a Stop, else where the log is full, else perhaps because memory ran out;
+-- that changes nothing
 abbrev pub Calls : Contents → ℕ → Call → Result Called HallFault → Contents → Type 0
 Calls was seat call (Ok done) now = IsCalled was seat call done now
 Calls was seat call (Err Closed) now = (is_closed was.log ≡ true) × (now ≡ was)

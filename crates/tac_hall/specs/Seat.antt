@@ -24,7 +24,7 @@ AreBelow place (made ∷ view) = (made.place < place) × AreBelow place view
 abbrev pub made_of : Call → Receipt → Made
 made_of call receipt = record { place = receipt.place; call = call; answer = receipt.answer }
 
--- a call was made, and nothing else: it stands behind all that the seat made
+-- a call was made, and nothing else: it stands after all that the seat made
 -- before, also in the log
 pub record IsMade (was : Sitting) (call : Call) (receipt : Receipt) (now : Sitting) : Type 0 where
   pub seat : receipt.seat ≡ was.number

@@ -34,7 +34,7 @@ abbrev pub carrying : Slot → Answer → Sending
 carrying slot answer =
     record { packet = packet_of (reply_in slot (answer_body answer)); carries = Some answer }
 
--- what is sent for a packet that comes to this, and for those behind it by the answers that it
+-- what is sent for a packet of this outcome, and for those after it by the answers that it
 -- leaves: an ask takes the next answer, and where none is left nothing more is sent; nor is it once
 -- the connection closes
 abbrev pub served_for : Outcome → List Answer → (List Answer → List Sending) → List Sending
@@ -46,7 +46,7 @@ served_for (Asks ask slot) (answer ∷ answers) later =
 served_for Silent answers later = later answers
 served_for Close answers later = []
 
--- what a packet asks that comes to this, and what those behind it ask, unless the connection closes
+-- what a packet of this outcome asks, and what those after it ask, unless the connection closes
 abbrev pub asked_by : Outcome → List Ask → List Ask
 asked_by (Question reply session) later = later
 asked_by (Reply reply closes) later = if closes then [] else later

@@ -49,7 +49,7 @@ pub record Calling : Type 0 where
   pub receipts : List Receipt
 
 -- these calls were made, one after another, and no others: the view and the receipts have them
--- behind what they had
+-- after what they had
 pub record Makes (was now : Calling) (made : List Exchange) : Type 0 where
   pub number : now.seat.number ≡ was.seat.number
   pub view : now.seat.view ≡ was.seat.view ++ map in_view made

@@ -22,7 +22,7 @@ use Rattle.tac_hall.specs.Worked.{Exchange, asks_of, answers_of, Calling, Makes,
 
 -- ---- packets that were served
 
--- these packets were served, behind earlier ones: whatever comes later, what is sent for all of
+-- these packets were served, after earlier ones: whatever comes later, what is sent for all of
 -- them is this, and then what is sent for the later ones
 pub record Handled (key : List ℕ) (earlier : List Packet) (frames : List Frame)
     (made : List Exchange) (sendings : List Sending) : Type 0 where
@@ -52,7 +52,7 @@ IsUncalled ReadFault = ⊥
 IsUncalled WriteFault = ⊥
 IsUncalled end = Unit {0}
 
--- a packet was written, behind which the connection closes or not
+-- a packet was written, after which the connection closes or not
 abbrev pub Replies : Result Went End → List ℕ → Bool → Option (List ℕ) → Option (List ℕ) → Type 0
 Replies (Ok On) reply closing old new = (closing ≡ false) × Appends old new reply
 Replies (Ok Rests) reply closing old new = ⊥

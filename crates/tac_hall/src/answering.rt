@@ -112,7 +112,8 @@ fn told_of_stop() -> Told
     }
 }
 
-/// The desk's answer to a call. The error is want of memory for an ask, and changes nothing.
+/// The desk's answer to a call. The error means that memory ran out for an ask; nothing has changed
+/// then.
 pub(crate) fn answer<D: Desk>(desk: &mut D, call: &Call) -> Result<Told, AllocError>
     ensures answers { IfOk result (λ told.
         Answers (D.meaning desk.old) call.now told (D.meaning desk.new)) }

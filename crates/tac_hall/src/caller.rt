@@ -52,7 +52,7 @@ impl Caller {
         self.seat.number()
     }
 
-    /// Calls an ask, once the gate lets it. What memory its receipt wants is taken before.
+    /// Calls an ask, once the gate lets it. The memory for its receipt is taken before.
     pub(crate) fn ask<H: Wait, D: Desk, G: Gate>(
         &mut self,
         rt: &H,

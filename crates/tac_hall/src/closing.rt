@@ -7,7 +7,7 @@ use crate::entry::{Entry, Made};
 use crate::seat::Seat;
 use tac_desk::State;
 
-/// A hall that was closed: what its desk stood for at first, all calls since then, and the desk.
+/// A hall that was closed: what its desk represented at first, all calls since then, and the desk.
 #[derive(Drop)]
 pub struct Settled<D> {
     pub base: State,

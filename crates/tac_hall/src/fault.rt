@@ -18,7 +18,7 @@ pub enum HallFault {
     Memory,
     /// There was a Stop.
     Closed,
-    /// All seats were made; or the seat that calls is none of this hall.
+    /// All seats were made; or the seat that calls is not one of this hall's.
     NoSeat,
 }
 

@@ -19,7 +19,7 @@ use std::sync::{Mutex, Wait};
 use tac_desk::{Desk, State};
 
 /// A desk that many threads ask, one call after another, with the log of all calls. A contract
-/// sees what the desk stood for at first, and how many calls the log takes.
+/// sees what the desk represented at first, and how many calls the log takes.
 ///
 /// Each call takes the one lock, does one step there ([`Room::step`]), and lets the lock go. What
 /// a call may wait for is that lock alone.
@@ -40,8 +40,8 @@ impl<D: Desk> Model for Hall<D> {
 }
 
 impl<D: Desk> Hall<D> {
-    /// A hall round this desk, without seats, whose log takes so many calls. The error is want of
-    /// memory for two copies of what the desk stands for.
+    /// A hall round this desk, without seats, whose log takes so many calls. The error means that
+    /// memory ran out for two copies of what the desk represents.
     pub fn new<R: AllocGlobal>(rt: &R, desk: D, log_limit: usize) -> Result<Hall<D>, AllocError>
         ensures { IfOk result (λ hall.
             hall ≡ record { meaning = D.meaning desk; limit = log_limit }) }
@@ -64,7 +64,7 @@ impl<D: Desk> Hall<D> {
         ensures fresh { IfOk result (λ seat. (seat.next ≡ 0) × (seat.view ≡ [])) }
         ensures fault { IfErr result (λ fault. fault ≡ NoSeat) }
 
-        // One step of some room comes to it; that it was this hall's is told by `close`.
+        // One step of some room has this result; `close` tells that the room was this hall's.
         ensures room { (was : Contents) × (then : Contents) × IsLawful was
             × sitting.SitsBy was result then }
     {
@@ -72,23 +72,23 @@ impl<D: Desk> Hall<D> {
         Ok(Seat::new(self.alloc, number))
     }
 
-    /// Makes a call. It stands in the log behind all that the seat made before, and in the seat's
+    /// Makes a call. It stands in the log after all that the seat made before, and in the seat's
     /// view; the receipt says where, and has the answer. A refused call is made nowhere.
     pub fn call<R: Wait>(&self, rt: &R, seat: &mut Seat, call: Call) -> Result<Receipt, HallFault>
         ensures made { IfOk result (λ receipt. sitting.IsMade seat.old call receipt seat.new) }
         ensures err { OnErr result (seat.new ≡ seat.old) }
 
-        // One step of some room comes to it; that it was this hall's is told by `close`.
+        // One step of some room has this result; `close` tells that the room was this hall's.
         ensures room { (was : Contents) × (then : Contents) × IsLawful was
             × sitting.CallsBy was seat.old call result then }
     {
         seat.call_in(rt, &self.room, call)
     }
 
-    /// Ends the hall, and shows what it kept: the base is what the desk stood for when the hall was
-    /// made, the log is a legal history from there to what the desk stands for now, no longer than
-    /// it may be, and it has of each seat exactly the seat's view, and nothing else. The seats have
-    /// the numbers below their count, each one of them.
+    /// Ends the hall, and shows what it kept: the base is what the desk represented when the hall
+    /// was made, the log is a legal history from there to what the desk represents now, no longer
+    /// than it may be, and it has of each seat exactly the seat's view, and nothing else. The seats
+    /// have the numbers below their count, each one of them.
     ///
     /// Refused where one of the hall's seats is missing, or one is handed in that isn't the hall's;
     /// then the hall and the seats come back. Linear in the log, for each seat.

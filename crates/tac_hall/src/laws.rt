@@ -21,8 +21,9 @@ use tac_desk::{Desk, State};
 /// The most seats of a hall.
 pub const MAX_SEATS: u32 = 64;
 
-/// A desk, and all calls that it took. A contract sees what it stood for at first, the calls, what
-/// it stands for now, and the limits; at all times the calls are a legal history between the two.
+/// A desk, and all calls that it took. A contract sees what it represented at first, the calls,
+/// what it represents now, and the limits; at all times the calls are a legal history between the
+/// two.
 #[derive(Drop)]
 pub struct Room<D: Desk> {
     desk: D,
@@ -75,7 +76,7 @@ pub struct Called {
 }
 
 impl<D: Desk> Room<D> {
-    /// A desk that no call was made at. The base is what it stands for.
+    /// A desk that no call was made at. The base is what it represents.
     pub(crate) fn new(alloc: Global, desk: D, base: State, limit: usize) -> Room<D>
         requires { base ≡ D.meaning desk }
         ensures { result ≡ rooms.contents (D.meaning desk) [] (D.meaning desk) limit 0 }
@@ -90,7 +91,7 @@ impl<D: Desk> Room<D> {
         }
     }
 
-    /// The calls are a legal history from the base to what the desk stands for.
+    /// The calls are a legal history from the base to what the desk represents.
     pub fn log(&self) -> &[Entry]
         ensures log { result.now ≡ self.now.log }
         ensures legal { history.Legal self.now.base self.now.log self.now.meaning }
@@ -157,8 +158,8 @@ impl<D: Desk> Room<D> {
         Settled { base, log, desk }
     }
 
-    /// Does one thing: a call gets the desk's answer, which stands behind the log from then on. A
-    /// refusal changes nothing; only a call may want memory. What the room had until then was
+    /// Does one thing: a call gets the desk's answer, which stands at the end of the log then. A
+    /// refusal changes nothing; only a call may run out of memory. What the room had until then was
     /// lawful too.
     pub fn step(&mut self, step: Step) -> Result<Done, HallFault>
         ensures does { rooms.Does self.old step result self.new }

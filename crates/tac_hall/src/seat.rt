@@ -91,7 +91,7 @@ fn place_call<D: Desk>(
     })
 }
 
-// Why a call isn't made that there is no memory for: want of memory is the last of the refusals.
+// Why a call isn't made for which memory ran out: that is the last of the refusals.
 fn refusal<D: Desk>(room: &Room<D>, number: u32, next: usize) -> HallFault
     ensures refused { (seat : seats.Sitting) (call : CallValue) → seat.number ≡ number →
         seat.next ≡ next → seats.CallsBy room.now seat call (Err result) room.now }
@@ -159,7 +159,7 @@ impl Seat {
         self.view.as_slice()
     }
 
-    /// Makes a call in a room. What memory it wants beside that of the room is taken before the
+    /// Makes a call in a room. The memory that it takes beside that of the room is taken before the
     /// room is locked.
     pub(crate) fn call_in<D: Desk, R: Wait>(
         &mut self,

@@ -31,7 +31,7 @@ pub(crate) enum Went {
     Rests,
 }
 
-// Writes a packet, behind which the connection closes or not.
+// Writes a packet, after which the connection closes or not.
 fn reply<W: Write, G: Gate>(
     writer: &mut W,
     gate: &G,

@@ -39,7 +39,7 @@ text_append outcomes others = flat_map-append told outcomes others
 pub text_one : (outcome : Outcome) → text_of (outcome ∷ []) ≡ told outcome
 text_one outcome = append-nil (told outcome)
 
--- what some came to was written, and then what others came to
+-- the results of some were written, and then those of others
 pub written_then : (outcomes others : List Outcome) (old mid new : Option (List ℕ)) → Appends old mid (text_of outcomes) → Appends mid new (text_of others) → Appends old new (text_of (outcomes ++ others))
 written_then outcomes others old mid new a b = subst (Appends old new) (sym (text_append outcomes others)) (Appends-trans old mid new _ _ a b)
 
@@ -194,7 +194,7 @@ ends_before faults.Memory lines later was now old new read e = record {
   writes = e.writes;
 }
 
--- behind lines whose answers were written
+-- after lines whose answers were written
 writes_behind : (end : Result (Unit {0}) OperatorFault) (outcomes others : List Outcome) (old mid new : Option (List ℕ)) → Appends old mid (text_of outcomes)
     → WritesTo end others mid new → WritesTo end (outcomes ++ others) old new
 writes_behind (Ok _) outcomes others old mid new a b = written_then outcomes others old mid new a b

@@ -14,7 +14,7 @@ split_if here byte bytes parts = cond {A = Option (List ℕ × List ℕ)} here (
 same_parts : (a b : List ℕ × List ℕ) → Some a ≡ Some b → a ≡ b
 same_parts a b e = cc
 
--- ---- bytes behind
+-- ---- bytes after
 
 more_case : (here : Bool) (byte : ℕ) (a b x y : List ℕ) (parts later : Option (List ℕ × List ℕ))
     → ((p : List ℕ × List ℕ) → parts ≡ Some p → later ≡ Some (p.0, p.1 ++ b))
@@ -27,7 +27,7 @@ more_case false byte a b x y (Some p) later below h =
     let e = same_parts ((byte ∷ p.0, p.1)) ((x, y)) h in
     ap (onto_parts byte) (below p refl) ∙ ap (λ (q : List ℕ × List ℕ). Some (q.0, q.1 ++ b)) e
 
--- behind a line that ended, more bytes are behind it
+-- where a line has ended, more bytes are added to what follows it
 pub split_more : (a b x y : List ℕ) → split_at_first 10 a ≡ Some (x, y) → split_at_first 10 (a ++ b) ≡ Some (x, y ++ b)
 split_more [] b x y h = absurd cc
 split_more (byte ∷ a) b x y h =
@@ -119,7 +119,7 @@ shorter_case false byte bytes line rest (Some p) below h =
     let less = below p refl in
     subst (λ (q : List ℕ × List ℕ). length q.1 < suc (length bytes)) e (omega arith)
 
--- less is left behind a line
+-- less is left after a line
 pub split_shorter : (bytes line rest : List ℕ) → split_at_first 10 bytes ≡ Some (line, rest) → length rest < length bytes
 split_shorter [] line rest h = absurd cc
 split_shorter (byte ∷ bytes) line rest h =

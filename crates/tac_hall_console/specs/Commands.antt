@@ -7,7 +7,7 @@ abbrev pub onto_ended : ℕ → List (List ℕ) → List (List ℕ)
 onto_ended byte [] = []
 onto_ended byte (line ∷ lines) = (byte ∷ line) ∷ lines
 
--- the lines of these bytes that end in LF: whatever comes behind, they stay
+-- the lines of these bytes that end in LF: whatever follows, they stay
 abbrev pub ended_lines : List ℕ → List (List ℕ)
 ended_lines [] = []
 ended_lines (byte ∷ bytes) =

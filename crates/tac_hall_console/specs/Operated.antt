@@ -105,7 +105,7 @@ pub record WritesMost (outcomes : List Outcome) (old new : Option (List ℕ)) : 
   pub few : length untold ≤ 1
   pub written : Appends old new (text_of first)
 
--- what came of all lines and of the Stop behind them, unless the console failed
+-- what came of all lines and of the Stop after them, unless the console failed
 abbrev pub Writes : Result (Unit {0}) OperatorFault → List Outcome → Outcome → Option (List ℕ)
     → Option (List ℕ) → Type 0
 Writes (Ok _) outcomes stop old new = Appends old new (text_of (outcomes ++ stop ∷ []))
@@ -116,7 +116,7 @@ Writes (Err faults.Memory) outcomes stop old new = WritesMost outcomes old new
 
 -- ---- how it ended
 
--- the lines of what was read: what stands behind the last LF is one too, but not where reading
+-- the lines of what was read: what stands after the last LF is one too, but not where reading
 -- failed
 abbrev pub lines_at : Result (Unit {0}) OperatorFault → List ℕ → List (List ℕ)
 lines_at (Ok _) input = lines_of input

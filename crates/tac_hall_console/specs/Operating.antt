@@ -23,7 +23,7 @@ pub record Comes (call : Option Call) (outcome : Outcome) (was now : Sitting) : 
   pub comes : ComesTo call outcome
   pub makes : Makes was now (entries_of (outcome ∷ []))
 
--- it came to something, which is told by this text
+-- it had a result, which this text tells
 pub record Tells (call : Option Call) (was now : Sitting) (text : List ℕ) : Type 0 where
   pub outcome : Outcome
   pub came : Comes call outcome was now
@@ -33,7 +33,7 @@ pub record Tells (call : Option Call) (was now : Sitting) (text : List ℕ) : Ty
 abbrev pub Adds : Option Call → Sitting → Sitting → List ℕ → List ℕ → Type 0
 Adds call was now old new = (text : List ℕ) × (new ≡ old ++ text) × Tells call was now text
 
--- memory ran out: it came to nothing, or what it came to isn't told
+-- memory ran out: it had no result, or the result isn't told
 abbrev pub IsUntold : Option Call → Sitting → Sitting → Type 0
 IsUntold call was now = (now ≡ was) ⊎ ((outcome : Outcome) × Comes call outcome was now)
 
@@ -140,7 +140,7 @@ IsRefused uncalled = ⊥
 IsRefused (made entry) = ⊥
 IsRefused (refused fault) = Unit {0}
 
--- behind lines that went so the Stop was made, and it ends so: what came of it is told, unless the
+-- after lines that went so the Stop was made, and it ends so: what came of it is told, unless the
 -- lines ended in a fault
 abbrev pub StopEnds : Result (Unit {0}) OperatorFault → Result (Unit {0}) OperatorFault → Outcome
     → Option (List ℕ) → Option (List ℕ) → Type 0

@@ -74,7 +74,7 @@ fn tell<H: Wait, D: Desk>(
     }
 }
 
-/// How a line is answered, without its LF: by a call, if it asks for one. After want of memory the
+/// How a line is answered, without its LF: by a call, if it asks for one. Where memory ran out the
 /// call may have been made even so.
 pub(crate) fn answer_line<H: Wait, D: Desk>(
     rt: &H,

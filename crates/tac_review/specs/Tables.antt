@@ -16,13 +16,13 @@ use Rattle.tac_review.specs.declared.task.ReviewEnd.TheVariants.{Done, Differs}
 use Rattle.tac_review.specs.declared.task.Table.{Table}
 use Rattle.tac_review.specs.declared.task.Table.TheVariants.{Questions, Cases}
 
--- ---- a line, behind the spaces that it begins with
+-- ---- a line, after the spaces that it begins with
 
 -- the line, and what it is answered
 abbrev pub told : List Subject → List ℕ → Query → List ℕ
 told policy line query = line ++ codes ": " ++ answer_to policy query
 
--- a question is told with its answer; nothing is told of what is none
+-- a question is told with its answer; nothing is told of what is no question
 abbrev pub question_told : List Subject → List ℕ → Option (List ℕ)
 question_told policy line = option_map (told policy line) (question_of line)
 
@@ -87,7 +87,7 @@ onto_told number None rest = Err number
 onto_told number (Some text) rest = onto text rest
 
 -- what is told of these lines, of which the first has this number; or the number of the first that
--- is none of the table's
+-- isn't one of the table's
 abbrev pub tells : Table → List Subject → ℕ → List (List ℕ) → Result (List ℕ) ℕ
 tells table policy number [] = Ok []
 tells table policy number (line ∷ lines) =
@@ -105,7 +105,7 @@ table_end Questions text = Done
 table_end Cases [] = Done
 table_end Cases (byte ∷ text) = Differs
 
--- ---- a line that is none
+-- ---- an invalid line
 
 abbrev pub fault_name : Table → List ℕ
 fault_name Questions = codes "BadQuestion"

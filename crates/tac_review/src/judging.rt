@@ -12,7 +12,7 @@ use pol_text::{Policy, PolicyFault};
 use std::alloc::{AllocError, Global};
 use tac_console::{write_build_fault, write_policy_fault};
 
-// How it is told that a policy may not stand.
+// What is printed of a policy that may not stand.
 fn too_large(alloc: Global, fault: EditFault) -> Result<Bytes, AllocError>
     requires { IsTrue (is_build_fault fault) }
     ensures { IfOk result (λ line. line ≡ build_fault fault) }
@@ -22,7 +22,7 @@ fn too_large(alloc: Global, fault: EditFault) -> Result<Bytes, AllocError>
     Ok(Bytes::from(line))
 }
 
-// How it is told that a text is no policy.
+// What is printed of a text that is no policy.
 fn no_policy(alloc: Global, fault: PolicyFault) -> Result<Bytes, AllocError>
     ensures { IfOk result (λ line. line ≡ policy_fault fault) }
 {

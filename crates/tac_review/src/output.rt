@@ -31,7 +31,7 @@ fn refused(alloc: Global, name: &[u8], line: &[u8]) -> Result<(Vec<u8>, ReviewEn
     Ok((text, ReviewEnd::Refused))
 }
 
-// The lines of changes: those of an edit's answer behind its `ok`.
+// The lines of changes: those of an edit's answer after its `ok`.
 fn lines_of_changes(alloc: Global, changes: &Changes) -> Result<Vec<u8>, AllocError>
     ensures { IfOk result (λ text. text.items ≡ flat_map changed_lines changes.now) }
 {
@@ -102,7 +102,7 @@ fn why(alloc: Global, live: &Live, line: &[u8]) -> Result<(Vec<u8>, ReviewEnd), 
     }
 }
 
-// The name of the fault of a line that is none.
+// The name of the fault of an invalid line.
 fn fault_name(table: Table) -> &'static str
     ensures { result.now ≡ tables.fault_name table }
 {
@@ -112,7 +112,7 @@ fn fault_name(table: Table) -> &'static str
     }
 }
 
-// How it is told that a line of a table is none.
+// What is printed of an invalid line of a table.
 fn bad_line(alloc: Global, table: Table, number: usize) -> Result<Vec<u8>, AllocError>
     ensures { IfOk result (λ line. line.items ≡ tables.fault table number) }
 {

@@ -69,7 +69,7 @@ fn is_so(live: &Live, wanted: Verdict, query: &Query) -> bool
     }
 }
 
-// The error is want of memory.
+// The error means that memory ran out.
 fn write_number(out: &mut Vec<u8>, number: usize) -> Result<(), AllocError>
     ensures { IfOk result (λ _. out.new.items ≡ out.old.items ++ tables.numbered number) }
 {
@@ -102,7 +102,7 @@ fn judged(
     Ok(Some(Bytes::from(told)))
 }
 
-// What is told of a line of a table. Nothing where it is none.
+// What is told of a line of a table. Nothing of an invalid one.
 fn line_told(
     alloc: Global,
     live: &Live,
@@ -121,7 +121,7 @@ fn line_told(
     }
 }
 
-/// What is told of all lines of a table; or the number of the first that is none.
+/// What is told of all lines of a table; or the number of the first that is invalid.
 pub(crate) fn tell(
     alloc: Global,
     live: &Live,

@@ -40,7 +40,7 @@ pub enum Input {
     Second,
 }
 
-/// Why a review came to no end.
+/// Why a review wasn't finished.
 #[derive(Clone, Copy, Debug, PartialEq, Eq)]
 pub struct ReviewFault {
     /// Which input it was, if one couldn't be read or is too long.

@@ -20,7 +20,7 @@ split_case byte bytes field rest false (Some p) below h =
     let e = same_parts (byte ∷ p.0, p.1) (field, rest) h in
     ap (onto_first byte) (below p refl) ∙ ap (λ (q : List ℕ × List ℕ). q.0 ∷ fields_of q.1) e
 
--- a text with a space has the field before it, and the fields behind it
+-- a text with a space has the field before it, and the fields after it
 pub fields_of-split : (bytes field rest : List ℕ) → split_at_first 32 bytes ≡ Some (field, rest) → fields_of bytes ≡ field ∷ fields_of rest
 fields_of-split [] field rest h = absurd cc
 fields_of-split (byte ∷ bytes) field rest h = split_case byte bytes field rest (eqb byte 32) (split_at_first 32 bytes) (λ p e. fields_of-split bytes p.0 p.1 e) h
@@ -39,7 +39,7 @@ fields_of-whole (byte ∷ bytes) h = whole_case byte bytes (eqb byte 32) (split_
 
 -- ---- packets
 
--- what packets spell behind these
+-- what packets spell after these
 abbrev pub behind : List ℕ → Option (List ℕ) → Option (List ℕ)
 behind front packets = option_map (λ more. front ++ more) packets
 

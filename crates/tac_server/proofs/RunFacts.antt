@@ -132,8 +132,8 @@ tells_line meaning number line server state old new h only = record {
 
 -- ---- one line after another
 
--- what was printed so far, and the server that the events so far leave: the runs of what is still to be run, behind
--- what was printed, are the runs of all
+-- what was printed so far, and the server that the events so far leave: the runs of what is still
+-- to be run, after what was printed, are the runs of all
 pub record Progress {D : Type 0} (meaning : D → Meaning) (old new : List ℕ) (server : Server D) (number : ℕ) (lines : List (List ℕ)) (runs : Run → Type 0) : Type 0 where
   pub state : State
   pub text : List ℕ
@@ -290,7 +290,7 @@ body_refused text key lines stops.Memory there h = tt
 body_refused text key lines (stops.Fault at) there (line, refusal, e, f) =
     stops_at text at (BodyRuns key lines) (rw (there, e, f) refl) (λ other r. (let told : other ≡ stopped (line + 1) (BadPolicy refusal) = rw (there, e) at r in rw f told))
 
--- line 1 is none
+-- there is no line 1
 pub lines_none : (text : List ℕ) (lines : List (List ℕ)) → lines ≡ [] → Ends text text (Some (record { line = Some 1; fault = BadKey })) (LinesRun lines)
 unfolding LinesRun
 lines_none text lines e = stops_at text (record { line = Some 1; fault = BadKey }) (LinesRun lines) (rw e refl) (λ other r. rw e at r)

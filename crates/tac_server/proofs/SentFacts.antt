@@ -24,7 +24,7 @@ sends_none key old new e = (e ∙ sym (append-nil old), tt)
 pub sends_one : (key old new : List ℕ) (reply : Reply) → new ≡ old ++ sent key (packet_of reply) → IsWhole (sent key (packet_of reply)) → Sends key old new (packet_of reply ∷ [])
 sends_one key old new reply e whole = (e ∙ ap (λ (t : List ℕ). old ++ t) (sym (append-nil (sent key (packet_of reply)))), (whole, tt))
 
--- and more behind it
+-- and more after it
 pub sends-append : (key old now new : List ℕ) (first second : List Packet) → Sends key old now first → Sends key now new second → Sends key old new (first ++ second)
 sends-append key old now new first second f s = (
   s.0 ∙ ap (λ (t : List ℕ). t ++ sent_bytes key second) f.0 ∙ append_assoc old (sent_bytes key first) (sent_bytes key second)

@@ -26,7 +26,7 @@ split_there bytes packet rest front back n f b len e =
 
 -- ---- one after another
 
--- so many packets were shown; the lines of the others, behind those, are all
+-- so many packets were shown; the lines of the others, after those, are all
 pub record Progress (key : List ℕ) (number : ℕ) (rest old new : List ℕ) (packets : List Packet) : Type 0 where
   pub left : List Packet
   pub bytes : rest ≡ sent_bytes key left

@@ -1,4 +1,4 @@
--- What a line behind `run` asks for.
+-- What a line after `run` asks for.
 use Rattle.std.specs.Prelude.{ℕ, List, [], ◌∷◌, ◌++◌, length, take, drop, codes, ◌==◌, nat_lt}
 use Rattle.std.specs.Prelude.{Option, Some, None, if◌then◌else◌, option_map}
 use Rattle.std.specs.Option.{option_and_then}
@@ -39,14 +39,14 @@ wire_packets key (field ∷ fields) =
     (λ packet. option_map (λ packets. packet ++ packets) (wire_packets key fields))
     (option_and_then (wire_packet key) (bytes_of field))
 
--- `N`, and what stands behind the space after it
+-- `N`, and what follows the space after it
 abbrev pub numbered : List ℕ → Option (ℕ × List ℕ)
 numbered text =
     option_and_then
     (λ parts. option_map (λ number. (number, parts.1)) (connection_number_of parts.0))
     (split_at_first 32 text)
 
--- `N` and, behind a space, what spells the bytes that are handed in
+-- `N` and, after a space, what spells the bytes that are handed in
 abbrev pub hand_of : (List ℕ → Option (List ℕ)) → List ℕ → Option Event
 hand_of spelled rest =
     option_and_then (λ parts. option_map (λ bytes. Hand parts.0 bytes) (spelled parts.1))

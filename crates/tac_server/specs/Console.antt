@@ -35,7 +35,7 @@ AnswersAsked before (asks.Edit edit) text after = AnswersEdit before edit text a
 AnswersAsked before (asks.Query query) text after = AnswersQuery before query text after
 AnswersAsked before asks.Neither text after = (text ≡ edit_answer (Err BadEdit)) × (after ≡ before)
 
--- the text is the answer to the line, and the desk stands for this from then on
+-- the text is the answer to the line, and the desk represents this from then on
 abbrev pub Answers : Meaning → List ℕ → List ℕ → Meaning → Type 0
 Answers before line text after = AnswersAsked before (asked_by line) text after
 

@@ -6,7 +6,7 @@ use Rattle.tac_server.specs.Happening.{Happening, Given, Gives, bytes_given}
 use Rattle.tac_server.specs.Kept.{HasState}
 use Rattle.tac_server.specs.declared.server.Server.{Server}
 
--- an event behind what came earlier
+-- an event after what came earlier
 pub record Behind (earlier : List Given → State → Type 0) (event : Happening)
     (outs : List Given) (after : State) : Type 0 where
   pub before : State

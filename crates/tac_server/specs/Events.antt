@@ -1,4 +1,4 @@
--- What the lines behind `run` do.
+-- What the lines after `run` do.
 use Rattle.std.specs.Prelude.{◌≡◌, ℕ, List, [], ◌∷◌, ◌++◌, take, drop, codes, Bool, true, false}
 use Rattle.std.specs.Prelude.{is_some, Option, Some, None, if◌then◌else◌}
 use Rattle.std.specs.List.{flat_map}

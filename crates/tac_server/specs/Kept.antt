@@ -1,4 +1,4 @@
--- What the code keeps of a server, and what it stands for.
+-- What the code keeps of a server, and what it represents.
 use Rattle.std.specs.Prelude.{◌≡◌, ℕ, List, [], ◌∷◌, ◌++◌, Bool, true, false}
 use Rattle.std.specs.Prelude.{IsTrue, is_some, Option, Some, None, Result, Ok, Err}
 use Rattle.std.specs.BTreeMap.{BTreeMap, get}
@@ -32,13 +32,13 @@ abbrev pub AreWhole : List ℕ → List Packet → Type 0
 AreWhole key [] = Unit {0}
 AreWhole key (packet ∷ packets) = IsWhole (sent key packet) × AreWhole key packets
 
--- these packets were sent behind what was sent before
+-- these packets were sent after what was sent before
 abbrev pub Sends : List ℕ → List ℕ → List ℕ → List Packet → Type 0
 Sends key old new packets = (new ≡ old ++ sent_bytes key packets) × AreWhole key packets
 
 -- ---- connections
 
--- what is kept stands for an open connection on which these bytes came: all their whole packets
+-- what is kept represents an open connection on which these bytes came: all their whole packets
 -- were taken
 pub record Serves (key : List ℕ) (stream : Stream) (bytes : List ℕ) : Type 0 where
   pub rest : List ℕ
@@ -58,11 +58,11 @@ Has key map connections = (number : ℕ) → Ties key (get nat_cmp map number) (
 
 -- ---- a server
 
--- what the server's desk stands for, by what desks stand for
+-- what the server's desk represents, by what desks represent
 abbrev pub stands_for : {D : Type 0} → (D → Meaning) → Server D → Meaning
 stands_for meaning server = meaning server.desk
 
--- the server has this key, its desk stands for this, and these connections are open
+-- the server has this key, its desk represents this, and these connections are open
 pub record HasState {D : Type 0} (meaning : D → Meaning) (server : Server D) (state : State)
     : Type 0 where
   pub key : server.key ≡ state.key
@@ -112,7 +112,7 @@ IsHeard meaning old new server number more state (Err (faults.Memory accepted)) 
     (accepted ≡ false) × ((before : List ℕ) × (state.connections number ≡ Some before)
     × IsCutShort meaning old new server number before more state)
 
--- the same, but nothing is said of what stands after want of memory
+-- the same, but nothing is said of what stands after memory ran out
 abbrev pub IsHeardUnlessMemory : {D : Type 0} → (D → Meaning) → List ℕ → List ℕ → Server D → ℕ
     → List ℕ → State → Result Bool ServerFault → Type 0
 IsHeardUnlessMemory meaning old new server number more state (Ok closes) =

@@ -1,4 +1,4 @@
--- How the lines behind `run` are run, one after another.
+-- How the lines after `run` are run, one after another.
 use Rattle.std.specs.Prelude.{◌≡◌, ℕ, ◌+◌, List, [], ◌∷◌, Option, Some, None}
 use Rattle.tac_server.specs.Command.{event_of}
 use Rattle.tac_server.specs.Server.{State}

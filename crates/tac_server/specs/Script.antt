@@ -101,7 +101,7 @@ pub record Runs (start : State) (number : ℕ) (lines : List (List ℕ)) (run : 
 abbrev pub is_run : List ℕ → Bool
 is_run line = bytes_eq line (codes "run")
 
--- the lines before the first `run`, and those behind it
+-- the lines before the first `run`, and those after it
 abbrev pub before_run : List (List ℕ) → List (List ℕ)
 before_run [] = []
 before_run (line ∷ lines) = if is_run line then [] else line ∷ before_run lines
@@ -110,7 +110,7 @@ abbrev pub after_run : List (List ℕ) → List (List ℕ)
 after_run [] = []
 after_run (line ∷ lines) = if is_run line then lines else after_run lines
 
--- what the desk of a script stands for at first: this policy, and room for a million records
+-- what the desk of a script represents at first: this policy, and room for a million records
 abbrev pub desk_of : List Subject → Meaning
 desk_of policy = desks.opening policy 1000000
 
@@ -129,7 +129,7 @@ DeskRuns key policy number events run =
     ⊎ ((subject : SubjectId) × IsFirstLarge policy policy subject × (run ≡ too_large subject))
 
 -- the events with the policy, of which the first has this number; the policy's first line is the
--- second of the script. No text is refused for want of memory
+-- second of the script. A lack of memory refuses no text
 abbrev pub PolicyRuns : List ℕ → ℕ → List (List ℕ) → Result (List Subject) PolicyFault → Run
     → Type 0
 PolicyRuns key number events (Ok policy) run = DeskRuns key policy number events run
@@ -143,7 +143,7 @@ BodyRunsBy true key lines run =
     (policy_of (text_of_lines (before_run lines))) run
 BodyRunsBy false key lines run = run ≡ stopped (length lines + 2) NoRun
 
--- the lines behind the key; the policy's text is those before `run`
+-- the lines after the key; the policy's text is those before `run`
 unfoldable pub BodyRuns : List ℕ → List (List ℕ) → Run → Type 0
 BodyRuns key lines run = BodyRunsBy (list_any is_run lines) key lines run
 

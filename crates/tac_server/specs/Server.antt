@@ -1,4 +1,4 @@
--- A server: its key, what its desk stands for, and the connections that are open.
+-- A server: its key, what its desk represents, and the connections that are open.
 use Rattle.std.specs.Prelude.{ℕ, ◌==◌, List, [], Option, Some, None, if◌then◌else◌}
 use Rattle.tac_desk.specs.Meaning.{Meaning}
 use Rattle.tac_desk.specs.Serving.{Said}

@@ -64,7 +64,7 @@ abbrev pub ServesUnless : Bool → List ℕ → Stream → List ℕ → Type 0
 ServesUnless false key stream bytes = Serves key stream bytes
 ServesUnless true key stream bytes = Unit {0}
 
--- all was said to a piece, behind which these bytes came
+-- all was said to a piece, after which these bytes came
 pub record SaysAll (key : List ℕ) (now : Meaning) (old new : List ℕ) (closes : Bool)
     (stream : Stream) (bytes : List ℕ) (said : Said) : Type 0 where
   pub closing : closes ≡ said.closes

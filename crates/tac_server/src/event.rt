@@ -1,4 +1,4 @@
-//! The lines behind `run`.
+//! The lines after `run`.
 
 ghost use Rattle.std.specs.Prelude.{◌≡◌, ◌∷◌, [], ◌<◌, length, IfOk, IfSome};
 ghost use Rattle.std.specs.Option.{option_map, option_map_or, option_and_then};
@@ -64,7 +64,7 @@ fn spelled_packet(alloc: Global, key: &Key, field: &[u8]) -> Result<Option<Bytes
     Ok(wire_packet(key, bytes))
 }
 
-// The first field of a text, and the text behind the space that ends it, if one does.
+// The first field of a text, and the text after the space that ends it, if one does.
 fn first_field(text: &[u8]) -> (&[u8], Option<&[u8]>)
     ensures fields { fields_of text.now
         ≡ result.0.now ∷ option_map_or (λ rest. fields_of rest.now) result.1 [] }
@@ -93,7 +93,7 @@ fn wire_packets(alloc: Global, key: &Key, text: &[u8]) -> Result<Option<Bytes>, 
     Ok(Some(packets))
 }
 
-// `N`, and what stands behind the space after it.
+// `N`, and what follows the space after it.
 fn numbered(text: &[u8]) -> Option<(u16, &[u8])>
     ensures { option_map (λ parts. (parts.0, parts.1.now)) result ≡ numbered_text text.now }
 {
@@ -102,7 +102,7 @@ fn numbered(text: &[u8]) -> Option<(u16, &[u8])>
     Some((number, rest))
 }
 
-// `packet N HEX HEX ..`, behind its first word.
+// `packet N HEX HEX ..`, after its first word.
 fn hand_packets(alloc: Global, key: &Key, rest: &[u8]) -> Result<Option<Event>, AllocError>
     ensures { IfOk result (λ event.
         event ≡ hand_of (λ text. packets_of key.now (fields_of text)) rest.now) }
@@ -116,7 +116,7 @@ fn hand_packets(alloc: Global, key: &Key, rest: &[u8]) -> Result<Option<Event>, 
     Ok(Some(Event::Hand(number, packets)))
 }
 
-// `bytes N HEX`, behind its first word.
+// `bytes N HEX`, after its first word.
 fn hand_bytes(alloc: Global, rest: &[u8]) -> Result<Option<Event>, AllocError>
     ensures { IfOk result (λ event. event ≡ hand_of bytes_of rest.now) }
 {

@@ -167,7 +167,7 @@ impl<D: Desk> Driver<D> {
     }
 }
 
-/// Runs the lines behind `run` on a server, and adds what that prints.
+/// Runs the lines after `run` on a server, and adds what that prints.
 pub(crate) fn run_events<D: Desk>(
     alloc: Global,
     server: Server<D>,

@@ -23,7 +23,7 @@ pub enum ReplayEnd {
     Refused,
 }
 
-/// Why a replay came to no end.
+/// Why a replay wasn't finished.
 #[derive(Clone, Copy, Debug, PartialEq, Eq, Error)]
 pub enum ReplayFault {
     /// The script could not be read, or is too long. Nothing was written.

@@ -105,7 +105,7 @@ fn run_policy(
     }
 }
 
-// Runs what stands behind the key.
+// Runs what follows the key.
 #[tactic(auto, unfolding(crate::specs::Script::BodyRuns))]
 fn run_body(alloc: Global, key: Key, lines: &mut Lines<'_>, out: &mut Vec<u8>) -> Result<(), Stop>
     requires { lines.old.number ≡ 2 }

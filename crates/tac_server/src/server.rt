@@ -83,12 +83,12 @@ impl<D: Desk> Server<D> {
         &self.key
     }
 
-    /// Opens a connection of this number. After want of memory nothing has changed.
+    /// Opens a connection of this number. Where memory ran out nothing has changed.
     pub fn open(&mut self, conn: u32) -> Result<(), ServerFault>
         ensures step { (state : servers.State) → kept.HasState D.meaning self.old state →
             kept.IsOpened D.meaning self.new conn state result }
 
-        // Behind all that happened before.
+        // After all that happened before.
         ensures course { (start : servers.State) (events : List Happening) (outs : List Given)
             → course.HasRun D.meaning self.old start events outs → OnOk result (course.HasRun
             D.meaning self.new start (Opens conn ∷ events) (Nothing ∷ outs)) }
@@ -105,14 +105,14 @@ impl<D: Desk> Server<D> {
     /// it completes, and answers whether the connection was closed. Linear in the piece, but for
     /// what the desk takes.
     ///
-    /// After want of memory some of these packets were served, from the first on, and their replies
+    /// Where memory ran out some of these packets were served, from the first on, and their replies
     /// are added; the others had no effect, and the connection is lost.
     pub fn feed(&mut self, conn: u32, piece: &[u8], out: &mut Vec<u8>) -> Result<bool, ServerFault>
         ensures heard { (state : servers.State) → kept.HasState D.meaning self.old state →
             kept.IsHeard D.meaning out.old.items out.new.items self.new conn piece.now state
             result }
 
-        // Behind all that happened before.
+        // After all that happened before.
         ensures course { (start : servers.State) (events : List Happening) (outs : List Given)
             → course.HasRun D.meaning self.old start events outs → OnOk result (course.RunsOn
             D.meaning out.old.items out.new.items self.new start
@@ -145,7 +145,7 @@ impl<D: Desk> Server<D> {
         ensures step { (state : servers.State) → kept.HasState D.meaning self.old state →
             kept.HasState D.meaning self.new (servers.lost conn state) }
 
-        // Behind all that happened before.
+        // After all that happened before.
         ensures course { (start : servers.State) (events : List Happening) (outs : List Given)
             → course.HasRun D.meaning self.old start events outs
             → course.HasRun D.meaning self.new start (Loses conn ∷ events) (Nothing ∷ outs) }
@@ -196,7 +196,7 @@ impl<D: Desk> Server<D> {
     /// Adds the console's answer to a line, without its LF. Any bytes have one. Linear in the line
     /// and in what is added, but for what the desk takes.
     ///
-    /// After want of memory nothing was added, and the fault says whether the line's edit was
+    /// Where memory ran out nothing was added, and the fault says whether the line's edit was
     /// accepted; if it wasn't, nothing has changed.
     #[tactic(auto, using(crate::proofs::CourseFacts::run_told))]
     pub fn console(&mut self, line: &[u8], out: &mut Vec<u8>) -> Result<(), ServerFault>
@@ -208,7 +208,7 @@ impl<D: Desk> Server<D> {
             OnOk result (kept.IsOnlyAnswer D.meaning out.old.items out.new.items self.new
             line.now state) }
 
-        // Behind all that happened before.
+        // After all that happened before.
         ensures course { (start : servers.State) (events : List Happening) (outs : List Given)
             → course.HasRun D.meaning self.old start events outs → OnOk result (course.RunsOn
             D.meaning out.old.items out.new.items self.new start (Types line.now)

@@ -13,7 +13,7 @@ use std::io;
 use std::io::Write;
 use tac_wire::{Header, Key, pad_in_place};
 
-// The first packet of what was sent, and what is behind it; nothing where no packet is whole.
+// The first packet of what was sent, and what follows it; nothing where no packet is whole.
 fn split_packet(bytes: &[u8]) -> Option<(&[u8], &[u8])>
     ensures parts { (packet rest : List ℕ) → IsWhole packet → bytes.now ≡ packet ++ rest →
         MatchOption result ⊥ (λ parts. (parts.0.now ≡ packet) × (parts.1.now ≡ rest)) }
@@ -74,7 +74,8 @@ fn show_replies(
     Ok(())
 }
 
-/// A line for each packet, and one where the connection was closed. The error is want of memory.
+/// A line for each packet, and one where the connection was closed. The error means that memory ran
+/// out.
 pub(crate) fn show(
     alloc: Global,
     key: &Key,

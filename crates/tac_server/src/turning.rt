@@ -113,8 +113,8 @@ fn take_turn<D: Desk>(
 /// Takes the next piece of what came on a connection, adds what is sent for the packets that it
 /// completes, and answers whether the connection closes.
 ///
-/// The error is want of memory: the packets before some packet were served, and their replies are
-/// added; the others had no effect, and the connection is to be closed.
+/// The error means that memory ran out: the packets before some packet were served, and their
+/// replies are added; the others had no effect, and the connection is to be closed.
 pub(crate) fn serve_piece<D: Desk>(
     key: &Key,
     desk: &mut D,

@@ -4,7 +4,7 @@ use Rattle.pol_meaning.specs.Changes.{ChangesOf, is_alone}
 use Rattle.pol_compare.specs.Comparing.{AreKnown}
 use Rattle.pol_compare.proofs.comparing.list_gone.Given as goal
 
--- the users among the first subjects are behind those that were listed before
+-- the users among the first subjects come after those that were listed before
 abbrev pub invariant-loop-subject : goal.invariant-loop-subject
 invariant-loop-subject l = record {
   so_far : (users : List (List ℕ)) → ChangesOf l.old l.new users l.fn.changes

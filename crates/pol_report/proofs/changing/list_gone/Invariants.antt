@@ -2,7 +2,7 @@ use Rattle.std.proofs.Common.{◌≡◌, ◌++◌, ℕ, List, map, filter, take}
 use Rattle.pol_meaning.specs.Changes.{ChangesOf, is_alone}
 use Rattle.pol_report.proofs.changing.list_gone.Given as goal
 
--- the users among the first subjects are behind those that were listed before
+-- the users among the first subjects come after those that were listed before
 abbrev pub invariant-loop-subject : goal.invariant-loop-subject
 invariant-loop-subject l = record {
   so_far : (users : List (List ℕ)) → ChangesOf l.live l.prepared.after users l.fn.changes

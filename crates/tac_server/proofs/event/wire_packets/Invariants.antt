@@ -4,7 +4,7 @@ use Rattle.tac_server.specs.Command.{wire_packets, fields_of}
 use Rattle.tac_server.proofs.EventFacts.{behind}
 use Rattle.tac_server.proofs.event.wire_packets.Given as goal
 
--- the packets of the fields that are left, behind those so far, are all packets
+-- the packets of the fields that are left, after those so far, are all packets
 abbrev pub invariant-fields : goal.invariant-fields
 invariant-fields l = behind l.packets (wire_packets l.key (option_map_or (λ rest. fields_of rest.now) l.rest [])) ≡ wire_packets l.key (fields_of l.text)
 
