@@ -69,7 +69,7 @@ fn collects(alloc: Global, list: &str, said: &[u8]) -> Result<bool, Fail> {
     is_so(alloc, &decider, said)
 }
 
-// Whether it is so of the patterns' automaton, and of any first part's joined with the rest's.
+// Whether it is true of the patterns' automaton, and of any first part's joined with the rest's.
 fn are_so(alloc: Global, patterns: &[Pattern], list: &str, said: &[u8]) -> Result<bool, Fail> {
     if !owns(alloc, patterns, said)? || !collects(alloc, list, said)? {
         return Ok(false);
@@ -98,8 +98,8 @@ fn list_is_so(alloc: Global, list: &str, said: &[u8]) -> Result<bool, Fail> {
     read_are_so(alloc, &mut patterns, list, said)
 }
 
-// Judges the lines: after a `/` a list of patterns, and then what is so of it. A line that begins
-// with `#` is a comment.
+// Judges the lines: after a `/` a list of patterns, and then what is true of it. A line that
+// begins with `#` is a comment.
 fn judges_lists<R: Abort + AllocGlobal>(rt: &R, lines: &str) -> Result<(), Fail> {
     let mut list = "";
     for line in lines.lines() {

@@ -104,7 +104,7 @@ impl Pattern {
         ensures flat { reading_of self.now ≡ Ok (terms_value result.now) }
         ensures spelled { Spells self.now (terms_value result.now) }
 
-        // Whatever else the source spells is that.
+        // The source spells no other flat form.
         ensures only { (flat : Terms) → Spells self.now flat → flat ≡ terms_value result.now }
 
         // The test that definitions use is the set's, and a set holds texts alone.
@@ -128,7 +128,7 @@ impl Pattern {
         // The set.
         ensures set { IsTrue result ↔ Holds self.now text.now }
 
-        // The same, as a test, and that the test is the set's for every source.
+        // The same as a test, which agrees with the set for every source.
         ensures test { result ≡ matches self.now text.now }
         ensures law { (source bytes : List ℕ) → IsTrue (matches source bytes) ↔ Holds source bytes }
 

@@ -64,7 +64,7 @@ impl Sizes {
         ensures { (level : Level) → self ≡ size_of level
             → result ≡ size_of (level_with_repeat level repeat) }
     {
-        // the alternatives of a group are starred without it
+        // a star takes a group's alternatives without the group
         let star = capped_sum(self.last, usize::from(!self.last_is_group));
         let (last, last_is_group) = match repeat {
             Repeat::Star => (star, false),

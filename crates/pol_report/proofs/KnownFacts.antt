@@ -8,7 +8,7 @@ use Rattle.std.proofs.lemmas.Option.{same_Some}
 same_place : (k q : ℕ) → is_at (nat_cmp k) q ≡ true → k ≡ q
 same_place k q at = grind (arith, nat_tests)
 
--- what is so of each place, and of one that is written
+-- what is true of each place, and of one that is written
 pub written : {V : Type 0} (R : ℕ → V → Type 0) (old new : BTreeMap ℕ V) (k : ℕ) (v : V) → Updates nat_cmp old new k (Some v) → R k v
     → ((q : ℕ) (x : V) → get nat_cmp old q ≡ Some x → R q x) → (q : ℕ) (x : V) → get nat_cmp new q ≡ Some x → R q x
 written {V} R old new k v updates right all q x found = by (is_at (nat_cmp k) q) refl (sym (updates.0 q) ∙ found)

@@ -35,8 +35,8 @@ fn is_so(alloc: Global, source: &[u8], line: &[u8]) -> bool {
     }
 }
 
-// Judges the lines, each after a mark: `/` a source, and then what is so of it. A line that begins
-// with `#` is a comment.
+// Judges the lines, each after a mark: `/` a source, and then what is true of it. A line that
+// begins with `#` is a comment.
 fn judges<R: Abort + AllocGlobal>(rt: &R, lines: &str) {
     let mut source = b"".as_slice();
     for line in lines.lines() {

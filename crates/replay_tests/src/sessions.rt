@@ -162,7 +162,7 @@ fn close<R: Abort + AllocGlobal>(rt: &R, before: &str, packets: &[&str]) -> Resu
 
 #[test]
 fn packets_out_of_turn(rt: HostRuntime) -> Result<(), Fail> {
-    // Of the open session: not the number that comes next, be it a START again or no body at all.
+    // Of the open session: not the number that comes next, whether a START again or no body at all.
     let numbers = [
         "c0010104.00000001.0000000b.0101010103000000'bob'",
         "c0010104.00000001.00000000",

@@ -15,7 +15,7 @@ use tac_io::{AnswerFault, InputFault, MAX_INPUT, read_whole, write_answer};
 pub enum CheckEnd {
     /// The policy may stand, and was reported on.
     Sound,
-    /// The policy is refused, and why was printed.
+    /// The policy is refused, and the reason was printed.
     Refused,
 }
 

@@ -19,7 +19,7 @@ fn level_for(policy: &Policy, user: &Name, line: &[u8]) -> Option<u8>
     }
 }
 
-/// What is answered where the policy decides so of the user's line.
+/// The answer to a user's line where this is the policy's decision.
 pub(crate) fn decided(policy: &Policy, user: &Name, line: &[u8], decision: Decision) -> Answer
     ensures { result ≡ asking.decided policy.now user.now line.now decision }
 {

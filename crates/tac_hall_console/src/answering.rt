@@ -108,7 +108,7 @@ pub(crate) fn write_text<W: Write>(writer: &mut W, text: &[u8]) -> Result<(), Op
     }
 }
 
-/// Tells that the hall refused a call. Writes nothing where memory runs out, be it the hall's.
+/// Tells that the hall refused a call. Writes nothing where memory runs out, here or in the hall.
 pub(crate) fn write_refused<W: Write>(
     alloc: Global,
     writer: &mut W,

@@ -1,4 +1,4 @@
-//! Why a server ended otherwise than by its console.
+//! Why a server ended other than by its console.
 
 ghost use Rattle.std.specs.Prelude.{◌≡◌};
 ghost use Rattle.tac_net.specs.Program.{fault_by};
@@ -8,7 +8,7 @@ use std::alloc::{AllocError, AllocFailed};
 use tac_hall_console::OperatorFault;
 use thiserror::Error;
 
-/// Why a server ended otherwise than by its console.
+/// Why a server ended other than by its console.
 #[derive(Clone, Copy, Debug, PartialEq, Eq, Error)]
 pub enum ServeFault {
     /// The console could not be read.

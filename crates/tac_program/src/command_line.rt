@@ -36,10 +36,10 @@ pub(crate) const OLD: &str = "OLD";
 
 pub(crate) const NEW: &str = "NEW";
 
-/// That a change is told by the exit status.
+/// Whether the exit status tells of a change.
 pub(crate) const EXIT_CODE: &str = "exit-code";
 
-/// Whose line it is that is asked about, and the words of the line.
+/// Whose line is asked about, and the words of the line.
 pub(crate) const USER: &str = "USER";
 
 pub(crate) const LINE: &str = "LINE";

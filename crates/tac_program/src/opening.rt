@@ -18,7 +18,7 @@ use tac_console::{write_build_fault, write_policy_fault};
 use tac_desks::{LiveDesk, MAX_RECORDS};
 use tac_io::{AnswerFault, InputFault, MAX_INPUT, read_whole, write_answer};
 
-// Whether a folder lies at the path: that could be opened, and its first read would fail.
+// Whether the path is a folder's: that could be opened, but its first read would fail.
 fn is_folder<R: Files>(rt: &R, path: &str) -> bool {
     match fs::metadata(rt, path) {
         Ok(metadata) => metadata.is_dir(),
@@ -26,7 +26,7 @@ fn is_folder<R: Files>(rt: &R, path: &str) -> bool {
     }
 }
 
-/// A file to be read. The error is the status to end with, and why was said.
+/// A file to be read. The error is the status to end with, and the reason was said.
 pub(crate) fn open_file<R: Files + Eprint>(rt: &R, path: &str) -> Result<R::File, Status> {
     if is_folder(rt, path) {
         let _ = eprintln!(rt; "tacd: {path}: it is a folder");

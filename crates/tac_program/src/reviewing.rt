@@ -39,7 +39,7 @@ where
     outcome
 }
 
-// Reviews two files. With the status that is given it ends where they differ.
+// Reviews two files, and ends with the given status where they differ.
 fn review_files<R>(rt: &R, what: Review, paths: (&str, &str), differs: Status) -> Status
 where
     R: Files + Print + Eprint + AllocGlobal,

@@ -29,7 +29,7 @@ pub enum ReviewEnd {
     Done,
     /// Something changes for someone, or some case isn't so.
     Differs,
-    /// An input is refused, and why was printed.
+    /// An input is refused, and the reason was printed.
     Refused,
 }
 

@@ -19,9 +19,9 @@ pub struct Tally {
     pub updates: u128,
     /// Tasks that were begun, and not ended since.
     pub open_tasks: u128,
-    /// The seconds that the records of an end tell.
+    /// The seconds that records of the end of a task tell.
     pub elapsed: u128,
-    /// Records of an end whose line the present policy denies.
+    /// Records that end a task, of a line that the present policy denies.
     pub drift: u128,
 }
 

@@ -83,7 +83,7 @@ pub fn cut(alloc: Global, lengths: &[u8], bytes: &[u8]) -> Result<Sequence<Bytes
     Ok(fields)
 }
 
-/// Does nothing. The clause is so of all fields that are cut, for callers that don't call [`cut`].
+/// Does nothing. The clause is true of all cut fields, for callers that don't call [`cut`].
 pub fn cut_laws()
     ensures { CutLaws }
 {}
