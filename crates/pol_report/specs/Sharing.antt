@@ -1,8 +1,9 @@
 -- What is reported by the rules along a chain alone, and so is the same for all who have them.
 use Rattle.std.specs.Prelude.{◌≡◌, ℕ, Bool, true, false, List, [], ◌∷◌, ◌++◌, slice_get}
 use Rattle.std.specs.Prelude.{filter, Option, Some}
-use Rattle.std.specs.Option.{option_map, option_map_or, option_and_then}
-use Rattle.std.specs.Ordering.{nat_cmp}
+use Rattle.std.specs.Option.{option_map, option_map_or, option_and_then, option_cmp}
+use Rattle.std.specs.Ordering.{nat_cmp, ordering_then}
+use Rattle.std.specs.declared.cmp.Ordering.{Ordering}
 use Rattle.std.specs.BTreeMap.{BTreeMap, get}
 use Rattle.pol_names.specs.declared.subject_id.SubjectId.{SubjectId}
 use Rattle.pol_text.specs.declared.subject.Subject.{Subject}
@@ -13,7 +14,6 @@ use Rattle.pol_meaning.specs.declared.Changed.{Changed}
 use Rattle.pol_meaning.specs.declared.Reached.{Reached}
 use Rattle.pol_meaning.specs.declared.Shadowed.{Shadowed}
 use Rattle.pol_report.specs.declared.differing.Difference.{Difference}
-use Rattle.pol_report.specs.declared.known.Known.{Known}
 
 -- the rules along the chain of a subject, or of the one at a place, if it is there
 abbrev pub along : List Subject → SubjectId → Option (List Entry)
@@ -40,11 +40,16 @@ pub record IsDifference (before after : Option (List Entry)) (difference : Diffe
   pub permits_is : IsLeastIfAny (IsGainedAlong before after) difference.permits
   pub denies_is : IsLeastIfAny (IsGainedAlong after before) difference.denies
 
--- what is remembered under a place of the new policy differs for those who have their rules by the
--- subject there, and had them by the one at the place that is noted
-abbrev pub AreKnown : List Subject → List Subject → BTreeMap ℕ Known → Type 0
-AreKnown before after known = (place : ℕ) (found : Known) → get nat_cmp known place ≡ Some found
-    → IsDifference (along_at before found.before) (along_at after (Some place)) found.difference
+-- the order of two pairs of places: one in the old policy, if any, and one in the new policy
+abbrev pub by_places : Option ℕ × ℕ → Option ℕ × ℕ → Ordering
+by_places a b = ordering_then (option_cmp nat_cmp a.0 b.0) (nat_cmp a.1 b.1)
+
+-- what is remembered under two places differs for those who had their rules by the subject at the
+-- first and have them by the one at the second
+abbrev pub AreKnown : List Subject → List Subject → BTreeMap (Option ℕ × ℕ) Difference → Type 0
+AreKnown before after known = (places : Option ℕ × ℕ) (found : Difference)
+    → get by_places known places ≡ Some found
+    → IsDifference (along_at before places.0) (along_at after (Some places.1)) found
 
 -- what changes for the user is listed after the others, if anything does
 pub record IsListed (before after : List Subject) (user : List ℕ) (old new : List Changed)

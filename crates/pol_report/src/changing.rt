@@ -58,8 +58,8 @@ fn list_searched(
     list_change(alloc, changes, *user, &difference)
 }
 
-// Lists what changes for a user whose rules the edit may have changed. Searches once for all who
-// have their rules by one keeper.
+// Lists what changes for a user whose rules the edits may have changed. Searches once for all who
+// had their rules by one keeper, and have them by another.
 fn list_touched(
     alloc: Global,
     changes: &mut Changes,
@@ -69,8 +69,8 @@ fn list_touched(
     user: &Name,
 ) -> Result<(), AllocError>
     requires before { prepared.now.before ≡ live.now }
-    requires known { AreKnown live.now prepared.now.after known.old.by_keeper }
-    ensures known { OnOk result (AreKnown live.now prepared.now.after known.new.by_keeper) }
+    requires known { AreKnown live.now prepared.now.after known.old.by_keepers }
+    ensures known { OnOk result (AreKnown live.now prepared.now.after known.new.by_keepers) }
     ensures listed { OnOk result (IsListed live.now prepared.now.after user.now
         changes.old changes.new) }
 {
@@ -97,8 +97,8 @@ fn list_user(
     user: &Name,
 ) -> Result<(), AllocError>
     requires before { prepared.now.before ≡ live.now }
-    requires known { AreKnown live.now prepared.now.after known.old.by_keeper }
-    ensures known { OnOk result (AreKnown live.now prepared.now.after known.new.by_keeper) }
+    requires known { AreKnown live.now prepared.now.after known.old.by_keepers }
+    ensures known { OnOk result (AreKnown live.now prepared.now.after known.new.by_keepers) }
     ensures listed { OnOk result (IsListed live.now prepared.now.after user.now
         changes.old changes.new) }
 {
@@ -162,11 +162,12 @@ fn list_gone(
     Ok(())
 }
 
-/// What a prepared edit changes for users: those of the new policy in its order, then those of the
-/// old one alone. A user for whom nothing changes isn't listed.
+/// What prepared edits change for users, all together: those of the new policy in its order, then
+/// those of the old one alone. A user for whom nothing changes isn't listed.
 ///
-/// It searches once for each automaton that the edit concerns, however many users share it; all
-/// else takes a few look-ups for each subject, and the list itself.
+/// It searches once for each two automata, of the old policy and of the new one, that users share
+/// whom the edits concern, however many they are; all else takes a few look-ups for each subject,
+/// and the list itself.
 pub fn changes(alloc: Global, live: &Live, prepared: &Prepared) -> Result<Changes, AllocError>
     requires { prepared.now.before ≡ live.now }
     ensures found { IfOk result (λ changes. AreChanges live.now prepared.now.after changes) }

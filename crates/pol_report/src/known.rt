@@ -8,28 +8,20 @@ use crate::differing::Difference;
 use std::alloc::{AllocError, Global};
 use std::collections::BTreeMap;
 
-// What differs for those who had one keeper and now have another.
-#[derive(Drop)]
-pub(crate) struct Known {
-    // where the keeper before stood, if there was one
-    pub(crate) before: Option<usize>,
-    pub(crate) difference: Difference,
-}
-
-/// What was found to differ, by where the keeper in the new policy stands. Of all whose rules one
-/// edit may have changed, those with one keeper now had one before: so one place is enough.
+/// What was found to differ, by where the keepers stand: in the old policy, if there was one, and
+/// in the new one. Those with one keeper now may have had several before.
 #[derive(Drop)]
 pub(crate) struct Differences {
-    by_keeper: BTreeMap<usize, Known>,
+    by_keepers: BTreeMap<(Option<usize>, usize), Difference>,
 }
 
 impl Differences {
     /// Nothing was found yet. Takes no memory.
     pub(crate) fn new(alloc: Global) -> Differences
-        ensures { (before after : List SubjectValue) → AreKnown before after result.by_keeper }
+        ensures { (before after : List SubjectValue) → AreKnown before after result.by_keepers }
     {
         Differences {
-            by_keeper: BTreeMap::new(alloc),
+            by_keepers: BTreeMap::new(alloc),
         }
     }
 
@@ -39,17 +31,11 @@ impl Differences {
         keeper_before: Option<usize>,
         keeper_after: usize,
     ) -> Option<&Difference>
-        ensures { (before after : List SubjectValue) → AreKnown before after self.now.by_keeper
+        ensures { (before after : List SubjectValue) → AreKnown before after self.now.by_keepers
             → IfSome result (λ difference. IsDifference
             (along_at before keeper_before) (along_at after (Some keeper_after)) difference.now) }
     {
-        let Some(known) = self.by_keeper.get(&keeper_after) else {
-            return None;
-        };
-        if known.before == keeper_before {
-            return Some(&known.difference);
-        }
-        None
+        self.by_keepers.get(&(keeper_before, keeper_after))
     }
 
     /// Keeps what was found to differ for them.
@@ -59,16 +45,13 @@ impl Differences {
         keeper_after: usize,
         difference: Difference,
     ) -> Result<(), AllocError>
-        ensures { (before after : List SubjectValue) → AreKnown before after self.old.by_keeper
+        ensures { (before after : List SubjectValue) → AreKnown before after self.old.by_keepers
             → IsDifference (along_at before keeper_before)
             (along_at after (Some keeper_after)) difference
-            → OnOk result (AreKnown before after self.new.by_keeper) }
+            → OnOk result (AreKnown before after self.new.by_keepers) }
     {
-        let known = Known {
-            before: keeper_before,
-            difference,
-        };
-        self.by_keeper.insert(keeper_after, known)?;
+        self.by_keepers
+            .insert((keeper_before, keeper_after), difference)?;
         Ok(())
     }
 }

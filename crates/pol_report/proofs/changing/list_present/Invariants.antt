@@ -10,6 +10,6 @@ abbrev pub invariant-loop-subject : goal.invariant-loop-subject
 invariant-loop-subject l = record {
   so_far : (users : List (List ℕ)) → ChangesOf l.live l.prepared.after users l.fn.changes
       → ChangesOf l.live l.prepared.after (users ++ map (λ subject. subject.name) (filter (λ subject. same_kind subject.kind User) (take l.subject-index l.prepared.after))) l.changes;
-  known : AreKnown l.live l.prepared.after l.known.by_keeper;
+  known : AreKnown l.live l.prepared.after l.known.by_keepers;
   same : l.subject-items ≡ l.prepared.after;
 }

@@ -3,7 +3,8 @@ use Rattle.std.specs.Option.{option_map_or}
 use Rattle.pol_text.specs.Policy.{Entry}
 use Rattle.pol_meaning.specs.Along.{entries_of}
 use Rattle.pol_report.specs.Sharing.{along, along_at, AreUnreached}
-use Rattle.pol_report.proofs.KnownFacts.{on_ok_so, written}
+use Rattle.std.specs.Ordering.{nat_cmp}
+use Rattle.pol_report.proofs.KnownFacts.{on_ok_so, same_place, written}
 use Rattle.pol_report.proofs.ShadowFacts.{are_told, rules_of}
 use Rattle.pol_report.proofs.shadowing.add_shadows.Goals as goal
 
@@ -28,4 +29,4 @@ returns-clause-known c =
     let found = c.in_ok-found.found in
     let same : along_at live (Some c.in-Some.place) ≡ along live id = rw (← c.policy.ensures.policy) c.in-Some.ensures.entries in
     let here = subst (λ (rules : List Entry). AreUnreached rules found) (sym (rules_of live id (Some c.in-Some.place) same)) c.in_ok-found.ensures in
-    written (λ k f. AreUnreached (option_map_or (λ rules. rules) (along_at live (Some k)) []) f) c.args.known.now c.insert.new.self c.in-Some.place found c.in_ok-insert.ensures.updates here c.requires
+    written nat_cmp same_place (λ k f. AreUnreached (option_map_or (λ rules. rules) (along_at live (Some k)) []) f) c.args.known.now c.insert.new.self c.in-Some.place found c.in_ok-insert.ensures.updates here c.requires
