@@ -2,6 +2,8 @@
 use Rattle.std.specs.Prelude.{◌≡◌, List, [], ◌∷◌, ◌++◌, Bool, true, false, ◌||◌, Result, Ok, Err}
 use Rattle.std.specs.Prelude.{OnErr, IsTrue}
 use Rattle.pol_edit.specs.Applying.{is_memory}
+use Rattle.pol_edit.specs.Batches.{ran_out}
+use Rattle.pol_edit.specs.declared.batching.BatchFault.{BatchFault}
 use Rattle.pol_edit.specs.declared.edit.Edit.{Edit}
 use Rattle.pol_edit.specs.declared.fault.EditFault.{EditFault}
 use Rattle.pol_meaning.specs.declared.Changed.{Changed}
@@ -27,6 +29,11 @@ abbrev pub AnswersEdit : Meaning → Edit → Result (List Changed) EditFault �
 AnswersEdit was edit answer now =
     UnlessMemory is_memory answer (editing.Edits was edit answer now) × OnErr answer (now ≡ was)
 
+-- so were edits that are made together
+abbrev pub AnswersBatch : Meaning → List Edit → Result (List Changed) BatchFault → Meaning → Type 0
+AnswersBatch was edits answer now =
+    UnlessMemory ran_out answer (editing.EditsAll was edits answer now) × OnErr answer (now ≡ was)
+
 -- a question was answered so, or memory ran out
 abbrev pub AnswersQuery : Meaning → Query → Result Report QueryFault → Meaning → Type 0
 AnswersQuery was query answer now =
@@ -39,6 +46,7 @@ abbrev pub Answers : Meaning → Call → CallAnswer → Meaning → Type 0
 Answers was (calls.Ask ask) (answers.Ask answer) now =
     (answer ≡ (asked was ask).answer) × (now ≡ (asked was ask).meaning)
 Answers was (calls.Edit edit) (answers.Edit answer) now = AnswersEdit was edit answer now
+Answers was (calls.Batch edits) (answers.Batch answer) now = AnswersBatch was edits answer now
 Answers was (calls.Query query) (answers.Query answer) now = AnswersQuery was query answer now
 Answers was calls.Stop answers.Stopped now = now ≡ was
 Answers was call answer now = ⊥
@@ -51,6 +59,7 @@ IsReportTo query (Err fault) = Unit {0}
 abbrev pub IsOfKind : Call → CallAnswer → Type 0
 IsOfKind (calls.Ask ask) (answers.Ask answer) = kind_of_answer answer ≡ kind_of_ask ask
 IsOfKind (calls.Edit edit) (answers.Edit answer) = Unit {0}
+IsOfKind (calls.Batch edits) (answers.Batch answer) = Unit {0}
 IsOfKind (calls.Query query) (answers.Query answer) = IsReportTo query answer
 IsOfKind calls.Stop answers.Stopped = Unit {0}
 IsOfKind call answer = ⊥
@@ -60,12 +69,14 @@ IsOfKind call answer = ⊥
 abbrev pub is_stop : Call → Bool
 is_stop (calls.Ask ask) = false
 is_stop (calls.Edit edit) = false
+is_stop (calls.Batch edits) = false
 is_stop (calls.Query query) = false
 is_stop calls.Stop = true
 
 abbrev pub is_ask : Call → Bool
 is_ask (calls.Ask ask) = true
 is_ask (calls.Edit edit) = false
+is_ask (calls.Batch edits) = false
 is_ask (calls.Query query) = false
 is_ask calls.Stop = false
 

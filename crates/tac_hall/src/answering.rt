@@ -6,7 +6,7 @@ ghost use Rattle.tac_hall.specs.declared.call.CallAnswer.TheVariants as answers;
 
 use crate::call::{Call, CallAnswer};
 use crate::shared::Shared;
-use pol_edit::EditFault;
+use pol_edit::{BatchFault, EditFault};
 use pol_meaning::Changes;
 use std::alloc::AllocError;
 use std::marker::Model;
@@ -48,57 +48,63 @@ fn told_of_ask(answer: &Answer) -> Told
     }
 }
 
-fn refused_edit(fault: &EditFault) -> CallAnswer
-    ensures { result ≡ answers.Edit (Err fault.now) }
+// Three owners of an answer.
+type Owners<T, F> = (
+    Result<Shared<T>, F>,
+    Result<Shared<T>, F>,
+    Result<Shared<T>, F>,
+);
+
+fn owners<T: Drop, F: Copy>(answer: Result<Thrice<T>, F>) -> Owners<T, F>
+    ensures { (result.0 ≡ answer) × (result.1 ≡ answer) × (result.2 ≡ answer) }
 {
-    CallAnswer::Edit(Err(*fault))
+    match answer {
+        Ok(value) => {
+            let Thrice {
+                first,
+                second,
+                third,
+            } = value;
+            (
+                Ok(Shared::from(first)),
+                Ok(Shared::from(second)),
+                Ok(Shared::from(third)),
+            )
+        }
+        Err(fault) => (Err(fault), Err(fault), Err(fault)),
+    }
 }
 
 fn told_of_edit(answer: Result<Thrice<Changes>, EditFault>) -> Told
     ensures { result ≡ answers.Edit answer }
 {
-    match answer {
-        Ok(changes) => {
-            let Thrice {
-                first,
-                second,
-                third,
-            } = changes;
-            Told {
-                logged: CallAnswer::Edit(Ok(Shared::from(first))),
-                kept: CallAnswer::Edit(Ok(Shared::from(second))),
-                given: CallAnswer::Edit(Ok(Shared::from(third))),
-            }
-        }
-        Err(fault) => Told {
-            logged: refused_edit(&fault),
-            kept: refused_edit(&fault),
-            given: refused_edit(&fault),
-        },
+    let (logged, kept, given) = owners(answer);
+    Told {
+        logged: CallAnswer::Edit(logged),
+        kept: CallAnswer::Edit(kept),
+        given: CallAnswer::Edit(given),
+    }
+}
+
+fn told_of_batch(answer: Result<Thrice<Changes>, BatchFault>) -> Told
+    ensures { result ≡ answers.Batch answer }
+{
+    let (logged, kept, given) = owners(answer);
+    Told {
+        logged: CallAnswer::Batch(logged),
+        kept: CallAnswer::Batch(kept),
+        given: CallAnswer::Batch(given),
     }
 }
 
 fn told_of_query(answer: Result<Thrice<Report>, QueryFault>) -> Told
     ensures { result ≡ answers.Query answer }
 {
-    match answer {
-        Ok(report) => {
-            let Thrice {
-                first,
-                second,
-                third,
-            } = report;
-            Told {
-                logged: CallAnswer::Query(Ok(Shared::from(first))),
-                kept: CallAnswer::Query(Ok(Shared::from(second))),
-                given: CallAnswer::Query(Ok(Shared::from(third))),
-            }
-        }
-        Err(fault) => Told {
-            logged: CallAnswer::Query(Err(fault)),
-            kept: CallAnswer::Query(Err(fault)),
-            given: CallAnswer::Query(Err(fault)),
-        },
+    let (logged, kept, given) = owners(answer);
+    Told {
+        logged: CallAnswer::Query(logged),
+        kept: CallAnswer::Query(kept),
+        given: CallAnswer::Query(given),
     }
 }
 
@@ -129,6 +135,10 @@ pub(crate) fn answer<D: Desk>(desk: &mut D, call: &Call) -> Result<Told, AllocEr
         Call::Edit(edit) => {
             let answer = desk.edit(edit);
             Ok(told_of_edit(answer))
+        }
+        Call::Batch(edits) => {
+            let answer = desk.edit_all(edits.as_slice());
+            Ok(told_of_batch(answer))
         }
         Call::Query(query) => {
             let answer = desk.query(query);

@@ -3,8 +3,8 @@
 ghost use Rattle.std.specs.Prelude.{◌≡◌, ◌↔◌, IsTrue};
 
 use crate::shared::Shared;
-use basics::StructuralEq;
-use pol_edit::{Edit, EditFault};
+use basics::{Sequence, StructuralEq};
+use pol_edit::{BatchFault, Edit, EditFault};
 use pol_meaning::Changes;
 use tac_conn::{Answer, Ask};
 use tac_desk::{Query, QueryFault, Report};
@@ -16,6 +16,8 @@ pub enum Call {
     Ask(Ask),
     /// An edit of the policy.
     Edit(Edit),
+    /// Edits that are made together, all or none.
+    Batch(Sequence<Edit>),
     /// A question to the desk.
     Query(Query),
     /// No further call is taken.
@@ -40,6 +42,7 @@ impl Call {
         match (self, other) {
             (Call::Ask(one), Call::Ask(two)) => one.same(two),
             (Call::Edit(one), Call::Edit(two)) => one.same(two),
+            (Call::Batch(one), Call::Batch(two)) => one.same(two),
             (Call::Query(one), Call::Query(two)) => one.same(two),
             (Call::Stop, Call::Stop) => true,
             _ => false,
@@ -51,37 +54,13 @@ impl Call {
 #[derive(Drop)]
 pub enum CallAnswer {
     Ask(Answer),
-    /// What the edit changes for users, or why it is refused, for want of memory too.
+    /// What the edit changes for users, or why it is refused, a lack of memory included.
     Edit(Result<Shared<Changes>, EditFault>),
-    /// The report, or why there is none, for want of memory too.
+    /// What the edits change together, or which of them is refused, and why.
+    Batch(Result<Shared<Changes>, BatchFault>),
+    /// The report, or why there is none, a lack of memory included.
     Query(Result<Shared<Report>, QueryFault>),
     Stopped,
-}
-
-fn same_changes(
-    one: &Result<Shared<Changes>, EditFault>,
-    two: &Result<Shared<Changes>, EditFault>,
-) -> bool
-    ensures { IsTrue result ↔ (one.now ≡ two.now) }
-{
-    match (one, two) {
-        (Ok(one), Ok(two)) => one.get().same(two.get()),
-        (Err(one), Err(two)) => one == two,
-        _ => false,
-    }
-}
-
-fn same_report(
-    one: &Result<Shared<Report>, QueryFault>,
-    two: &Result<Shared<Report>, QueryFault>,
-) -> bool
-    ensures { IsTrue result ↔ (one.now ≡ two.now) }
-{
-    match (one, two) {
-        (Ok(one), Ok(two)) => one.get().same(two.get()),
-        (Err(one), Err(two)) => one == two,
-        _ => false,
-    }
 }
 
 impl CallAnswer {
@@ -93,8 +72,12 @@ impl CallAnswer {
     {
         match (self, other) {
             (CallAnswer::Ask(one), CallAnswer::Ask(two)) => one == two,
-            (CallAnswer::Edit(one), CallAnswer::Edit(two)) => same_changes(one, two),
-            (CallAnswer::Query(one), CallAnswer::Query(two)) => same_report(one, two),
+            (CallAnswer::Edit(Ok(one)), CallAnswer::Edit(Ok(two))) => one.get().same(two.get()),
+            (CallAnswer::Edit(Err(one)), CallAnswer::Edit(Err(two))) => one == two,
+            (CallAnswer::Batch(Ok(one)), CallAnswer::Batch(Ok(two))) => one.get().same(two.get()),
+            (CallAnswer::Batch(Err(one)), CallAnswer::Batch(Err(two))) => one == two,
+            (CallAnswer::Query(Ok(one)), CallAnswer::Query(Ok(two))) => one.get().same(two.get()),
+            (CallAnswer::Query(Err(one)), CallAnswer::Query(Err(two))) => one == two,
             (CallAnswer::Stopped, CallAnswer::Stopped) => true,
             _ => false,
         }
