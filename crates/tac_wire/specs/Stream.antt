@@ -1,11 +1,12 @@
 -- The stream of packets (RFC 8907, section 4): each a header of twelve bytes and a
 -- body of the header's length. A stream is all its bytes: nothing here knows of the
 -- pieces in which they come.
-use Rattle.std.specs.Prelude.{◌≡◌, ℕ, zero, suc, ◌+◌, ◌/◌, ◌%◌, ◌^◌, ◌<◌, ◌==◌, Bool, not, ◌&&◌}
+use Rattle.std.specs.Prelude.{◌≡◌, ℕ, zero, suc, ◌+◌, ◌^◌, ◌<◌, ◌==◌, Bool, not, ◌&&◌}
 use Rattle.std.specs.Prelude.{nat_lt, nat_le, List, [], ◌∷◌, ◌++◌, length, take, drop, Option, Some}
 use Rattle.std.specs.Prelude.{None, if◌then◌else◌}
 use Rattle.tac_wire.specs.Flag.{has_flag}
-use Rattle.tac_wire.specs.Header.{header_bytes, header_of}
+use Rattle.tac_wire.specs.Header.{header_bytes, header_of, major_ver, minor_ver_one}
+use Rattle.tac_wire.specs.Header.{major_version, minor_version, unencrypted_flag}
 use Rattle.tac_wire.specs.declared.header.Header.{Header}
 use Rattle.tac_wire.specs.declared.frame.Frame.{Frame}
 use Rattle.tac_wire.specs.declared.frame.FrameFault.{FrameFault}
@@ -15,23 +16,28 @@ use Rattle.tac_wire.specs.declared.framer.Next.TheVariants.{Packet, Need, Fault,
 
 -- ---- one item
 
--- major version 0xc, in the high four bits, and minor version 0 or 1, in the low four
+-- the standard's major version, and minor version 0 or 1
 abbrev pub is_served_version : ℕ → Bool
-is_served_version version = version / 16 == 0xc && nat_le (version % 16) 1
+is_served_version version =
+    major_version version == major_ver && nat_le (minor_version version) minor_ver_one
 
--- TAC_PLUS_UNENCRYPTED_FLAG, by which a body has no pad
+-- a body that has no pad
 abbrev pub is_unencrypted : ℕ → Bool
-is_unencrypted flags = has_flag 0x01 flags
+is_unencrypted flags = has_flag unencrypted_flag flags
 
--- why a header is refused: the first fault that it has. The longest body is that of an
--- authentication CONTINUE: five bytes, and two fields of at most 65535
+-- the longest body is that of an authentication CONTINUE: five bytes, and two fields of at
+-- most 65535
+abbrev pub max_body : ℕ
+max_body = 131075
+
+-- why a header is refused: the first fault that it has
 abbrev pub header_fault : Header → Option FrameFault
 header_fault header =
     if not (is_served_version header.version)
     then Some BadVersion
     else if is_unencrypted header.flags
     then Some Unencrypted
-    else if nat_lt 131075 header.length then Some TooLong else None
+    else if nat_lt max_body header.length then Some TooLong else None
 
 -- how a packet is written
 abbrev pub frame_bytes : Frame → List ℕ
