@@ -6,6 +6,10 @@ use Rattle.tac_wire.specs.declared.body.BodyFault.{BodyFault}
 use Rattle.tac_wire.specs.declared.body.BodyFault.TheVariants.{Short, LengthSum}
 use Rattle.tac_authen.specs.declared.continuation.Continue.{Continue}
 
+-- TAC_PLUS_CONTINUE_FLAG_ABORT: the client gives up
+abbrev pub continue_flag_abort : ℕ
+continue_flag_abort = 0x01
+
 -- user_msg_len, data_len, flags; user_msg, data
 abbrev pub continue_bytes : Continue → List ℕ
 continue_bytes answer =

@@ -6,14 +6,39 @@ use Rattle.tac_wire.specs.declared.body.BodyFault.{BodyFault}
 use Rattle.tac_wire.specs.declared.body.BodyFault.TheVariants.{Short, LengthSum, TooLong}
 use Rattle.tac_authen.specs.declared.reply.AuthenReply.{AuthenReply}
 use Rattle.tac_wire.specs.Flag.{has_flag}
+use Rattle.tac_wire.specs.Body.{max_message}
+
+-- ---- the standard's numbers, whose names there begin with TAC_PLUS_
+
+-- status
+abbrev pub authen_status_pass : ℕ
+authen_status_pass = 1
+
+abbrev pub authen_status_fail : ℕ
+authen_status_fail = 2
+
+abbrev pub authen_status_getuser : ℕ
+authen_status_getuser = 4
+
+abbrev pub authen_status_getpass : ℕ
+authen_status_getpass = 5
+
+abbrev pub authen_status_error : ℕ
+authen_status_error = 7
+
+-- flags
+abbrev pub reply_flag_noecho : ℕ
+reply_flag_noecho = 0x01
+
+-- ---- a reply as bytes
 
 -- whether the text that is asked for is not to be shown
 abbrev pub is_noecho : ℕ → Bool
-is_noecho flags = has_flag 0x01 flags
+is_noecho flags = has_flag reply_flag_noecho flags
 
--- the flags of a reply: NOECHO or none
+-- the flags of a reply
 abbrev pub flags_of : Bool → ℕ
-flags_of true = 0x01
+flags_of true = reply_flag_noecho
 flags_of false = 0
 
 -- a reply with these flags: status, flags, server_msg_len, data_len; server_msg, no data
@@ -36,7 +61,7 @@ abbrev pub reply_of : List ℕ → Result AuthenReply BodyFault
 reply_of body =
     if nat_lt (length body) 6 then Err Short
     else (if length body == 6 + msg_len body + data_len body
-    then (if nat_lt 64 (msg_len body) || nat_lt 0 (data_len body) then Err TooLong
+    then (if nat_lt max_message (msg_len body) || nat_lt 0 (data_len body) then Err TooLong
     else Ok (record {
       status = record { 0 = slice_index body 0 };
       noecho = is_noecho (slice_index body 1);

@@ -6,6 +6,31 @@ use Rattle.tac_wire.specs.declared.body.BodyFault.TheVariants.{Short, LengthSum}
 use Rattle.tac_wire.specs.Cut.{cut}
 use Rattle.tac_authen.specs.declared.start.Start.{Start}
 
+-- ---- the standard's numbers, whose names there begin with TAC_PLUS_
+
+-- action
+abbrev pub authen_login : ℕ
+authen_login = 1
+
+-- authen_type
+abbrev pub authen_type_ascii : ℕ
+authen_type_ascii = 1
+
+abbrev pub authen_type_pap : ℕ
+authen_type_pap = 2
+
+abbrev pub authen_type_chap : ℕ
+authen_type_chap = 3
+
+-- authen_service
+abbrev pub authen_svc_none : ℕ
+authen_svc_none = 0
+
+abbrev pub authen_svc_enable : ℕ
+authen_svc_enable = 2
+
+-- ---- a start as bytes
+
 -- action, priv_lvl, authen_type, authen_service, user_len, port_len, rem_addr_len,
 -- data_len; user, port, rem_addr, data
 abbrev pub start_bytes : Start → List ℕ
