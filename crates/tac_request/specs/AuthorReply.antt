@@ -10,8 +10,23 @@ use Rattle.std.specs.Str.{bytes_eq}
 use Rattle.std.specs.Str.Parse.{digits_value}
 use Rattle.tac_wire.specs.declared.body.BodyFault.{BodyFault}
 use Rattle.tac_wire.specs.declared.body.BodyFault.TheVariants.{Short, LengthSum, TooLong}
+use Rattle.tac_wire.specs.Body.{max_message}
 use Rattle.tac_wire.specs.Cut.{cut}
 use Rattle.tac_request.specs.declared.author_reply.AuthorReply.{AuthorReply}
+
+-- ---- the standard's numbers, whose names there begin with TAC_PLUS_
+
+-- status
+abbrev pub author_status_pass_add : ℕ
+author_status_pass_add = 0x01
+
+abbrev pub author_status_fail : ℕ
+author_status_fail = 0x10
+
+abbrev pub author_status_error : ℕ
+author_status_error = 0x11
+
+-- ---- a reply as bytes
 
 -- the argument that carries a privilege level: `priv-lvl=N`
 abbrev pub level_argument : ℕ → List ℕ
@@ -65,7 +80,7 @@ author_reply_of body =
     if nat_lt (length body) (6 + slice_index body 1) then Err Short
     else (if length body == 6 + slice_index body 1 + msg_len body + data_len body
     + sum (lengths_of body)
-    then (if nat_lt 64 (msg_len body) || nat_lt 0 (data_len body) then Err TooLong
+    then (if nat_lt max_message (msg_len body) || nat_lt 0 (data_len body) then Err TooLong
     else ok_or
     (option_map
     (λ level. record {

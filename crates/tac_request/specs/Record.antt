@@ -15,6 +15,17 @@ use Rattle.tac_request.specs.declared.record.AcctKind.TheVariants.{Begin, Stop, 
 use Rattle.tac_request.specs.declared.record.Record.{Record}
 use Rattle.tac_request.specs.Line.{values_under, line_of}
 
+-- ---- the flags of a record, whose names in the standard begin with TAC_PLUS_
+
+abbrev pub acct_flag_start : ℕ
+acct_flag_start = 0x02
+
+abbrev pub acct_flag_stop : ℕ
+acct_flag_stop = 0x04
+
+abbrev pub acct_flag_watchdog : ℕ
+acct_flag_watchdog = 0x08
+
 -- what the flags START, STOP and WATCHDOG mean together; no other set of them means anything
 abbrev pub meaning : Bool → Bool → Bool → Option AcctKind
 meaning true false false = Some Begin
@@ -25,7 +36,11 @@ meaning start stop watchdog = None
 
 -- the kind of a record with these flags; the other flags don't matter
 abbrev pub kind_of : ℕ → Option AcctKind
-kind_of flags = meaning (has_flag 0x02 flags) (has_flag 0x04 flags) (has_flag 0x08 flags)
+kind_of flags =
+    meaning (has_flag acct_flag_start flags) (has_flag acct_flag_stop flags)
+    (has_flag acct_flag_watchdog flags)
+
+-- ---- what is kept of a request
 
 -- the value of the first argument with this name; an argument without a sign has none
 abbrev pub first_under : List ℕ → List (List ℕ) → Option (List ℕ)
