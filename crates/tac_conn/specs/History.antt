@@ -7,10 +7,11 @@ use Rattle.std.specs.List.{list_any}
 use Rattle.std.specs.Option.{option_map_or, option_and_then}
 use Rattle.std.specs.Result.{result_ok}
 use Rattle.tac_wire.specs.Flag.{has_flag}
+use Rattle.tac_wire.specs.Header.{single_connect_flag}
 use Rattle.tac_wire.specs.declared.header.Header.{Header}
 use Rattle.tac_authen.specs.declared.start.Start.{Start}
 use Rattle.tac_authen.specs.declared.start.Service.{Service}
-use Rattle.tac_authen.specs.Start.{start_of}
+use Rattle.tac_authen.specs.Start.{start_of, authen_svc_none}
 use Rattle.tac_authen.specs.declared.continuation.Continue.{Continue}
 use Rattle.tac_authen.specs.Continue.{continue_of}
 use Rattle.tac_conn.specs.declared.packet.Packet.{Packet}
@@ -31,8 +32,9 @@ continued packet = result_ok (continue_of packet.body)
 
 -- the service of a session: that of its START
 abbrev pub service_of : List Packet → Service
-service_of [] = record { 0 = 0 }
-service_of (start ∷ []) = option_map_or (λ start. start.service) (started start) (record { 0 = 0 })
+service_of [] = record { 0 = authen_svc_none }
+service_of (start ∷ []) =
+    option_map_or (λ start. start.service) (started start) (record { 0 = authen_svc_none })
 service_of (packet ∷ before ∷ earlier) = service_of (before ∷ earlier)
 
 -- whose password a session asks for: the user whom its START names, or else its last
@@ -59,7 +61,7 @@ session_of id (packet ∷ earlier) =
 
 -- the client asks for many sessions on one connection
 abbrev pub asks_single : Header → Bool
-asks_single header = has_flag 0x04 header.flags
+asks_single header = has_flag single_connect_flag header.flags
 
 -- a connection is single if its first packet asked for it; the flag of later packets means nothing
 abbrev pub is_single : List Packet → Bool

@@ -1,15 +1,19 @@
 -- The outcome of one packet, by its session (RFC 8907, sections 4.1 to 4.4, and 5 to 7).
-use Rattle.std.specs.Prelude.{ℕ, ◌+◌, ◌-◌, ◌%◌, List, [], ◌∷◌, length, drop, codes, slice_index}
+use Rattle.std.specs.Prelude.{ℕ, ◌+◌, ◌-◌, List, [], ◌∷◌, length, drop, codes, slice_index}
 use Rattle.std.specs.Prelude.{slice_range, Bool, true, false, not, ◌&&◌, ◌||◌, ◌==◌, nat_lt, nat_le}
 use Rattle.std.specs.Prelude.{Option, Some, None, is_ok, if◌then◌else◌}
 use Rattle.std.specs.Option.{option_map_or}
 use Rattle.std.specs.Result.{result_ok}
 use Rattle.tac_wire.specs.Flag.{has_flag}
+use Rattle.tac_wire.specs.Header.{tac_plus_authen, tac_plus_author, tac_plus_acct, first_seq_no}
+use Rattle.tac_wire.specs.Header.{last_seq_no, single_connect_flag, minor_version}
+use Rattle.tac_wire.specs.Header.{minor_ver_default}
 use Rattle.tac_wire.specs.declared.header.Header.{Header}
 use Rattle.tac_authen.specs.declared.start.Start.{Start}
-use Rattle.tac_authen.specs.Start.{start_of}
+use Rattle.tac_authen.specs.Start.{start_of, authen_login, authen_type_ascii}
+use Rattle.tac_authen.specs.Start.{authen_type_pap, authen_type_chap}
 use Rattle.tac_authen.specs.declared.continuation.Continue.{Continue}
-use Rattle.tac_authen.specs.Continue.{continue_of}
+use Rattle.tac_authen.specs.Continue.{continue_of, continue_flag_abort}
 use Rattle.tac_request.specs.declared.author_request.AuthorRequest.{AuthorRequest}
 use Rattle.tac_request.specs.AuthorRequest.{author_request_of}
 use Rattle.tac_request.specs.declared.acct_request.AcctRequest.{AcctRequest}
@@ -60,7 +64,7 @@ closes Close = true
 
 -- the flags of replies
 abbrev pub reply_flags : Bool → ℕ
-reply_flags true = 0x04
+reply_flags true = single_connect_flag
 reply_flags false = 0
 
 -- the place of the reply to a packet: it has the packet's version, type and
@@ -125,15 +129,19 @@ ascii_outcome count slot start =
     if nat_le max_sessions count then ends slot (authen_error (codes "too many sessions"))
     else Question (reply_in slot (question_to start.user)) (session_begun slot start)
 
--- the id, the challenge, and the response in the last 16 bytes
+-- the length of an MD5 digest, as which CHAP responds
+abbrev pub chap_response_len : ℕ
+chap_response_len = 16
+
+-- the id, the challenge, and the response at the end
 abbrev pub chap_proof : List ℕ → Proof
 chap_proof extra =
-    let response_at = length extra - 16 in
+    let response_at = length extra - chap_response_len in
     Chap (slice_index extra 0) (slice_range extra 1 response_at) (drop response_at extra)
 
 abbrev pub chap_outcome : Slot → Start → Outcome
 chap_outcome slot start =
-    if nat_lt (length start.extra) 17 then ends slot fail
+    if nat_lt (length start.extra) (1 + chap_response_len) then ends slot fail
     else Asks (Authenticate start.user start.service (chap_proof start.extra)) slot
 
 abbrev pub pap_outcome : Slot → Start → Outcome
@@ -142,20 +150,22 @@ pap_outcome slot start = Asks (Authenticate start.user start.service (Plain star
 -- PAP and CHAP have minor version 1, and no question
 abbrev pub at_once_outcome : Slot → Start → Outcome
 at_once_outcome slot start =
-    if slot.header.version % 16 == 0 then ends slot (authen_error (codes "unsupported"))
-    else if start.authen_type.0 == 2 then pap_outcome slot start
+    if minor_version slot.header.version == minor_ver_default
+    then ends slot (authen_error (codes "unsupported"))
+    else if start.authen_type.0 == authen_type_pap then pap_outcome slot start
     else chap_outcome slot start
 
 -- LOGIN, by ASCII, PAP or CHAP
 abbrev pub is_supported : Start → Bool
 is_supported start =
-    start.action.0 == 1 && (start.authen_type.0 == 1 || start.authen_type.0 == 2
-    || start.authen_type.0 == 3)
+    start.action.0 == authen_login
+    && (start.authen_type.0 == authen_type_ascii || start.authen_type.0 == authen_type_pap
+    || start.authen_type.0 == authen_type_chap)
 
 abbrev pub start_outcome : ℕ → Slot → Start → Outcome
 start_outcome count slot start =
     if not (is_supported start) then ends slot (authen_error (codes "unsupported"))
-    else if start.authen_type.0 == 1 then ascii_outcome count slot start
+    else if start.authen_type.0 == authen_type_ascii then ascii_outcome count slot start
     else at_once_outcome slot start
 
 abbrev pub start_read : ℕ → Slot → Option Start → Outcome
@@ -186,7 +196,7 @@ typed_outcome slot session (Some user) typed =
 
 abbrev pub continue_outcome : Slot → Session → Continue → Outcome
 continue_outcome slot session answer =
-    if has_flag 0x01 answer.flags then aborted slot
+    if has_flag continue_flag_abort answer.flags then aborted slot
     else typed_outcome slot session session.user answer.user_msg
 
 abbrev pub continue_read : Slot → Session → Option Continue → Outcome
@@ -217,22 +227,22 @@ acct_read slot (Some request) = record_outcome slot request (acct_kind_of reques
 
 -- ---- a packet (sections 4.1 to 4.4)
 
--- type 1 is authentication, type 2 authorisation, type 3 accounting; no other type is served
+-- the three types; no other is served
 abbrev pub kind_of : Header → Option AskKind
 kind_of header =
-    if header.kind.0 == 1 then Some Authentication
-    else if header.kind.0 == 2 then Some Authorisation
-    else if header.kind.0 == 3 then Some Accounting
+    if header.kind.0 == tac_plus_authen then Some Authentication
+    else if header.kind.0 == tac_plus_author then Some Authorisation
+    else if header.kind.0 == tac_plus_acct then Some Accounting
     else None
 
 -- a packet of an open session is one of authentication, and has the seq_no after the
--- last reply's. Any other begins a session: it has seq_no 1, and on a connection that
+-- last reply's. Any other begins a session: it has the first seq_no, and on a connection that
 -- isn't single no session is open
 abbrev pub is_in_turn : Bool → ℕ → Option Session → AskKind → Header → Bool
 is_in_turn single count (Some session) Authentication header = header.seq == session.last_seq + 1
 is_in_turn single count (Some session) Authorisation header = false
 is_in_turn single count (Some session) Accounting header = false
-is_in_turn single count None kind header = header.seq == 1 && (single || count == 0)
+is_in_turn single count None kind header = header.seq == first_seq_no && (single || count == 0)
 
 -- the body of a packet that begins a session, by how many are open
 abbrev pub opening_outcome : AskKind → ℕ → Slot → List ℕ → Outcome
@@ -255,10 +265,10 @@ kind_outcome single count session packet (Some kind) =
     else Close
 
 -- the outcome of a packet on a connection that is single or isn't, by how many sessions are open,
--- and by its own, if that is open. After seq_no 255 no number is left for a reply
+-- and by its own, if that is open. After the last seq_no, none is left for a reply
 unfoldable pub judged : Bool → ℕ → Option Session → Packet → Outcome
 judged single count session packet =
-    if packet.header.seq == 255 then Close
+    if packet.header.seq == last_seq_no then Close
     else kind_outcome single count session packet (kind_of packet.header)
 
 -- ---- what takes memory

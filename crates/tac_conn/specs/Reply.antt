@@ -1,16 +1,18 @@
 -- The replies of the server (RFC 8907, sections 5.2, 6.2 and 7.2).
 use Rattle.std.specs.Prelude.{◌≡◌, ℕ, ◌+◌, List, [], ◌++◌, ◌∷◌, length, codes, Bool, true, false}
 use Rattle.std.specs.Prelude.{◌==◌, Option, None}
-use Rattle.std.specs.Fmt.{decimal}
-use Rattle.pol_names.specs.SubjectId.{kind_word}
+use Rattle.pol_names.specs.Decision.{verdict_text, by_text}
 use Rattle.pol_names.specs.declared.decision.By.{By}
-use Rattle.pol_names.specs.declared.decision.By.TheVariants as by
+use Rattle.pol_names.specs.declared.decision.Verdict.TheVariants.{Deny}
 use Rattle.tac_wire.specs.declared.header.Header.{Header}
 use Rattle.tac_authen.specs.declared.reply.AuthenStatus.{AuthenStatus}
-use Rattle.tac_authen.specs.Reply.{reply_bytes}
+use Rattle.tac_authen.specs.Reply.{reply_bytes, authen_status_pass}
+use Rattle.tac_authen.specs.Reply.{authen_status_fail, authen_status_getuser}
+use Rattle.tac_authen.specs.Reply.{authen_status_getpass, authen_status_error}
 use Rattle.tac_request.specs.declared.author_reply.AuthorStatus.{AuthorStatus}
-use Rattle.tac_request.specs.AuthorReply.{author_reply}
-use Rattle.tac_request.specs.AcctReply.{acct_reply}
+use Rattle.tac_request.specs.AuthorReply.{author_reply, author_status_pass_add}
+use Rattle.tac_request.specs.AuthorReply.{author_status_fail, author_status_error}
+use Rattle.tac_request.specs.AcctReply.{acct_reply, acct_status_success, acct_status_error}
 use Rattle.tac_conn.specs.declared.ask.Answer.{Answer}
 use Rattle.tac_conn.specs.declared.ask.Answer.TheVariants.{Pass, Fail, UnknownUser, Unprintable}
 use Rattle.tac_conn.specs.declared.ask.Answer.TheVariants.{Denied, Permitted, Stored, BookFull}
@@ -36,11 +38,11 @@ packet_of reply =
     let body = body_bytes reply.body
     in record { header = record reply.header { length = length body }; body = body }
 
--- whether a reply grants what was asked for: PASS, PASS_ADD or SUCCESS
+-- whether a reply grants what was asked for
 abbrev pub is_success : ReplyBody → Bool
-is_success (Authentication reply) = reply.status.0 == 1
-is_success (Authorisation reply) = reply.status.0 == 1
-is_success (Accounting reply) = reply.status.0 == 1
+is_success (Authentication reply) = reply.status.0 == authen_status_pass
+is_success (Authorisation reply) = reply.status.0 == author_status_pass_add
+is_success (Accounting reply) = reply.status.0 == acct_status_success
 is_success Empty = false
 
 -- a reply to a packet of this header: the same version, type and session, and the next seq_no
@@ -58,23 +60,22 @@ authen status text =
     Authentication (record { status = status; noecho = false; msg = record { items = text } })
 
 abbrev pub pass : ReplyBody
-pass = authen (record { 0 = 1 }) []
+pass = authen (record { 0 = authen_status_pass }) []
 
 abbrev pub fail : ReplyBody
-fail = authen (record { 0 = 2 }) (codes "Authentication failed")
+fail = authen (record { 0 = authen_status_fail }) (codes "Authentication failed")
 
 abbrev pub authen_error : List ℕ → ReplyBody
-authen_error text = authen (record { 0 = 7 }) text
+authen_error text = authen (record { 0 = authen_status_error }) text
 
--- GETUSER
 abbrev pub name_question : ReplyBody
-name_question = authen (record { 0 = 4 }) (codes "Username: ")
+name_question = authen (record { 0 = authen_status_getuser }) (codes "Username: ")
 
--- GETPASS, with NOECHO
+-- a question whose answer isn't shown while the user types it
 abbrev pub secret_question : ReplyBody
 secret_question =
     Authentication (record {
-      status = record { 0 = 5 };
+      status = record { 0 = authen_status_getpass };
       noecho = true;
       msg = record { items = codes "Password: " };
     })
@@ -91,38 +92,41 @@ abbrev pub author : AuthorStatus → List ℕ → ReplyBody
 author status text =
     Authorisation (record { status = status; msg = record { items = text }; priv_lvl = None })
 
--- FAIL
 abbrev pub refusal : List ℕ → ReplyBody
-refusal text = author (record { 0 = 0x10 }) text
+refusal text = author (record { 0 = author_status_fail }) text
 
--- PASS_ADD without text, perhaps with a level
+-- a PASS_ADD without text, perhaps with a level
 abbrev pub permission : Option ℕ → ReplyBody
 permission level =
     Authorisation (record {
-      status = record { 0 = 0x01 };
+      status = record { 0 = author_status_pass_add };
       msg = record { items = [] };
       priv_lvl = level;
     })
 
--- ERROR
 abbrev pub author_error : List ℕ → ReplyBody
-author_error text = author (record { 0 = 0x11 }) text
+author_error text = author (record { 0 = author_status_error }) text
 
--- whom a denial names
+-- that a line is denied, and by what
 abbrev pub denial : By → List ℕ
-denial (by.Rule owner number) =
-    codes "denied by " ++ kind_word owner.kind ++ owner.name ++ codes " rule " ++ decimal number
-denial by.Default = codes "denied by default"
+denial by = verdict_text Deny ++ by_text by
 
 -- ---- accounting
 
--- SUCCESS without text
+-- a SUCCESS without text
 abbrev pub success : ReplyBody
-success = Accounting (record { status = record { 0 = 1 }; msg = record { items = [] } })
+success =
+    Accounting (record {
+      status = record { 0 = acct_status_success };
+      msg = record { items = [] };
+    })
 
--- ERROR
 abbrev pub acct_error : List ℕ → ReplyBody
-acct_error text = Accounting (record { status = record { 0 = 2 }; msg = record { items = text } })
+acct_error text =
+    Accounting (record {
+      status = record { 0 = acct_status_error };
+      msg = record { items = text };
+    })
 
 -- ---- what is said
 
