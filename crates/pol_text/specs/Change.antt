@@ -1,11 +1,11 @@
 -- What a change makes of a policy.
-use Rattle.std.specs.Prelude.{ℕ, List, [], ◌∷◌, length, map, insert, remove, slice_get, Bool, false}
-use Rattle.std.specs.Prelude.{not, Option, Some, None, if◌then◌else◌}
+use Rattle.std.specs.Prelude.{ℕ, ◌-◌, List, [], ◌∷◌, length, map, insert, remove, slice_get, Bool}
+use Rattle.std.specs.Prelude.{false, not, Option, Some, None, if◌then◌else◌}
 use Rattle.std.specs.Option.{option_map_or}
 use Rattle.std.specs.List.{list_any, list_all}
 use Rattle.std.specs.Str.{bytes_eq}
 use Rattle.pol_names.specs.SubjectId.{same_id, group_id}
-use Rattle.pol_text.specs.Policy.{id_of, find_subject, ends_within}
+use Rattle.pol_text.specs.Policy.{id_of, find_subject, ends_within, max_chain}
 use Rattle.pol_names.specs.declared.secret.Credential.{Credential}
 use Rattle.pol_names.specs.declared.secret.Credential.TheVariants.{Login, Enable}
 use Rattle.pol_names.specs.declared.subject_id.SubjectId.{SubjectId}
@@ -30,16 +30,16 @@ abbrev pub is_parent : List ℕ → List Subject → Bool
 is_parent name policy =
     list_any (λ subject. option_map_or (bytes_eq name) subject.parent false) policy
 
--- whether the group is there, and one more subject may stand below it: its chain has at most 7
+-- whether the group is there, and one more subject may stand below it: its chain isn't full
 abbrev pub has_room_below : List ℕ → List Subject → Bool
 has_room_below name policy =
-    option_map_or (ends_within 7 policy) (find_subject (group_id name) policy) false
+    option_map_or (ends_within (max_chain - 1) policy) (find_subject (group_id name) policy) false
 
--- what is wrong with the chains: one that doesn't end comes before one of more than 8 subjects
+-- what is wrong with the chains: one that doesn't end comes before one that is too long
 abbrev pub chain_fault : List Subject → Option ChainFault
 chain_fault policy =
     if not (list_all (ends_within (length policy) policy) policy) then Some chains.Cycle
-    else if not (list_all (ends_within 8 policy) policy) then Some chains.TooDeep
+    else if not (list_all (ends_within max_chain policy) policy) then Some chains.TooDeep
     else None
 
 abbrev pub with_parent : Option (List ℕ) → Subject → Subject

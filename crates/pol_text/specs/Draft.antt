@@ -3,7 +3,7 @@ use Rattle.std.specs.Prelude.{◌≡◌, ℕ, ◌+◌, ◌≤◌, Bool, true, Li
 use Rattle.std.specs.Prelude.{Some, None, Result, Ok, Err, if◌then◌else◌, nat_le}
 use Rattle.std.specs.List.{list_all}
 use Rattle.pol_text.specs.declared.subject.Subject.{Subject}
-use Rattle.pol_text.specs.Policy.{id_of, all_distinct, is_right_subject}
+use Rattle.pol_text.specs.Policy.{id_of, all_distinct, is_right_subject, max_subjects}
 use Rattle.pol_text.specs.Text.{Draft, subjects_of}
 use Rattle.pol_text.specs.declared.fault.PolicyRefusal.{PolicyRefusal}
 use Rattle.pol_text.specs.declared.fault.PolicyRefusal.TheVariants.{Repeated, Limit}
@@ -29,7 +29,7 @@ at_place line (Refused refusal) = faults.Refused line refusal
 
 -- what a well-formed policy has, but for its chains
 pub record RightDraft (draft : Draft) : Type 0 where
-  pub few : length draft ≤ 1024
+  pub few : length draft ≤ max_subjects
   pub distinct : all_distinct (map id_of (subjects_of draft)) ≡ true
   pub right : list_all is_right_subject (subjects_of draft) ≡ true
 
@@ -42,4 +42,4 @@ first_failing place test (subject ∷ rest) =
 -- whether a subject may be added after so many; there says that one of these has its kind and name
 abbrev pub place_given : Bool → ℕ → Result Unit PolicyRefusal
 place_given there count =
-    if there then Err Repeated else if nat_le 1024 count then Err Limit else Ok tt
+    if there then Err Repeated else if nat_le max_subjects count then Err Limit else Ok tt

@@ -19,6 +19,24 @@ use Rattle.pol_text.specs.declared.subject.Subject.{Subject}
 use Rattle.pol_names.specs.declared.decision.By.TheVariants as by
 use Rattle.pol_names.specs.declared.decision.Decision.{Decision}
 
+-- ---- how large a policy may be
+
+-- how many subjects it has at most
+abbrev pub max_subjects : ℕ
+max_subjects = 1024
+
+-- how many rules a subject has at most
+abbrev pub max_rules : ℕ
+max_rules = 256
+
+-- how many subjects a chain has at most
+abbrev pub max_chain : ℕ
+max_chain = 8
+
+-- the highest privilege level
+abbrev pub max_level : ℕ
+max_level = 15
+
 -- ---- subjects by name
 
 abbrev pub id_of : Subject → SubjectId
@@ -49,9 +67,9 @@ chain_within zero policy subject = []
 chain_within (suc most) policy subject =
     subject ∷ option_map_or (chain_within most policy) (parent_of policy subject) []
 
--- the chain of a subject; in a well-formed policy all chains end within 8
+-- the chain of a subject; in a well-formed policy all chains end within so many
 abbrev pub chain : List Subject → Subject → List Subject
-chain policy subject = chain_within 8 policy subject
+chain policy subject = chain_within max_chain policy subject
 
 -- the kinds and names along the chain of the subject, none for a subject that isn't there
 abbrev pub chain_ids : List Subject → SubjectId → List SubjectId
@@ -162,8 +180,8 @@ abbrev pub is_right_subject : Subject → Bool
 is_right_subject subject =
     is_name subject.name && all_of is_name subject.parent && all_of is_secret subject.login
     && all_of is_secret subject.enable
-    && has_right_secrets subject && all_of (λ level. nat_le level 15) subject.priv_lvl
-    && nat_le (length subject.rules) 256 && list_all is_right_rule subject.rules
+    && has_right_secrets subject && all_of (λ level. nat_le level max_level) subject.priv_lvl
+    && nat_le (length subject.rules) max_rules && list_all is_right_rule subject.rules
 
 -- the parent, if there is one, is a group of the policy
 abbrev pub has_parent : List Subject → Subject → Bool
@@ -171,8 +189,8 @@ has_parent policy subject =
     all_of (λ name. is_some (find_subject (group_id name) policy)) subject.parent
 
 pub record WellFormed (policy : List Subject) : Type 0 where
-  pub few : length policy ≤ 1024
+  pub few : length policy ≤ max_subjects
   pub distinct : IsTrue (all_distinct (map id_of policy))
   pub right : IsTrue (list_all is_right_subject policy)
   pub parents : IsTrue (list_all (has_parent policy) policy)
-  pub short : IsTrue (list_all (ends_within 8 policy) policy)
+  pub short : IsTrue (list_all (ends_within max_chain policy) policy)

@@ -20,10 +20,11 @@ use Rattle.pol_names.specs.declared.subject_id.Kind.TheVariants.{User}
 use Rattle.pol_text.specs.declared.subject.Rule.{Rule}
 use Rattle.pol_text.specs.declared.subject.Subject.{Subject}
 use Rattle.pol_text.specs.Policy.{find_subject, has_parent, ends_within, all_of, is_right_rule}
+use Rattle.pol_text.specs.Policy.{max_subjects, max_rules, max_chain}
 use Rattle.pol_text.specs.Change.{with_secret, with_priv}
 use Rattle.pol_text.specs.Text.{new_subject, heading_line, rule_line, level_of, is_blank}
 
--- the line makes of the last subject this one: each setting once, and at most 256 rules
+-- the line makes of the last subject this one: each setting once, and not too many rules
 pub data Sets (old : Subject) (line : List ℕ) (new : Subject) : Type 0 where
   login : (text : List ℕ) → IsTrue (is_secret text) → line ≡ codes "login " ++ text
       → old.kind ≡ User → old.login ≡ None → new ≡ with_secret Login (Some text) old
@@ -34,17 +35,17 @@ pub data Sets (old : Subject) (line : List ℕ) (new : Subject) : Type 0 where
   level : (digits : List ℕ) (n : ℕ) → level_of digits ≡ Some n → line ≡ codes "priv " ++ digits
       → old.priv_lvl ≡ None → new ≡ with_priv (Some n) old → Sets old line new
   rule : (next : Rule) → IsTrue (is_right_rule next) → line ≡ rule_line next
-      → length old.rules < 256 → new ≡ record old { rules = old.rules ++ next ∷ [] }
+      → length old.rules < max_rules → new ≡ record old { rules = old.rules ++ next ∷ [] }
       → Sets old line new
 
 -- the line makes of the subjects before it those after it: it begins one that isn't there,
--- of at most 1,024, or it sets
--- something of the last
+-- where there is room, or it sets something of the last
 pub data Adds (before : List Subject) (line : List ℕ) (after : List Subject) : Type 0 where
   begins : (kind : Kind) (name : List ℕ) (parent : Option (List ℕ)) → IsTrue (is_name name)
       → IsTrue (all_of is_name parent)
       → line ≡ heading_line (new_subject kind name parent)
-      → find_subject (record { kind = kind; name = name }) before ≡ None → length before < 1024
+      → find_subject (record { kind = kind; name = name }) before ≡ None
+      → length before < max_subjects
       → after ≡ before ++ new_subject kind name parent ∷ [] → Adds before line after
   sets : (front : List Subject) (old new : Subject) → Sets old line new → before ≡ front ++ old ∷ []
       → after ≡ front ++ new ∷ []
@@ -64,10 +65,9 @@ meaningful (line ∷ lines) =
     else without_leading_spaces line ∷ meaningful lines
 
 -- the lines are texts, those that say something make the policy, each parent is one of
--- its groups, and each chain ends
--- within 8 subjects
+-- its groups, and no chain is too long
 pub record Spells (text : List ℕ) (policy : List Subject) : Type 0 where
   pub texts : IsTrue (list_all is_text (lines_of text))
   pub lines : Extends [] (meaningful (lines_of text)) policy
   pub parents : IsTrue (list_all (has_parent policy) policy)
-  pub short : IsTrue (list_all (ends_within 8 policy) policy)
+  pub short : IsTrue (list_all (ends_within max_chain policy) policy)

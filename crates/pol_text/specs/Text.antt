@@ -15,7 +15,8 @@ use Rattle.pol_names.specs.Name.{name_of}
 use Rattle.pol_names.specs.Secret.{secret_of}
 use Rattle.pol_names.specs.SubjectId.{same_kind, kind_word}
 use Rattle.pol_names.specs.Decision.{verdict_word}
-use Rattle.pol_text.specs.Policy.{find_subject, has_parent, ends_within}
+use Rattle.pol_text.specs.Policy.{find_subject, has_parent, ends_within, max_subjects, max_rules}
+use Rattle.pol_text.specs.Policy.{max_chain, max_level}
 use Rattle.pol_names.specs.declared.subject_id.Kind.{Kind}
 use Rattle.pol_names.specs.declared.subject_id.Kind.TheVariants.{Group, User}
 use Rattle.pol_names.specs.declared.decision.Verdict.{Verdict}
@@ -77,13 +78,13 @@ new_subject kind name parent =
       rules = [];
     }
 
--- a new subject goes last; a policy has at most 1,024
+-- a new subject goes last, where there is room
 unfoldable pub with_subject : ℕ → Kind → List ℕ → Option (List ℕ) → Draft
     → Result Draft PolicyRefusal
 with_subject line kind name parent draft =
     if is_some (find_subject (record { kind = kind; name = name }) (subjects_of draft))
     then Err Repeated
-    else if nat_le 1024 (length draft) then Err Limit
+    else if nat_le max_subjects (length draft) then Err Limit
     else Ok (draft ++ (line, new_subject kind name parent) ∷ [])
 
 -- ---- a line of the present subject, which is the last
@@ -124,10 +125,11 @@ with_enable text subject =
     else set_once subject.enable (secret_of text)
     (λ secret. record subject { enable = Some secret })
 
--- 1 to 4 digits, 0 to 15
+-- 1 to 4 digits
 abbrev pub level_of : List ℕ → Option ℕ
 level_of text =
-    option_and_then (λ level. if nat_le level 15 then Some level else None) (number_of 4 text)
+    option_and_then (λ level. if nat_le level max_level then Some level else None)
+    (number_of 4 text)
 
 abbrev pub with_priv : List ℕ → Subject → Result Subject PolicyRefusal
 with_priv text subject =
@@ -140,10 +142,10 @@ pattern_read text = refusing (pattern_of text)
     refusing (Ok source) = Ok source
     refusing (Err fault) = Err (BadPattern fault)
 
--- a rule goes last; a subject has at most 256
+-- a rule goes last, where there is room
 unfoldable pub with_rule : Verdict → List ℕ → Subject → Result Subject PolicyRefusal
 with_rule verdict text subject =
-    pattern_read text >>= λ pattern. if nat_le 256 (length subject.rules) then Err Limit
+    pattern_read text >>= λ pattern. if nat_le max_rules (length subject.rules) then Err Limit
     else Ok (record subject {
       rules = subject.rules
           ++ record { verdict = verdict; pattern = pattern } ∷ [];
@@ -204,12 +206,12 @@ checked test refusal draft =
     (find (λ entry. not (test entry.1)) draft) (Ok draft)
 
 -- each over all subjects in order: its parent is a group of the policy; its chain
--- ends, and so has no subject twice; its chain ends within 8
+-- ends, and so has no subject twice; its chain isn't too long
 unfoldable pub with_right_chains : Draft → Result (List Subject) PolicyFault
 with_right_chains draft =
     checked (has_parent (subjects_of draft)) NoSuchParent draft
     >>= checked (ends_within (length draft) (subjects_of draft)) Cycle
-    >>= checked (ends_within 8 (subjects_of draft)) TooDeep
+    >>= checked (ends_within max_chain (subjects_of draft)) TooDeep
     >>= λ draft. Ok (subjects_of draft)
 
 -- the policy that a text says, or the first refusal with its line
