@@ -8,7 +8,7 @@ ghost use Rattle.std.specs.Option.{option_map_or};
 ghost use Rattle.std.specs.Result.{result_err};
 ghost use Rattle.pol_names.specs.SubjectId.{same_id, group_id};
 ghost use Rattle.pol_text.specs.Policy.{id_of, find_subject, ends_within as ends_test, all_of};
-ghost use Rattle.pol_text.specs.Policy.{TellsEndless};
+ghost use Rattle.pol_text.specs.Policy.{WellFormed, TellsEndless};
 ghost use Rattle.pol_text.specs.Change.{with_changed, without, is_parent, has_room_below};
 ghost use Rattle.pol_text.specs.Change.{chain_fault, with_parent, with_secret, with_priv};
 ghost use Rattle.pol_text.specs.Change.{with_rule_at, without_rule_at, with_rule_moved};
@@ -86,6 +86,7 @@ impl Policy {
         requires below { IsTrue (all_of (λ group. has_room_below group self.old) parent) }
         ensures ok { OnOk result (self.new ≡ self.old ++ new_subject kind name parent ∷ []) }
         ensures err { OnErr result (self.new ≡ self.old) }
+        ensures well_formed { WellFormed self.new }
     {
         self.places.reserve(1)?;
         self.subjects.push(Subject::new(alloc, kind, name, parent))?;
@@ -98,7 +99,8 @@ impl Policy {
     pub fn remove(&mut self, id: &SubjectId)
         requires there { IsTrue (is_some (find_subject id.now self.old)) }
         requires unused { id.now.kind ≡ Group → is_parent id.now.name self.old ≡ false }
-        ensures { self.new ≡ without id.now self.old }
+        ensures removed { self.new ≡ without id.now self.old }
+        ensures well_formed { WellFormed self.new }
     {
         let Some(place) = place_of(&self.places, id) else {
             return;
@@ -117,6 +119,7 @@ impl Policy {
             ≡ chain_fault (with_changed id.now (with_parent parent) self.old) }
         ensures ok { OnOk result (self.new ≡ with_changed id.now (with_parent parent) self.old) }
         ensures err { OnErr result (self.new ≡ self.old) }
+        ensures well_formed { WellFormed self.new }
 
         // What is refused as a cycle is exactly a chain that doesn't end.
         ensures endless { (policy : List SubjectValue) → TellsEndless policy }
@@ -136,7 +139,8 @@ impl Policy {
     pub fn set_secret(&mut self, id: &SubjectId, credential: Credential, secret: Option<Secret>)
         requires there { IsTrue (is_some (find_subject id.now self.old)) }
         requires user { id.now.kind ≡ User }
-        ensures { self.new ≡ with_changed id.now (with_secret credential secret) self.old }
+        ensures changed { self.new ≡ with_changed id.now (with_secret credential secret) self.old }
+        ensures well_formed { WellFormed self.new }
     {
         let Some(subject) = find_mut(&mut self.subjects, &self.places, id) else {
             return;
@@ -148,7 +152,8 @@ impl Policy {
     pub fn set_priv(&mut self, id: &SubjectId, level: Option<u8>)
         requires there { IsTrue (is_some (find_subject id.now self.old)) }
         requires small { IsTrue (all_of (λ n. nat_le n 15) level) }
-        ensures { self.new ≡ with_changed id.now (with_priv level) self.old }
+        ensures changed { self.new ≡ with_changed id.now (with_priv level) self.old }
+        ensures well_formed { WellFormed self.new }
     {
         let Some(subject) = find_mut(&mut self.subjects, &self.places, id) else {
             return;
@@ -164,6 +169,7 @@ impl Policy {
         ensures ok { OnOk result
             (self.new ≡ with_changed id.now (with_rule_at at rule) self.old) }
         ensures err { OnErr result (self.new ≡ self.old) }
+        ensures well_formed { WellFormed self.new }
     {
         let Some(subject) = find_mut(&mut self.subjects, &self.places, id) else {
             return Ok(());
@@ -176,7 +182,8 @@ impl Policy {
     pub fn remove_rule(&mut self, id: &SubjectId, at: usize)
         requires { IsTrue (option_map_or (λ subject. nat_lt at (length subject.rules))
             (find_subject id.now self.old) false) }
-        ensures { self.new ≡ with_changed id.now (without_rule_at at) self.old }
+        ensures changed { self.new ≡ with_changed id.now (without_rule_at at) self.old }
+        ensures well_formed { WellFormed self.new }
     {
         let Some(subject) = find_mut(&mut self.subjects, &self.places, id) else {
             return;
@@ -190,7 +197,8 @@ impl Policy {
         requires { IsTrue (option_map_or
             (λ subject. nat_lt from (length subject.rules) && nat_lt to (length subject.rules))
             (find_subject id.now self.old) false) }
-        ensures { self.new ≡ with_changed id.now (with_rule_moved from to) self.old }
+        ensures changed { self.new ≡ with_changed id.now (with_rule_moved from to) self.old }
+        ensures well_formed { WellFormed self.new }
     {
         let Some(subject) = find_mut(&mut self.subjects, &self.places, id) else {
             return;

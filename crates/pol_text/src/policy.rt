@@ -113,7 +113,8 @@ impl Policy {
 
     /// The subject of this kind and name. A hash look-up.
     pub fn find(&self, id: &SubjectId) -> Option<&Subject>
-        ensures { option_copied result ≡ find_subject id.now self.now }
+        ensures found { option_copied result ≡ find_subject id.now self.now }
+        ensures well_formed { WellFormed self.now }
     {
         chains::find_in(&self.subjects, &self.places, id)
     }
@@ -183,7 +184,8 @@ impl Policy {
 
     /// A copy of the policy, which shares its patterns. The error means that memory ran out.
     pub fn copy(&self, alloc: Global) -> Result<Policy, AllocError>
-        ensures { IfOk result (λ copy. copy ≡ self.now) }
+        ensures same { IfOk result (λ copy. copy ≡ self.now) }
+        ensures well_formed { WellFormed self.now }
     {
         let subjects = copy_subjects(alloc, &self.subjects)?;
         let places = self.places.clone()?;

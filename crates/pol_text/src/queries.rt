@@ -3,7 +3,7 @@
 ghost use Rattle.std.specs.Prelude.{◌≡◌, ◌<◌, IfSome, length, false, slice_get};
 ghost use Rattle.std.specs.Option.{option_map_or, option_and_then};
 ghost use Rattle.std.specs.Str.{bytes_eq};
-ghost use Rattle.pol_text.specs.Policy.{find_subject};
+ghost use Rattle.pol_text.specs.Policy.{WellFormed, find_subject};
 ghost use Rattle.pol_text.specs.Change.{has_room_below as room_test, is_parent as parent_test};
 
 use crate::chains;
@@ -27,6 +27,7 @@ impl Policy {
         ensures found { find_subject id.now self.now
             ≡ option_and_then (slice_get self.now) result }
         ensures within { IfSome result (λ at. at < length self.now) }
+        ensures well_formed { WellFormed self.now }
     {
         self.places.get_index_of(id)
     }

@@ -21,3 +21,6 @@ invariant_of-self-2 c =
       kept_add p c.self.invariant.0 y absent room below right,
       added_keys (id_of y) p c.self.inside.places.keys c.reserve.new.self.keys c.insert.new.self.keys c.self.invariant.1 c.in_ok-reserve.ensures.keys absent c.in_ok-insert.ensures.keys ∙ sym (map_push id_of p y),
     )
+
+pub returns-clause-well_formed : goal.returns-clause-well_formed
+returns-clause-well_formed c = (invariant_of-self-2 c).0

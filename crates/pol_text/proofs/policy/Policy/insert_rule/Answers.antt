@@ -39,3 +39,9 @@ pub returns-clause-ok : goal.returns-clause-ok
 returns-clause-ok c =
     let h = lent c.args.id.now c.args.self.now c.self.inside.subjects c.self.inside.places.keys c.in-Some.subject.now c.self.view_is c.self.invariant c.in-Some.ensures.found in
     changed_to h (with_rule_at c.args.at c.args.rule) _ c.in_ok-insert_rule.ensures.ok
+
+pub returns-clause-well_formed : goal.returns-clause-well_formed
+returns-clause-well_formed c = (invariant_of-self-2 c).0
+
+pub returns-in_err-insert_rule-clause-well_formed : goal.returns-in_err-insert_rule-clause-well_formed
+returns-in_err-insert_rule-clause-well_formed c = (invariant_of-self-in_err-insert_rule c).0

@@ -69,3 +69,9 @@ returns-in-Some-chain_fault_of-clause-endless c = tells_endless
 
 pub returns-clause-endless : goal.returns-clause-endless
 returns-clause-endless c = tells_endless
+
+pub returns-clause-well_formed : goal.returns-clause-well_formed
+returns-clause-well_formed c = (invariant_of-self-in_default-chain_fault_of c).0
+
+pub returns-in-Some-chain_fault_of-clause-well_formed : goal.returns-in-Some-chain_fault_of-clause-well_formed
+returns-in-Some-chain_fault_of-clause-well_formed c = (invariant_of-self c).0

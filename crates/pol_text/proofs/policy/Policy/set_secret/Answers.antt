@@ -11,8 +11,8 @@ use Rattle.pol_text.proofs.RightSubject.{Right}
 use Rattle.pol_text.proofs.Placed.{Placed, lent, not_missing, changed_to, fields_to, right_now, user_now}
 use Rattle.pol_text.proofs.policy.Policy.set_secret.Goals as goal
 
-pub returns-in_default : goal.returns-in_default
-returns-in_default c =
+pub returns-in_default-clause-changed : goal.returns-in_default-clause-changed
+returns-in_default-clause-changed c =
     not_missing c.args.id.now c.args.self.now c.self.inside.subjects c.self.view_is c.in_default.ensures.found c.requires.there
 
 same_name : (credential : Credential) (secret : Option (List ℕ)) (t : Subject) → id_of (with_secret credential secret t) ≡ id_of t
@@ -38,7 +38,10 @@ invariant_of-self-2 c =
     fields_to h (with_secret c.args.credential c.args.secret) _ c.set_secret.ensures.changed (same_name c.args.credential c.args.secret) (same_parent c.args.credential c.args.secret)
     (still_right h c.args.secret c.set_secret.ensures.right c.requires.user c.args.credential)
 
-pub returns : goal.returns
-returns c =
+pub returns-clause-changed : goal.returns-clause-changed
+returns-clause-changed c =
     let h = lent c.args.id.now c.args.self.now c.self.inside.subjects c.self.inside.places.keys c.in-Some.subject.now c.self.view_is c.self.invariant c.in-Some.ensures.found in
     changed_to h (with_secret c.args.credential c.args.secret) _ c.set_secret.ensures.changed
+
+pub returns-clause-well_formed : goal.returns-clause-well_formed
+returns-clause-well_formed c = (invariant_of-self-2 c).0
