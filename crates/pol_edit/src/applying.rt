@@ -104,13 +104,15 @@ fn add(
     name: Name,
     parent: &Option<Name>,
 ) -> Result<(), EditFault>
-    ensures { let wanted = applying.added_to policy.old kind name parent.now in
+    ensures exact { let wanted = applying.added_to policy.old kind name parent.now in
         Applies (is_ok wanted) policy.old policy.new result wanted }
+    ensures well_formed { WellFormed policy.new }
 {
+    let is_taken = policy.find(&SubjectId { kind, name }).is_some();
     if !has_group(policy, parent) {
         return Err(EditFault::NoSuch);
     }
-    if policy.find(&SubjectId { kind, name }).is_some() {
+    if is_taken {
         return Err(EditFault::Exists);
     }
     if !has_room(policy, parent) {
@@ -125,7 +127,9 @@ fn add(
 
 #[tactic(auto, unfolding(crate::specs::Applying::removed_from))]
 fn remove(policy: &mut Policy, id: &SubjectId) -> Result<(), EditFault>
-    ensures { Applies false policy.old policy.new result (applying.removed_from policy.old id.now) }
+    ensures exact { Applies false policy.old policy.new result
+        (applying.removed_from policy.old id.now) }
+    ensures well_formed { WellFormed policy.new }
 {
     if policy.find(id).is_none() {
         return Err(EditFault::NoSuch);
@@ -139,8 +143,9 @@ fn remove(policy: &mut Policy, id: &SubjectId) -> Result<(), EditFault>
 
 #[tactic(auto, unfolding(crate::specs::Applying::moved_in))]
 fn set_parent(policy: &mut Policy, id: &SubjectId, parent: &Option<Name>) -> Result<(), EditFault>
-    ensures { Applies false policy.old policy.new result
+    ensures exact { Applies false policy.old policy.new result
         (applying.moved_in policy.old id.now parent.now) }
+    ensures well_formed { WellFormed policy.new }
 {
     if policy.find(id).is_none() || !has_group(policy, parent) {
         return Err(EditFault::NoSuch);
@@ -160,10 +165,11 @@ fn set_secret(
     credential: Credential,
     secret: &Option<Bytes>,
 ) -> Result<(), EditFault>
-    ensures { let right = all_of is_secret secret.now in
+    ensures exact { let right = all_of is_secret secret.now in
         let change = with_secret credential secret.now in
         let wanted = applying.set_in policy.old (user_id user) right change in
         Applies (is_some secret.now && is_ok wanted) policy.old policy.new result wanted }
+    ensures well_formed { WellFormed policy.new }
 {
     let id = SubjectId::user(user);
     if policy.find(&id).is_none() {
@@ -176,8 +182,9 @@ fn set_secret(
 
 #[tactic(auto, unfolding(crate::specs::Applying::set_in))]
 fn set_priv(policy: &mut Policy, id: &SubjectId, level: Option<u16>) -> Result<(), EditFault>
-    ensures { Applies false policy.old policy.new result
+    ensures exact { Applies false policy.old policy.new result
         (applying.set_in policy.old id.now (all_of (λ n. nat_le n 15) level) (with_priv level)) }
+    ensures well_formed { WellFormed policy.new }
 {
     if policy.find(id).is_none() {
         return Err(EditFault::NoSuch);
@@ -196,8 +203,9 @@ fn insert_rule(
     verdict: Verdict,
     text: &[u8],
 ) -> Result<(), EditFault>
-    ensures { Applies (applying.has_place policy.old id.now at) policy.old policy.new result
+    ensures exact { Applies (applying.has_place policy.old id.now at) policy.old policy.new result
         (applying.inserted_in policy.old id.now at verdict text.now) }
+    ensures well_formed { WellFormed policy.new }
 {
     let Some(subject) = policy.find(id) else {
         return Err(EditFault::NoSuch);
@@ -216,8 +224,9 @@ fn insert_rule(
 
 #[tactic(auto, unfolding(crate::specs::Applying::dropped_in))]
 fn remove_rule(policy: &mut Policy, id: &SubjectId, at: u16) -> Result<(), EditFault>
-    ensures { Applies false policy.old policy.new result
+    ensures exact { Applies false policy.old policy.new result
         (applying.dropped_in policy.old id.now at) }
+    ensures well_formed { WellFormed policy.new }
 {
     let Some(subject) = policy.find(id) else {
         return Err(EditFault::NoSuch);
@@ -231,8 +240,9 @@ fn remove_rule(policy: &mut Policy, id: &SubjectId, at: u16) -> Result<(), EditF
 
 #[tactic(auto, unfolding(crate::specs::Applying::shifted_in))]
 fn move_rule(policy: &mut Policy, id: &SubjectId, from: u16, to: u16) -> Result<(), EditFault>
-    ensures { Applies false policy.old policy.new result
+    ensures exact { Applies false policy.old policy.new result
         (applying.shifted_in policy.old id.now from to) }
+    ensures well_formed { WellFormed policy.new }
 {
     let Some(subject) = policy.find(id) else {
         return Err(EditFault::NoSuch);
@@ -248,8 +258,9 @@ fn move_rule(policy: &mut Policy, id: &SubjectId, from: u16, to: u16) -> Result<
 // The edit of each kind.
 #[tactic(auto, unfolding(crate::specs::Applying::applied))]
 fn make(alloc: Global, policy: &mut Policy, edit: &Edit) -> Result<(), EditFault>
-    ensures { Applies (applying.takes_memory policy.old edit.now) policy.old policy.new result
+    ensures exact { Applies (applying.takes_memory policy.old edit.now) policy.old policy.new result
         (applying.applied policy.old edit.now) }
+    ensures well_formed { WellFormed policy.new }
 {
     match edit {
         Edit::AddGroup { name, parent } => add(alloc, policy, Kind::Group, *name, parent),
@@ -297,8 +308,5 @@ pub fn apply(alloc: Global, policy: &mut Policy, edit: &Edit) -> Result<(), Edit
     // No edit makes a policy that isn't well formed.
     ensures well_formed { WellFormed policy.new }
 {
-    let result = make(alloc, policy, edit);
-    // every policy is well formed: the call is for its clause
-    let _ = policy.subjects();
-    result
+    make(alloc, policy, edit)
 }

@@ -82,6 +82,7 @@ pub fn edited(alloc: Global, policy: &Policy, edits: &[Edit]) -> Result<Policy, 
     ensures exact { GivesUnlessMemory ran_out (λ edited. edited) result
         (applied_all policy.now edits.now) }
     ensures well_formed { IfOk result WellFormed }
+    ensures before { WellFormed policy.now }
 {
     let mut edited = policy.copy(alloc)?;
     'edits: for (done, edit) in edits.iter().enumerate() {
@@ -89,8 +90,6 @@ pub fn edited(alloc: Global, policy: &Policy, edits: &[Edit]) -> Result<Policy, 
             return Err(BatchFault::of_edit(done + 1, fault));
         }
     }
-    // every policy is well formed: the call is for its clause
-    let _ = edited.subjects();
     Ok(edited)
 }
 
@@ -107,8 +106,6 @@ pub fn apply_all(alloc: Global, policy: &mut Policy, edits: &[Edit]) -> Result<(
     // No edits make a policy that isn't well formed.
     ensures well_formed { WellFormed policy.new }
 {
-    // every policy is well formed: the call is for its clause
-    let _ = policy.subjects();
     *policy = edited(alloc, policy, edits)?;
     Ok(())
 }
