@@ -166,6 +166,7 @@ impl Alphabet {
         ensures value { result ≡ column_at self.now symbol }
         ensures within { result < self.now.width }
         ensures least { least_at self.now result ≤ symbol }
+        ensures alphabet { IsAlphabet self.now }
     {
         self.columns[symbol as usize - FIRST as usize]
     }

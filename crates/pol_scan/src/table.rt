@@ -5,7 +5,7 @@ ghost use Rattle.std.specs.Prelude.{slice_index, slice_index_or, IsTrue, IsSome,
 ghost use Rattle.basics.specs.Symbol.{is_text as text_test};
 ghost use Rattle.pol_scan.specs.Alphabet.{word_of as read_as};
 ghost use Rattle.pol_scan.specs.Words.{IsWord};
-ghost use Rattle.pol_scan.specs.Table.{count, next, walk, word_of, IsWhole, IsTrap};
+ghost use Rattle.pol_scan.specs.Table.{count, next, walk, word_of, IsWhole};
 
 use crate::alphabet::Alphabet;
 use crate::machine::Column;
@@ -147,14 +147,6 @@ impl Table {
         state
     }
 
-    // Whether no column leads out of a state.
-    fn is_trap(&self, state: StateNumber) -> bool
-        requires { state < count self.now }
-        ensures { IsTrue result → IsTrap self.now state }
-    {
-        self.traps[state as usize]
-    }
-
     // The state to which symbols lead.
     fn run_symbols(&self, alphabet: &Alphabet, text: &[u8]) -> StateNumber
         requires alphabet { alphabet.now.width ≡ self.now.width }
@@ -162,13 +154,11 @@ impl Table {
         ensures value { result ≡ walk self.now (read_as alphabet.now text.now) }
         ensures within { result < count self.now }
     {
-        // these are for their clauses: there is a first state, and symbols have columns
-        self.states();
-        alphabet.width();
+        let traps = &self.traps;
         let mut state = 0;
         'symbols: for symbol in text {
             state = self.next(state, alphabet.column_of(*symbol));
-            if self.is_trap(state) {
+            if traps[state as usize] {
                 return state;
             }
         }
