@@ -3,7 +3,7 @@ use Rattle.std.proofs.Common.{◌≡◌, ℕ, suc, ◌+◌, ◌≤◌, List, [],
 use Rattle.std.specs.List.{concat}
 use Rattle.std.proofs.lemmas.List.{length-take, length-drop, take-append-drop, take_at, drop_at}
 use Rattle.std.proofs.lemmas.List.Sums.{sum_by-cons}
-use Rattle.tac_wire.specs.Cut.{cut}
+use Rattle.tac_wire.specs.Cut.{cut, CutLaws}
 
 sum-cons : (len : ℕ) (lens : List ℕ) → sum (len ∷ lens) ≡ len + sum lens
 sum-cons len lens = sum_by-cons (λ x. x) len lens
@@ -35,3 +35,6 @@ cut-concat (field ∷ fields) =
     let front = take_at field (concat fields) (length field) refl in
     let back : cut (map length fields) (drop (length field) (field ++ concat fields)) ≡ fields = ap (cut (map length fields)) (drop_at field (concat fields) (length field) refl) ∙ cut-concat fields in
     cc
+
+pub cut_laws : CutLaws
+cut_laws = record { many = length-cut; lengths = lengths-cut; joined = concat-cut; again = cut-concat }
