@@ -8,7 +8,7 @@ ghost use Rattle.tac_authen.specs.Start.{start_bytes, start_of};
 
 use basics::Bytes;
 use std::alloc::Global;
-use tac_wire::{BodyFault, cut_laws};
+use tac_wire::BodyFault;
 
 /// What the client wants. Numbers without a name are actions that aren't served.
 #[derive(Clone, Copy, Debug, PartialEq, Eq)]
@@ -106,7 +106,5 @@ pub fn read_start(alloc: Global, body: &[u8]) -> Result<Start, BodyFault>
     ensures only { (start : Start) → body.now ≡ start_bytes start →
         GivesUnlessMemory is_memory (λ body. body) result (Ok start) }
 {
-    // the call is for its clause
-    cut_laws();
     read_fields(alloc, body)
 }
