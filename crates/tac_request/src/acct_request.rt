@@ -9,7 +9,7 @@ ghost use Rattle.tac_request.specs.AcctRequest.{acct_request, acct_request_of};
 use crate::author_request::{AuthorRequest, read_author_request};
 use basics::{Bytes, Sequence};
 use std::alloc::Global;
-use tac_wire::{BodyFault, cut_laws};
+use tac_wire::BodyFault;
 
 /// An accounting request (RFC 8907, section 7.1), as written: no value is refused here.
 #[derive(Debug, Drop)]
@@ -71,7 +71,5 @@ pub fn read_acct_request(alloc: Global, body: &[u8]) -> Result<AcctRequest, Body
     ensures only { (request : AcctRequest) → body.now ≡ acct_request request →
         GivesUnlessMemory is_memory (λ body. body) result (Ok request) }
 {
-    // the call is for its clause
-    cut_laws();
     read_fields(alloc, body)
 }

@@ -11,7 +11,7 @@ ghost use Rattle.tac_wire.specs.Cut.{cut};
 
 use crate::author_request::total;
 use arrayvec::ArrayVec;
-use tac_wire::{BodyFault, MESSAGE_MAX, Message, REPLY_MAX, cut_laws, decimal_digits, message_of};
+use tac_wire::{BodyFault, MESSAGE_MAX, Message, REPLY_MAX, decimal_digits, message_of};
 
 /// What is decided (RFC 8907, section 6.2). Numbers without a name are read as they are.
 #[derive(Clone, Copy, Debug, PartialEq, Eq)]
@@ -125,8 +125,6 @@ pub fn write_author_reply(reply: &AuthorReply) -> ArrayVec<u8, 96>
     // What was written is read again.
     ensures again { author_reply_of result.items ≡ Ok reply.now }
 {
-    // the call is for its clause
-    cut_laws();
     spelled(reply)
 }
 
@@ -174,7 +172,5 @@ pub fn read_author_reply(body: &[u8]) -> Result<AuthorReply, BodyFault>
         IfSome reply.priv_lvl (λ level. level < 256) → body.now ≡ author_reply reply →
         result ≡ Ok reply }
 {
-    // the call is for its clause
-    cut_laws();
     read_fields(body)
 }

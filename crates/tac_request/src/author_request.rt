@@ -8,7 +8,7 @@ ghost use Rattle.tac_request.specs.AuthorRequest.{author_request, author_request
 
 use basics::{Bytes, Sequence};
 use std::alloc::Global;
-use tac_wire::{BodyFault, cut, cut_laws};
+use tac_wire::{BodyFault, cut};
 
 /// An authorisation request (RFC 8907, section 6.1), as written: no value is refused here.
 #[derive(Debug, Drop)]
@@ -83,7 +83,5 @@ pub fn read_author_request(alloc: Global, body: &[u8]) -> Result<AuthorRequest, 
     ensures only { (request : AuthorRequest) → body.now ≡ author_request request →
         GivesUnlessMemory is_memory (λ body. body) result (Ok request) }
 {
-    // the call is for its clause
-    cut_laws();
     read_fields(alloc, body)
 }
