@@ -129,6 +129,16 @@ fn refusals(rt: HostRuntime) -> Result<(), Fail> {
         refused 7 BadIndex
         > why u a
         permit by user u rule 1
+        # Of several edits the first that is refused decides, and no other is looked at.
+        > add group z; insert group g 3 deny .*a............; drop group none 1
+        refused at edit 2: 7 BadIndex
+        > drop group g 1; drop group g 1; insert group h 1 deny .*a............
+        refused at edit 2: 7 BadIndex
+        # The size is judged once all are made, and is no single edit's.
+        > insert group g 1 deny .*a............; drop group g 1
+        ok
+        > insert group g 1 deny .*a............; add group z
+        refused 11 TooManyStates group g
         > policy
         group g
         deny .*a...........
@@ -191,8 +201,8 @@ fn is_foretold(
     Ok(out.as_str().trim_end() == expected)
 }
 
-/// `EDIT => NAME LINE => WORDS`: with the edit so many states would decide so of the user's line.
-/// Nothing is made of the edit.
+/// `EDITS => NAME LINE => WORDS`: with the edits so many states would decide so of the user's line.
+/// Nothing is made of the edits.
 #[derive(Drop)]
 struct Foretelling {
     live: Live,
@@ -220,6 +230,8 @@ fn edits_that_are_ready(rt: HostRuntime) -> Result<(), Fail> {
         add user zed in all => zed ping => 6 states permit by group all rule 1
         remove user bob => bob ping => unknown user
         login bob x => bob reload => 23 states deny by user bob rule 1
+        remove user bob; add user bob in ops => bob ping => 17 states permit by group all rule 1
+        add user zed in all; drop group all 1 => zed ping => 1 states deny by default
         ",
     )
 }
@@ -248,7 +260,7 @@ fn becomes_stale(alloc: Global, live: &mut Live, first: &str, second: &str) -> R
     is_stale_behind(alloc, live, first, &second)
 }
 
-/// `stale: EDIT => EDIT` where the second no longer fits once the first is made, else `fits: ..`.
+/// `stale: EDITS => EDITS` where the second no longer fit once the first are made, else `fits: ..`.
 #[derive(Drop)]
 struct Fitting {
     live: Live,
@@ -275,6 +287,7 @@ fn edits_that_no_longer_fit(rt: HostRuntime) -> Result<(), Fail> {
         # What leaves the policy as it is leaves the other edit ready.
         fits: clear enable bob => drop user bob 1
         fits: login bob x => remove user eve
+        fits: add group net; remove group net => drop user bob 1
         ",
     )
 }

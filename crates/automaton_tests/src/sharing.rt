@@ -69,6 +69,20 @@ fn users_of_one_group(rt: HostRuntime) -> Result<(), Fail> {
         > remove user cay
         ok
         user cay now denies: show 
+        > add group t; insert group t 1 permit p.*; move group g in t; move group k in t
+        ok
+        user ann now permits: p
+        user bob now permits: p
+        user eve now permits: p
+        > drop group g 4
+        ok
+        # Two keepers before, and one now: each is told by the one that was its own.
+        > drop group g 1; drop group g 1; drop group g 1; drop group k 1; drop group k 1
+        ok
+        user ann now denies: show 
+        user bob now denies: show 
+        user dan now permits: p
+        user eve now denies: show 
         ",
     )
 }

@@ -58,11 +58,24 @@ pub(crate) fn build(alloc: Global, text: &str) -> Result<Live, Fail> {
     Ok(Live::build(alloc, policy, &mut meter)?)
 }
 
-/// The edit of this line, made ready.
+/// The edits of a line, which `; ` parts. An empty line has none.
+pub(crate) fn edits(alloc: Global, line: &str) -> Result<Sequence<Edit>, Fail> {
+    let mut edits = Sequence::new(alloc);
+    if line.is_empty() {
+        return Ok(edits);
+    }
+    for words in line.split("; ") {
+        let edit = read_edit(alloc, words.as_bytes())?;
+        edits.push(edit)?;
+    }
+    Ok(edits)
+}
+
+/// The edits of a line, made ready together.
 pub(crate) fn prepare(alloc: Global, live: &Live, line: &str) -> Result<Prepared, Fail> {
-    let edit = read_edit(alloc, line.as_bytes())?;
+    let edits = edits(alloc, line)?;
     let mut meter = Meter::new();
-    Ok(live.prepare(alloc, &edit, &mut meter)?)
+    Ok(live.prepare_all(alloc, edits.as_slice(), &mut meter)?)
 }
 
 // ---- what is printed
@@ -189,9 +202,21 @@ fn apply(alloc: Global, live: &mut Live, edit: &Edit, out: &mut String) -> Resul
     }
 }
 
+// Makes the edits together, or prints their refusal.
+fn apply_all(alloc: Global, live: &mut Live, edits: &[Edit], out: &mut String) -> Result<(), Fail> {
+    let mut meter = Meter::new();
+    match live.prepare_all(alloc, edits, &mut meter) {
+        Ok(prepared) => make(alloc, live, prepared, out),
+        Err(fault) => Ok(writeln!(out, "refused {fault}")?),
+    }
+}
+
 fn edit(alloc: Global, live: &mut Live, line: &str, out: &mut String) -> Result<(), Fail> {
-    let edit = read_edit(alloc, line.as_bytes())?;
-    apply(alloc, live, &edit, out)
+    let edits = edits(alloc, line)?;
+    match edits.as_slice() {
+        [edit] => apply(alloc, live, edit, out),
+        edits => apply_all(alloc, live, edits, out),
+    }
 }
 
 // ---- conversations
@@ -265,10 +290,11 @@ fn holds<R: Abort>(rt: &R, conversation: &mut Conversation, lines: &str) -> Resu
 
 /// Holds a conversation with the policy of this text.
 ///
-/// After `> ` stands an edit, or a question: `why NAME LINE`, `states SUBJECT`, `reach SUBJECT`,
-/// `shadow` or `policy`. After each come the lines that are answered: to an edit `ok` and what it
-/// changes, or its refusal; to `reach` each rule with its least line; to `shadow` each subject with
-/// a rule that decides none of its lines. A line that begins with `#` is a comment.
+/// After `> ` stand edits, with `; ` between those that are made together, or a question:
+/// `why NAME LINE`, `states SUBJECT`, `reach SUBJECT`, `shadow` or `policy`. After each come the
+/// lines that are answered: to edits `ok` and what they change, or their refusal; to `reach` each
+/// rule with its least line; to `shadow` each subject with a rule that decides none of its lines. A
+/// line that begins with `#` is a comment.
 pub(crate) fn converses<R: Abort + AllocGlobal>(
     rt: &R,
     policy: &str,
