@@ -1,8 +1,9 @@
 //! The desk that keeps what follows from its policy.
 
-ghost use Rattle.std.specs.Prelude.{◌≡◌, ◌≤◌, ◌↔◌, true, false, Ok, Err, IsOk, IsTrue};
+ghost use Rattle.std.specs.Prelude.{◌≡◌, ◌≤◌, ◌↔◌, [], ◌∷◌, true, false, Ok, Err, IsOk, IsTrue};
 ghost use Rattle.std.specs.Prelude.{IfOk, OnOk, OnErr};
 ghost use Rattle.pol_edit.specs.Applying.{is_memory};
+ghost use Rattle.pol_edit.specs.Batches.{ran_out};
 ghost use Rattle.pol_meaning.specs.Memory.{UnlessMemory};
 ghost use Rattle.pol_live.specs.Rise.{IsBuildRise, IsEditRise, Rises};
 ghost use Rattle.tac_conn.specs.Ask.{kind_of_ask, kind_of_answer};
@@ -22,12 +23,13 @@ use crate::live_reports::{reach_report_of, shadow_report_of, tally_by_marks};
 use crate::plain::copy_records;
 use crate::remembering::Remembered;
 use pol_automaton::Meter;
-use pol_edit::{Edit, EditFault};
+use pol_edit::{BatchFault, Edit, EditFault};
 use pol_live::Live;
 use pol_meaning::Changes;
 use pol_text::Policy;
 use std::alloc::{AllocError, Global};
 use std::marker::Model;
+use std::slice;
 use tac_conn::{Answer, Ask};
 use tac_desk::{Desk, Query, QueryFault, Report, State, Thrice};
 use tac_tally::{Book, Record};
@@ -189,7 +191,23 @@ impl Desk for LiveDesk {
         ensures err { OnErr result (self.new.meaning ≡ self.old.meaning) }
 
         // The meter rises by the residuals of each automaton that the edit makes anew.
-        ensures rises { OnOk result (Rises (IsEditRise edit.now self.new.meaning.policy)
+        ensures rises { OnOk result (Rises (IsEditRise (edit.now ∷ []) self.new.meaning.policy)
+            self.old.meter self.new.meter) }
+        ensures kept { OnErr result (self.old.meter ≤ self.new.meter) }
+    {
+        self.edit_all(slice::from_ref(edit))
+            .map_err(|refusal| refusal.fault)
+    }
+
+    fn edit_all(&mut self, edits: &[Edit]) -> Result<Thrice<Changes>, BatchFault>
+        ensures found { UnlessMemory ran_out result
+            (editing.EditsAll self.old.meaning edits.now result self.new.meaning) }
+        ensures only { UnlessMemory ran_out result
+            (editing.IsOnlyAll self.old.meaning edits.now result self.new.meaning) }
+        ensures err { OnErr result (self.new.meaning ≡ self.old.meaning) }
+
+        // The meter rises by the residuals of each automaton that the edits together make anew.
+        ensures rises { OnOk result (Rises (IsEditRise edits.now self.new.meaning.policy)
             self.old.meter self.new.meter) }
         ensures kept { OnErr result (self.old.meter ≤ self.new.meter) }
     {
@@ -198,7 +216,7 @@ impl Desk for LiveDesk {
             &mut self.live,
             &mut self.meter,
             &mut self.book,
-            edit,
+            edits,
         )?;
         self.remembered.clear();
         Ok(thrice)

@@ -1,7 +1,7 @@
-//! Making an edit of a policy that has its automata, beside records that have their marks.
+//! Making edits of a policy that has its automata, beside records that have their marks.
 
 ghost use Rattle.std.specs.Prelude.{◌≡◌, ◌≤◌, length, OnOk, OnErr};
-ghost use Rattle.pol_edit.specs.Applying.{is_memory};
+ghost use Rattle.pol_edit.specs.Batches.{ran_out};
 ghost use Rattle.pol_meaning.specs.Memory.{UnlessMemory};
 ghost use Rattle.pol_live.specs.Rise.{IsEditRise, Rises};
 ghost use Rattle.tac_tally.specs.Recount.{settled};
@@ -12,7 +12,7 @@ ghost use Rattle.tac_desks.specs.Metered.{HasMarksBy};
 
 use crate::recounting::{Coming, recount_changed};
 use pol_automaton::Meter;
-use pol_edit::{Edit, EditFault};
+use pol_edit::{BatchFault, Edit};
 use pol_live::{Live, Prepared};
 use pol_meaning::Changes;
 use pol_report::changes;
@@ -20,7 +20,7 @@ use std::alloc::Global;
 use tac_desk::Thrice;
 use tac_tally::{Book, Recount};
 
-// Makes the prepared edit, and puts the marks in that were worked out for it. Takes no memory.
+// Makes the prepared edits, and puts the marks in that were worked out for them. Takes no memory.
 fn make(live: &mut Live, book: &mut Book, prepared: Prepared, recount: Recount)
     requires before { prepared.before ≡ live.old }
     requires size { length recount ≡ length book.old.entries }
@@ -34,30 +34,30 @@ fn make(live: &mut Live, book: &mut Book, prepared: Prepared, recount: Recount)
     book.settle(recount);
 }
 
-/// Makes the edit, and answers what it changes for users. Beside each record stands then what the
-/// new policy says of its line. All memory is taken before anything is made, so that a refused edit
-/// changes nothing.
+/// Makes the edits, all or none, and answers what they change for users. Beside each record stands
+/// then what the new policy says of its line. All memory is taken before anything is made, so that
+/// refused edits change nothing.
 pub(crate) fn change_kept(
     alloc: Global,
     live: &mut Live,
     meter: &mut Meter,
     book: &mut Book,
-    edit: &Edit,
-) -> Result<Thrice<Changes>, EditFault>
+    edits: &[Edit],
+) -> Result<Thrice<Changes>, BatchFault>
     requires { HasMarksBy live.old book.old }
-    ensures found { UnlessMemory is_memory result (editing.Edits (meaning_of live.old book.old)
-        edit.now result (meaning_of live.new book.new)) }
-    ensures only { UnlessMemory is_memory result (editing.IsOnly (meaning_of live.old book.old)
-        edit.now result (meaning_of live.new book.new)) }
+    ensures found { UnlessMemory ran_out result (editing.EditsAll (meaning_of live.old book.old)
+        edits.now result (meaning_of live.new book.new)) }
+    ensures only { UnlessMemory ran_out result (editing.IsOnlyAll (meaning_of live.old book.old)
+        edits.now result (meaning_of live.new book.new)) }
     ensures policy { OnErr result (live.new ≡ live.old) }
     ensures book { OnErr result (book.new ≡ book.old) }
     ensures marks { HasMarksBy live.new book.new }
-    ensures rises { OnOk result (Rises (IsEditRise edit.now live.new) meter.old meter.new) }
+    ensures rises { OnOk result (Rises (IsEditRise edits.now live.new) meter.old meter.new) }
     ensures kept { OnErr result (meter.old ≤ meter.new) }
 {
     // the call is for its clause: the meter is a number of its type
     let _ = meter.total();
-    let prepared = live.prepare(alloc, edit, meter)?;
+    let prepared = live.prepare_all(alloc, edits, meter)?;
     let changes = changes(alloc, live, &prepared)?;
     let thrice = Thrice::new(alloc, changes)?;
     let coming = Coming {

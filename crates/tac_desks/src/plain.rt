@@ -15,7 +15,7 @@ use crate::reaching::{live_policy, reach_report, shadow_report};
 use crate::tallies::tally;
 use basics::Sequence;
 use pol_automaton::Meter;
-use pol_edit::{Edit, EditFault};
+use pol_edit::{BatchFault, Edit, EditFault};
 use pol_live::Live;
 use pol_meaning::Changes;
 use pol_text::Policy;
@@ -26,8 +26,9 @@ use tac_desk::{Desk, Query, QueryFault, Report, State, Thrice};
 use tac_tally::{Book, Record};
 
 /// A desk that keeps the policy and the records, and nothing that follows from them: each ask
-/// searches the policy from the top, each tally counts over all records, and each edit and each
-/// report of rules builds the automata of all subjects. A contract sees what it represents.
+/// searches the policy from the top, each tally counts over all records, and each edit or batch of
+/// edits and each report of rules builds the automata of all subjects. A contract sees what it
+/// represents.
 #[derive(Drop)]
 pub struct PlainDesk {
     alloc: Global,
@@ -147,9 +148,9 @@ impl Desk for PlainDesk {
         }
     }
 
-    fn edit(&mut self, edit: &Edit) -> Result<Thrice<Changes>, EditFault> {
+    fn edit_all(&mut self, edits: &[Edit]) -> Result<Thrice<Changes>, BatchFault> {
         let mut live = live_policy(self.alloc, &self.policy)?;
-        let changes = change(self.alloc, &mut live, edit)?;
+        let changes = change(self.alloc, &mut live, edits)?;
         self.policy = live.into_policy();
         Ok(changes)
     }

@@ -16,8 +16,8 @@ use std::alloc::{AllocError, Global};
 use std::marker::Model;
 use tac_tally::{Book, Recount};
 
-/// A prepared edit, beside the policy that it was prepared on. A contract sees the policy that it
-/// makes.
+/// Prepared edits, beside the policy that they were prepared on. A contract sees the policy that
+/// they make.
 #[derive(Drop)]
 pub(crate) struct Coming<'a> {
     pub(crate) live: &'a Live,

@@ -1,5 +1,5 @@
 use Rattle.std.proofs.lemmas.Result.{err_from_is_err_and}
-use Rattle.pol_edit.specs.Applying.{is_memory}
+use Rattle.pol_edit.specs.Batches.{ran_out}
 use Rattle.tac_desks.specs.Kept.{meaning_of}
 use Rattle.tac_desks.proofs.Edits.{accepted_only, refused_only, except_so}
 use Rattle.tac_desks.proofs.live_editing.change_kept.Goals as goal
@@ -9,11 +9,11 @@ returns-in_err-prepared-clause-only c =
     let p = err_from_is_err_and c.from_residual.result c.from_residual.ensures.1 in
     let before = meaning_of c.args.live.now c.args.book.now in
     let fault = c.in_err-prepared.field-0.0 in
-    rw (p.1, p.2) (except_so (is_memory fault) (refused_only before c.args.edit.now fault) c.in_err-prepared.ensures.only)
+    rw (p.1, p.2) (except_so (ran_out fault) (refused_only before c.args.edits.now fault) c.in_err-prepared.ensures.only)
 
 pub returns-clause-only : goal.returns-clause-only
 returns-clause-only c =
     let before = meaning_of c.args.live.now c.args.book.now in
     let made = c.in_ok-prepared.ensures in
     rw (c.make.ensures.meaning, c.in_ok-thrice.ensures)
-    (accepted_only before c.args.edit.now c.in_ok-prepared.prepared c.in_ok-changes.changes made.found made.only c.in_ok-changes.ensures.only)
+    (accepted_only before c.args.edits.now c.in_ok-prepared.prepared c.in_ok-changes.changes made.found made.only c.in_ok-changes.ensures.only)

@@ -1,6 +1,6 @@
 use Rattle.std.proofs.Common.{sym}
 use Rattle.tac_desks.specs.Kept.{meaning_of}
-use Rattle.tac_desks.proofs.plain.PlainDeskDesk.edit.Goals as goal
+use Rattle.tac_desks.proofs.plain.PlainDeskDesk.edit_all.Goals as goal
 
 pub returns-clause-found : goal.returns-clause-found
 returns-clause-found c =
