@@ -10,6 +10,7 @@ use std::fmt::Write;
 use std::process::Abort;
 use std::test::Fail;
 use tac_conn::Answer;
+use tac_console::Batch;
 use tac_desk::Desk;
 use tac_desks::{LiveDesk, PlainDesk};
 
@@ -44,20 +45,27 @@ fn asks<D: Desk>(alloc: Global, desk: &mut D, words: &str, out: &mut Vec<u8>) ->
 }
 
 // A call of a conversation, and what it is answered.
-fn call<D: Desk>(alloc: Global, desk: &mut D, line: &str, out: &mut Vec<u8>) -> Result<(), Fail> {
+fn call<D: Desk>(
+    alloc: Global,
+    desk: &mut D,
+    batch: &mut Batch,
+    line: &str,
+    out: &mut Vec<u8>,
+) -> Result<(), Fail> {
     out.extend_from_slice(line.as_bytes())?;
     out.push(b'\n')?;
     if let Some(words) = line.strip_prefix("? ") {
         return asks(alloc, desk, words, out);
     }
     let line = line.strip_prefix("> ").unwrap_or(line);
-    console(alloc, desk, line.as_bytes(), out)?;
+    console(alloc, desk, batch, line.as_bytes(), out)?;
     Ok(())
 }
 
 fn talk<D: Desk>(alloc: Global, desk: &mut D, lines: &str, out: &mut Vec<u8>) -> Result<(), Fail> {
+    let mut batch = Batch::closed();
     for line in lines.lines() {
-        call(alloc, desk, line, out)?;
+        call(alloc, desk, &mut batch, line, out)?;
     }
     Ok(())
 }
@@ -119,6 +127,9 @@ refused 5 Cycle
 refused 7 BadIndex
 refused 8 BadPattern
 refused 9 BadValue
+kept 3
+refused at edit 1: 
+refused at edit 2: 
 group ops
 record 9 
 shadowed in group 
@@ -161,9 +172,10 @@ fn three_hundred_calls(rt: HostRuntime) -> Result<(), Fail> {
 // What is told of the meter of automata at the desk that keeps them: before each call, and at last.
 fn metered(alloc: Global, desk: &mut LiveDesk, lines: &str) -> Result<Vec<u8>, Fail> {
     let mut out = Vec::new(alloc);
+    let mut batch = Batch::closed();
     for line in lines.lines() {
         push_meter(alloc, desk.meter(), &mut out)?;
-        call(alloc, desk, line, &mut out)?;
+        call(alloc, desk, &mut batch, line, &mut out)?;
     }
     push_meter(alloc, desk.meter(), &mut out)?;
     Ok(out)
@@ -209,6 +221,37 @@ fn automata_are_built_once(rt: HostRuntime) -> Result<(), Fail> {
          > login bob x\n\
          ok\n\
          meter 14\n"
+    );
+    Ok(())
+}
+
+// The edits of a batch build automata together, once it is committed: for the new group alone,
+// since bob has no rules of his own.
+#[test]
+fn automata_are_built_for_a_batch(rt: HostRuntime) -> Result<(), Fail> {
+    let lines = "> begin\n> add group net\n> insert group net 1 permit ping\n\
+        > move user bob in net\n> commit\n";
+    let printed = opened(rt.alloc(), lines)?;
+    assert_eq!(rt;
+        str::from_utf8(printed.as_slice())?,
+        "meter 7\n\
+         > begin\n\
+         ok\n\
+         meter 7\n\
+         > add group net\n\
+         kept 1\n\
+         meter 7\n\
+         > insert group net 1 permit ping\n\
+         kept 2\n\
+         meter 7\n\
+         > move user bob in net\n\
+         kept 3\n\
+         meter 7\n\
+         > commit\n\
+         ok\n\
+         user bob now permits: ping\n\
+         user bob now denies: show \n\
+         meter 13\n"
     );
     Ok(())
 }

@@ -3,7 +3,7 @@
 use std::alloc::{AllocError, Global};
 
 // The calls, of which each line is as likely as any other. Each word in capitals represents one of
-// its choices.
+// its choices, and `; ` parts the lines of a batch.
 const CALLS: &str = "? login USER SECRET
 ? login USER SECRET
 ? enable USER SECRET
@@ -31,6 +31,11 @@ const CALLS: &str = "? login USER SECRET
 > insert SUBJECT PLACE VERDICT PATTERN
 > drop SUBJECT PLACE
 > shift SUBJECT PLACE PLACE
+> begin; > insert SUBJECT PLACE VERDICT PATTERN; > drop SUBJECT PLACE; > commit
+> begin; > move SUBJECT PARENT; > insert SUBJECT PLACE VERDICT PATTERN; > policy; > commit
+> begin; > add user USER; > move SUBJECT PARENT; > clear login USER; > commit
+> begin; > remove SUBJECT; > add user USER in GROUP; > login USER SECRET; > commit
+> begin; > remove SUBJECT; > abandon
 > policy
 > records
 > shadow
@@ -88,8 +93,8 @@ impl Chance {
         }
     }
 
-    fn push_call(&mut self, text: &mut String) -> Result<(), AllocError> {
-        for (at, word) in self.line(CALLS).split(' ').enumerate() {
+    fn push_line(&mut self, text: &mut String, line: &'static str) -> Result<(), AllocError> {
+        for (at, word) in line.split(' ').enumerate() {
             if at > 0 {
                 text.push_str(" ")?;
             }
@@ -97,9 +102,16 @@ impl Chance {
         }
         text.push_str("\n")
     }
+
+    fn push_call(&mut self, text: &mut String) -> Result<(), AllocError> {
+        for line in self.line(CALLS).split("; ") {
+            self.push_line(text, line)?;
+        }
+        Ok(())
+    }
 }
 
-/// An ask for a shell, and so many calls by chance, a line each, as a conversation has them.
+/// An ask for a shell, and so many calls and batches by chance, as a conversation has them.
 pub(crate) fn calls(alloc: Global, seed: u32, count: u32) -> Result<String, AllocError> {
     let mut text = String::new(alloc);
     let mut chance = Chance { state: seed };

@@ -4,6 +4,8 @@
 #[cfg(test)]
 mod asks;
 #[cfg(test)]
+mod batches;
+#[cfg(test)]
 mod both;
 #[cfg(test)]
 mod chance;

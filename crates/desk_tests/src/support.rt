@@ -1,13 +1,15 @@
 //! What the tests share: conversations with a desk.
 
 use basics::Bytes;
-use pol_edit::EditFault;
 use pol_text::Policy;
 use std::alloc::{AllocError, Global};
 use std::process::Abort;
 use std::test::Fail;
 use tac_conn::{Answer, Ask, Proof, Service};
-use tac_console::{Asked, read_console, write_edit_answer, write_query_answer};
+use tac_console::{
+    Action, Batch, read_console, write_batch_answer, write_edit_answer, write_notice,
+    write_query_answer,
+};
 use tac_desk::Desk;
 use tac_desks::PlainDesk;
 use tac_tally::{AcctKind, Record};
@@ -16,19 +18,25 @@ use tac_tally::{AcctKind, Record};
 pub(crate) fn console<D: Desk>(
     alloc: Global,
     desk: &mut D,
+    batch: &mut Batch,
     line: &[u8],
     out: &mut Vec<u8>,
 ) -> Result<(), AllocError> {
-    match read_console(alloc, line)? {
-        Asked::Edit(edit) => match desk.edit(&edit) {
+    let asked = read_console(alloc, line)?;
+    match batch.take(alloc, asked)? {
+        Action::Edit(edit) => match desk.edit(&edit) {
             Ok(changes) => write_edit_answer(alloc, out, &Ok(&changes.first)),
             Err(fault) => write_edit_answer(alloc, out, &Err(fault)),
         },
-        Asked::Query(query) => match desk.query(&query) {
+        Action::Commit(edits) => match desk.edit_all(edits.as_slice()) {
+            Ok(changes) => write_batch_answer(alloc, out, &Ok(&changes.first)),
+            Err(fault) => write_batch_answer(alloc, out, &Err(fault)),
+        },
+        Action::Query(query) => match desk.query(&query) {
             Ok(report) => write_query_answer(alloc, out, &query, &Ok(&report.first)),
             Err(fault) => write_query_answer(alloc, out, &query, &Err(fault)),
         },
-        Asked::Neither => write_edit_answer(alloc, out, &Err(EditFault::BadEdit)),
+        Action::Tell(notice) => write_notice(alloc, out, notice),
     }
 }
 
@@ -160,6 +168,7 @@ pub(crate) fn asked(desk: &mut PlainDesk, ask: &Ask) -> Result<&'static str, All
 struct Conversation {
     alloc: Global,
     desk: PlainDesk,
+    batch: Batch,
     printed: Vec<u8>,
     wanted: String,
 }
@@ -170,6 +179,7 @@ impl Conversation {
         Ok(Conversation {
             alloc,
             desk: PlainDesk::new(alloc, policy, limit)?,
+            batch: Batch::closed(),
             printed: Vec::new(alloc),
             wanted: String::new(alloc),
         })
@@ -186,6 +196,7 @@ impl Conversation {
         console(
             self.alloc,
             &mut self.desk,
+            &mut self.batch,
             line.as_bytes(),
             &mut self.printed,
         )?;
