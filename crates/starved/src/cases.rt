@@ -19,6 +19,7 @@ pub(crate) enum Case {
     AskLine,
     AskRecord,
     Edit,
+    EditAll,
     QueryPolicy,
     QueryShadow,
     QueryReach,
@@ -34,7 +35,7 @@ pub(crate) enum Case {
 
 impl Case {
     /// All cases, the lowest library first.
-    pub(crate) const ALL: [Case; 22] = [
+    pub(crate) const ALL: [Case; 23] = [
         Case::PrepareInsert,
         Case::PrepareAdd,
         Case::PrepareLogin,
@@ -46,6 +47,7 @@ impl Case {
         Case::AskLine,
         Case::AskRecord,
         Case::Edit,
+        Case::EditAll,
         Case::QueryPolicy,
         Case::QueryShadow,
         Case::QueryReach,
@@ -73,6 +75,7 @@ impl Case {
             Case::AskLine => "ask-line",
             Case::AskRecord => "ask-record",
             Case::Edit => "edit",
+            Case::EditAll => "edit-all",
             Case::QueryPolicy => "query-policy",
             Case::QueryShadow => "query-shadow",
             Case::QueryReach => "query-reach",
@@ -106,6 +109,7 @@ impl Case {
             Case::AskLine => desk::ask_line(alloc),
             Case::AskRecord => desk::ask_record(alloc),
             Case::Edit => desk::edit(alloc),
+            Case::EditAll => desk::edit_all(alloc),
             Case::QueryPolicy => desk::query_policy(alloc),
             Case::QueryShadow => desk::query_shadow(alloc),
             Case::QueryReach => desk::query_reach(alloc),

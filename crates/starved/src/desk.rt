@@ -2,10 +2,10 @@
 
 use crate::findings::{Finding, Trouble, must, must_be_made};
 use crate::scene::{
-    AFTER, BEFORE, INSERT, INSERT_ANSWER, POLICY, RECORDS, Told, edit_of, policy_of, record,
+    AFTER, BATCH, BEFORE, INSERT, INSERT_ANSWER, POLICY, RECORDS, Told, edits_of, policy_of, record,
 };
 use basics::Bytes;
-use pol_edit::{Edit, EditFault};
+use pol_edit::{BatchFault, Edit, EditFault};
 use pol_meaning::Changes;
 use pol_names::{Name, SubjectId};
 use std::alloc::{AllocError, Global};
@@ -169,8 +169,7 @@ fn is_answer(alloc: Global, changes: &Changes) -> Result<bool, AllocError> {
     Ok(out.as_slice() == INSERT_ANSWER.as_bytes())
 }
 
-// The call.
-fn made(alloc: Global, desk: &mut LiveDesk, edit: &Edit) -> Result<Finding, Trouble> {
+fn made_alone(alloc: Global, desk: &mut LiveDesk, edit: &Edit) -> Result<Finding, Trouble> {
     match desk.edit(edit) {
         Ok(changes) => {
             let is_so = is_answer(alloc, &changes.first)?;
@@ -182,10 +181,36 @@ fn made(alloc: Global, desk: &mut LiveDesk, edit: &Edit) -> Result<Finding, Trou
     }
 }
 
+// Wherever memory runs out, it is told of no single edit.
+fn made_together(alloc: Global, desk: &mut LiveDesk, edits: &[Edit]) -> Result<Finding, Trouble> {
+    match desk.edit_all(edits) {
+        Ok(changes) => {
+            let is_so = is_answer(alloc, &changes.first)?;
+            must(is_so, "the edits are answered otherwise")?;
+            Ok(Finding::Made)
+        }
+        Err(
+            BatchFault {
+                at: 0,
+                fault: EditFault::Memory,
+            },
+        ) => Ok(Finding::Memory),
+        Err(_) => Err(Trouble::Wrong("the edits are refused")),
+    }
+}
+
+// The call.
+fn made(alloc: Global, desk: &mut LiveDesk, edits: &[Edit]) -> Result<Finding, Trouble> {
+    match edits {
+        [edit] => made_alone(alloc, desk, edit),
+        edits => made_together(alloc, desk, edits),
+    }
+}
+
 // The call, and what stands after it.
-fn edited(alloc: Global, desk: &mut LiveDesk, edit: &Edit) -> Result<Finding, Trouble> {
+fn edited(alloc: Global, desk: &mut LiveDesk, edits: &[Edit]) -> Result<Finding, Trouble> {
     let states = desk.meter();
-    let finding = made(alloc, desk, edit)?;
+    let finding = made(alloc, desk, edits)?;
     must(desk.meter() >= states, "the meter has fallen")?;
     match finding {
         Finding::Made => tells(alloc, desk, &AFTER)?,
@@ -194,20 +219,30 @@ fn edited(alloc: Global, desk: &mut LiveDesk, edit: &Edit) -> Result<Finding, Tr
     Ok(finding)
 }
 
-// One that found no memory can be made later.
-fn edited_at_last(alloc: Global, desk: &mut LiveDesk, edit: &Edit) -> Result<Finding, Trouble> {
-    let finding = edited(alloc, desk, edit)?;
+// Edits that found no memory can be made later.
+fn edited_at_last(alloc: Global, desk: &mut LiveDesk, edits: &[Edit]) -> Result<Finding, Trouble> {
+    let finding = edited(alloc, desk, edits)?;
     if finding == Finding::Memory {
-        must_be_made(edited(alloc, desk, edit)?)?;
+        must_be_made(edited(alloc, desk, edits)?)?;
     }
     Ok(finding)
 }
 
-/// Makes an edit after which bob's record is drift.
-pub(crate) fn edit(alloc: Global) -> Result<Finding, Trouble> {
-    let edit = edit_of(alloc, INSERT)?;
+// Makes the edits of these lines, after which bob's record is drift.
+fn edit_by(alloc: Global, lines: &str) -> Result<Finding, Trouble> {
+    let edits = edits_of(alloc, lines)?;
     let mut desk = opened(alloc)?;
-    edited_at_last(alloc, &mut desk, &edit)
+    edited_at_last(alloc, &mut desk, edits.as_slice())
+}
+
+/// Makes an edit.
+pub(crate) fn edit(alloc: Global) -> Result<Finding, Trouble> {
+    edit_by(alloc, INSERT)
+}
+
+/// Makes several edits together.
+pub(crate) fn edit_all(alloc: Global) -> Result<Finding, Trouble> {
+    edit_by(alloc, BATCH)
 }
 
 // The call, and what stands after it. A question that found no memory can be asked later.

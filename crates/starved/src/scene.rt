@@ -14,7 +14,11 @@ pub(crate) const INSERT: &str = "insert group ops 1 deny show .*";
 pub(crate) const INSERTED: &str =
     "group ops\ndeny show .*\npermit show .*\nuser bob in ops\nlogin secret\n";
 
-/// What is answered to that edit.
+/// Edits that make the same of it together.
+pub(crate) const BATCH: &str =
+    "add group net in ops\ninsert group ops 1 deny show .*\nremove group net";
+
+/// The answer to that edit, and to those.
 pub(crate) const INSERT_ANSWER: &str = "ok\nuser bob now denies: show \n";
 
 /// What a console answers of the policy, and of bob's one record.
@@ -55,6 +59,16 @@ pub(crate) fn edit_of(alloc: Global, line: &str) -> Result<Edit, Trouble> {
         Err(EditFault::Memory) => Err(Trouble::Memory),
         Err(_) => Err(Trouble::Wrong("the line is no edit")),
     }
+}
+
+/// The edits of these lines.
+pub(crate) fn edits_of(alloc: Global, lines: &str) -> Result<Vec<Edit>, Trouble> {
+    let mut edits = Vec::new(alloc);
+    for line in lines.lines() {
+        let edit = edit_of(alloc, line)?;
+        edits.push(edit)?;
+    }
+    Ok(edits)
 }
 
 /// A record of bob's, of the line `show version`.
