@@ -4,7 +4,7 @@ use Rattle.std.specs.Prelude.{OnOk}
 use Rattle.std.proofs.lemmas.List.{append_cancel_left}
 use Rattle.tac_desk.specs.Meaning.{Meaning}
 use Rattle.tac_desk.specs.Serving.{said_on, sent_bytes}
-use Rattle.tac_server.specs.Server.{State, opened, lost, heard, with_meaning}
+use Rattle.tac_server.specs.Server.{State, opened, lost, heard, typed}
 use Rattle.tac_server.specs.Kept.{HasState, IsOpened, IsHeard, IsAnswered, IsOnlyAnswer}
 use Rattle.tac_server.specs.Happening.{Happening, Opens, Brings, Loses, Types, Given, Nothing, Packets, Text, Gives, Hears}
 use Rattle.tac_server.specs.Course.{Course, HasRun, RunsOn}
@@ -132,11 +132,11 @@ module _ {D : Type 0} (meaning : D → Meaning) where
       let alone = only h.state h.has in (
         Text s.0,
         s.3,
-        run_more old new start events outs (Types line) h (Text s.0) (with_meaning s.1 h.state) (record { text = s.0; meaning = s.1; answers = s.2; says = refl; leaves = refl })
+        run_more old new start events outs (Types line) h (Text s.0) (typed line s.1 h.state) (record { text = s.0; meaning = s.1; answers = s.2; says = refl; leaves = refl })
             (λ other later g.
             let one = alone g.text g.meaning g.answers in
             let stands : g.meaning ≡ s.1 = sym one.1 ∙ s.4.desk in
             let texts : g.text ≡ s.0 = append_cancel_left was g.text s.0 (sym one.0 ∙ s.3) in
-            (g.says ∙ ap (λ (t : List ℕ). Text t) texts, g.leaves ∙ ap (λ (m : Meaning). with_meaning m h.state) stands))
+            (g.says ∙ ap (λ (t : List ℕ). Text t) texts, g.leaves ∙ ap (λ (m : Meaning). typed line m h.state) stands))
             s.4,
       )

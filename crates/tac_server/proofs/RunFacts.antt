@@ -21,7 +21,7 @@ use Rattle.tac_server.specs.declared.script_fault.Located.{Located}
 use Rattle.tac_server.specs.declared.script_fault.Stop.{Stop}
 use Rattle.tac_server.specs.declared.script_fault.Stop.TheVariants as stops
 use Rattle.tac_desk.specs.Serving.{Said, said_on}
-use Rattle.tac_server.specs.Server.{State, opening, opened, lost, heard, with_meaning}
+use Rattle.tac_server.specs.Server.{State, opening, opened, lost, heard, typed}
 use Rattle.tac_server.specs.Command.{event_of}
 use Rattle.tac_server.specs.Happening.{Nothing, Packets, Text}
 use Rattle.tac_server.specs.Events.{shown, printed}
@@ -117,7 +117,7 @@ pub tells_line : {D : Type 0} (meaning : D → Meaning) (number : ℕ) (line : L
     → IsDoneUnless meaning number old new server state (Console line) (Ok tt)
 tells_line meaning number line server state old new h only = record {
   text = h.0;
-  next = with_meaning h.1 state;
+  next = typed line h.1 state;
   free = refl;
   does = record { given = Text h.0; gives = record { text = h.0; meaning = h.1; answers = h.2; says = refl; leaves = refl }; prints = refl };
   only = λ other later d.
@@ -125,7 +125,7 @@ tells_line meaning number line server state old new h only = record {
       let same = only g.text g.meaning g.answers in
       let texts : g.text ≡ h.0 = append_cancel_left old g.text h.0 (sym same.0 ∙ h.3) in
       let meanings : g.meaning ≡ h.1 = sym same.1 ∙ h.4.desk in
-      (d.prints ∙ ap (printed state.key) g.says ∙ texts, g.leaves ∙ ap (λ (m : Meaning). with_meaning m state) meanings);
+      (d.prints ∙ ap (printed state.key) g.says ∙ texts, g.leaves ∙ ap (λ (m : Meaning). typed line m state) meanings);
   added = h.3;
   has = h.4;
 }

@@ -77,17 +77,18 @@ serves_none key stream stands ready = record {
 }
 
 pub opens : {D : Type 0} (meaning : D → Meaning) (old server : Server D) (number : ℕ) (stream : Stream) (state : State)
-    → HasState meaning old state → server.key ≡ old.key → stands_for meaning server ≡ stands_for meaning old
+    → HasState meaning old state → server.key ≡ old.key → stands_for meaning server ≡ stands_for meaning old → server.batch ≡ old.batch
     → ((q : ℕ) → get nat_cmp server.connections q ≡ cond (is_at (nat_cmp number) q) (Some stream) (get nat_cmp old.connections q))
     → is_some (get nat_cmp old.connections number) ≡ false → ((key : List ℕ) → Stands key stream [] 0) → IsReady stream
     → IsOpened meaning server number state (Ok tt)
-opens meaning old server number stream state has key desk updates absent stands ready = (
+opens meaning old server number stream state has key desk batch updates absent stands ready = (
   none_there old.key (get nat_cmp old.connections number) (state.connections number) absent (has.connections number),
   record {
     key = key ∙ has.key;
     desk = desk ∙ has.desk;
     connections = subst (λ (k : List ℕ). Has k server.connections (with_connection number (Some []) state.connections)) (sym key)
         (has_updated old.key old.connections server.connections number (Some stream) (Some []) state.connections updates has.connections (serves_none old.key stream (stands old.key) ready));
+    batch = batch ∙ has.batch;
   },
 )
 
@@ -98,7 +99,7 @@ stays_open true key stream bytes e s = cc
 stays_open false key stream bytes e s = s
 
 module _ {D : Type 0} (meaning : D → Meaning) (old server : Server D) (number : ℕ) (stream after : Stream) (was now : List ℕ) (piece : List ℕ)
-    (found : get nat_cmp old.connections number ≡ Some stream) (key : server.key ≡ old.key) (state : State) (has : HasState meaning old state) where
+    (found : get nat_cmp old.connections number ≡ Some stream) (key : server.key ≡ old.key) (same_batch : server.batch ≡ old.batch) (state : State) (has : HasState meaning old state) where
   here : (before : List ℕ) × (state.connections number ≡ Some before) × Serves old.key stream before
   here = found_bytes old.key (get nat_cmp old.connections number) (state.connections number) stream found (has.connections number)
 
@@ -130,6 +131,7 @@ module _ {D : Type 0} (meaning : D → Meaning) (old server : Server D) (number 
             connections = subst (λ (k : List ℕ). Has k server.connections (with_connection number (cond whole.closes None (Some bytes)) state.connections)) (sym key)
                 (subst (λ (b : Bool). Has old.key server.connections (with_connection number (cond b None (Some bytes)) state.connections)) told.closing
                 (has_updated old.key old.connections server.connections number (Some after) (Some bytes) state.connections updates has.connections serves));
+            batch = same_batch ∙ has.batch;
           };
         },
       )
@@ -154,6 +156,7 @@ module _ {D : Type 0} (meaning : D → Meaning) (old server : Server D) (number 
             connections = subst (λ (k : List ℕ). Has k server.connections (with_connection number (cond whole.closes None (Some bytes)) state.connections)) (sym key)
                 (subst (λ (b : Bool). Has old.key server.connections (with_connection number (cond b None (Some bytes)) state.connections)) told.closing
                 (has_updated old.key old.connections server.connections number None None state.connections updates has.connections tt));
+            batch = same_batch ∙ has.batch;
           };
         },
       )
@@ -178,6 +181,7 @@ module _ {D : Type 0} (meaning : D → Meaning) (old server : Server D) (number 
               desk = sym (ap (λ (s : Said). s.meaning) told.said);
               connections = subst (λ (k : List ℕ). Has k server.connections (with_connection number None state.connections)) (sym key)
                   (has_updated old.key old.connections server.connections number None None state.connections updates has.connections tt);
+              batch = same_batch ∙ has.batch;
             };
           },
         ),
@@ -239,6 +243,7 @@ module _ {D : Type 0} (meaning : D → Meaning) (was now last : List ℕ) (middl
             key = told.has.key;
             desk = told.has.desk ∙ sym (ap (λ (s : Said). s.meaning) all);
             connections = λ q. rw (all, ← append_assoc before first second) (twice server.key (q == number) _ _ _ (state.connections q) (told.has.connections q));
+            batch = told.has.batch;
           };
         },
       )
@@ -262,7 +267,7 @@ module _ {D : Type 0} (meaning : D → Meaning) (was now last : List ℕ) (middl
         rw all (record {
           closing = said.closing;
           sends = said.sends;
-          has = record { key = said.has.key; desk = said.has.desk; connections = rw closed has };
+          has = record { key = said.has.key; desk = said.has.desk; connections = rw closed has; batch = said.has.batch };
         }),
       )
 

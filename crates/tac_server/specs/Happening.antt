@@ -2,7 +2,7 @@
 use Rattle.std.specs.Prelude.{◌≡◌, ℕ, List, [], ◌++◌, Some, None}
 use Rattle.tac_desk.specs.Meaning.{Meaning}
 use Rattle.tac_desk.specs.Serving.{Said, said_on, sent_bytes}
-use Rattle.tac_server.specs.Server.{State, opened, lost, heard, with_meaning}
+use Rattle.tac_server.specs.Server.{State, opened, lost, heard, typed}
 use Rattle.tac_server.specs.Console.{Answers}
 
 -- what may happen: a connection of a number is opened, bytes come on it, it is lost, and a line
@@ -38,9 +38,9 @@ pub record Hears (state : State) (number : ℕ) (bytes : List ℕ) (given : Give
 pub record Tells (state : State) (line : List ℕ) (given : Given) (after : State) : Type 0 where
   pub text : List ℕ
   pub meaning : Meaning
-  pub answers : Answers state.meaning line text meaning
+  pub answers : Answers state.meaning state.batch line text meaning
   pub says : given ≡ Text text
-  pub leaves : after ≡ with_meaning meaning state
+  pub leaves : after ≡ typed line meaning state
 
 -- what the server gives out, and the state that is left; a number is opened only where it isn't
 -- open, and brings bytes only where it is

@@ -8,14 +8,12 @@ use Rattle.tac_conn.specs.declared.packet.Packet.{Packet}
 use Rattle.tac_conn.specs.Packet.{sent, IsWhole}
 use Rattle.tac_stream.specs.declared.stream.Stream.{Stream}
 use Rattle.tac_stream.specs.Kept.{IsReady, Stands}
-use Rattle.pol_edit.specs.declared.edit.Edit.{Edit}
-use Rattle.pol_meaning.specs.declared.Changed.{Changed}
-use Rattle.tac_desk.specs.declared.query.Query.{Query}
 use Rattle.tac_desk.specs.Meaning.{Meaning}
-use Rattle.tac_desk.specs.Editing.{Edits}
 use Rattle.tac_desk.specs.Serving.{Said, said_on, said_first, sent_bytes, whole_packets}
+use Rattle.tac_console.specs.declared.batching.Action.{Action}
 use Rattle.tac_server.specs.Server.{Connections, State, opened, lost, heard, with_meaning}
-use Rattle.tac_server.specs.Console.{AnswersEdit, AnswersQuery, Answers, Accepts}
+use Rattle.tac_server.specs.Server.{typed, abandoned}
+use Rattle.tac_server.specs.Console.{AnswersAction, Answers, AcceptsAction, Accepts}
 use Rattle.tac_server.specs.Events.{fault_in, Does}
 use Rattle.tac_server.specs.declared.event.Event.{Event}
 use Rattle.tac_server.specs.declared.script_fault.ScriptFault.TheVariants.{NoConnection}
@@ -68,6 +66,7 @@ pub record HasState {D : Type 0} (meaning : D → Meaning) (server : Server D) (
   pub key : server.key ≡ state.key
   pub desk : stands_for meaning server ≡ state.meaning
   pub connections : Has server.key server.connections state.connections
+  pub batch : server.batch ≡ state.batch
 
 -- a connection was opened at a number
 abbrev pub IsOpened : {D : Type 0} → (D → Meaning) → Server D → ℕ → State
@@ -123,20 +122,20 @@ IsHeardUnlessMemory meaning old new server number more state (Err faults.Already
 IsHeardUnlessMemory meaning old new server number more state (Err (faults.Memory accepted)) =
     Unit {0}
 
--- memory ran out at a line of the console: nothing was printed; where the line's edit was
--- accepted, it stands
+-- memory ran out at a line of the console: nothing was printed, and no batch is open; edits that
+-- were accepted stand
 abbrev pub IsUnprinted : {D : Type 0} → (D → Meaning) → Server D → List ℕ → State → Bool → Type 0
 IsUnprinted meaning server line state true =
-    (after : Meaning) × Accepts state.meaning line after
-    × HasState meaning server (with_meaning after state)
-IsUnprinted meaning server line state false = HasState meaning server state
+    (after : Meaning) × Accepts state.meaning state.batch line after
+    × HasState meaning server (abandoned (typed line after state))
+IsUnprinted meaning server line state false = HasState meaning server (abandoned state)
 
 -- a line of the console was answered
 abbrev pub IsAnswered : {D : Type 0} → (D → Meaning) → List ℕ → List ℕ → Server D → List ℕ → State
     → Result (Unit {0}) ServerFault → Type 0
 IsAnswered meaning old new server line state (Ok _) =
-    (text : List ℕ) × (after : Meaning) × Answers state.meaning line text after
-    × (new ≡ old ++ text) × HasState meaning server (with_meaning after state)
+    (text : List ℕ) × (after : Meaning) × Answers state.meaning state.batch line text after
+    × (new ≡ old ++ text) × HasState meaning server (typed line after state)
 IsAnswered meaning old new server line state (Err faults.NoConnection) = ⊥
 IsAnswered meaning old new server line state (Err faults.AlreadyOpen) = ⊥
 IsAnswered meaning old new server line state (Err (faults.Memory accepted)) =
@@ -146,10 +145,10 @@ IsAnswered meaning old new server line state (Err (faults.Memory accepted)) =
 abbrev pub IsOnlyAnswer : {D : Type 0} → (D → Meaning) → List ℕ → List ℕ → Server D → List ℕ
     → State → Type 0
 IsOnlyAnswer meaning old new server line state =
-    (other : List ℕ) (later : Meaning) → Answers state.meaning line other later
+    (other : List ℕ) (later : Meaning) → Answers state.meaning state.batch line other later
     → (new ≡ old ++ other) × (stands_for meaning server ≡ later)
 
--- ---- an edit or a question at the console
+-- ---- what is done for a line of the console
 
 -- this text was added, and no other is right
 pub record Adds (old new : List ℕ) (now : Meaning) (answers : List ℕ → Meaning → Type 0)
@@ -160,22 +159,16 @@ pub record Adds (old new : List ℕ) (now : Meaning) (answers : List ℕ → Mea
       → (other ≡ text) × (later ≡ now)
   pub added : new ≡ old ++ text
 
-abbrev pub EditAnswered : Meaning → Meaning → Edit → List ℕ → List ℕ
+-- it was done and answered; where memory ran out nothing was printed, and edits stand where they
+-- were accepted
+abbrev pub ActionAnswered : Meaning → Meaning → Action → List ℕ → List ℕ
     → Result (Unit {0}) ServerFault → Type 0
-EditAnswered was now edit old new (Ok _) = Adds old new now (AnswersEdit was edit)
-EditAnswered was now edit old new (Err faults.NoConnection) = ⊥
-EditAnswered was now edit old new (Err faults.AlreadyOpen) = ⊥
-EditAnswered was now edit old new (Err (faults.Memory true)) =
-    (new ≡ old) × ((changes : List Changed) × Edits was edit (Ok changes) now)
-EditAnswered was now edit old new (Err (faults.Memory false)) = (new ≡ old) × (now ≡ was)
-
-abbrev pub QueryAnswered : Meaning → Meaning → Query → List ℕ → List ℕ
-    → Result (Unit {0}) ServerFault → Type 0
-QueryAnswered was now query old new (Ok _) = Adds old new now (AnswersQuery was query)
-QueryAnswered was now query old new (Err faults.NoConnection) = ⊥
-QueryAnswered was now query old new (Err faults.AlreadyOpen) = ⊥
-QueryAnswered was now query old new (Err (faults.Memory accepted)) =
-    (accepted ≡ false) × (new ≡ old) × (now ≡ was)
+ActionAnswered was now action old new (Ok _) = Adds old new now (AnswersAction was action)
+ActionAnswered was now action old new (Err faults.NoConnection) = ⊥
+ActionAnswered was now action old new (Err faults.AlreadyOpen) = ⊥
+ActionAnswered was now action old new (Err (faults.Memory true)) =
+    (new ≡ old) × AcceptsAction was action now
+ActionAnswered was now action old new (Err (faults.Memory false)) = (new ≡ old) × (now ≡ was)
 
 -- ---- events of a script
 

@@ -3,8 +3,10 @@
 ghost use Rattle.std.specs.Prelude.{◌≡◌, ◌++◌, [], ◌∷◌, List, ℕ, false, IfOk, OnOk};
 ghost use Rattle.tac_desk.specs.Meaning.{Meaning as MeaningValue};
 ghost use Rattle.tac_desk.specs.Serving.{said_on, unless_closed};
+ghost use Rattle.tac_console.specs.Batching.{action_of, batch_after};
+ghost use Rattle.tac_console.specs.ConsoleText.{asked_by};
+ghost use Rattle.tac_console.specs.declared.batching.Action.TheVariants as acts;
 ghost use Rattle.tac_server.specs.Server as servers;
-ghost use Rattle.tac_server.specs.Console as consoles;
 ghost use Rattle.tac_server.specs.Kept as kept;
 ghost use Rattle.tac_server.specs.Course as course;
 ghost use Rattle.tac_server.specs.Happening.{Happening, Opens, Brings, Loses, Types};
@@ -15,7 +17,10 @@ use crate::turning::serve_piece;
 use pol_edit::{Edit, EditFault};
 use std::alloc::{AllocError, AllocFailed, Global};
 use std::collections::BTreeMap;
-use tac_console::{Asked, read_console, write_edit_answer, write_query_answer};
+use tac_console::{
+    Action, Batch, read_console, write_batch_answer, write_edit_answer, write_notice,
+    write_query_answer,
+};
 use tac_desk::{Desk, Query, QueryFault};
 use tac_stream::Stream;
 use tac_wire::Key;
@@ -29,7 +34,8 @@ pub enum ServerFault {
     AlreadyOpen,
     /// Memory ran out.
     Memory {
-        /// Whether the edit of a line of the console was accepted all the same.
+        /// Whether the edit of a line of the console, or the batch that it commits, was accepted all
+        /// the same.
         accepted: bool,
     },
 }
@@ -57,6 +63,7 @@ pub struct Server<D> {
     key: Key,
     desk: D,
     connections: BTreeMap<u32, Stream>,
+    batch: Batch,
 }
 
 impl<D: Desk> Server<D> {
@@ -74,6 +81,7 @@ impl<D: Desk> Server<D> {
             key,
             desk,
             connections: BTreeMap::new(alloc),
+            batch: Batch::closed(),
         }
     }
 
@@ -153,12 +161,13 @@ impl<D: Desk> Server<D> {
         let _ = self.connections.remove(&conn);
     }
 
-    // Answers an edit at the console.
+    // Makes an edit, and adds the answer.
     fn answer_edit(&mut self, edit: &Edit, out: &mut Vec<u8>) -> Result<(), ServerFault>
-        ensures answered { kept.EditAnswered (D.meaning self.old.desk) (D.meaning self.new.desk)
-            edit.now out.old.items out.new.items result }
+        ensures answered { kept.ActionAnswered (D.meaning self.old.desk) (D.meaning self.new.desk)
+            (acts.Edit edit.now) out.old.items out.new.items result }
         ensures key { self.new.key ≡ self.old.key }
         ensures connections { self.new.connections ≡ self.old.connections }
+        ensures batch { self.new.batch ≡ self.old.batch }
     {
         match self.desk.edit(edit) {
             Ok(changes) => match write_edit_answer(self.alloc, out, &Ok(&changes.first)) {
@@ -173,12 +182,36 @@ impl<D: Desk> Server<D> {
         }
     }
 
-    // Answers a question at the console.
-    fn answer_query(&mut self, query: &Query, out: &mut Vec<u8>) -> Result<(), ServerFault>
-        ensures answered { kept.QueryAnswered (D.meaning self.old.desk) (D.meaning self.new.desk)
-            query.now out.old.items out.new.items result }
+    // Makes the edits of a batch, all or none, and adds the answer.
+    fn answer_batch(&mut self, edits: &[Edit], out: &mut Vec<u8>) -> Result<(), ServerFault>
+        ensures answered { kept.ActionAnswered (D.meaning self.old.desk) (D.meaning self.new.desk)
+            (acts.Commit edits.now) out.old.items out.new.items result }
         ensures key { self.new.key ≡ self.old.key }
         ensures connections { self.new.connections ≡ self.old.connections }
+        ensures batch { self.new.batch ≡ self.old.batch }
+    {
+        match self.desk.edit_all(edits) {
+            Ok(changes) => match write_batch_answer(self.alloc, out, &Ok(&changes.first)) {
+                Ok(()) => Ok(()),
+                Err(_) => Err(ServerFault::Memory { accepted: true }),
+            },
+            Err(refusal) if refusal.fault == EditFault::Memory => {
+                Err(ServerFault::Memory { accepted: false })
+            }
+            Err(refusal) => {
+                write_batch_answer(self.alloc, out, &Err(refusal))?;
+                Ok(())
+            }
+        }
+    }
+
+    // Answers a question.
+    fn answer_query(&mut self, query: &Query, out: &mut Vec<u8>) -> Result<(), ServerFault>
+        ensures answered { kept.ActionAnswered (D.meaning self.old.desk) (D.meaning self.new.desk)
+            (acts.Query query.now) out.old.items out.new.items result }
+        ensures key { self.new.key ≡ self.old.key }
+        ensures connections { self.new.connections ≡ self.old.connections }
+        ensures batch { self.new.batch ≡ self.old.batch }
     {
         match self.desk.query(query) {
             Ok(report) => {
@@ -193,12 +226,45 @@ impl<D: Desk> Server<D> {
         }
     }
 
+    // Does what is to be done for a line, and adds the answer.
+    fn act(&mut self, action: Action, out: &mut Vec<u8>) -> Result<(), ServerFault>
+        ensures answered { kept.ActionAnswered (D.meaning self.old.desk) (D.meaning self.new.desk)
+            action out.old.items out.new.items result }
+        ensures key { self.new.key ≡ self.old.key }
+        ensures connections { self.new.connections ≡ self.old.connections }
+        ensures batch { self.new.batch ≡ self.old.batch }
+    {
+        match action {
+            Action::Edit(edit) => self.answer_edit(&edit, out),
+            Action::Commit(edits) => self.answer_batch(edits.as_slice(), out),
+            Action::Query(query) => self.answer_query(&query, out),
+            Action::Tell(notice) => {
+                write_notice(self.alloc, out, notice)?;
+                Ok(())
+            }
+        }
+    }
+
+    // Adds the answer to a line. Where memory ran out a batch may be left open.
+    fn tell(&mut self, line: &[u8], out: &mut Vec<u8>) -> Result<(), ServerFault>
+        ensures answered { kept.ActionAnswered (D.meaning self.old.desk) (D.meaning self.new.desk)
+            (action_of self.old.batch (asked_by line.now)) out.old.items out.new.items result }
+        ensures key { self.new.key ≡ self.old.key }
+        ensures connections { self.new.connections ≡ self.old.connections }
+        ensures batch { OnOk result
+            (self.new.batch ≡ batch_after self.old.batch (asked_by line.now)) }
+    {
+        let asked = read_console(self.alloc, line)?;
+        let action = self.batch.take(self.alloc, asked)?;
+        self.act(action, out)
+    }
+
     /// Adds the console's answer to a line, without its LF. Any bytes have one. Linear in the line
     /// and in what is added, but for what the desk takes.
     ///
-    /// Where memory ran out nothing was added, and the fault says whether the line's edit was
-    /// accepted; if it wasn't, nothing has changed.
-    #[tactic(auto, using(crate::proofs::CourseFacts::run_told))]
+    /// Where memory ran out nothing was added, and no batch is open afterwards, whatever the line
+    /// was. The fault says whether the edits of the line were accepted: if they weren't, nothing
+    /// else has changed.
     pub fn console(&mut self, line: &[u8], out: &mut Vec<u8>) -> Result<(), ServerFault>
         ensures answered { (state : servers.State) → kept.HasState D.meaning self.old state →
             kept.IsAnswered D.meaning out.old.items out.new.items self.new line.now state result }
@@ -214,13 +280,10 @@ impl<D: Desk> Server<D> {
             D.meaning out.old.items out.new.items self.new start (Types line.now)
             events outs) }
     {
-        match read_console(self.alloc, line)? {
-            Asked::Edit(edit) => self.answer_edit(&edit, out),
-            Asked::Query(query) => self.answer_query(&query, out),
-            Asked::Neither => {
-                write_edit_answer(self.alloc, out, &Err(EditFault::BadEdit))?;
-                Ok(())
-            }
+        if let Err(fault) = self.tell(line, out) {
+            self.batch.abandon();
+            return Err(fault);
         }
+        Ok(())
     }
 }

@@ -6,14 +6,14 @@ use Rattle.tac_server.proofs.server.Server.feed.Goals as goal
 pub returns-in-Ok-false-clause-heard : goal.returns-in-Ok-false-clause-heard
 returns-in-Ok-false-clause-heard g c = λ state has.
     heard_open g.D.Desk.meaning c.args.self.now _ c.args.conn c.in-Some.stream.now c.serve_piece.new.stream c.args.out.now.items c.serve_piece.new.out.items c.args.piece.now
-    (sym c.in-Some.ensures.value) refl state has
+    (sym c.in-Some.ensures.value) refl refl state has
     (λ before serves. rw c.in-Ok-false.field-0-test at (c.in-Ok-false.ensures.said before serves))
     ((c.get_mut.follows.holds c.serve_piece.new.stream).3 (some_found _ c.in-Some.stream.now c.in-Some.ensures.value)).0
 
 pub returns-in-Ok-true-clause-heard : goal.returns-in-Ok-true-clause-heard
 returns-in-Ok-true-clause-heard g c = λ state has.
     heard_closing g.D.Desk.meaning c.args.self.now _ c.args.conn c.in-Some.stream.now c.serve_piece.new.stream c.args.out.now.items c.serve_piece.new.out.items c.args.piece.now
-    (sym c.in-Some.ensures.value) refl state has
+    (sym c.in-Some.ensures.value) refl refl state has
     (λ before serves. rw c.in-Ok-true.field-0-test at (c.in-Ok-true.ensures.said before serves))
     (removed c.args.self.now.connections (c.get_mut.follows.lender c.serve_piece.new.stream) c.remove.new.self c.args.conn (Some c.serve_piece.new.stream)
     ((c.get_mut.follows.holds c.serve_piece.new.stream).3 (some_found _ c.in-Some.stream.now c.in-Some.ensures.value)).0 c.remove.ensures.updates.0)

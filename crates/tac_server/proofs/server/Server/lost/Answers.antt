@@ -10,4 +10,5 @@ returns-clause-course g c =
       key = has.key;
       desk = has.desk;
       connections = has_updated old.key old.connections c.remove.new.self c.args.conn None None state.connections c.remove.ensures.updates.0 has.connections tt;
+      batch = has.batch;
     })
