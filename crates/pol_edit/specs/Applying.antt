@@ -9,7 +9,7 @@ use Rattle.pol_pattern.specs.Reading.{pattern_of}
 use Rattle.pol_pattern.specs.declared.fault.PatternFault.{PatternFault}
 use Rattle.pol_names.specs.Secret.{is_secret}
 use Rattle.pol_names.specs.SubjectId.{same_kind, group_id, user_id}
-use Rattle.pol_text.specs.Policy.{find_subject, all_of}
+use Rattle.pol_text.specs.Policy.{find_subject, all_of, max_subjects, max_rules, max_level}
 use Rattle.pol_text.specs.Text.{new_subject}
 use Rattle.pol_text.specs.Change.{with_changed, without, is_parent, has_room_below, chain_fault}
 use Rattle.pol_text.specs.Change.{with_parent, with_secret, with_priv, with_rule_at}
@@ -51,7 +51,7 @@ added_to policy kind name parent =
     else if is_some (find_subject (record { kind = kind; name = name }) policy)
     then Err faults.Exists
     else if not (all_of (λ name. has_room_below name policy) parent) then Err faults.TooDeep
-    else if nat_le 1024 (length policy) then Err faults.Limit
+    else if nat_le max_subjects (length policy) then Err faults.Limit
     else Ok (policy ++ new_subject kind name parent ∷ [])
 
 -- a group that is a parent stays
@@ -90,7 +90,7 @@ unfoldable pub inserted_in : List Subject → SubjectId → ℕ → Verdict → 
     → Result (List Subject) EditFault
 inserted_in policy id at verdict text = present id policy >>= λ subject.
     if not (is_number at (length subject.rules + 1)) then Err faults.BadIndex
-    else (pattern_read (pattern_of text) >>= λ pattern. if nat_le 256 (length subject.rules)
+    else (pattern_read (pattern_of text) >>= λ pattern. if nat_le max_rules (length subject.rules)
     then Err faults.Limit
     else Ok (with_changed id
     (with_rule_at (at - 1) (record { verdict = verdict; pattern = pattern })) policy))
@@ -117,7 +117,7 @@ applied policy (SetLogin user secret) =
 applied policy (SetEnable user secret) =
     set_in policy (user_id user) (all_of is_secret secret) (with_secret Enable secret)
 applied policy (SetPriv subject level) =
-    set_in policy subject (all_of (λ n. nat_le n 15) level) (with_priv level)
+    set_in policy subject (all_of (λ n. nat_le n max_level) level) (with_priv level)
 applied policy (InsertRule subject at verdict pattern) =
     inserted_in policy subject at verdict pattern
 applied policy (RemoveRule subject at) = dropped_in policy subject at
