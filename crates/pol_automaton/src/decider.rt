@@ -13,7 +13,7 @@ ghost use Rattle.pol_automaton.specs.Alike.{IsClassCount};
 use crate::entries::Entries;
 use crate::fault::DeciderFault;
 use crate::meter::Meter;
-use pol_pattern::{Pattern, match_law};
+use pol_pattern::Pattern;
 use pol_scan::{Alphabet, Automaton, StateNumber, Table, scan};
 use std::alloc::{AllocError, Global};
 use std::marker::Model;
@@ -121,8 +121,6 @@ impl Decider {
         // What a pattern holds is what the test of definitions says.
         ensures law { MatchLaw }
     {
-        // the call is for its clause
-        match_law();
         let Some(state) = self.table.run_text(&self.alphabet, text) else {
             return None;
         };
