@@ -16,6 +16,7 @@ use Rattle.pol_text.specs.declared.subject.Subject.{Subject}
 use Rattle.pol_names.specs.declared.decision.Decision.{Decision}
 use Rattle.pol_names.specs.declared.decision.By.{By}
 use Rattle.tac_authen.specs.declared.start.Service.{Service}
+use Rattle.tac_authen.specs.Start.{authen_svc_enable}
 use Rattle.tac_request.specs.declared.record.Record.{Record}
 use Rattle.tac_conn.specs.declared.ask.Proof.{Proof}
 use Rattle.tac_conn.specs.declared.ask.Proof.TheVariants.{Plain, Chap}
@@ -34,7 +35,7 @@ user_named policy text = option_and_then (λ name. find_subject (user_id name) p
 
 -- what a user proves to know: ENABLE asks for another secret than all other services
 abbrev pub secret_for : Service → Subject → Option (List ℕ)
-secret_for service user = if service.0 == 2 then user.enable else user.login
+secret_for service user = if service.0 == authen_svc_enable then user.enable else user.login
 
 -- the password itself, or the response that it gives to the challenge (RFC 1994)
 abbrev pub is_proof_of : List ℕ → Proof → Bool
