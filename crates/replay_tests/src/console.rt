@@ -66,6 +66,50 @@ fn a_rule_put_before_another(rt: HostRuntime) -> Result<(), Fail> {
         packet 1 c0020100.00000001.00000036.06010101030400030d080f'bobtty0service=shellcmd=showcmd-arg=version'
         reply 1 c0020200.00000001.00000006.010000000000
         closed 1
+
+        # Packets are answered by the present policy while a batch is open.
+        > begin
+        ok
+        > insert group ops 1 deny show .*
+        kept 1
+        > login bob secret
+        kept 2
+        packet 1 c0020100.00000001.00000036.06010101030400030d080f'bobtty0service=shellcmd=showcmd-arg=version'
+        reply 1 c0020200.00000001.00000006.010000000000
+        closed 1
+        open 1
+        packet 1 c0010100.00000001.0000000c.0101010100040000'tty0'
+        reply 1 c0010200.00000001.00000010.0400000a0000'Username: '
+        packet 1 c0010300.00000001.00000008.0003000000'bob'
+        reply 1 c0010400.00000001.00000010.0501000a0000'Password: '
+        packet 1 c0010500.00000001.0000000b.0006000000'secret'
+        reply 1 c0010600.00000001.0000001b.020000150000'Authentication failed'
+        closed 1
+        open 1
+        packet 1 c0030100.00000001.00000051.040601010103040005.090f0d080f'bobtty0task_id=7elapsed_time=12service=shellcmd=showcmd-arg=version'
+        reply 1 c0030200.00000001.00000005.0000000001
+        closed 1
+        > tally user bob
+        tally user bob starts 0 stops 1 watchdogs 0 updates 0 open 0 elapsed 12 drift 0
+        open 1
+        open 2
+        lost 2
+        > commit
+        ok
+        user bob now denies: show 
+        > tally user bob
+        tally user bob starts 0 stops 1 watchdogs 0 updates 0 open 0 elapsed 12 drift 1
+        packet 1 c0020100.00000001.00000036.06010101030400030d080f'bobtty0service=shellcmd=showcmd-arg=version'
+        reply 1 c0020200.00000001.00000020.1000001a0000'denied by group ops rule 1'
+        closed 1
+        open 1
+        packet 1 c0010100.00000001.0000000c.0101010100040000'tty0'
+        reply 1 c0010200.00000001.00000010.0400000a0000'Username: '
+        packet 1 c0010300.00000001.00000008.0003000000'bob'
+        reply 1 c0010400.00000001.00000010.0501000a0000'Password: '
+        packet 1 c0010500.00000001.0000000b.0006000000'secret'
+        reply 1 c0010600.00000001.00000006.010000000000
+        closed 1
         ",
     )
 }
@@ -182,6 +226,9 @@ fn lines_that_ask_nothing(rt: HostRuntime) -> Result<(), Fail> {
         "console policy",
         "packet 1 00",
         "open 2",
+        "begin ",
+        " commit",
+        "abandon all",
     ];
     for line in &lines {
         plays(

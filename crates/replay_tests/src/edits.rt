@@ -1,6 +1,6 @@
-//! What edits at the console are answered: each refusal of each edit, and what it leaves.
+//! What edits at the console are answered, alone and in batches: each refusal, and what it leaves.
 
-use crate::support::{converses, plays};
+use crate::support::{OPS, converses, plays};
 use std::fmt::Write;
 use std::test::Fail;
 
@@ -199,4 +199,151 @@ fn at_the_limits(rt: HostRuntime) -> Result<(), Fail> {
         &[script.as_str()],
         "refused 10 Limit\nrefused 10 Limit\ndenied by default\nok\nok\nok\nok\n",
     )
+}
+
+#[test]
+fn batches(rt: HostRuntime) -> Result<(), Fail> {
+    converses(
+        &rt,
+        OPS,
+        "
+        > begin
+        ok
+        > commit
+        ok
+
+        > begin
+        ok
+        > insert group ops 1 deny show .*
+        kept 1
+        > drop group ops 1
+        kept 2
+        > commit
+        ok
+
+        > begin
+        ok
+        > add group net
+        kept 1
+        > insert group net 1 permit ping
+        kept 2
+        > move user bob in net
+        kept 3
+        > commit
+        ok
+        user bob now permits: ping
+        user bob now denies: show 
+        > policy
+        group ops
+        permit show .*
+        user bob in net
+        group net
+        permit ping
+
+        # A policy in between may be too large.
+        > begin
+        ok
+        > insert group ops 1 deny .*a............
+        kept 1
+        > drop group ops 1
+        kept 2
+        > commit
+        ok
+
+        > begin
+        ok
+        > insert group ops 1 deny show .*
+        kept 1
+        > abandon
+        ok
+        > why bob show x
+        permitted by group ops rule 1
+        > commit
+        refused 1 BadEdit
+        ",
+    )
+}
+
+#[test]
+fn refused_batches(rt: HostRuntime) -> Result<(), Fail> {
+    converses(
+        &rt,
+        OPS,
+        "
+        > commit
+        refused 1 BadEdit
+        > begin
+        ok
+        # Lines that are no edits aren't kept, and leave the batch.
+        > begin
+        refused 1 BadEdit
+        > nonsense
+        refused 1 BadEdit
+        > add group net
+        kept 1
+        > reach group net
+        refused 2 NoSuch
+        > login bob
+        refused 1 BadEdit
+        > login bob 
+        kept 2
+        > commit
+        refused at edit 2: 9 BadValue
+        > abandon
+        refused 1 BadEdit
+        > policy
+        group ops
+        permit show .*
+        user bob in ops
+
+        > begin
+        ok
+        > add group net
+        kept 1
+        > drop group ops 2
+        kept 2
+        > insert group none 1 permit *
+        kept 3
+        > commit
+        refused at edit 2: 7 BadIndex
+        > remove group net
+        refused 2 NoSuch
+
+        # The form of a refusal goes by the line.
+        > begin
+        ok
+        > drop group ops 2
+        kept 1
+        > commit
+        refused at edit 1: 7 BadIndex
+        > drop group ops 2
+        refused 7 BadIndex
+
+        > begin
+        ok
+        > insert group ops 1 deny .*a............
+        kept 1
+        > add group z
+        kept 2
+        > commit
+        refused 11 TooManyStates group ops
+        > remove group z
+        refused 2 NoSuch
+        ",
+    )
+}
+
+#[test]
+fn a_batch_of_64(rt: HostRuntime) -> Result<(), Fail> {
+    let mut script = String::from_str(rt.alloc(), "key k\nrun\nconsole begin\n")?;
+    let mut output = String::from_str(rt.alloc(), "ok\n")?;
+    for number in 1..65 {
+        writeln!(script, "console add group a{number}")?;
+        writeln!(output, "kept {number}")?;
+    }
+    script.push_str("console add group b\nconsole reach group a1\nconsole commit\n")?;
+    output.push_str("refused 10 Limit\nrefused 2 NoSuch\nok\n")?;
+    script.push_str("console reach group a64\nconsole reach group b\n")?;
+    output.push_str("none\nrefused 2 NoSuch\n")?;
+    plays(&rt, &[script.as_str()], output.as_str())
 }

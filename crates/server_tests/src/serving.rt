@@ -97,15 +97,32 @@ fn want_of_memory_on_a_connection(rt: HostRuntime) -> Result<(), Fail> {
         > open 1
         > hand 1 c0020104.00000001.00000036.06010101030400030d080f'bobtty0service=shellcmd=showcmd-arg=version'
         < c0020204.00000001.00000012.1000000c0000'unknown user'
-        # Memory is wanted for records alone.
+        # Memory is wanted for records alone. After it, no batch is open at the console.
+        > begin
+        ok
+        > add group net
+        kept 1
         > tally user bob
         memory
+        > commit
+        refused 1 BadEdit
         > why bob show version
         unknown user
+        # On a connection it leaves the batch open, and so do events.
+        > begin
+        ok
         > hand 2 c0030104.00000002.0000001a.0a060101010304000109'bobtty0task_id=7'
         memory
         > hand 2
         no connection
+        > open 2
+        > lost 2
+        > add group net
+        kept 1
+        > commit
+        memory
+        > abandon
+        refused 1 BadEdit
         > records
         record 1 user bob update task 7 elapsed 0
         ",
@@ -148,6 +165,46 @@ fn want_of_memory_at_the_console(rt: HostRuntime) -> Result<(), Fail> {
         > shadow
         shadowed in group ops: group ops rule 2
         shadowed in user bob: group ops rule 2
+        ",
+    )
+}
+
+#[test]
+fn want_of_memory_for_a_batch(rt: HostRuntime) -> Result<(), Fail> {
+    let desk = faltering(rt.alloc(), OPS, 0)?;
+    converses(
+        &rt,
+        desk,
+        "
+        > open 1
+        > begin
+        ok
+        > insert group ops 1 deny show .*
+        kept 1
+        # No packet and no question sees what is kept.
+        > hand 1 c0020104.00000001.00000036.06010101030400030d080f'bobtty0service=shellcmd=showcmd-arg=version'
+        < c0020204.00000001.00000006.010000000000
+        > why bob show version
+        permitted by group ops rule 1
+        # The batch isn't made, and is gone.
+        > commit
+        memory
+        > commit
+        refused 1 BadEdit
+        > policy
+        group ops
+        permit show .*
+        user bob in ops
+        # It can be made later.
+        > begin
+        ok
+        > insert group ops 1 deny show .*
+        kept 1
+        > commit
+        ok
+        user bob now denies: show\u{20}
+        > hand 1 c0020104.00000001.00000036.06010101030400030d080f'bobtty0service=shellcmd=showcmd-arg=version'
+        < c0020204.00000001.00000020.1000001a0000'denied by group ops rule 1'
         ",
     )
 }
