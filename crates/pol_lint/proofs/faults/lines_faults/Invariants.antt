@@ -1,0 +1,12 @@
+use Rattle.std.proofs.Common.{◌≡◌, ◌++◌, None, length}
+use Rattle.basics.specs.Lines.{lines_of}
+use Rattle.pol_lint.specs.Faults as faults
+use Rattle.pol_lint.proofs.faults.lines_faults.Given as goal
+
+-- what was told so far, and then what is told of the lines that are left, is what is told of all
+abbrev pub invariant-lines : goal.invariant-lines
+invariant-lines l =
+    l.remarks ++ faults.lines_faults l.present l.lines.number l.lines.lines ≡ faults.lines_faults None 1 (lines_of l.text)
+
+abbrev pub decreases-lines : goal.decreases-lines
+decreases-lines l = length l.lines.lines

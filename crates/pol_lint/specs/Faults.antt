@@ -1,0 +1,139 @@
+-- What keeps the lines of a text from being a policy's (docs/REVIEW.md). Each line is judged by
+-- itself: as the only one, or as the second, after one that begins a subject.
+use Rattle.std.specs.Prelude.{ℕ, ◌+◌, List, [], ◌∷◌, ◌++◌, ◌==◌, drop, map, codes, Bool, true, false}
+use Rattle.std.specs.Prelude.{not, ◌&&◌, Option, Some, None, Result, Ok, Err, if◌then◌else◌}
+use Rattle.std.specs.Char.{to_ascii_lowercase}
+use Rattle.std.specs.Str.{is_utf8}
+use Rattle.basics.specs.Symbol.{is_symbol, is_text}
+use Rattle.basics.specs.Lines.{without_leading_spaces}
+use Rattle.pol_names.specs.declared.subject_id.Kind.{Kind}
+use Rattle.pol_names.specs.declared.subject_id.Kind.TheVariants.{Group, User}
+use Rattle.pol_pattern.specs.declared.fault.PatternFault.{PatternFault}
+use Rattle.pol_pattern.specs.declared.fault.PatternFault.TheVariants as patterns
+use Rattle.pol_text.specs.declared.subject.Subject.{Subject}
+use Rattle.pol_text.specs.declared.fault.PolicyFault.{PolicyFault}
+use Rattle.pol_text.specs.declared.fault.PolicyFault.TheVariants as policies
+use Rattle.pol_text.specs.declared.fault.PolicyRefusal.{PolicyRefusal}
+use Rattle.pol_text.specs.declared.fault.PolicyRefusal.TheVariants.{BadName, BadPattern, BadValue}
+use Rattle.pol_text.specs.declared.fault.PolicyRefusal.TheVariants.{NoSuchParent, Cycle}
+use Rattle.pol_text.specs.Text.{policy_of}
+use Rattle.pol_lint.specs.Words.{column_of, noted, begins, words_in, keyword_of}
+use Rattle.pol_lint.specs.declared.words.Keyword.{Keyword}
+use Rattle.pol_lint.specs.declared.words.Keyword.TheVariants.{Opens, Nothing}
+use Rattle.pol_lint.specs.declared.finding.Finding.{Finding}
+use Rattle.pol_lint.specs.declared.finding.Finding.TheVariants.{CarriageReturn, Tab, ByteOrderMark}
+use Rattle.pol_lint.specs.declared.finding.Finding.TheVariants.{NotUtf8, NotSymbol, Capitals}
+use Rattle.pol_lint.specs.declared.finding.Finding.TheVariants.{Refused}
+use Rattle.pol_lint.specs.declared.remark.Remark.{Remark}
+
+-- ---- bytes that are no symbols
+
+-- a line from its first byte on that is no symbol
+abbrev pub from_odd : List ℕ → List ℕ
+from_odd [] = []
+from_odd (byte ∷ bytes) = if is_symbol byte then from_odd bytes else byte ∷ bytes
+
+-- what such a byte is, in the line of this number: a byte order mark begins a text
+abbrev pub odd_byte : ℕ → List ℕ → ℕ → Finding
+odd_byte number line byte =
+    if byte == 13 then CarriageReturn
+    else if byte == 9 then Tab
+    else if number == 1 && begins line (0xEF ∷ 0xBB ∷ 0xBF ∷ []) then ByteOrderMark
+    else if is_utf8 line then NotSymbol else NotUtf8
+
+abbrev pub odd_finding : ℕ → List ℕ → List ℕ → Option Finding
+odd_finding number line [] = None
+odd_finding number line (byte ∷ bytes) = Some (odd_byte number line byte)
+
+-- ---- keywords
+
+-- what a line says if its first word is read in lower case
+abbrev pub meant : List ℕ → Keyword
+meant line = keyword_of (map to_ascii_lowercase (words_in line).0)
+
+abbrev pub is_nothing : Keyword → Bool
+is_nothing Nothing = true
+is_nothing _ = false
+
+-- the first word is a keyword but for its capitals
+abbrev pub has_capitals : List ℕ → Bool
+has_capitals line = is_nothing (keyword_of (words_in line).0) && not (is_nothing (meant line))
+
+-- ---- the subject that a line is said of
+
+-- after one more line: one with odd bytes may begin a user, who may have whatever a line sets
+abbrev pub kind_by : Option Kind → Bool → Keyword → Option Kind
+kind_by present readable (Opens kind) = Some kind
+kind_by present readable _ = if readable then present else Some User
+
+abbrev pub kind_after : Option Kind → List ℕ → Option Kind
+kind_after present line = kind_by present (is_text line) (meant line)
+
+-- a line that begins such a subject; a line that begins one itself needs none before it
+abbrev pub opening_of : Option Kind → List ℕ
+opening_of None = []
+opening_of (Some Group) = codes "group x" ++ 10 ∷ []
+opening_of (Some User) = codes "user x" ++ 10 ∷ []
+
+abbrev pub opening_for : Option Kind → Keyword → List ℕ
+opening_for present (Opens kind) = []
+opening_for present _ = opening_of present
+
+-- ---- a line by itself
+
+-- a refusal for what a line says; which parents there are is no matter of one line
+abbrev pub own_refusal : PolicyRefusal → Option PolicyRefusal
+own_refusal NoSuchParent = None
+own_refusal Cycle = None
+own_refusal refusal = Some refusal
+
+abbrev pub refusal_in : Result (List Subject) PolicyFault → Option PolicyRefusal
+refusal_in (Ok policy) = None
+refusal_in (Err policies.Memory) = None
+refusal_in (Err (policies.Refused line refusal)) = own_refusal refusal
+
+abbrev pub refusal_of : Option Kind → List ℕ → Option PolicyRefusal
+refusal_of present line =
+    refusal_in (policy_of (opening_for present (keyword_of (words_in line).0) ++ line))
+
+-- how many symbols of a pattern stand before what is wrong with it
+abbrev pub place_in : PatternFault → ℕ
+place_in (patterns.Unprintable place) = place
+place_in (patterns.Unclosed place) = place
+place_in (patterns.Unopened place) = place
+place_in (patterns.NothingToRepeat place) = place
+place_in (patterns.BadClass place) = place
+place_in (patterns.BadEscape place) = place
+place_in _ = 0
+
+-- where it is: in the pattern, at what comes after the first word, or at that word
+abbrev pub refusal_column : List ℕ → PolicyRefusal → ℕ
+refusal_column line (BadPattern fault) = column_of line (drop (place_in fault) (words_in line).1)
+refusal_column line BadName = column_of line (words_in line).1
+refusal_column line BadValue = column_of line (words_in line).1
+refusal_column line _ = column_of line (without_leading_spaces line)
+
+abbrev pub refusal_remarks : ℕ → List ℕ → Option PolicyRefusal → List Remark
+refusal_remarks number line None = []
+refusal_remarks number line (Some refusal) =
+    noted number (refusal_column line refusal) (Some (Refused refusal))
+
+-- of a line of symbols
+abbrev pub text_faults : Option Kind → ℕ → List ℕ → List Remark
+text_faults present number line =
+    if has_capitals line
+    then noted number (column_of line (without_leading_spaces line)) (Some Capitals)
+    else refusal_remarks number line (refusal_of present line)
+
+-- of a line of a text, said of a subject of this kind, if of any
+abbrev pub line_faults : Option Kind → ℕ → List ℕ → List Remark
+line_faults present number line =
+    if is_text line then text_faults present number line
+    else noted number (column_of line (from_odd line)) (odd_finding number line (from_odd line))
+
+-- of these lines, of which the first has this number
+abbrev pub lines_faults : Option Kind → ℕ → List (List ℕ) → List Remark
+lines_faults present number [] = []
+lines_faults present number (line ∷ lines) =
+    line_faults present number line
+    ++ lines_faults (kind_after present line) (number + 1) lines

@@ -1,0 +1,72 @@
+-- Habits of other pattern languages: what is a symbol here and stands for something else there, and
+-- spaces that nobody sees.
+use Rattle.std.specs.Prelude.{ℕ, List, [], ◌∷◌, ◌++◌, ◌==◌, length, codes, nat_le, Bool}
+use Rattle.std.specs.Prelude.{false, not, ◌&&◌, ◌||◌, Option, Some, None, if◌then◌else◌}
+use Rattle.pol_lint.specs.Words.{column_of, noted, begins, ends}
+use Rattle.pol_lint.specs.declared.finding.Finding.{Finding}
+use Rattle.pol_lint.specs.declared.finding.Finding.TheVariants.{Caret, Dollar, Digit, WordByte}
+use Rattle.pol_lint.specs.declared.finding.Finding.TheVariants.{Space, NamedClass, Count}
+use Rattle.pol_lint.specs.declared.finding.Finding.TheVariants.{BlankBefore, BlankAfter}
+use Rattle.pol_lint.specs.declared.remark.Remark.{Remark}
+
+abbrev pub is_digit : ℕ → Bool
+is_digit byte = nat_le 48 byte && nat_le byte 57
+
+-- digits and commas up to a `}`
+abbrev pub ends_count : List ℕ → Bool
+ends_count [] = false
+ends_count (byte ∷ rest) =
+    if is_digit byte || byte == 44 then ends_count rest else byte == 125
+
+-- `{1,3}`: a brace, a digit, and what ends such a count
+abbrev pub is_count : List ℕ → Bool
+is_count [] = false
+is_count (brace ∷ []) = false
+is_count (brace ∷ digit ∷ rest) = (brace == 123 && is_digit digit) && ends_count rest
+
+-- `\d`, `\w`, `\s`, `[[:alpha:]]` and `{1,3}`, where a pattern has one from here on
+abbrev pub habit_of : List ℕ → Option Finding
+habit_of rest =
+    if begins rest (codes "\\d") then Some Digit
+    else if begins rest (codes "\\w") then Some WordByte
+    else if begins rest (codes "\\s") then Some Space
+    else if begins rest (codes "[[:") then Some NamedClass
+    else if is_count rest then Some Count
+    else None
+
+-- such habits in this end of a line; a symbol behind a `\` is no beginning of one
+abbrev pub habits_within : ℕ → List ℕ → Bool → List ℕ → List Remark
+habits_within number line escaped [] = []
+habits_within number line escaped (byte ∷ rest) =
+    noted number (column_of line (byte ∷ rest))
+    (if escaped then None else habit_of (byte ∷ rest))
+    ++ habits_within number line (not escaped && byte == 92) rest
+
+-- a secret or a pattern that begins with a space, or ends with one
+abbrev pub blank_before : List ℕ → Option Finding
+blank_before text = if begins text (codes " ") then Some BlankBefore else None
+
+abbrev pub blank_after : List ℕ → Option Finding
+blank_after text = if ends text (codes " ") then Some BlankAfter else None
+
+-- `^` at a pattern's beginning
+abbrev pub first_habit : List ℕ → Option Finding
+first_habit pattern = if begins pattern (codes "^") then Some Caret else blank_before pattern
+
+-- `$` at its end, unless a `\` says that it is meant
+abbrev pub last_habit : List ℕ → Option Finding
+last_habit pattern =
+    if ends pattern (codes "$") && not (ends pattern (codes "\\$")) then Some Dollar
+    else blank_after pattern
+
+-- all habits of the pattern, or the secret, at the end of a line
+abbrev pub pattern_habits : ℕ → List ℕ → List ℕ → List Remark
+pattern_habits number line pattern =
+    noted number (column_of line pattern) (first_habit pattern)
+    ++ habits_within number line false pattern
+    ++ noted number (length line) (last_habit pattern)
+
+abbrev pub secret_habits : ℕ → List ℕ → List ℕ → List Remark
+secret_habits number line secret =
+    noted number (column_of line secret) (blank_before secret)
+    ++ noted number (length line) (blank_after secret)

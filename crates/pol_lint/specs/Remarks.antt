@@ -1,0 +1,155 @@
+-- What is right in a policy and probably not meant (docs/REVIEW.md).
+use Rattle.std.specs.Prelude.{ℕ, ◌+◌, ◌-◌, ◌^◌, List, [], ◌∷◌, ◌++◌, ◌==◌, length, codes, nat_eq, min, Bool, true}
+use Rattle.std.specs.Prelude.{not, is_some, ◌&&◌, ◌||◌, Option, Some, None, option_map}
+use Rattle.std.specs.Prelude.{if◌then◌else◌}
+use Rattle.std.specs.Option.{option_map_or}
+use Rattle.std.specs.List.{list_any}
+use Rattle.std.specs.Str.{bytes_eq}
+use Rattle.basics.specs.Lines.{lines_of}
+use Rattle.pol_names.specs.Name.{name_of}
+use Rattle.pol_names.specs.SubjectId.{same_id}
+use Rattle.pol_names.specs.declared.subject_id.Kind.{Kind}
+use Rattle.pol_names.specs.declared.subject_id.Kind.TheVariants.{Group, User}
+use Rattle.pol_names.specs.declared.subject_id.SubjectId.{SubjectId}
+use Rattle.pol_text.specs.declared.subject.Subject.{Subject}
+use Rattle.pol_text.specs.Policy.{find_subject}
+use Rattle.pol_text.specs.Change.{is_parent}
+use Rattle.pol_meaning.specs.declared.Shadowed.{Shadowed}
+use Rattle.pol_lint.specs.Words.{column_of, noted, ends, words_of, words_in, keyword_of}
+use Rattle.pol_lint.specs.Habits.{pattern_habits, secret_habits}
+use Rattle.pol_lint.specs.declared.words.Keyword.{Keyword}
+use Rattle.pol_lint.specs.declared.words.Keyword.TheVariants.{Opens, Secret, Rule}
+use Rattle.pol_lint.specs.declared.finding.Finding.{Finding}
+use Rattle.pol_lint.specs.declared.finding.Finding.TheVariants.{NoEnd, NoEnds, NoSubjects}
+use Rattle.pol_lint.specs.declared.finding.Finding.TheVariants.{NoMembers, NoLogin}
+use Rattle.pol_lint.specs.declared.finding.Finding.TheVariants as findings
+use Rattle.pol_lint.specs.declared.remark.Remark.{Remark}
+use Rattle.pol_lint.specs.declared.remarks.Present.{Present}
+
+-- ---- the word `<cr>` that ends a line
+
+-- the pattern ends in ` <cr>`, which may stand in parentheses
+abbrev pub names_end : List ℕ → Bool
+names_end pattern =
+    ends pattern (codes " <cr>") || ends pattern (codes " <cr>)") || ends pattern (codes " <cr>)?")
+
+-- the pattern ends in `.*` or `.+`, which may stand in parentheses: so it fits ` <cr>` too
+abbrev pub leaves_end_open : List ℕ → Bool
+leaves_end_open pattern =
+    ends pattern (codes ".*") || ends pattern (codes ".*)") || ends pattern (codes ".*)?")
+    || ends pattern (codes ".+") || ends pattern (codes ".+)") || ends pattern (codes ".+)?")
+
+-- the pattern of a shell, whose line is empty
+abbrev pub is_shell : List ℕ → Bool
+is_shell pattern = bytes_eq pattern [] || bytes_eq pattern (codes "()")
+
+-- the pattern fits a line without ` <cr>` alone
+abbrev pub lacks_end : List ℕ → Bool
+lacks_end pattern = not (names_end pattern || leaves_end_open pattern || is_shell pattern)
+
+-- whether the pattern of any rule passes the test
+abbrev pub any_pattern : (List ℕ → Bool) → List Subject → Bool
+any_pattern test policy =
+    list_any (λ subject. list_any (λ rule. test rule.pattern) subject.rules) policy
+
+-- ---- the whole policy
+
+-- no subjects; or rules that lack ` <cr>`, and none that has it
+abbrev pub policy_finding : List Subject → Option Finding
+policy_finding policy =
+    if length policy == 0 then Some NoSubjects
+    else if not (any_pattern names_end policy) && any_pattern lacks_end policy then Some NoEnds
+    else None
+
+-- ---- lines
+
+-- the name of the subject that a line begins
+abbrev pub name_in : List ℕ → Option (List ℕ)
+name_in rest = name_of (words_of rest).0
+
+abbrev pub opened : Kind → List ℕ → Option Present
+opened kind rest =
+    option_map (λ name. record { owner = record { kind = kind; name = name }; rules = 0 })
+    (name_in rest)
+
+-- one rule more, as far as there are numbers of rules
+abbrev pub with_rule : Option Present → Option Present
+with_rule None = None
+with_rule (Some present) =
+    Some (record { owner = present.owner; rules = min (present.rules + 1) (2 ^ 16 - 1) })
+
+-- the present subject and how many rules it has so far, after one more line
+abbrev pub after : Option Present → Keyword → List ℕ → Option Present
+after present (Opens kind) rest = opened kind rest
+after present Rule rest = with_rule present
+after present _ rest = present
+
+abbrev pub can_log_in : List Subject → SubjectId → Bool
+can_log_in policy user = option_map_or (λ user. is_some user.login) (find_subject user policy) true
+
+-- a group that is nobody's parent, or a user without a login
+abbrev pub lacks : List Subject → Kind → SubjectId → Option Finding
+lacks policy Group id = if is_parent id.name policy then None else Some NoMembers
+lacks policy User id = if can_log_in policy id then None else Some NoLogin
+
+abbrev pub subject_finding : List Subject → Option Present → Option Finding
+subject_finding policy None = None
+subject_finding policy (Some present) = lacks policy present.owner.kind present.owner
+
+-- the owner's rule of this number decides no line of the owner, and so of nobody
+abbrev pub is_shadowed : List Shadowed → Present → Bool
+is_shadowed rows present =
+    list_any (λ row. (same_id row.subject present.owner && same_id row.owner present.owner)
+    && nat_eq row.number present.rules) rows
+
+abbrev pub shadow_finding : List Shadowed → Option Present → Option Finding
+shadow_finding rows None = None
+shadow_finding rows (Some present) =
+    if is_shadowed rows present then Some findings.Shadowed else None
+
+abbrev pub end_finding : Bool → List ℕ → Option Finding
+end_finding others pattern = if others && lacks_end pattern then Some NoEnd else None
+
+-- of a rule: its pattern's habits, whether it lacks ` <cr>` where others have it, and whether it
+-- decides nothing
+abbrev pub rule_remarks : Bool → List Shadowed → Option Present → ℕ → List ℕ → List ℕ → List Remark
+rule_remarks others rows present number line pattern =
+    pattern_habits number line pattern
+    ++ noted number (length line + 1) (end_finding others pattern)
+    ++ noted number (column_of line pattern) (shadow_finding rows present)
+
+-- of a line whose first word says this, and what comes after it
+abbrev pub remarks_by : List Subject → Bool → List Shadowed → Option Present → ℕ → List ℕ
+    → Keyword → List ℕ → List Remark
+remarks_by policy others rows present number line (Opens kind) rest =
+    noted number (column_of line rest) (subject_finding policy present)
+remarks_by policy others rows present number line Secret rest = secret_habits number line rest
+remarks_by policy others rows present number line Rule rest =
+    rule_remarks others rows present number line rest
+remarks_by policy others rows present number line _ rest = []
+
+-- of a line, after which this subject is the present one
+abbrev pub line_remarks : List Subject → Bool → List Shadowed → Option Present → ℕ → List ℕ
+    → List Remark
+line_remarks policy others rows present number line =
+    remarks_by policy others rows present number line
+    (keyword_of (words_in line).0) (words_in line).1
+
+-- the present subject after a line
+abbrev pub after_line : Option Present → List ℕ → Option Present
+after_line present line = after present (keyword_of (words_in line).0) (words_in line).1
+
+-- of these lines, of which the first has this number
+abbrev pub lines_remarks : List Subject → Bool → List Shadowed → Option Present → ℕ
+    → List (List ℕ) → List Remark
+lines_remarks policy others rows present number [] = []
+lines_remarks policy others rows present number (line ∷ lines) =
+    line_remarks policy others rows (after_line present line) number line
+    ++ lines_remarks policy others rows (after_line present line) (number + 1) lines
+
+-- what is told of a policy, of whose rules these decide nothing: first of the whole, and then of
+-- the lines of its text
+abbrev pub policy_remarks : List ℕ → List Subject → List Shadowed → List Remark
+policy_remarks text policy rows =
+    noted 1 1 (policy_finding policy)
+    ++ lines_remarks policy (any_pattern names_end policy) rows None 1 (lines_of text)

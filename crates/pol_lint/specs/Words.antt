@@ -1,0 +1,46 @@
+-- The words of a policy's lines, and the places in a line.
+use Rattle.std.specs.Prelude.{ℕ, ◌+◌, ◌-◌, List, [], ◌∷◌, length, codes, nat_eq, Bool, ◌||◌}
+use Rattle.std.specs.Prelude.{Option, Some, None, if◌then◌else◌}
+use Rattle.std.specs.Option.{option_map_or}
+use Rattle.std.specs.List.{starts_with, ends_with}
+use Rattle.std.specs.Str.{bytes_eq}
+use Rattle.basics.specs.Lines.{split_at_first, without_leading_spaces}
+use Rattle.pol_names.specs.declared.subject_id.Kind.TheVariants.{Group, User}
+use Rattle.pol_lint.specs.declared.words.Keyword.{Keyword}
+use Rattle.pol_lint.specs.declared.words.Keyword.TheVariants.{Opens, Secret, Level, Rule, Nothing}
+use Rattle.pol_lint.specs.declared.finding.Finding.{Finding}
+use Rattle.pol_lint.specs.declared.remark.Remark.{Remark}
+
+-- the column, counted from 1, at which this end of a line begins
+abbrev pub column_of : List ℕ → List ℕ → ℕ
+column_of line end = length line - length end + 1
+
+-- what is told at a place, if anything is
+abbrev pub noted : ℕ → ℕ → Option Finding → List Remark
+noted line column None = []
+noted line column (Some finding) =
+    record { line = line; column = column; finding = finding } ∷ []
+
+abbrev pub begins : List ℕ → List ℕ → Bool
+begins text start = starts_with nat_eq text start
+
+abbrev pub ends : List ℕ → List ℕ → Bool
+ends text end = ends_with nat_eq text end
+
+-- the first word of a text, and what comes after the space behind it
+abbrev pub words_of : List ℕ → List ℕ × List ℕ
+words_of text = option_map_or (λ parts. parts) (split_at_first 32 text) (text, [])
+
+-- the same of a line, without the spaces that it begins with
+abbrev pub words_in : List ℕ → List ℕ × List ℕ
+words_in line = words_of (without_leading_spaces line)
+
+-- what a line says by its first word
+abbrev pub keyword_of : List ℕ → Keyword
+keyword_of word =
+    if bytes_eq word (codes "group") then Opens Group
+    else if bytes_eq word (codes "user") then Opens User
+    else if bytes_eq word (codes "login") || bytes_eq word (codes "enable") then Secret
+    else if bytes_eq word (codes "priv") then Level
+    else if bytes_eq word (codes "permit") || bytes_eq word (codes "deny") then Rule
+    else Nothing

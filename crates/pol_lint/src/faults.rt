@@ -1,0 +1,239 @@
+//! What keeps the lines of a text from being a policy's.
+
+ghost use Rattle.std.specs.Prelude.{◌≡◌, ◌++◌, [], drop, None, IfOk, OnOk};
+ghost use Rattle.std.specs.Str.{is_utf8 as utf8_test};
+ghost use Rattle.basics.specs.Lines.{lines_of};
+ghost use Rattle.pol_lint.specs.Faults as faults;
+
+use crate::finding::Finding;
+use crate::remark::{Remark, column_of, note};
+use crate::words::{Keyword, keyword_of, words_in};
+use basics::{Lines, Sequence, is_symbol, is_text, without_leading_spaces};
+use pol_names::Kind;
+use pol_pattern::PatternFault;
+use pol_text::{Policy, PolicyFault, PolicyRefusal};
+use std::alloc::{AllocError, Global};
+use std::str;
+
+// The line from its first byte on that is no symbol.
+fn from_odd(line: &[u8]) -> &[u8]
+    ensures { result.now ≡ faults.from_odd line.now }
+{
+    let mut rest = line;
+    while let [byte, after @ ..] = rest {
+        if !is_symbol(*byte) {
+            return rest;
+        }
+        rest = after;
+    }
+    rest
+}
+
+fn is_utf8(line: &[u8]) -> bool
+    ensures { result ≡ utf8_test line.now }
+{
+    str::from_utf8(line).is_ok()
+}
+
+fn odd_byte(number: usize, line: &[u8], byte: u8) -> Finding
+    ensures { result ≡ faults.odd_byte number line.now byte }
+{
+    if byte == b'\r' {
+        return Finding::CarriageReturn;
+    }
+    if byte == b'\t' {
+        return Finding::Tab;
+    }
+    if number == 1 && line.starts_with(b"\xEF\xBB\xBF") {
+        return Finding::ByteOrderMark;
+    }
+    if is_utf8(line) {
+        Finding::NotSymbol
+    } else {
+        Finding::NotUtf8
+    }
+}
+
+fn odd_finding(number: usize, line: &[u8], rest: &[u8]) -> Option<Finding>
+    ensures { result ≡ faults.odd_finding number line.now rest.now }
+{
+    match rest {
+        [byte, ..] => Some(odd_byte(number, line, *byte)),
+        [] => None,
+    }
+}
+
+// What a line says if its first word is read in lower case.
+fn meant(alloc: Global, line: &[u8]) -> Result<Keyword, AllocError>
+    ensures { IfOk result (λ says. says ≡ faults.meant line.now) }
+{
+    let (word, _) = words_in(line);
+    let word = word.to_ascii_lowercase(alloc)?;
+    Ok(keyword_of(word.as_slice()))
+}
+
+fn is_nothing(says: Keyword) -> bool
+    ensures { result ≡ faults.is_nothing says }
+{
+    matches!(says, Keyword::Nothing)
+}
+
+// Whether the first word is a keyword but for its capitals.
+fn has_capitals(alloc: Global, line: &[u8]) -> Result<bool, AllocError>
+    ensures { IfOk result (λ capitals. capitals ≡ faults.has_capitals line.now) }
+{
+    let (word, _) = words_in(line);
+    let lower = meant(alloc, line)?;
+    Ok(is_nothing(keyword_of(word)) && !is_nothing(lower))
+}
+
+// The kind of the present subject after one more line.
+fn kind_after(alloc: Global, present: Option<Kind>, line: &[u8]) -> Result<Option<Kind>, AllocError>
+    ensures { IfOk result (λ next. next ≡ faults.kind_after present line.now) }
+{
+    match meant(alloc, line)? {
+        Keyword::Opens(kind) => Ok(Some(kind)),
+        _ if is_text(line) => Ok(present),
+        _ => Ok(Some(Kind::User)),
+    }
+}
+
+// A line that begins such a subject, if the line that says this needs one before it.
+fn opening(present: Option<Kind>, says: Keyword) -> &'static str
+    ensures { result.now ≡ faults.opening_for present says }
+{
+    match (says, present) {
+        (Keyword::Opens(_), _) | (_, None) => "",
+        (_, Some(Kind::Group)) => "group x\n",
+        (_, Some(Kind::User)) => "user x\n",
+    }
+}
+
+fn own_refusal(refusal: PolicyRefusal) -> Option<PolicyRefusal>
+    ensures { result ≡ faults.own_refusal refusal }
+{
+    match refusal {
+        PolicyRefusal::NoSuchParent | PolicyRefusal::Cycle => None,
+        refusal => Some(refusal),
+    }
+}
+
+// What a line by itself is refused for.
+fn refusal_of(
+    alloc: Global,
+    present: Option<Kind>,
+    line: &[u8],
+) -> Result<Option<PolicyRefusal>, AllocError>
+    ensures { IfOk result (λ refusal. refusal ≡ faults.refusal_of present line.now) }
+{
+    let (word, _) = words_in(line);
+    let mut text = Vec::new(alloc);
+    text.extend_from_slice(opening(present, keyword_of(word)).as_bytes())?;
+    text.extend_from_slice(line)?;
+    match Policy::read(alloc, text.as_slice()) {
+        Ok(_) => Ok(None),
+        Err(PolicyFault::Refused { refusal, .. }) => Ok(own_refusal(refusal)),
+        Err(PolicyFault::Memory) => Err(AllocError),
+    }
+}
+
+// How many symbols of a pattern stand before what is wrong with it.
+fn place_in(fault: PatternFault) -> usize
+    ensures { result ≡ faults.place_in fault }
+{
+    match fault {
+        PatternFault::Unprintable(place)
+        | PatternFault::Unclosed(place)
+        | PatternFault::Unopened(place)
+        | PatternFault::NothingToRepeat(place)
+        | PatternFault::BadClass(place)
+        | PatternFault::BadEscape(place) => place,
+        PatternFault::TooLong
+        | PatternFault::TooDeep
+        | PatternFault::TooLarge
+        | PatternFault::Memory => 0,
+    }
+}
+
+// What comes after so many bytes.
+fn behind(text: &[u8], count: usize) -> &[u8]
+    ensures { result.now ≡ drop count text.now }
+{
+    if count <= text.len() {
+        &text[count..]
+    } else {
+        &[]
+    }
+}
+
+fn refusal_column(line: &[u8], refusal: PolicyRefusal) -> usize
+    ensures { result ≡ faults.refusal_column line.now refusal }
+{
+    let (_, rest) = words_in(line);
+    match refusal {
+        PolicyRefusal::BadPattern(fault) => column_of(line, behind(rest, place_in(fault))),
+        PolicyRefusal::BadName | PolicyRefusal::BadValue => column_of(line, rest),
+        _ => column_of(line, without_leading_spaces(line)),
+    }
+}
+
+// Adds what a line of symbols is refused for by itself.
+fn note_refusal(
+    alloc: Global,
+    remarks: &mut Sequence<Remark>,
+    present: Option<Kind>,
+    number: usize,
+    line: &[u8],
+) -> Result<(), AllocError>
+    ensures { OnOk result (remarks.new ≡ remarks.old
+        ++ faults.refusal_remarks number line.now (faults.refusal_of present line.now)) }
+{
+    match refusal_of(alloc, present, line)? {
+        Some(refusal) => {
+            let column = refusal_column(line, refusal);
+            note(remarks, number, column, Some(Finding::Refused(refusal)))
+        }
+        None => Ok(()),
+    }
+}
+
+// Adds what is wrong with a line by itself.
+fn note_line(
+    alloc: Global,
+    remarks: &mut Sequence<Remark>,
+    present: Option<Kind>,
+    number: usize,
+    line: &[u8],
+) -> Result<(), AllocError>
+    ensures { OnOk result
+        (remarks.new ≡ remarks.old ++ faults.line_faults present number line.now) }
+{
+    if !is_text(line) {
+        let odd = from_odd(line);
+        return note(
+            remarks,
+            number,
+            column_of(line, odd),
+            odd_finding(number, line, odd),
+        );
+    }
+    if has_capitals(alloc, line)? {
+        let column = column_of(line, without_leading_spaces(line));
+        return note(remarks, number, column, Some(Finding::Capitals));
+    }
+    note_refusal(alloc, remarks, present, number, line)
+}
+
+/// What is wrong with the lines of a text, each by itself.
+pub(crate) fn lines_faults(alloc: Global, text: &[u8]) -> Result<Sequence<Remark>, AllocError>
+    ensures { IfOk result (λ remarks. remarks ≡ faults.lines_faults None 1 (lines_of text.now)) }
+{
+    let mut remarks = Sequence::new(alloc);
+    let mut present = None;
+    let mut lines = Lines::new(text);
+    'lines: while let Some((number, line)) = lines.take_line() {
+        note_line(alloc, &mut remarks, present, number, line)?;
+        present = kind_after(alloc, present, line)?;
+    }
+    Ok(remarks)
+}

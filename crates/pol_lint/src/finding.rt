@@ -1,0 +1,141 @@
+//! What is told of a policy's text.
+
+ghost use Rattle.std.specs.Prelude.{Some};
+ghost use Rattle.pol_lint.specs.FindingText.{finding_text};
+
+use pol_names::Name;
+use pol_text::PolicyRefusal;
+use std::fmt;
+
+/// What is right and probably not meant, or what keeps a text from being a policy.
+#[derive(Clone, Copy, Debug, PartialEq, Eq)]
+pub enum Finding {
+    /// A pattern begins with `^`.
+    Caret,
+    /// A pattern ends with `$`.
+    Dollar,
+    /// A pattern has `\d`.
+    Digit,
+    /// A pattern has `\w`.
+    WordByte,
+    /// A pattern has `\s`.
+    Space,
+    /// A pattern has a class like `[[:alpha:]]`.
+    NamedClass,
+    /// A pattern has a count like `{1,3}`.
+    Count,
+    /// A secret or a pattern begins with a space.
+    BlankBefore,
+    /// A secret or a pattern ends with a space.
+    BlankAfter,
+    /// A rule doesn't end in ` <cr>`, where others do.
+    NoEnd,
+    /// No rule ends in ` <cr>`.
+    NoEnds,
+    /// The policy is empty.
+    NoSubjects,
+    /// Nobody is in a group.
+    NoMembers,
+    /// A user has no login.
+    NoLogin,
+    /// A rule decides no line.
+    Shadowed,
+    /// A carriage return.
+    CarriageReturn,
+    /// A tab.
+    Tab,
+    /// A byte order mark.
+    ByteOrderMark,
+    /// A byte in a line that isn't UTF-8.
+    NotUtf8,
+    /// Another byte that is no symbol.
+    NotSymbol,
+    /// A keyword in capitals.
+    Capitals,
+    /// What else is wrong, as a check names it.
+    Refused(PolicyRefusal),
+    /// The parent of this name is no group of the policy.
+    NoParent(Name),
+    /// A group's chain comes back to it.
+    Cycle,
+}
+
+impl fmt::Display for Finding {
+    ghost output = { λ finding. Some (finding_text finding) };
+
+    fn fmt<W: fmt::Write>(&self, f: &mut fmt::Formatter<W>) -> fmt::Result {
+        match self {
+            Finding::Caret => {
+                write!(
+                    f,
+                    "'^' is a symbol here, and a pattern fits whole lines: is it meant?"
+                )
+            }
+            Finding::Dollar => {
+                write!(
+                    f,
+                    "'$' is a symbol here, and a pattern fits whole lines: is it meant?"
+                )
+            }
+            Finding::Digit => {
+                write!(
+                    f,
+                    "'\\d' is the letter d here: is a digit meant, as '[0-9]'?"
+                )
+            }
+            Finding::WordByte => write!(f, "'\\w' is the letter w here: is '[A-Za-z0-9_]' meant?"),
+            Finding::Space => write!(f, "'\\s' is the letter s here: is a space meant?"),
+            Finding::NamedClass => {
+                write!(
+                    f,
+                    "'[[:' begins a class of these symbols here: is a range meant, as '[a-z]'?"
+                )
+            }
+            Finding::Count => {
+                write!(
+                    f,
+                    "'{{' and '}}' are symbols here: is a repetition meant, as '+'?"
+                )
+            }
+            Finding::BlankBefore => write!(f, "it begins with a space: is that meant?"),
+            Finding::BlankAfter => write!(f, "it ends with a space: is that meant?"),
+            Finding::NoEnd => {
+                write!(
+                    f,
+                    "other rules end in ' <cr>': is it meant that this one doesn't?"
+                )
+            }
+            Finding::NoEnds => {
+                write!(
+                    f,
+                    "no rule ends in ' <cr>', with which Cisco IOS ends each line: is that meant?"
+                )
+            }
+            Finding::NoSubjects => {
+                write!(
+                    f,
+                    "the policy is empty, and so permits nothing: is that meant?"
+                )
+            }
+            Finding::NoMembers => write!(f, "nobody is in this group: is that meant?"),
+            Finding::NoLogin => write!(f, "this user has no login: is that meant?"),
+            Finding::Shadowed => {
+                write!(
+                    f,
+                    "this rule decides no line: all that it fits is decided by earlier rules"
+                )
+            }
+            Finding::CarriageReturn => write!(f, "a carriage return: lines end in LF alone"),
+            Finding::Tab => write!(f, "a tab: words are set apart by spaces"),
+            Finding::ByteOrderMark => write!(f, "a byte order mark: a policy is printable ASCII"),
+            Finding::NotUtf8 => write!(f, "a byte that isn't UTF-8: a policy is printable ASCII"),
+            Finding::NotSymbol => {
+                write!(f, "a byte that is no symbol: a policy is printable ASCII")
+            }
+            Finding::Capitals => write!(f, "a keyword in capitals: keywords are in lower case"),
+            Finding::Cycle => write!(f, "the chain of parents comes back to this group"),
+            Finding::Refused(refusal) => write!(f, "refused: {refusal}"),
+            Finding::NoParent(name) => write!(f, "the policy has no group {name}"),
+        }
+    }
+}

@@ -1,0 +1,15 @@
+//! What in a policy's text is right and probably not meant, and what keeps a text from being one.
+#![tactic(auto)]
+
+mod chains;
+mod faults;
+mod finding;
+mod habits;
+mod remark;
+mod remarks;
+mod words;
+
+pub use chains::text_faults;
+pub use finding::Finding;
+pub use remark::Remark;
+pub use remarks::policy_remarks;

@@ -1,0 +1,293 @@
+//! What is right in a policy and probably not meant.
+
+ghost use Rattle.std.specs.Prelude.{◌≡◌, ◌++◌, false, IfOk, OnOk};
+ghost use Rattle.std.specs.Option.{option_map_or};
+ghost use Rattle.std.specs.List.{list_any};
+ghost use Rattle.std.specs.Str.{bytes_eq};
+ghost use Rattle.pol_text.specs.Change.{is_parent as parent_test};
+ghost use Rattle.pol_lint.specs.Remarks as wanted;
+
+use crate::finding::Finding;
+use crate::habits::{note_pattern, note_secret};
+use crate::remark::{Remark, column_of, note};
+use crate::words::{Keyword, keyword_of, words_in, words_of};
+use basics::{Lines, Sequence};
+use pol_meaning::Shadowed;
+use pol_names::{Kind, Name, SubjectId};
+use pol_text::{Policy, Subject};
+use std::alloc::{AllocError, Global};
+
+/// The subject whose lines are read, and how many of its rules were.
+#[derive(Clone, Copy, Debug, PartialEq, Eq)]
+pub(crate) struct Present {
+    owner: SubjectId,
+    rules: u16,
+}
+
+/// What is known of a policy while its lines are read.
+#[derive(Clone, Copy)]
+struct Known<'a> {
+    policy: &'a Policy,
+    // whether a rule ends in ` <cr>`
+    others: bool,
+    // the rules that decide nothing
+    rows: &'a [Shadowed],
+}
+
+fn names_end(pattern: &[u8]) -> bool
+    ensures { result ≡ wanted.names_end pattern.now }
+{
+    pattern.ends_with(b" <cr>") || pattern.ends_with(b" <cr>)") || pattern.ends_with(b" <cr>)?")
+}
+
+fn leaves_end_open(pattern: &[u8]) -> bool
+    ensures { result ≡ wanted.leaves_end_open pattern.now }
+{
+    pattern.ends_with(b".*")
+        || pattern.ends_with(b".*)")
+        || pattern.ends_with(b".*)?")
+        || pattern.ends_with(b".+")
+        || pattern.ends_with(b".+)")
+        || pattern.ends_with(b".+)?")
+}
+
+fn lacks_end(pattern: &[u8]) -> bool
+    ensures { result ≡ wanted.lacks_end pattern.now }
+{
+    let is_shell = pattern == b"".as_slice() || pattern == b"()".as_slice();
+    !(names_end(pattern) || leaves_end_open(pattern) || is_shell)
+}
+
+fn has_end(subject: &Subject) -> bool
+    ensures { result ≡ list_any (λ rule. wanted.names_end rule.pattern) subject.now.rules }
+{
+    let rules = subject.rules.as_slice();
+    rules.iter().any(|rule| names_end(rule.pattern.source()))
+}
+
+fn has_no_end(subject: &Subject) -> bool
+    ensures { result ≡ list_any (λ rule. wanted.lacks_end rule.pattern) subject.now.rules }
+{
+    let rules = subject.rules.as_slice();
+    rules.iter().any(|rule| lacks_end(rule.pattern.source()))
+}
+
+// Whether a rule ends in ` <cr>`.
+fn has_ends(policy: &Policy) -> bool
+    ensures { result ≡ wanted.any_pattern wanted.names_end policy.now }
+{
+    policy.subjects().iter().any(|subject| has_end(subject))
+}
+
+// Whether a rule lacks it.
+fn has_lack(policy: &Policy) -> bool
+    ensures { result ≡ wanted.any_pattern wanted.lacks_end policy.now }
+{
+    policy.subjects().iter().any(|subject| has_no_end(subject))
+}
+
+fn policy_finding(policy: &Policy) -> Option<Finding>
+    ensures { result ≡ wanted.policy_finding policy.now }
+{
+    if policy.len() == 0 {
+        return Some(Finding::NoSubjects);
+    }
+    if !has_ends(policy) && has_lack(policy) {
+        return Some(Finding::NoEnds);
+    }
+    None
+}
+
+// The subject that a line begins.
+fn opened(kind: Kind, rest: &[u8]) -> Option<Present>
+    ensures { result ≡ wanted.opened kind rest.now }
+{
+    let (field, _) = words_of(rest);
+    match Name::read(field) {
+        Some(name) => Some(Present {
+            owner: SubjectId { kind, name },
+            rules: 0,
+        }),
+        None => None,
+    }
+}
+
+fn with_rule(present: Option<Present>) -> Option<Present>
+    ensures { result ≡ wanted.with_rule present }
+{
+    match present {
+        Some(present) => Some(Present {
+            owner: present.owner,
+            rules: present.rules.saturating_add(1),
+        }),
+        None => None,
+    }
+}
+
+// The present subject after a line that says this.
+fn after(present: Option<Present>, says: Keyword, rest: &[u8]) -> Option<Present>
+    ensures { result ≡ wanted.after present says rest.now }
+{
+    match says {
+        Keyword::Opens(kind) => opened(kind, rest),
+        Keyword::Rule => with_rule(present),
+        _ => present,
+    }
+}
+
+fn is_in(subject: &Subject, group: &Name) -> bool
+    ensures { result ≡ option_map_or (bytes_eq group.now) subject.now.parent false }
+{
+    match subject.parent {
+        Some(parent) => *group == parent,
+        None => false,
+    }
+}
+
+fn is_parent(policy: &Policy, group: &Name) -> bool
+    ensures { result ≡ parent_test group.now policy.now }
+{
+    policy
+        .subjects()
+        .iter()
+        .any(|subject| is_in(subject, group))
+}
+
+// A user who isn't there lacks nothing.
+fn can_log_in(policy: &Policy, user: &SubjectId) -> bool
+    ensures { result ≡ wanted.can_log_in policy.now user.now }
+{
+    match policy.find(user) {
+        Some(user) => user.login.is_some(),
+        None => true,
+    }
+}
+
+fn subject_finding(policy: &Policy, present: Option<Present>) -> Option<Finding>
+    ensures { result ≡ wanted.subject_finding policy.now present }
+{
+    let Some(Present { owner, .. }) = present else {
+        return None;
+    };
+    match owner.kind {
+        Kind::Group if is_parent(policy, &owner.name) => None,
+        Kind::Group => Some(Finding::NoMembers),
+        Kind::User if can_log_in(policy, &owner) => None,
+        Kind::User => Some(Finding::NoLogin),
+    }
+}
+
+fn is_shadowed(rows: &[Shadowed], present: Present) -> bool
+    ensures { result ≡ wanted.is_shadowed rows.now present }
+{
+    let Present { owner, rules } = present;
+    rows.iter().any(|row| row.subject == owner && row.owner == owner && row.number == rules)
+}
+
+fn shadow_finding(rows: &[Shadowed], present: Option<Present>) -> Option<Finding>
+    ensures { result ≡ wanted.shadow_finding rows.now present }
+{
+    match present {
+        Some(present) if is_shadowed(rows, present) => Some(Finding::Shadowed),
+        _ => None,
+    }
+}
+
+fn end_finding(others: bool, pattern: &[u8]) -> Option<Finding>
+    ensures { result ≡ wanted.end_finding others pattern.now }
+{
+    if others && lacks_end(pattern) {
+        Some(Finding::NoEnd)
+    } else {
+        None
+    }
+}
+
+// Adds what is told of a rule.
+fn note_rule(
+    remarks: &mut Sequence<Remark>,
+    known: &Known<'_>,
+    present: Option<Present>,
+    number: usize,
+    line: &[u8],
+    pattern: &[u8],
+) -> Result<(), AllocError>
+    ensures { OnOk result (remarks.new ≡ remarks.old ++ wanted.rule_remarks known.now.others
+        known.now.rows.now present number line.now pattern.now) }
+{
+    note_pattern(remarks, number, line, pattern)?;
+    note(
+        remarks,
+        number,
+        line.len() + 1,
+        end_finding(known.others, pattern),
+    )?;
+    note(
+        remarks,
+        number,
+        column_of(line, pattern),
+        shadow_finding(known.rows, present),
+    )
+}
+
+// The present subject after a line.
+fn after_line(present: &Option<Present>, line: &[u8]) -> Option<Present>
+    ensures { result ≡ wanted.after_line present.now line.now }
+{
+    let (word, rest) = words_in(line);
+    after(*present, keyword_of(word), rest)
+}
+
+// Adds what is told of a line, after which this subject is the present one.
+fn note_line(
+    remarks: &mut Sequence<Remark>,
+    known: &Known<'_>,
+    present: &Option<Present>,
+    number: usize,
+    line: &[u8],
+) -> Result<(), AllocError>
+    ensures { OnOk result (remarks.new ≡ remarks.old ++ wanted.line_remarks
+        known.now.policy.now known.now.others known.now.rows.now present.now number line.now) }
+{
+    let (word, rest) = words_in(line);
+    match keyword_of(word) {
+        Keyword::Opens(_) => {
+            let finding = subject_finding(known.policy, *present);
+            note(remarks, number, column_of(line, rest), finding)
+        }
+        Keyword::Secret => note_secret(remarks, number, line, rest),
+        Keyword::Rule => note_rule(remarks, known, *present, number, line, rest),
+        Keyword::Level | Keyword::Nothing => Ok(()),
+    }
+}
+
+/// What is told of a policy with this text, of whose rules these decide nothing: what is right and
+/// probably not meant.
+///
+/// Linear in the text, but for a look at all subjects for each group, and at all of these rules for
+/// each rule.
+pub fn policy_remarks<'a>(
+    alloc: Global,
+    text: &[u8],
+    policy: &'a Policy,
+    rows: &'a [Shadowed],
+) -> Result<Sequence<Remark>, AllocError>
+    ensures { IfOk result (λ remarks.
+        remarks ≡ wanted.policy_remarks text.now policy.now rows.now) }
+{
+    let others = has_ends(policy);
+    let known = Known {
+        policy,
+        others,
+        rows,
+    };
+    let mut remarks = Sequence::new(alloc);
+    note(&mut remarks, 1, 1, policy_finding(policy))?;
+    let mut present = None;
+    let mut lines = Lines::new(text);
+    'lines: while let Some((number, line)) = lines.take_line() {
+        present = after_line(&present, line);
+        note_line(&mut remarks, &known, &present, number, line)?;
+    }
+    Ok(remarks)
+}
