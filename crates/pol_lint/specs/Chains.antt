@@ -16,6 +16,7 @@ use Rattle.pol_lint.specs.declared.words.Keyword.TheVariants.{Opens}
 use Rattle.pol_lint.specs.declared.chains.Heading.{Heading}
 use Rattle.pol_lint.specs.declared.finding.Finding.{Finding}
 use Rattle.pol_lint.specs.declared.finding.Finding.TheVariants.{NoParent, Cycle, Refused}
+use Rattle.pol_lint.specs.declared.finding.Finding.TheVariants.{TooManyStates}
 use Rattle.pol_lint.specs.declared.remark.Remark.{Remark}
 
 -- ---- lines that begin subjects
@@ -46,9 +47,12 @@ headings number (line ∷ lines) =
 
 -- ---- chains
 
--- the group of this name
+-- the subject of this kind and name, and the group of this name
+abbrev pub heading_for : List Heading → SubjectId → Option Heading
+heading_for headings id = find (λ heading. same_id heading.id id) headings
+
 abbrev pub group_of : List Heading → List ℕ → Option Heading
-group_of headings name = find (λ heading. same_id heading.id (group_id name)) headings
+group_of headings name = heading_for headings (group_id name)
 
 -- the parent isn't there
 abbrev pub orphan_by : List Heading → Option (List ℕ) → Option Finding
@@ -92,6 +96,17 @@ abbrev pub chain_faults : List Heading → List Remark
 chain_faults headings =
     if nat_le (length headings) 1024
     then or_else (told_of (orphan headings) headings) (told_of (cycle headings) headings) else []
+
+-- ---- sizes
+
+abbrev pub too_large : Option Heading → List Remark
+too_large None = []
+too_large (Some heading) = noted heading.line 1 (Some TooManyStates)
+
+-- of a text whose policy is refused since this subject has too many states: its line
+abbrev pub size_faults : List ℕ → SubjectId → List Remark
+size_faults text subject =
+    too_large (heading_for (headings 1 (lines_of text)) subject)
 
 -- ---- the whole text
 

@@ -33,3 +33,5 @@ finding_text findings.Capitals = codes "a keyword in capitals: keywords are in l
 finding_text (findings.Refused refusal) = codes "refused: " ++ refusal_text refusal
 finding_text (findings.NoParent name) = codes "the policy has no group " ++ name
 finding_text findings.Cycle = codes "the chain of parents comes back to this group"
+finding_text findings.TooManyStates =
+    codes "refused: TooManyStates: the rules along this chain have over 4096 states"

@@ -68,11 +68,16 @@ fn headings(alloc: Global, text: &[u8]) -> Result<Sequence<Heading>, AllocError>
     Ok(found)
 }
 
+fn find<'a>(headings: &'a [Heading], id: &SubjectId) -> Option<&'a Heading>
+    ensures { option_copied result ≡ chains.heading_for headings.now id.now }
+{
+    headings.iter().find(|heading| heading.id == *id)
+}
+
 fn group_of<'a>(headings: &'a [Heading], name: &Name) -> Option<&'a Heading>
     ensures { option_copied result ≡ chains.group_of headings.now name.now }
 {
-    let id = SubjectId::group(*name);
-    headings.iter().find(|heading| heading.id == id)
+    find(headings, &SubjectId::group(*name))
 }
 
 // That the parent isn't there.
@@ -201,6 +206,23 @@ pub fn text_faults(
                 finding: Finding::Refused(refusal),
             },
         )?;
+    }
+    Ok(remarks)
+}
+
+/// What is told of a text whose policy is refused since the rules along the chain of this subject
+/// have too many states: the line of the subject.
+pub fn size_faults(
+    alloc: Global,
+    text: &[u8],
+    subject: &SubjectId,
+) -> Result<Sequence<Remark>, AllocError>
+    ensures { IfOk result (λ remarks. remarks ≡ chains.size_faults text.now subject.now) }
+{
+    let headings = headings(alloc, text)?;
+    let mut remarks = Sequence::new(alloc);
+    if let Some(heading) = find(headings.as_slice(), subject) {
+        note(&mut remarks, heading.line, 1, Some(Finding::TooManyStates))?;
     }
     Ok(remarks)
 }

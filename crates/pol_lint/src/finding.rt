@@ -58,6 +58,8 @@ pub enum Finding {
     NoParent(Name),
     /// A group's chain comes back to it.
     Cycle,
+    /// The rules along a subject's chain have too many states.
+    TooManyStates,
 }
 
 impl fmt::Display for Finding {
@@ -134,6 +136,12 @@ impl fmt::Display for Finding {
             }
             Finding::Capitals => write!(f, "a keyword in capitals: keywords are in lower case"),
             Finding::Cycle => write!(f, "the chain of parents comes back to this group"),
+            Finding::TooManyStates => {
+                write!(
+                    f,
+                    "refused: TooManyStates: the rules along this chain have over 4096 states"
+                )
+            }
             Finding::Refused(refusal) => write!(f, "refused: {refusal}"),
             Finding::NoParent(name) => write!(f, "the policy has no group {name}"),
         }

@@ -9,7 +9,7 @@ mod remark;
 mod remarks;
 mod words;
 
-pub use chains::text_faults;
+pub use chains::{size_faults, text_faults};
 pub use finding::Finding;
 pub use remark::Remark;
 pub use remarks::policy_remarks;

@@ -1,6 +1,6 @@
 //! A finding and its place.
 
-ghost use Rattle.std.specs.Prelude.{◌≡◌, ◌++◌, length, OnOk};
+ghost use Rattle.std.specs.Prelude.{◌≡◌, ◌++◌, OnOk};
 ghost use Rattle.pol_lint.specs.Words.{noted, column_of as column_wanted};
 
 use crate::finding::Finding;

@@ -1,6 +1,6 @@
 //! The words of a policy's lines.
 
-ghost use Rattle.std.specs.Prelude.{◌≡◌, length};
+ghost use Rattle.std.specs.Prelude.{◌≡◌};
 ghost use Rattle.pol_lint.specs.Words as words;
 
 use basics::{split_once, without_leading_spaces};
