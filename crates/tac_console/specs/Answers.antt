@@ -6,13 +6,10 @@ use Rattle.std.specs.Option.{option_map_or}
 use Rattle.std.specs.Fmt.{decimal}
 use Rattle.std.specs.Borrow.{Bor}
 use Rattle.pol_text.specs.Text.{text_of}
-use Rattle.pol_names.specs.declared.decision.Verdict.{Verdict}
-use Rattle.pol_names.specs.declared.decision.Verdict.TheVariants.{Permit, Deny}
-use Rattle.pol_names.specs.declared.decision.By.{By}
-use Rattle.pol_names.specs.declared.decision.By.TheVariants as by
 use Rattle.pol_names.specs.declared.decision.Decision.{Decision}
 use Rattle.pol_names.specs.declared.subject_id.SubjectId.{SubjectId}
 use Rattle.pol_names.specs.SubjectId.{subject_text}
+use Rattle.pol_names.specs.Decision.{verdict_text, by_text}
 use Rattle.pol_edit.specs.FaultText as edit_faults
 use Rattle.pol_edit.specs.declared.batching.BatchFault.{BatchFault}
 use Rattle.pol_edit.specs.declared.fault.EditFault.{EditFault}
@@ -89,15 +86,6 @@ tally_text (queries.Tally subject) tally = tally_line subject tally
 tally_text _ tally = []
 
 -- ---- decisions
-
-abbrev pub verdict_text : Verdict → List ℕ
-verdict_text Permit = codes "permitted by "
-verdict_text Deny = codes "denied by "
-
--- the rule's owner, and its number there
-abbrev pub by_text : By → List ℕ
-by_text (by.Rule owner number) = subject_text owner ++ codes " rule " ++ decimal number
-by_text by.Default = codes "default"
 
 abbrev pub why_line : Option Decision → List ℕ
 why_line None = codes "unknown user" ++ 10 ∷ []

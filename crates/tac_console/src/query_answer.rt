@@ -2,6 +2,7 @@
 
 ghost use Rattle.std.specs.Prelude.{◌≡◌, ◌++◌, [], ◌∷◌, ℕ, List, IsTrue, IfOk, OnOk, OnErr};
 ghost use Rattle.std.specs.Result.{ForOk};
+ghost use Rattle.pol_names.specs.Decision as decisions;
 ghost use Rattle.pol_names.specs.declared.decision.By.TheVariants as by;
 ghost use Rattle.tac_desk.specs.Reporting.{is_report_to};
 ghost use Rattle.tac_request.specs.declared.record.Record.{Record as RecordValue};
@@ -44,7 +45,7 @@ fn write_tally(out: &mut Vec<u8>, subject: &SubjectId, tally: &Tally) -> io::Res
 // ---- decisions
 
 fn verdict_text(verdict: Verdict) -> &'static str
-    ensures { result.now ≡ answers.verdict_text verdict }
+    ensures { result.now ≡ decisions.verdict_text verdict }
 {
     match verdict {
         Verdict::Permit => "permitted by ",
@@ -56,7 +57,7 @@ fn verdict_text(verdict: Verdict) -> &'static str
 // are: formatting takes more instructions than deciding a line.
 fn write_rule(out: &mut Vec<u8>, owner: &SubjectId, number: u16) -> io::Result<()>
     ensures { OnOk result (out.new.items
-        ≡ out.old.items ++ answers.by_text (by.Rule owner.now number) ++ 10 ∷ []) }
+        ≡ out.old.items ++ decisions.by_text (by.Rule owner.now number) ++ 10 ∷ []) }
 {
     out.extend_from_slice(owner.kind.keyword().as_bytes())?;
     out.extend_from_slice(owner.name.as_slice())?;
