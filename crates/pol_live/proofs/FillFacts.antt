@@ -12,7 +12,8 @@ use Rattle.pol_names.specs.SubjectId.{group_id}
 use Rattle.pol_residual.specs.Residuals.{SameResiduals, HasMoreResiduals}
 use Rattle.pol_text.specs.declared.subject.Rule.{Rule}
 use Rattle.pol_text.specs.declared.subject.Subject.{Subject}
-use Rattle.pol_text.specs.Policy.{id_of, find_subject, has_parent, all_of, parent_of, ends_within, own_entries, entries, InheritsEntries}
+use Rattle.pol_text.specs.Policy.{id_of, find_subject, has_parent, all_of, parent_of, ends_within, own_entries, entries_along, entries, InheritsEntries}
+use Rattle.pol_text.proofs.ChainFacts.{chain_within_step}
 use Rattle.pol_live.specs.declared.parts.Parts.{Parts}
 use Rattle.pol_meaning.specs.Along.{patterns_of, patterns_along}
 use Rattle.pol_meaning.specs.Sizes.{IsLarge}
@@ -51,6 +52,12 @@ more_back xs ys limit = more_by ys (xs ++ ys) limit (same_back xs ys)
 -- the patterns that a subject inherits
 abbrev pub inherited : List Subject → Subject → List (List ℕ)
 inherited policy subject = option_map_or (patterns_along policy) (parent_of policy subject) []
+
+-- a subject without a group inherits nothing
+pub inherits_none : (policy : List Subject) (subject : Subject) → subject.parent ≡ None → InheritsEntries policy subject
+inherits_none policy subject e =
+    let none : parent_of policy subject ≡ None = ap (option_and_then (λ name. find_subject (group_id name) policy)) e in
+    ap entries_along (chain_within_step policy subject 8 0 None (omega arith) none) ∙ sym (ap (λ (p : Option Subject). own_entries subject ++ option_map_or (entries policy) p []) none)
 
 pub patterns_inherit : (policy : List Subject) (subject : Subject) → InheritsEntries policy subject → patterns_along policy subject ≡ own_patterns subject ++ inherited policy subject
 patterns_inherit policy subject inherits =

@@ -103,8 +103,6 @@ pub fn rules_along(
 ) -> Result<Vec<ChainRule>, AllocError>
     ensures { IfOk result (λ rules. rules.items ≡ map rule_of (entries_of policy.now id.now)) }
 {
-    // every policy is well formed: the call is for its clause
-    let _ = policy.subjects();
     match policy.find(id) {
         Some(subject) => rules_from(alloc, policy, subject),
         None => Ok(Vec::new(alloc)),

@@ -3,7 +3,7 @@
 ghost use Rattle.std.specs.Prelude.{◌≡◌, ◌<◌, ℕ, length, slice_get, is_some, Some, None, IsTrue};
 ghost use Rattle.std.specs.Prelude.{IfOk, IfErr, OnOk, OnErr, true};
 ghost use Rattle.basics.specs.Memory.{Except};
-ghost use Rattle.pol_text.specs.Policy.{ends_within, id_of};
+ghost use Rattle.pol_text.specs.Policy.{WellFormed, id_of};
 ghost use Rattle.pol_edit.specs.Applying.{is_memory};
 ghost use Rattle.pol_edit.specs.declared.fault.EditFault.TheVariants.{TooManyStates};
 ghost use Rattle.pol_meaning.specs.Sizes.{IsLarge, IsSmall, IsRefusedFor};
@@ -27,6 +27,7 @@ fn fill_subject(
     meter: &mut Meter,
 ) -> Result<(), EditFault>
     requires here { slice_get policy.now index ≡ Some subject.now }
+    requires well_formed { WellFormed policy.now }
     requires right { AreParts policy.now parts.old }
     ensures right { OnOk result (AreParts policy.now parts.new) }
     ensures grows { OnOk result (Grows parts.old parts.new) }
@@ -39,8 +40,6 @@ fn fill_subject(
         (states_of policy.now parts.old) (states_of policy.now parts.new)) }
     ensures kept { OnErr result (NotLowered meter.old meter.new) }
 {
-    // every policy is well formed: the call is for its clause
-    let _ = policy.subjects();
     match fill(alloc, policy, index, Policy::MAX_CHAIN, parts, meter) {
         Ok(()) => Ok(()),
         Err(DeciderFault::TooManyStates) => Err(EditFault::TooManyStates(subject.id())),

@@ -58,9 +58,6 @@ pub(crate) fn parent_index(policy: &Policy, subject: &Subject) -> Option<usize>
     ensures grouped { Contains policy.now subject.now
         → is_some result ≡ is_some subject.now.parent }
 {
-    // these calls are for their clauses, on groups and on entries
-    let _ = policy.subjects();
-    let _ = policy.parent_of(subject);
     let Some(parent) = subject.parent else {
         return None;
     };

@@ -37,7 +37,7 @@ fn keeper_within(policy: &Policy, index: usize, most: usize) -> usize
 
 /// Where the keeper stands by whose automaton a subject's lines are decided: the subject itself, if
 /// it has rules or no group, or the nearest above it. Nothing where there is no such subject. Takes
-/// no memory, and two look-ups for each subject up to the keeper.
+/// no memory, and a look-up for each subject up to the keeper.
 pub fn keeper(policy: &Policy, id: &SubjectId) -> Option<usize>
     ensures keeper { option_and_then (slice_get policy.now) result ≡ keeper_of policy.now id.now }
     ensures there { is_some result ≡ is_some (find_subject id.now policy.now) }
@@ -47,8 +47,6 @@ pub fn keeper(policy: &Policy, id: &SubjectId) -> Option<usize>
         (option_and_then (slice_get policy.now) result)
         ≡ option_map (entries policy.now) (find_subject id.now policy.now) }
 {
-    // every policy is well formed: the call is for its clause
-    let _ = policy.subjects();
     match policy.index_of(id) {
         Some(index) => Some(keeper_within(policy, index, Policy::MAX_CHAIN)),
         None => None,

@@ -26,7 +26,6 @@ use crate::touching::Touched;
 use pol_automaton::{Decider, Meter};
 use pol_edit::EditFault;
 use pol_names::{Decision, Name, SubjectId};
-use pol_pattern::match_law;
 use pol_text::Policy;
 use std::alloc::Global;
 use std::marker::Model;
@@ -172,8 +171,6 @@ impl Live {
         // What an automaton holds a text to be is what the policy does.
         ensures law { MatchLaw }
     {
-        // the call is for its clause
-        match_law();
         let Some((_, decider)) = self.part(subject) else {
             return None;
         };

@@ -166,7 +166,6 @@ impl Prepared {
         requires { self.now.before ≡ live.now }
         ensures { result ≡ decide self.now.after user.now line.now }
     {
-        let _ = live;
         self.after.decide(user, line)
     }
 
@@ -180,7 +179,6 @@ impl Prepared {
         // What an automaton holds a text to be is what the policy does.
         ensures law { MatchLaw }
     {
-        let _ = live;
         self.after.decider(subject)
     }
 }

@@ -67,8 +67,9 @@ fn kept_owns(
     touched: &Touched,
     after: &Policy,
 ) -> Result<Slots, AllocError>
-    ensures { IfOk result (λ kept.
+    ensures kept { IfOk result (λ kept.
         AreKept (own_renewed touched.now) before.now owns.now after.now kept) }
+    ensures well_formed { WellFormed after.now }
 {
     let mut kept = Sequence::new(alloc);
     for subject in after.subjects() {
@@ -119,8 +120,6 @@ pub(crate) fn kept_parts(
         before.now parts.now.wholes after.now kept.wholes) }
     ensures well_formed { WellFormed after.now }
 {
-    // every policy is well formed: the call is for its clause
-    let _ = after.subjects();
     let owns = kept_owns(alloc, before, &parts.owns, touched, after)?;
     let wholes = kept_wholes(alloc, before, &parts.wholes, touched, after)?;
     Ok(Parts { owns, wholes })

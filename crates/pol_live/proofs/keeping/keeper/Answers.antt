@@ -8,7 +8,7 @@ use Rattle.pol_live.proofs.KeeperFacts.{some_there}
 use Rattle.pol_live.proofs.keeping.keeper.Goals as goal
 
 pub keeper_within-requires-clause-ends : goal.keeper_within-requires-clause-ends
-keeper_within-requires-clause-ends c subject here = all_at (ends_within 8 c.args.policy.now) c.args.policy.now c.in-Some.index subject c.subjects.ensures.well_formed.short here
+keeper_within-requires-clause-ends c subject here = all_at (ends_within 8 c.args.policy.now) c.args.policy.now c.in-Some.index subject c.in-Some.ensures.well_formed.short here
 
 pub returns-in-Some-clause-keeper : goal.returns-in-Some-clause-keeper
 returns-in-Some-clause-keeper c =

@@ -25,8 +25,8 @@ loop-subject-preserved c =
       same = c.loop-subject.invariant.same;
     }
 
-pub returns : goal.returns
-returns c =
+pub returns-clause-kept : goal.returns-clause-kept
+returns-clause-kept c =
     let same : length c.subjects-subject-items.result.now ≡ length c.args.after.now = ap (λ (xs : List Subject). length xs) c.loop-subject.invariant.same in
     let upper = c.loop-subject.auto.subject-index-end in
     let lower = c.loop-subject-test.false in

@@ -5,7 +5,7 @@ use Rattle.pol_live.proofs.live.Live.prepare_edits.Goals as goal
 pub renewed-requires : goal.renewed-requires
 renewed-requires c =
     let before = c.args.self.now in
-    let copied : c.in_ok-before.before ≡ before = c.in_ok-before.ensures ∙ c.policy.ensures.policy in
+    let copied : c.in_ok-before.before ≡ before = c.in_ok-before.ensures.same ∙ c.policy.ensures.policy in
     alike_all c.args.edits.now before c.in_ok-policy.policy c.in_ok-touched.touched c.in_ok-touched.ensures (rw (copied) at (c.in_ok-policy.ensures.exact))
 
 pub invariant_of-result : goal.invariant_of-result
