@@ -24,25 +24,25 @@ pub returns-then-is_none-clause-found : goal.returns-then-is_none-clause-found
 returns-then-is_none-clause-found c =
     let subject = c.args.subject.now in
     let none = c.is_none.ensures ∙ not_from_true _ c.if-is_none.true in
-    sym (ap tally_report (absent (meaning_of c.args.policy.now c.args.book.now) subject.name c.find.result subject.kind c.in-Group.is c.find.ensures none))
+    sym (ap tally_report (absent (meaning_of c.args.policy.now c.args.book.now) subject.name c.find.result subject.kind c.in-Group.is c.find.ensures.found none))
 
 pub returns-in_err-tally-in-Group-clause-sure : goal.returns-in_err-tally-in-Group-clause-sure
 returns-in_err-tally-in-Group-clause-sure c refused =
     let subject = c.args.subject.now in
     let some = c.is_none.ensures ∙ not_from_false _ c.if-is_none.false in
-    let is = ap tally_report (there (meaning_of c.args.policy.now c.args.book.now) subject.name c.find.result subject.kind c.in-Group.is c.find.ensures some) in
+    let is = ap tally_report (there (meaning_of c.args.policy.now c.args.book.now) subject.name c.find.result subject.kind c.in-Group.is c.find.ensures.found some) in
     absurd cc
 
 pub returns-in_ok-tally-in-Group-clause-found : goal.returns-in_ok-tally-in-Group-clause-found
 returns-in_ok-tally-in-Group-clause-found c =
     let subject = c.args.subject.now in
     let some = c.is_none.ensures ∙ not_from_false _ c.if-is_none.false in
-    let is = ap tally_report (there (meaning_of c.args.policy.now c.args.book.now) subject.name c.find.result subject.kind c.in-Group.is c.find.ensures some) in
+    let is = ap tally_report (there (meaning_of c.args.policy.now c.args.book.now) subject.name c.find.result subject.kind c.in-Group.is c.find.ensures.found some) in
     rw c.in_ok-tally-in-Group.ensures (sym is)
 
 pub returns-in_ok-tally-in-Group-clause-sure : goal.returns-in_ok-tally-in-Group-clause-sure
 returns-in_ok-tally-in-Group-clause-sure c refused =
     let subject = c.args.subject.now in
     let some = c.is_none.ensures ∙ not_from_false _ c.if-is_none.false in
-    let is = ap tally_report (there (meaning_of c.args.policy.now c.args.book.now) subject.name c.find.result subject.kind c.in-Group.is c.find.ensures some) in
+    let is = ap tally_report (there (meaning_of c.args.policy.now c.args.book.now) subject.name c.find.result subject.kind c.in-Group.is c.find.ensures.found some) in
     absurd cc

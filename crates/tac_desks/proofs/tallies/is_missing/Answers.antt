@@ -15,11 +15,11 @@ pub returns-in-Group-clause-missing : goal.returns-in-Group-clause-missing
 returns-in-Group-clause-missing c told book =
     let subject = c.args.subject.now in
     let none = c.is_none.ensures ∙ not_from_true _ told in
-    sym (ap tally_report (absent (meaning_of c.args.policy.now book) subject.name c.find.result subject.kind c.in-Group.is c.find.ensures none))
+    sym (ap tally_report (absent (meaning_of c.args.policy.now book) subject.name c.find.result subject.kind c.in-Group.is c.find.ensures.found none))
 
 pub returns-in-Group-clause-there : goal.returns-in-Group-clause-there
 returns-in-Group-clause-there c told book refused =
     let subject = c.args.subject.now in
     let some = c.is_none.ensures ∙ not_from_false _ told in
-    let is = ap tally_report (there (meaning_of c.args.policy.now book) subject.name c.find.result subject.kind c.in-Group.is c.find.ensures some) in
+    let is = ap tally_report (there (meaning_of c.args.policy.now book) subject.name c.find.result subject.kind c.in-Group.is c.find.ensures.found some) in
     absurd cc
