@@ -2,6 +2,8 @@
 use Rattle.std.proofs.Common.{◌≡◌, ◌-◌, ℕ, List, [], ◌∷◌, ◌++◌, length, Option, Some, Result, Ok, Err, IfOk, OnOk, OnErr, IsErrAnd, refl, sym, ap, subst, ◌∙◌, inr, length-append, arith}
 use Rattle.std.specs.Prelude.{slice_get}
 use Rattle.std.proofs.KnownBytes.{Appends-nil}
+use Rattle.tac_console.specs.declared.batching.Action.TheVariants as actions
+use Rattle.tac_console.specs.declared.batching.Notice.{Notice}
 use Rattle.tac_hall.specs.declared.call.Call.{Call}
 use Rattle.tac_hall.specs.declared.call.Call.TheVariants as calls
 use Rattle.tac_hall.specs.declared.entry.Made.{Made}
@@ -11,7 +13,7 @@ use Rattle.tac_hall.specs.declared.fault.HallFault.TheVariants as hall
 use Rattle.tac_hall.specs.Seat.{Sitting, IsMade, made_of}
 use Rattle.tac_hall_console.specs.declared.fault.OperatorFault.{OperatorFault}
 use Rattle.tac_hall_console.specs.declared.fault.OperatorFault.TheVariants as faults
-use Rattle.tac_hall_console.specs.Operated.{Outcome, made, refused, told, refusal_line, HasFound}
+use Rattle.tac_hall_console.specs.Operated.{Outcome, CallsFor, ComesTo, noticed, made, refused, told, refusal_line, HasFound}
 use Rattle.tac_hall_console.specs.Operating.{Comes, Adds, IsUntold, SendsUnlessMemory, Stops}
 use Rattle.tac_hall_console.proofs.GoingFacts.{makes_none}
 
@@ -27,14 +29,17 @@ last_of before last =
 
 -- ---- what came of it
 
-pub comes_made : (call : Call) (receipt : Receipt) (was now : Sitting) → IsMade was call receipt now → Comes (Some call) (made (made_of call receipt)) was now
+pub comes_made : (call : Call) (receipt : Receipt) (was now : Sitting) → IsMade was call receipt now → Comes (CallsFor call) (made (made_of call receipt)) was now
 comes_made call receipt was now m = record { comes = (refl, m.kind); makes = record { number = m.number; view = m.view } }
 
-pub comes_refused : (call : Call) (fault : HallFault) (was now : Sitting) → now ≡ was → Comes (Some call) (refused fault) was now
+pub comes_refused : (call : Call) (fault : HallFault) (was now : Sitting) → now ≡ was → Comes (CallsFor call) (refused fault) was now
 comes_refused call fault was now same = rw same (record { comes = tt; makes = makes_none was })
 
+pub comes_noticed : (notice : Notice) (was : Sitting) → Comes (ComesTo (actions.Tell notice)) (noticed notice) was was
+comes_noticed notice was = record { comes = refl; makes = makes_none was }
+
 pub comes_of : (call : Call) (result : Result Receipt HallFault) (was now : Sitting) → IfOk result (λ receipt. IsMade was call receipt now) → OnErr result (now ≡ was)
-    → (outcome : Outcome) × Comes (Some call) outcome was now
+    → (outcome : Outcome) × Comes (CallsFor call) outcome was now
 comes_of call (Ok receipt) was now m same = (made (made_of call receipt), comes_made call receipt was now m)
 comes_of call (Err fault) was now m same = (refused fault, comes_refused call fault was now same)
 
@@ -43,28 +48,28 @@ some_same a b e = cc
 
 -- the last of the view is what was made
 pub comes_last : (call : Call) (receipt : Receipt) (was now : Sitting) (entry : Made) (view : List Made) → IsMade was call receipt now → view ≡ now.view
-    → Some entry ≡ slice_get view (length view - 1) → Comes (Some call) (made entry) was now
+    → Some entry ≡ slice_get view (length view - 1) → Comes (CallsFor call) (made entry) was now
 comes_last call receipt was now entry view m is found =
     let last : entry ≡ made_of call receipt =
     some_same entry (made_of call receipt) (found ∙ ap (λ (v : List Made). slice_get v (length v - 1)) (is ∙ m.view) ∙ last_of was.view (made_of call receipt)) in
-    subst (λ (e : Made). Comes (Some call) (made e) was now) (sym last) (comes_made call receipt was now m)
+    subst (λ (e : Made). Comes (CallsFor call) (made e) was now) (sym last) (comes_made call receipt was now m)
 
 -- ---- what is told of it
 
-pub tells_ok : {E : Type 0} (call : Option Call) (outcome : Outcome) (was now : Sitting) (old new : List ℕ) (result : Result (Unit {0}) E) → Comes call outcome was now
-    → OnOk result (new ≡ old ++ told outcome) → OnOk result (Adds call was now old new)
-tells_ok call outcome was now old new (Ok u) came e = (told outcome, e, record { outcome = outcome; came = came; is = refl })
-tells_ok call outcome was now old new (Err fault) came e = tt
+pub tells_ok : {E : Type 0} (may : Outcome → Type 0) (outcome : Outcome) (was now : Sitting) (old new : List ℕ) (result : Result (Unit {0}) E) → Comes may outcome was now
+    → OnOk result (new ≡ old ++ told outcome) → OnOk result (Adds may was now old new)
+tells_ok may outcome was now old new (Ok u) came e = (told outcome, e, record { outcome = outcome; came = came; is = refl })
+tells_ok may outcome was now old new (Err fault) came e = tt
 
-pub tells_err : {E : Type 0} (call : Option Call) (outcome : Outcome) (was now : Sitting) (result : Result (Unit {0}) E) → Comes call outcome was now → OnErr result (IsUntold call was now)
-tells_err call outcome was now (Ok u) came = tt
-tells_err call outcome was now (Err fault) came = inr (outcome, came)
+pub tells_err : {E : Type 0} (may : Outcome → Type 0) (outcome : Outcome) (was now : Sitting) (result : Result (Unit {0}) E) → Comes may outcome was now → OnErr result (IsUntold may was now)
+tells_err may outcome was now (Ok u) came = tt
+tells_err may outcome was now (Err fault) came = inr (outcome, came)
 
 -- ---- the Stop
 
 -- the console has failed, and nothing is told
 pub stops_untold : (heard end : Result (Unit {0}) OperatorFault) (fault : OperatorFault) (was now : Sitting) (old : Option (List ℕ)) → heard ≡ Err fault → IsErrAnd end (λ e. e ≡ fault)
-    → (outcome : Outcome) × Comes (Some calls.Stop) outcome was now → Stops heard end was now old old
+    → (outcome : Outcome) × Comes (CallsFor calls.Stop) outcome was now → Stops heard end was now old old
 stops_untold heard (Ok u) fault was now old e is c = absurd is
 stops_untold heard (Err same) fault was now old e is c = rw e (record { stop = c.0; came = c.1; ends = (ap Err is, refl) })
 

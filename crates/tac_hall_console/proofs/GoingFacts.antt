@@ -5,21 +5,34 @@ use Rattle.std.proofs.KnownBytes.{Appends-nil, Appends-trans}
 use Rattle.std.proofs.lemmas.Grind.{flat_map-append}
 use Rattle.std.proofs.lemmas.List.Elements.{filter_map-append}
 use Rattle.basics.specs.Lines.{split_at_first, lines_of}
+use Rattle.pol_edit.specs.declared.edit.Edit.{Edit}
+use Rattle.tac_console.specs.Batching.{batch_after}
+use Rattle.tac_console.specs.ConsoleText.{asked_by}
 use Rattle.tac_hall.specs.declared.entry.Made.{Made}
 use Rattle.tac_hall.specs.Seat.{Sitting}
+use Rattle.tac_hall_console.specs.declared.answering.Console.{Console}
 use Rattle.tac_hall_console.specs.declared.fault.OperatorFault.{OperatorFault}
 use Rattle.tac_hall_console.specs.declared.fault.OperatorFault.TheVariants as faults
 use Rattle.tac_hall_console.specs.Commands.{ended_lines, is_quit, commands, quits}
 use Rattle.tac_hall_console.specs.Operated.{Outcome, CameTo, told, entry_of, text_of, entries_of, Makes, WritesBeginning}
-use Rattle.tac_hall_console.specs.Operating.{GoesOn, WritesTo, EndsAt, IsRead}
+use Rattle.tac_hall_console.specs.Operating.{batch_left, GoesOn, WritesTo, EndsAt, IsRead, LeavesBatch}
 use Rattle.tac_hall_console.proofs.LineFacts.{split_more, split_shorter, lines_split, ended_split, command_first, quits_later}
 
-pub came_append : (lines : List (List ℕ)) (outcomes : List Outcome) (later : List (List ℕ)) (others : List Outcome)
-    → CameTo lines outcomes → CameTo later others → CameTo (lines ++ later) (outcomes ++ others)
-came_append [] [] later others a b = b
-came_append [] (outcome ∷ outcomes) later others a b = absurd a
-came_append (line ∷ lines) [] later others a b = absurd a
-came_append (line ∷ lines) (outcome ∷ outcomes) later others a b = (a.0, came_append lines outcomes later others a.1 b)
+pub batch_append : (batch : Option (List Edit)) (lines later : List (List ℕ)) → batch_left batch (lines ++ later) ≡ batch_left (batch_left batch lines) later
+batch_append batch [] later = refl
+batch_append batch (line ∷ lines) later = batch_append (batch_after batch (asked_by line)) lines later
+
+pub came_append : (batch : Option (List Edit)) (lines : List (List ℕ)) (outcomes : List Outcome) (later : List (List ℕ)) (others : List Outcome)
+    → CameTo batch lines outcomes → CameTo (batch_left batch lines) later others → CameTo batch (lines ++ later) (outcomes ++ others)
+came_append batch [] [] later others a b = b
+came_append batch [] (outcome ∷ outcomes) later others a b = absurd a
+came_append batch (line ∷ lines) [] later others a b = absurd a
+came_append batch (line ∷ lines) (outcome ∷ outcomes) later others a b = (a.0, came_append (batch_after batch (asked_by line)) lines outcomes later others a.1 b)
+
+-- the same, where this batch is found behind the first lines
+came_behind : (batch between : Option (List Edit)) (lines : List (List ℕ)) (outcomes : List Outcome) (later : List (List ℕ)) (others : List Outcome)
+    → CameTo batch lines outcomes → between ≡ batch_left batch lines → CameTo between later others → CameTo batch (lines ++ later) (outcomes ++ others)
+came_behind batch between lines outcomes later others a is b = came_append batch lines outcomes later others a (rw is at b)
 
 pub makes_none : (was : Sitting) → Makes was was []
 makes_none was = record { number = refl; view = sym (append-nil was.view) }
@@ -54,7 +67,7 @@ beginning_then outcomes text old mid new a b = record {
 
 -- ---- going on
 
-pub goes_none : (bytes : List ℕ) (was : Sitting) (old : Option (List ℕ)) → GoesOn bytes bytes was was old old
+pub goes_none : (bytes : List ℕ) (was : Console) (old : Option (List ℕ)) → GoesOn bytes bytes was was old old
 goes_none bytes was old = record {
   answered = [];
   lines = λ more. refl;
@@ -63,13 +76,14 @@ goes_none bytes was old = record {
   within = omega arith;
   outcomes = [];
   came = tt;
-  makes = makes_none was;
+  batch = refl;
+  makes = makes_none was.seat;
   written = Appends-nil old;
 }
 
-module _ (bytes left : List ℕ) (was mid : Sitting) (old between : Option (List ℕ)) (g : GoesOn bytes left was mid old between) where
+module _ (bytes left : List ℕ) (was mid : Console) (old between : Option (List ℕ)) (g : GoesOn bytes left was mid old between) where
   -- and further
-  pub goes_then : (rest : List ℕ) (now : Sitting) (new : Option (List ℕ)) → GoesOn left rest mid now between new → GoesOn bytes rest was now old new
+  pub goes_then : (rest : List ℕ) (now : Console) (new : Option (List ℕ)) → GoesOn left rest mid now between new → GoesOn bytes rest was now old new
   goes_then rest now new h = record {
     answered = g.answered ++ h.answered;
     lines = λ more. g.lines more ∙ ap (λ (l : List (List ℕ)). g.answered ++ l) (h.lines more) ∙ sym (append_assoc g.answered h.answered _);
@@ -77,8 +91,9 @@ module _ (bytes left : List ℕ) (was mid : Sitting) (old between : Option (List
     quitting = λ more. g.quitting more ∙ h.quitting more;
     within = (let a = g.within in let b = h.within in omega arith);
     outcomes = g.outcomes ++ h.outcomes;
-    came = came_append g.answered g.outcomes h.answered h.outcomes g.came h.came;
-    makes = makes_then was mid now g.outcomes h.outcomes g.makes h.makes;
+    came = came_behind was.batch mid.batch g.answered g.outcomes h.answered h.outcomes g.came g.batch h.came;
+    batch = h.batch ∙ ap (λ (b : Option (List Edit)). batch_left b h.answered) g.batch ∙ sym (batch_append was.batch g.answered h.answered);
+    makes = makes_then was.seat mid.seat now.seat g.outcomes h.outcomes g.makes h.makes;
     written = written_then g.outcomes h.outcomes old between new g.written h.written;
   }
 
@@ -92,6 +107,7 @@ module _ (bytes left : List ℕ) (was mid : Sitting) (old between : Option (List
     within = (let a = g.within in omega (arith, length-append bytes piece, length-append left piece));
     outcomes = g.outcomes;
     came = g.came;
+    batch = g.batch;
     makes = g.makes;
     written = g.written;
   }
@@ -109,9 +125,9 @@ module _ (bytes left : List ℕ) (was mid : Sitting) (old between : Option (List
 -- ---- one line
 
 -- a line was answered whole
-pub goes_line : (bytes line rest : List ℕ) (was now : Sitting) (old new : Option (List ℕ)) → split_at_first 10 bytes ≡ Some (line, rest) → is_quit line ≡ false
-    → EndsAt (Ok tt) (line ∷ []) was now old new → GoesOn bytes rest was now old new
-goes_line bytes line rest was now old new parts other e =
+pub goes_line : (bytes line rest : List ℕ) (was now : Console) (old new : Option (List ℕ)) → split_at_first 10 bytes ≡ Some (line, rest) → is_quit line ≡ false
+    → LeavesBatch (Ok tt) line was now → EndsAt (Ok tt) (line ∷ []) was now old new → GoesOn bytes rest was now old new
+goes_line bytes line rest was now old new parts other leaves e =
     let all : line ∷ [] ≡ e.answered = e.parts ∙ ap (λ (l : List (List ℕ)). e.answered ++ l) e.leaves ∙ append-nil e.answered in
     record {
       answered = e.answered;
@@ -125,6 +141,7 @@ goes_line bytes line rest was now old new parts other e =
       within = (let a = split_shorter bytes line rest parts in omega arith);
       outcomes = e.outcomes;
       came = e.came;
+      batch = leaves ∙ ap (batch_left was.batch) all;
       makes = e.makes;
       written = e.writes;
     }
@@ -132,7 +149,7 @@ goes_line bytes line rest was now old new parts other e =
 -- ---- the end
 
 -- there is nothing more to answer
-pub ends_none : (was : Sitting) (old : Option (List ℕ)) → EndsAt (Ok tt) [] was was old old
+pub ends_none : (was : Console) (old : Option (List ℕ)) → EndsAt (Ok tt) [] was was old old
 ends_none was old = record {
   answered = [];
   left = [];
@@ -140,11 +157,11 @@ ends_none was old = record {
   leaves = refl;
   outcomes = [];
   came = tt;
-  makes = makes_none was;
+  makes = makes_none was.seat;
   writes = Appends-nil old;
 }
 
-pub ends_unread : (was : Sitting) (old : Option (List ℕ)) → EndsAt (Err faults.ReadFault) [] was was old old
+pub ends_unread : (was : Console) (old : Option (List ℕ)) → EndsAt (Err faults.ReadFault) [] was was old old
 ends_unread was old = record {
   answered = [];
   left = [];
@@ -152,12 +169,12 @@ ends_unread was old = record {
   leaves = refl;
   outcomes = [];
   came = tt;
-  makes = makes_none was;
+  makes = makes_none was.seat;
   writes = Appends-nil old;
 }
 
 -- there is no memory for more
-pub ends_memory : (lines : List (List ℕ)) (was : Sitting) (old : Option (List ℕ)) → EndsAt (Err faults.Memory) lines was was old old
+pub ends_memory : (lines : List (List ℕ)) (was : Console) (old : Option (List ℕ)) → EndsAt (Err faults.Memory) lines was was old old
 ends_memory lines was old = record {
   answered = [];
   left = lines;
@@ -165,12 +182,12 @@ ends_memory lines was old = record {
   leaves = tt;
   outcomes = [];
   came = tt;
-  makes = makes_none was;
+  makes = makes_none was.seat;
   writes = record { first = []; untold = []; parts = refl; few = omega arith; written = Appends-nil old };
 }
 
 -- a fault leaves later lines too
-pub ends_before : (fault : OperatorFault) (lines later : List (List ℕ)) (was now : Sitting) (old new : Option (List ℕ)) → IsRead (Err fault)
+pub ends_before : (fault : OperatorFault) (lines later : List (List ℕ)) (was now : Console) (old new : Option (List ℕ)) → IsRead (Err fault)
     → EndsAt (Err fault) lines was now old new → EndsAt (Err fault) (lines ++ later) was now old new
 ends_before faults.ReadFault lines later was now old new read e = absurd read
 ends_before faults.WriteFault lines later was now old new read e = record {
@@ -209,30 +226,30 @@ writes_behind (Err faults.Memory) outcomes others old mid new a b = record {
   written = written_then outcomes b.first old mid new a b.written;
 }
 
-ends_after : (end : Result (Unit {0}) OperatorFault) (answered lines : List (List ℕ)) (outcomes : List Outcome) (was mid now : Sitting) (old between new : Option (List ℕ))
-    → CameTo answered outcomes → Makes was mid (entries_of outcomes) → Appends old between (text_of outcomes) → EndsAt end lines mid now between new
-    → EndsAt end (answered ++ lines) was now old new
-ends_after end answered lines outcomes was mid now old between new came makes written e = record {
+ends_after : (end : Result (Unit {0}) OperatorFault) (answered lines : List (List ℕ)) (outcomes : List Outcome) (was mid now : Console) (old between new : Option (List ℕ))
+    → CameTo was.batch answered outcomes → mid.batch ≡ batch_left was.batch answered → Makes was.seat mid.seat (entries_of outcomes) → Appends old between (text_of outcomes)
+    → EndsAt end lines mid now between new → EndsAt end (answered ++ lines) was now old new
+ends_after end answered lines outcomes was mid now old between new came batch makes written e = record {
   answered = answered ++ e.answered;
   left = e.left;
   parts = ap (λ (l : List (List ℕ)). answered ++ l) e.parts ∙ sym (append_assoc answered e.answered e.left);
   leaves = e.leaves;
   outcomes = outcomes ++ e.outcomes;
-  came = came_append answered outcomes e.answered e.outcomes came e.came;
-  makes = makes_then was mid now outcomes e.outcomes makes e.makes;
+  came = came_behind was.batch mid.batch answered outcomes e.answered e.outcomes came batch e.came;
+  makes = makes_then was.seat mid.seat now.seat outcomes e.outcomes makes e.makes;
   writes = writes_behind end outcomes e.outcomes old between new written e.writes;
 }
 
-module _ (bytes left : List ℕ) (was mid : Sitting) (old between : Option (List ℕ)) (g : GoesOn bytes left was mid old between) where
+module _ (bytes left : List ℕ) (was mid : Console) (old between : Option (List ℕ)) (g : GoesOn bytes left was mid old between) where
   -- it ends at what was left
-  pub ends_behind : (end : Result (Unit {0}) OperatorFault) (now : Sitting) (new : Option (List ℕ)) → EndsAt end (commands (lines_of left)) mid now between new
+  pub ends_behind : (end : Result (Unit {0}) OperatorFault) (now : Console) (new : Option (List ℕ)) → EndsAt end (commands (lines_of left)) mid now between new
       → EndsAt end (commands (lines_of bytes)) was now old new
   ends_behind end now new e =
       subst (λ (l : List (List ℕ)). EndsAt end l was now old new) (sym (commands_now bytes left was mid old between g))
-      (ends_after end g.answered (commands (lines_of left)) g.outcomes was mid now old between new g.came g.makes g.written e)
+      (ends_after end g.answered (commands (lines_of left)) g.outcomes was mid now old between new g.came g.batch g.makes g.written e)
 
-  pub ends_behind_ended : (end : Result (Unit {0}) OperatorFault) (now : Sitting) (new : Option (List ℕ)) → EndsAt end (commands (ended_lines left)) mid now between new
+  pub ends_behind_ended : (end : Result (Unit {0}) OperatorFault) (now : Console) (new : Option (List ℕ)) → EndsAt end (commands (ended_lines left)) mid now between new
       → EndsAt end (commands (ended_lines bytes)) was now old new
   ends_behind_ended end now new e =
       subst (λ (l : List (List ℕ)). EndsAt end l was now old new) (sym (ended_now bytes left was mid old between g))
-      (ends_after end g.answered (commands (ended_lines left)) g.outcomes was mid now old between new g.came g.makes g.written e)
+      (ends_after end g.answered (commands (ended_lines left)) g.outcomes was mid now old between new g.came g.batch g.makes g.written e)

@@ -3,7 +3,7 @@ use Rattle.std.proofs.Common.{◌≡◌, ◌<◌, ℕ, true, List, [], ◌++◌,
 use Rattle.std.specs.Io.KnownBytes.{Consumes, IsAtEnd, Keeps}
 use Rattle.std.proofs.KnownBytes.{Consumes-nil, Consumes-trans, Consumes-kept}
 use Rattle.basics.specs.Lines.{lines_of}
-use Rattle.tac_hall.specs.Seat.{Sitting}
+use Rattle.tac_hall_console.specs.declared.answering.Console.{Console}
 use Rattle.tac_hall_console.specs.declared.fault.OperatorFault.{OperatorFault}
 use Rattle.tac_hall_console.specs.declared.fault.OperatorFault.TheVariants as faults
 use Rattle.tac_hall_console.specs.declared.operator.Went.TheVariants.{On, Quits}
@@ -13,7 +13,7 @@ use Rattle.tac_hall_console.proofs.LineFacts.{ended_open}
 use Rattle.tac_hall_console.proofs.GoingFacts.{goes_none, goes_then, goes_more, quits_now, ends_unread, ends_behind, ends_behind_ended}
 
 -- nothing was read yet
-pub listens_first : (begun : List ℕ) (was : Sitting) (before old : Option (List ℕ)) → begun ≡ [] → Listens begun was was before before old old
+pub listens_first : (begun : List ℕ) (was : Console) (before old : Option (List ℕ)) → begun ≡ [] → Listens begun was was before before old old
 listens_first begun was before old none = rw none (record {
   input = [];
   read = Consumes-nil before;
@@ -21,7 +21,7 @@ listens_first begun was before old none = rw none (record {
   opens = refl;
 })
 
-module _ (begun : List ℕ) (was mid : Sitting) (before after old between : Option (List ℕ)) (s : Listens begun was mid before after old between) where
+module _ (begun : List ℕ) (was mid : Console) (before after old between : Option (List ℕ)) (s : Listens begun was mid before after old between) where
   -- nothing more was read
   pub listens_still : (left : Option (List ℕ)) → Keeps after left → Listens begun was mid before left old between
   listens_still left kept = record {
@@ -42,7 +42,7 @@ module _ (begun : List ℕ) (was mid : Sitting) (before after old between : Opti
         (subst (λ (l : List (List ℕ)). EndsAt (Err faults.ReadFault) l mid mid between between) (sym (ap commands (ended_open begun s.opens))) (ends_unread mid between));
   }
 
-  module _ (piece : List ℕ) (left : Option (List ℕ)) (read : Consumes after left piece) (now : Sitting) (new : Option (List ℕ)) where
+  module _ (piece : List ℕ) (left : Option (List ℕ)) (read : Consumes after left piece) (now : Console) (new : Option (List ℕ)) where
     -- the lines of a piece were answered
     pub listens_more : (next : List ℕ) → Took (Ok On) begun piece next mid now between new → Listens next was now before left old new
     listens_more next t = record {
@@ -88,7 +88,7 @@ module _ (begun : List ℕ) (was mid : Sitting) (before after old between : Opti
     heard_fault_as (Ok u) fault next is some t = absurd is
     heard_fault_as (Err same) fault next is some t = rw is (heard_fault fault next some t)
 
-  module _ (left : Option (List ℕ)) (read : Consumes after left []) (at_end : IsAtEnd left) (now : Sitting) (new : Option (List ℕ)) where
+  module _ (left : Option (List ℕ)) (read : Consumes after left []) (at_end : IsAtEnd left) (now : Console) (new : Option (List ℕ)) where
     read_all : Consumes before left s.input
     read_all = rw (append-nil s.input) at (Consumes-trans before after left s.input [] s.read read)
 

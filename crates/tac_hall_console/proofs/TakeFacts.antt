@@ -1,7 +1,7 @@
 -- The lines of a piece.
 use Rattle.std.proofs.Common.{◌≡◌, ◌<◌, ℕ, zero, suc, eqb, eqb-true, length, Bool, true, false, List, [], ◌∷◌, ◌++◌, Option, None, Some, Result, Ok, Err, IsErrAnd, refl, sym, ap, subst, ◌∙◌, arith}
 use Rattle.basics.specs.Lines.{split_at_first, lines_of}
-use Rattle.tac_hall.specs.Seat.{Sitting}
+use Rattle.tac_hall_console.specs.declared.answering.Console.{Console}
 use Rattle.tac_hall_console.specs.declared.fault.OperatorFault.{OperatorFault}
 use Rattle.tac_hall_console.specs.declared.fault.OperatorFault.TheVariants as faults
 use Rattle.tac_hall_console.specs.declared.operator.Went.{Went}
@@ -12,7 +12,7 @@ use Rattle.tac_hall_console.proofs.LineFacts.{split_behind, open_more, lines_spl
 use Rattle.tac_hall_console.proofs.GoingFacts.{goes_then, goes_line, quits_now, ends_none, ends_memory, ends_before, ends_behind}
 
 -- what of a piece was gone through, where this has begun of a line and this is the rest
-module _ (start piece begun rest : List ℕ) (was mid : Sitting) (old between : Option (List ℕ)) (g : GoesOn (start ++ piece) (begun ++ rest) was mid old between) where
+module _ (start piece begun rest : List ℕ) (was mid : Console) (old between : Option (List ℕ)) (g : GoesOn (start ++ piece) (begun ++ rest) was mid old between) where
   -- there is no memory for the line
   pub took_memory : (result : Result Went OperatorFault) (next : List ℕ) → IsErrAnd result (λ fault. fault ≡ faults.Memory) → Took result start piece next was mid old between
   took_memory (Ok went) next is = absurd is
@@ -37,11 +37,11 @@ module _ (start piece begun rest : List ℕ) (was mid : Sitting) (old between : 
           (ends_none mid between)),
     )
 
-    module _ (other : is_quit (begun ++ front) ≡ false) (now : Sitting) (new : Option (List ℕ)) where
+    module _ (other : is_quit (begun ++ front) ≡ false) (now : Console) (new : Option (List ℕ)) where
       -- it is answered
       pub took_line : Answers (Ok tt) (begun ++ front) mid now between new → GoesOn (start ++ piece) behind was now old new
       took_line a =
-          goes_then (start ++ piece) (begun ++ rest) was mid old between g behind now new (goes_line (begun ++ rest) (begun ++ front) behind mid now between new whole other a.1)
+          goes_then (start ++ piece) (begun ++ rest) was mid old between g behind now new (goes_line (begun ++ rest) (begun ++ front) behind mid now between new whole other a.1 a.2)
 
       -- it fails there
       pub took_fault : (fault : OperatorFault) (next : List ℕ) → Answers (Err fault) (begun ++ front) mid now between new → Took (Err fault) start piece next was now old new
@@ -50,7 +50,7 @@ module _ (start piece begun rest : List ℕ) (was mid : Sitting) (old between : 
         ends_behind (start ++ piece) (begun ++ rest) was mid old between g (Err fault) now new
             (subst (λ (l : List (List ℕ)). EndsAt (Err fault) l mid now between new)
             (sym (ap commands (lines_split (begun ++ rest) (begun ++ front) behind whole) ∙ command_first (begun ++ front) (lines_of behind) other))
-            (ends_before fault ((begun ++ front) ∷ []) (commands (lines_of behind)) mid now between new a.0 a.1)),
+            (ends_before fault ((begun ++ front) ∷ []) (commands (lines_of behind)) mid now between new a.0 a.2)),
       )
 
       pub took_fault_as : (result : Result Went OperatorFault) (fault : OperatorFault) (next : List ℕ) → IsErrAnd result (λ end. end ≡ fault) → Answers (Err fault) (begun ++ front) mid now between new
@@ -81,5 +81,5 @@ last_line [] some opens other = absurd (omega arith)
 last_line (byte ∷ bytes) some opens other = ap commands (lines_open byte bytes opens) ∙ command_first (byte ∷ bytes) [] other
 
 -- the input ends there
-pub ends_last_none : (begun : List ℕ) (was : Sitting) (old : Option (List ℕ)) → commands (lines_of begun) ≡ [] → EndsAt (Ok tt) (commands (lines_of begun)) was was old old
+pub ends_last_none : (begun : List ℕ) (was : Console) (old : Option (List ℕ)) → commands (lines_of begun) ≡ [] → EndsAt (Ok tt) (commands (lines_of begun)) was was old old
 ends_last_none begun was old none = rw none (ends_none was old)

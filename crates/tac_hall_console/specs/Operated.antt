@@ -3,11 +3,13 @@ use Rattle.std.specs.Prelude.{◌≡◌, ◌≢◌, ◌<◌, ◌≤◌, ℕ, Lis
 use Rattle.std.specs.Prelude.{Option, Some, None, Result, Ok, Err, flat_map, filter_map}
 use Rattle.std.specs.Io.KnownBytes.{Appends, Consumes, IsAtEnd}
 use Rattle.basics.specs.Lines.{lines_of}
-use Rattle.pol_edit.specs.declared.fault.EditFault.TheVariants.{BadEdit}
-use Rattle.tac_console.specs.Answers.{edit_answer, query_answer}
+use Rattle.pol_edit.specs.declared.edit.Edit.{Edit}
+use Rattle.tac_console.specs.Answers.{edit_answer, batch_answer, query_answer, notice_text}
+use Rattle.tac_console.specs.Batching.{action_of, batch_after}
 use Rattle.tac_console.specs.ConsoleText.{asked_by}
-use Rattle.tac_console.specs.declared.asked.Asked.{Asked}
-use Rattle.tac_console.specs.declared.asked.Asked.TheVariants as asks
+use Rattle.tac_console.specs.declared.batching.Action.{Action}
+use Rattle.tac_console.specs.declared.batching.Action.TheVariants as actions
+use Rattle.tac_console.specs.declared.batching.Notice.{Notice}
 use Rattle.tac_hall.specs.declared.call.Call.{Call}
 use Rattle.tac_hall.specs.declared.call.Call.TheVariants as calls
 use Rattle.tac_hall.specs.declared.call.CallAnswer.{CallAnswer}
@@ -24,30 +26,29 @@ use Rattle.tac_hall_console.specs.Commands.{ended_lines, commands, quits}
 
 -- ---- a line
 
--- the call that a line asks for
-abbrev pub call_of : Asked → Option Call
-call_of (asks.Edit edit) = Some (calls.Edit edit)
-call_of (asks.Query query) = Some (calls.Query query)
-call_of asks.Neither = None
-
--- what came of a line: it asks for no call, or the hall took its call, or refused it
+-- what came of a line: a notice without a call, or the hall took its call, or refused it
 pub data Outcome : Type 0 where
-  uncalled : Outcome
+  noticed : Notice → Outcome
   made : Made → Outcome
   refused : HallFault → Outcome
 
 -- a call that was taken is the one that was asked for, and its answer is of its kind
-abbrev pub ComesTo : Option Call → Outcome → Type 0
-ComesTo None uncalled = Unit {0}
-ComesTo None (made entry) = ⊥
-ComesTo None (refused fault) = ⊥
-ComesTo (Some call) uncalled = ⊥
-ComesTo (Some call) (made entry) = (entry.call ≡ call) × IsOfKind call entry.answer
-ComesTo (Some call) (refused fault) = Unit {0}
+abbrev pub CallsFor : Call → Outcome → Type 0
+CallsFor call (noticed notice) = ⊥
+CallsFor call (made entry) = (entry.call ≡ call) × IsOfKind call entry.answer
+CallsFor call (refused fault) = Unit {0}
+
+-- the edits of a batch are one call, and only a notice makes none
+abbrev pub ComesTo : Action → Outcome → Type 0
+ComesTo (actions.Edit edit) = CallsFor (calls.Edit edit)
+ComesTo (actions.Commit edits) = CallsFor (calls.Batch edits)
+ComesTo (actions.Query query) = CallsFor (calls.Query query)
+ComesTo (actions.Tell notice) = λ outcome. outcome ≡ noticed notice
 
 -- how the answer to a call is printed; of a Stop nothing is
 abbrev pub answer_text : Call → CallAnswer → List ℕ
 answer_text (calls.Edit edit) (answers.Edit answer) = edit_answer answer
+answer_text (calls.Batch edits) (answers.Batch answer) = batch_answer answer
 answer_text (calls.Query query) (answers.Query answer) = query_answer query answer
 answer_text call answer = []
 
@@ -56,26 +57,27 @@ refusal_line fault = codes "hall " ++ fault_text fault ++ 10 ∷ []
 
 -- how it is told what came of a line
 abbrev pub told : Outcome → List ℕ
-told uncalled = edit_answer (Err BadEdit)
+told (noticed notice) = notice_text notice
 told (made entry) = answer_text entry.call entry.answer
 told (refused fault) = refusal_line fault
 
 -- ---- lines, one after another
 
--- what came of each
-abbrev pub CameTo : List (List ℕ) → List Outcome → Type 0
-CameTo [] [] = Unit {0}
-CameTo [] (outcome ∷ outcomes) = ⊥
-CameTo (line ∷ lines) [] = ⊥
-CameTo (line ∷ lines) (outcome ∷ outcomes) =
-    ComesTo (call_of (asked_by line)) outcome × CameTo lines outcomes
+-- what came of each, if this batch is open before the first
+abbrev pub CameTo : Option (List Edit) → List (List ℕ) → List Outcome → Type 0
+CameTo batch [] [] = Unit {0}
+CameTo batch [] (outcome ∷ outcomes) = ⊥
+CameTo batch (line ∷ lines) [] = ⊥
+CameTo batch (line ∷ lines) (outcome ∷ outcomes) =
+    ComesTo (action_of batch (asked_by line)) outcome
+    × CameTo (batch_after batch (asked_by line)) lines outcomes
 
 abbrev pub text_of : List Outcome → List ℕ
 text_of outcomes = flat_map told outcomes
 
 -- what a view has of it
 abbrev pub entry_of : Outcome → Option Made
-entry_of uncalled = None
+entry_of (noticed notice) = None
 entry_of (made entry) = Some entry
 entry_of (refused fault) = None
 
@@ -145,13 +147,13 @@ Wants end input stop = Unit {0}
 
 -- a console that ended well had memory for its Stop
 abbrev pub HasFound : Result (Unit {0}) OperatorFault → Outcome → Type 0
-HasFound (Ok _) uncalled = Unit {0}
+HasFound (Ok _) (noticed notice) = Unit {0}
 HasFound (Ok _) (made entry) = Unit {0}
 HasFound (Ok _) (refused fault) = fault ≢ hall.Memory
 HasFound (Err fault) stop = Unit {0}
 
 -- the lines of what was read up to the first `quit` were answered, one after another, by calls of
--- this seat, and then it made the Stop
+-- this seat, and then it made the Stop; at first no batch is open
 pub record IsOperated (end : Result (Unit {0}) OperatorFault) (was now : Sitting)
     (before after old new : Option (List ℕ)) : Type 0 where
   pub input : List ℕ
@@ -162,9 +164,9 @@ pub record IsOperated (end : Result (Unit {0}) OperatorFault) (was now : Sitting
   pub lines : commands (lines_at end input) ≡ answered ++ left
   pub leaves : Leaves end left
   pub outcomes : List Outcome
-  pub came : CameTo answered outcomes
+  pub came : CameTo None answered outcomes
   pub stop : Outcome
-  pub stops : ComesTo (Some calls.Stop) stop
+  pub stops : CallsFor calls.Stop stop
   pub wants : Wants end input stop
   pub found : HasFound end stop
   pub makes : Makes was now (entries_of (outcomes ++ stop ∷ []))

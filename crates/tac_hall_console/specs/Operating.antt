@@ -1,41 +1,48 @@
 -- How a console goes on, one line after another.
-use Rattle.std.specs.Prelude.{◌≡◌, ◌≤◌, ◌<◌, ◌⊎◌, ℕ, List, [], ◌∷◌, ◌++◌, length, true}
-use Rattle.std.specs.Prelude.{Option, Some, None, Result, Ok, Err}
+use Rattle.std.specs.Prelude.{◌≡◌, ◌≤◌, ◌<◌, ◌⊎◌, ℕ, List, [], ◌∷◌, ◌++◌, length, map, true}
+use Rattle.std.specs.Prelude.{Option, None, Result, Ok, Err}
 use Rattle.std.specs.Io.KnownBytes.{Appends, Consumes}
 use Rattle.basics.specs.Lines.{split_at_first, lines_of}
-use Rattle.tac_hall.specs.declared.call.Call.{Call}
+use Rattle.pol_edit.specs.declared.edit.Edit.{Edit}
+use Rattle.tac_console.specs.Batching.{action_of, batch_after, batch_behind}
+use Rattle.tac_console.specs.ConsoleText.{asked_by}
 use Rattle.tac_hall.specs.declared.call.Call.TheVariants as calls
 use Rattle.tac_hall.specs.Seat.{Sitting}
+use Rattle.tac_hall_console.specs.declared.answering.Console.{Console}
 use Rattle.tac_hall_console.specs.declared.fault.OperatorFault.{OperatorFault}
 use Rattle.tac_hall_console.specs.declared.fault.OperatorFault.TheVariants as faults
 use Rattle.tac_hall_console.specs.declared.operator.Went.{Went}
 use Rattle.tac_hall_console.specs.declared.operator.Went.TheVariants.{On, Quits}
 use Rattle.tac_hall_console.specs.Commands.{ended_lines, commands, quits}
-use Rattle.tac_hall_console.specs.Operated.{Outcome, uncalled, made, refused, ComesTo, CameTo}
-use Rattle.tac_hall_console.specs.Operated.{told, text_of}
+use Rattle.tac_hall_console.specs.Operated.{Outcome, noticed, made, refused, CallsFor, ComesTo}
+use Rattle.tac_hall_console.specs.Operated.{CameTo, told, text_of}
 use Rattle.tac_hall_console.specs.Operated.{entries_of, Makes, WritesBeginning, WritesMost}
 use Rattle.tac_hall_console.specs.Operated.{lines_at, Leaves, Finishes, HasFound}
 
 -- ---- one line
 
--- this came of a call, or of a line that asks for none
-pub record Comes (call : Option Call) (outcome : Outcome) (was now : Sitting) : Type 0 where
-  pub comes : ComesTo call outcome
+-- of what may come of a line or a call this came, and the seat made its call, if it has one
+pub record Comes (may : Outcome → Type 0) (outcome : Outcome) (was now : Sitting) : Type 0 where
+  pub comes : may outcome
   pub makes : Makes was now (entries_of (outcome ∷ []))
 
 -- it had a result, which this text tells
-pub record Tells (call : Option Call) (was now : Sitting) (text : List ℕ) : Type 0 where
+pub record Tells (may : Outcome → Type 0) (was now : Sitting) (text : List ℕ) : Type 0 where
   pub outcome : Outcome
-  pub came : Comes call outcome was now
+  pub came : Comes may outcome was now
   pub is : text ≡ told outcome
 
 -- the same, where the text is added to another
-abbrev pub Adds : Option Call → Sitting → Sitting → List ℕ → List ℕ → Type 0
-Adds call was now old new = (text : List ℕ) × (new ≡ old ++ text) × Tells call was now text
+abbrev pub Adds : (Outcome → Type 0) → Sitting → Sitting → List ℕ → List ℕ → Type 0
+Adds may was now old new = (text : List ℕ) × (new ≡ old ++ text) × Tells may was now text
 
 -- memory ran out: it had no result, or the result isn't told
-abbrev pub IsUntold : Option Call → Sitting → Sitting → Type 0
-IsUntold call was now = (now ≡ was) ⊎ ((outcome : Outcome) × Comes call outcome was now)
+abbrev pub IsUntold : (Outcome → Type 0) → Sitting → Sitting → Type 0
+IsUntold may was now = (now ≡ was) ⊎ ((outcome : Outcome) × Comes may outcome was now)
+
+-- what may come of a line at a console with this batch
+abbrev pub LineComesTo : Option (List Edit) → List ℕ → Outcome → Type 0
+LineComesTo batch line = ComesTo (action_of batch (asked_by line))
 
 -- a text was written, or a beginning of it
 abbrev pub Sends : Result (Unit {0}) OperatorFault → List ℕ → Option (List ℕ) → Option (List ℕ)
@@ -52,13 +59,17 @@ SendsUnlessMemory end text old new = Sends end text old new
 
 -- ---- lines, one after another
 
+-- the batch that these lines leave
+abbrev pub batch_left : Option (List Edit) → List (List ℕ) → Option (List Edit)
+batch_left batch lines = batch_behind batch (map asked_by lines)
+
 -- no line ends in these bytes
 abbrev pub IsOpen : List ℕ → Type 0
 IsOpen bytes = split_at_first 10 bytes ≡ None
 
 -- these bytes were gone through up to what is left of them: whatever comes later, the lines that
 -- ended before that were answered, and the later ones are the lines of what is left
-pub record GoesOn (bytes left : List ℕ) (was now : Sitting) (old new : Option (List ℕ)) : Type 0
+pub record GoesOn (bytes left : List ℕ) (was now : Console) (old new : Option (List ℕ)) : Type 0
   where
     pub answered : List (List ℕ)
     pub lines : (more : List ℕ)
@@ -69,8 +80,9 @@ pub record GoesOn (bytes left : List ℕ) (was now : Sitting) (old new : Option 
         → quits (ended_lines (bytes ++ more)) ≡ quits (ended_lines (left ++ more))
     pub within : length left ≤ length bytes
     pub outcomes : List Outcome
-    pub came : CameTo answered outcomes
-    pub makes : Makes was now (entries_of outcomes)
+    pub came : CameTo was.batch answered outcomes
+    pub batch : now.batch ≡ batch_left was.batch answered
+    pub makes : Makes was.seat now.seat (entries_of outcomes)
     pub written : Appends old new (text_of outcomes)
 
 -- what came of the lines so far was written, or as much of it as a fault allows
@@ -83,14 +95,14 @@ WritesTo (Err faults.Memory) outcomes old new = WritesMost outcomes old new
 
 -- of these commands the first were answered, and it ends
 pub record EndsAt (end : Result (Unit {0}) OperatorFault) (lines : List (List ℕ))
-    (was now : Sitting) (old new : Option (List ℕ)) : Type 0 where
+    (was now : Console) (old new : Option (List ℕ)) : Type 0 where
   pub answered : List (List ℕ)
   pub left : List (List ℕ)
   pub parts : lines ≡ answered ++ left
   pub leaves : Leaves end left
   pub outcomes : List Outcome
-  pub came : CameTo answered outcomes
-  pub makes : Makes was now (entries_of outcomes)
+  pub came : CameTo was.batch answered outcomes
+  pub makes : Makes was.seat now.seat (entries_of outcomes)
   pub writes : WritesTo end outcomes old new
 
 -- reading isn't what failed
@@ -98,13 +110,19 @@ abbrev pub IsRead : Result (Unit {0}) OperatorFault → Type 0
 IsRead (Err faults.ReadFault) = ⊥
 IsRead end = Unit {0}
 
+-- the batch is as the line leaves it, unless it ends there
+abbrev pub LeavesBatch : Result (Unit {0}) OperatorFault → List ℕ → Console → Console → Type 0
+LeavesBatch (Ok _) line was now = now.batch ≡ batch_after was.batch (asked_by line)
+LeavesBatch (Err fault) line was now = Unit {0}
+
 -- a line was answered, or it ends there
-abbrev pub Answers : Result (Unit {0}) OperatorFault → List ℕ → Sitting → Sitting
+abbrev pub Answers : Result (Unit {0}) OperatorFault → List ℕ → Console → Console
     → Option (List ℕ) → Option (List ℕ) → Type 0
-Answers end line was now old new = IsRead end × EndsAt end (line ∷ []) was now old new
+Answers end line was now old new =
+    IsRead end × LeavesBatch end line was now × EndsAt end (line ∷ []) was now old new
 
 -- the lines of a piece were answered, or it ends at one of them
-abbrev pub Took : Result Went OperatorFault → List ℕ → List ℕ → List ℕ → Sitting → Sitting
+abbrev pub Took : Result Went OperatorFault → List ℕ → List ℕ → List ℕ → Console → Console
     → Option (List ℕ) → Option (List ℕ) → Type 0
 Took (Ok On) begun piece next was now old new =
     IsOpen next × GoesOn (begun ++ piece) next was now old new
@@ -117,7 +135,7 @@ Took (Err fault) begun piece next was now old new =
 -- ---- the whole input
 
 -- all that was read is answered, up to what has begun of a line
-pub record Listens (begun : List ℕ) (was now : Sitting) (before after old new : Option (List ℕ))
+pub record Listens (begun : List ℕ) (was now : Console) (before after old new : Option (List ℕ))
     : Type 0 where
   pub input : List ℕ
   pub read : Consumes before after input
@@ -125,7 +143,7 @@ pub record Listens (begun : List ℕ) (was now : Sitting) (before after old new 
   pub opens : IsOpen begun
 
 -- `quit`, the end of the input or a fault ended it
-pub record IsHeard (end : Result (Unit {0}) OperatorFault) (was now : Sitting)
+pub record IsHeard (end : Result (Unit {0}) OperatorFault) (was now : Console)
     (before after old new : Option (List ℕ)) : Type 0 where
   pub input : List ℕ
   pub read : Consumes before after input
@@ -136,7 +154,7 @@ pub record IsHeard (end : Result (Unit {0}) OperatorFault) (was now : Sitting)
 -- ---- the Stop
 
 abbrev pub IsRefused : Outcome → Type 0
-IsRefused uncalled = ⊥
+IsRefused (noticed notice) = ⊥
 IsRefused (made entry) = ⊥
 IsRefused (refused fault) = Unit {0}
 
@@ -152,5 +170,5 @@ StopEnds (Err fault) end stop old new = (end ≡ Err fault) × (new ≡ old)
 pub record Stops (heard end : Result (Unit {0}) OperatorFault) (was now : Sitting)
     (old new : Option (List ℕ)) : Type 0 where
   pub stop : Outcome
-  pub came : Comes (Some calls.Stop) stop was now
+  pub came : Comes (CallsFor calls.Stop) stop was now
   pub ends : StopEnds heard end stop old new

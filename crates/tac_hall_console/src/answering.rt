@@ -1,23 +1,33 @@
 //! What is told of a line, and of a call.
 
-ghost use Rattle.std.specs.Prelude.{◌≡◌, ◌++◌, Some, Err, IfOk, OnOk, OnErr};
+ghost use Rattle.std.specs.Prelude.{◌≡◌, ◌++◌, Err, IfOk, OnOk, OnErr};
+ghost use Rattle.tac_console.specs.Batching.{batch_after};
 ghost use Rattle.tac_console.specs.ConsoleText.{asked_by};
 ghost use Rattle.tac_hall.specs.History.{IsOfKind};
-ghost use Rattle.tac_hall_console.specs.Operated.{answer_text, call_of, refusal_line};
+ghost use Rattle.tac_hall_console.specs.Operated.{CallsFor, ComesTo, answer_text, refusal_line};
 ghost use Rattle.tac_hall_console.specs.Operating as operating;
 
 use crate::fault::OperatorFault;
 use basics::send;
-use pol_edit::EditFault;
 use std::alloc::{AllocError, Global};
 use std::io::Write;
 use std::sync::Wait;
-use tac_console::{Asked, read_console, write_edit_answer, write_query_answer};
+use tac_console::{
+    Action, Batch, read_console, write_batch_answer, write_edit_answer, write_notice,
+    write_query_answer,
+};
 use tac_desk::Desk;
 use tac_hall::{Call, CallAnswer, Hall, HallFault, Made, Seat};
 
 // The room that a line takes, which most answers are.
 const LINE: usize = 64;
+
+/// The seat that calls for a console, and the batch of its lines.
+#[derive(Drop)]
+pub(crate) struct Console {
+    pub(crate) seat: Seat,
+    pub(crate) batch: Batch,
+}
 
 // Adds how a call is answered that the hall took.
 fn write_answer(alloc: Global, out: &mut Vec<u8>, entry: &Made) -> Result<(), AllocError>
@@ -31,6 +41,12 @@ fn write_answer(alloc: Global, out: &mut Vec<u8>, entry: &Made) -> Result<(), Al
         }
         (Call::Edit(_), CallAnswer::Edit(Err(fault))) => {
             write_edit_answer(alloc, out, &Err(*fault))
+        }
+        (Call::Batch(_), CallAnswer::Batch(Ok(changes))) => {
+            write_batch_answer(alloc, out, &Ok(changes.get()))
+        }
+        (Call::Batch(_), CallAnswer::Batch(Err(fault))) => {
+            write_batch_answer(alloc, out, &Err(*fault))
         }
         (Call::Query(query), CallAnswer::Query(Ok(report))) => {
             write_query_answer(alloc, out, query, &Ok(report.get()))
@@ -61,9 +77,9 @@ fn tell<H: Wait, D: Desk>(
     call: Call,
     out: &mut Vec<u8>,
 ) -> Result<(), AllocError>
-    ensures ok { OnOk result (operating.Adds (Some call) seat.old seat.new
+    ensures ok { OnOk result (operating.Adds (CallsFor call) seat.old seat.new
         out.old.items out.new.items) }
-    ensures err { OnErr result (operating.IsUntold (Some call) seat.old seat.new) }
+    ensures err { OnErr result (operating.IsUntold (CallsFor call) seat.old seat.new) }
 {
     if let Err(fault) = hall.call(rt, seat, call) {
         return write_refusal(out, fault);
@@ -74,26 +90,49 @@ fn tell<H: Wait, D: Desk>(
     }
 }
 
-/// How a line is answered, without its LF: by a call, if it asks for one. Where memory ran out the
-/// call may have been made even so.
-pub(crate) fn answer_line<H: Wait, D: Desk>(
+// Does what a line asks of the hall, or tells its notice, and adds what came of it.
+fn act<H: Wait, D: Desk>(
     rt: &H,
     alloc: Global,
     hall: &Hall<D>,
     seat: &mut Seat,
+    action: Action,
+    out: &mut Vec<u8>,
+) -> Result<(), AllocError>
+    ensures ok { OnOk result (operating.Adds (ComesTo action) seat.old seat.new
+        out.old.items out.new.items) }
+    ensures err { OnErr result (operating.IsUntold (ComesTo action) seat.old seat.new) }
+{
+    match action {
+        Action::Edit(edit) => tell(rt, alloc, hall, seat, Call::Edit(edit), out),
+        Action::Commit(edits) => tell(rt, alloc, hall, seat, Call::Batch(edits), out),
+        Action::Query(query) => tell(rt, alloc, hall, seat, Call::Query(query), out),
+        Action::Tell(notice) => write_notice(alloc, out, notice),
+    }
+}
+
+/// How a line is answered, without its LF: by a call, if it asks for one. Where memory ran out the
+/// call may have been made even so, and no line may follow.
+pub(crate) fn answer_line<H: Wait, D: Desk>(
+    rt: &H,
+    alloc: Global,
+    hall: &Hall<D>,
+    console: &mut Console,
     line: &[u8],
 ) -> Result<Vec<u8>, AllocError>
-    ensures ok { IfOk result (λ text. operating.Tells (call_of (asked_by line.now))
-        seat.old seat.new text.items) }
-    ensures err { OnErr result (operating.IsUntold (call_of (asked_by line.now))
-        seat.old seat.new) }
+    ensures ok { IfOk result (λ text. operating.Tells
+        (operating.LineComesTo console.old.batch line.now)
+        console.old.seat console.new.seat text.items) }
+    ensures batch { OnOk result
+        (console.new.batch ≡ batch_after console.old.batch (asked_by line.now)) }
+    ensures err { OnErr result (operating.IsUntold
+        (operating.LineComesTo console.old.batch line.now)
+        console.old.seat console.new.seat) }
 {
     let mut text = Vec::with_capacity(alloc, LINE)?;
-    match read_console(alloc, line)? {
-        Asked::Edit(edit) => tell(rt, alloc, hall, seat, Call::Edit(edit), &mut text)?,
-        Asked::Query(query) => tell(rt, alloc, hall, seat, Call::Query(query), &mut text)?,
-        Asked::Neither => write_edit_answer(alloc, &mut text, &Err(EditFault::BadEdit))?,
-    }
+    let asked = read_console(alloc, line)?;
+    let action = console.batch.take(alloc, asked)?;
+    act(rt, alloc, hall, &mut console.seat, action, &mut text)?;
     Ok(text)
 }
 

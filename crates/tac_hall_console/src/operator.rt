@@ -5,14 +5,14 @@ ghost use Rattle.basics.specs.Lines.{lines_of};
 ghost use Rattle.tac_hall_console.specs.Commands.{commands, is_quit as quit_test};
 ghost use Rattle.tac_hall_console.specs.Operating as operating;
 
-use crate::answering::{answer_line, write_text};
+use crate::answering::{Console, answer_line, write_text};
 use crate::fault::OperatorFault;
 use basics::split_once;
 use std::alloc::Global;
 use std::io::{Read, Write};
 use std::sync::Wait;
 use tac_desk::Desk;
-use tac_hall::{Hall, Seat};
+use tac_hall::Hall;
 use tac_io::read_piece;
 
 // What is read at once.
@@ -27,11 +27,11 @@ pub(crate) enum Went {
     Quits,
 }
 
-/// A seat at the console, and what has begun of a line.
+/// A console, and what has begun of a line.
 #[derive(Drop)]
 pub(crate) struct Operator {
     pub(crate) alloc: Global,
-    pub(crate) seat: Seat,
+    pub(crate) console: Console,
     pub(crate) begun: Vec<u8>,
 }
 
@@ -49,11 +49,11 @@ impl Operator {
         hall: &Hall<D>,
         writer: &mut W,
     ) -> Result<(), OperatorFault>
-        ensures { operating.Answers result self.old.begun.items self.old.seat self.new.seat
+        ensures { operating.Answers result self.old.begun.items self.old.console self.new.console
             (W.contents writer.old) (W.contents writer.new) }
     {
         let line = self.begun.as_slice();
-        let text = answer_line(rt, self.alloc, hall, &mut self.seat, line)?;
+        let text = answer_line(rt, self.alloc, hall, &mut self.console, line)?;
         write_text(writer, text.as_slice())
     }
 
@@ -67,7 +67,7 @@ impl Operator {
     ) -> Result<Went, OperatorFault>
         requires { operating.IsOpen self.old.begun.items }
         ensures { operating.Took result self.old.begun.items piece.now self.new.begun.items
-            self.old.seat self.new.seat (W.contents writer.old) (W.contents writer.new) }
+            self.old.console self.new.console (W.contents writer.old) (W.contents writer.new) }
     {
         let mut rest = piece;
         'lines: while let Some((front, behind)) = split_once(rest, b'\n') {
@@ -94,7 +94,7 @@ impl Operator {
         ensures read { operating.IsRead result }
         ensures wants { result ≡ Err OperatorFault.Memory → 0 < vec_len self.old.begun }
         ensures ends { operating.EndsAt result (commands (lines_of self.old.begun.items))
-            self.old.seat self.new.seat (W.contents writer.old) (W.contents writer.new) }
+            self.old.console self.new.console (W.contents writer.old) (W.contents writer.new) }
     {
         if self.begun.is_empty() {
             return Ok(());
@@ -115,7 +115,7 @@ impl Operator {
         writer: &mut W,
     ) -> Result<(), OperatorFault>
         requires { self.old.begun.items ≡ [] }
-        ensures { operating.IsHeard result self.old.seat self.new.seat
+        ensures { operating.IsHeard result self.old.console self.new.console
             (R.remaining reader.old) (R.remaining reader.new)
             (W.contents writer.old) (W.contents writer.new) }
     {

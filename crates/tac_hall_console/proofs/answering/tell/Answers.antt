@@ -1,20 +1,19 @@
-use Rattle.std.proofs.Common.{Some}
-use Rattle.tac_hall_console.specs.Operated.{made, refused}
+use Rattle.tac_hall_console.specs.Operated.{CallsFor, made, refused}
 use Rattle.tac_hall_console.proofs.CallFacts.{comes_last, comes_refused, tells_ok, tells_err}
 use Rattle.tac_hall_console.proofs.answering.tell.Goals as goal
 
 pub returns-in-Err-clause-ok : goal.returns-in-Err-clause-ok
 returns-in-Err-clause-ok g c =
-    tells_ok (Some c.args.call) (refused c.in-Err.fault) c.args.seat.now c.call.new.seat c.args.out.now.items c.write_refusal.new.out.items c.write_refusal.result
+    tells_ok (CallsFor c.args.call) (refused c.in-Err.fault) c.args.seat.now c.call.new.seat c.args.out.now.items c.write_refusal.new.out.items c.write_refusal.result
     (comes_refused c.args.call c.in-Err.fault c.args.seat.now c.call.new.seat c.in-Err.ensures.err) c.write_refusal.ensures
 
 pub returns-clause-ok : goal.returns-clause-ok
 returns-clause-ok g c =
-    tells_ok (Some c.args.call) (made c.in-Some.entry.now) c.args.seat.now c.call.new.seat c.args.out.now.items c.write_answer.new.out.items c.write_answer.result
+    tells_ok (CallsFor c.args.call) (made c.in-Some.entry.now) c.args.seat.now c.call.new.seat c.args.out.now.items c.write_answer.new.out.items c.write_answer.result
     (comes_last c.args.call c.in_default.field-0 c.args.seat.now c.call.new.seat c.in-Some.entry.now c.view.result.now c.in_default.ensures.made c.view.ensures c.in-Some.ensures.value)
     c.write_answer.ensures
 
 pub returns-clause-err : goal.returns-clause-err
 returns-clause-err g c =
-    tells_err (Some c.args.call) (made c.in-Some.entry.now) c.args.seat.now c.call.new.seat c.write_answer.result
+    tells_err (CallsFor c.args.call) (made c.in-Some.entry.now) c.args.seat.now c.call.new.seat c.write_answer.result
     (comes_last c.args.call c.in_default.field-0 c.args.seat.now c.call.new.seat c.in-Some.entry.now c.view.result.now c.in_default.ensures.made c.view.ensures c.in-Some.ensures.value)

@@ -1,0 +1,10 @@
+use Rattle.tac_console.specs.declared.batching.Action.TheVariants as actions
+use Rattle.tac_hall_console.specs.Operated.{ComesTo, noticed}
+use Rattle.tac_hall_console.proofs.CallFacts.{comes_noticed, tells_ok}
+use Rattle.tac_hall_console.proofs.answering.act.Goals as goal
+
+pub returns-in-Tell-clause-ok : goal.returns-in-Tell-clause-ok
+returns-in-Tell-clause-ok g c =
+    rw c.in-Tell.is
+    (tells_ok (ComesTo (actions.Tell c.in-Tell.notice)) (noticed c.in-Tell.notice) c.args.seat.now c.args.seat.now c.args.out.now.items c.write_notice.new.out.items c.write_notice.result
+    (comes_noticed c.in-Tell.notice c.args.seat.now) c.write_notice.ensures.ok)
