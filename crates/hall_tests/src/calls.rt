@@ -4,31 +4,35 @@ use crate::support::converses;
 use std::test::Fail;
 
 #[test]
-fn a_log_of_two_calls(rt: HostRuntime) -> Result<(), Fail> {
+fn a_log_of_three_calls(rt: HostRuntime) -> Result<(), Fail> {
     converses(
         &rt,
-        2,
+        3,
         "
         1 run bob show version = 0 permitted
         0 insert group ops 1 deny show .* = 1 changes 1
+        1 batch = 2 changes 0
         1 run bob show version = 1 LogFull
+        1 batch = 1 LogFull
         0 stop = 1 LogFull
         ",
-        2,
+        3,
     )
 }
 
 #[test]
-fn an_edit_counts_for_the_other_seat(rt: HostRuntime) -> Result<(), Fail> {
+fn edits_count_for_the_other_seat(rt: HostRuntime) -> Result<(), Fail> {
     converses(
         &rt,
-        3,
+        5,
         "
         1 run bob show version = 0 permitted
         0 insert group ops 1 deny show .* = 1 changes 1
         1 run bob show version = 2 denied by group ops rule 1
+        0 batch insert group ops 1 permit ping; drop group ops 2 = 3 changes 1
+        1 run bob show version = 4 permitted
         ",
-        3,
+        5,
     )
 }
 
@@ -67,13 +71,17 @@ fn records_are_stored_by_the_desk(rt: HostRuntime) -> Result<(), Fail> {
 fn refused_edits_stand_in_the_log(rt: HostRuntime) -> Result<(), Fail> {
     converses(
         &rt,
-        4,
+        9,
         "
         0 remove user eve = 0 refused 2 NoSuch
         1 records = 1 report
-        0 run bob show version = 2 permitted
+        0 batch add group net; drop group ops 2 = 2 refused at edit 2: 7 BadIndex
+        0 run bob show version = 3 permitted
+        1 insert group ops 1 deny show .* = 4 changes 1
+        0 batch add group net; drop group ops 2 = 5 changes 0
+        1 add group net = 6 refused 3 Exists
         ",
-        3,
+        7,
     )
 }
 

@@ -91,10 +91,11 @@ fn a_missing_seat(rt: HostRuntime) -> Result<(), Fail> {
     closes(hall, seats, 0)
 }
 
-// What a hall of five calls goes on with after three of them.
+// What a hall of six calls goes on with after three of them.
 const LATER: &str = "
     0 run bob show version = 3 denied by group ops rule 1
     1 records = 4 report
+    1 batch drop group ops 1; add group net = 5 changes 1
     0 run bob show version = 1 LogFull
     1 stop = 1 LogFull
 ";
@@ -105,13 +106,14 @@ const ALL: &str = "
     1 run bob show version = denied by group ops rule 1
     0 run bob show version = denied by group ops rule 1
     1 records = report
+    1 batch drop group ops 1; add group net = changes 1
 ";
 
-const OPS_AT_LAST: &str = "group ops\ndeny show .*\npermit show .*\nuser bob in ops\n";
+const OPS_AT_LAST: &str = "group ops\npermit show .*\nuser bob in ops\ngroup net\n";
 
 #[test]
 fn a_missing_seat_after_calls(rt: HostRuntime) -> Result<(), Fail> {
-    let hall = hall_of(&rt, OPS, 5)?;
+    let hall = hall_of(&rt, OPS, 6)?;
     let mut seats = seats_of(&rt, &hall, 2)?;
     talks(
         &rt,

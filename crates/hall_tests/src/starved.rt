@@ -1,5 +1,5 @@
-//! A desk that has no memory for edits, for copies of its records, nor for a record. An edit or a
-//! question is answered so, as others are answered; a record is refused.
+//! A desk that has no memory for edits, for copies of its records, nor for a record. Edits and a
+//! question are answered so, as others are answered; a record is refused.
 
 ghost use Rattle.std.specs.Prelude.{◌≡◌, []};
 
@@ -81,10 +81,11 @@ fn want_of_memory_stands_in_the_log(rt: HostRuntime) -> Result<(), Fail> {
         "
         0 insert group ops 1 deny show .* = 0 refused 12 Memory
         1 records = 1 refused 12 Memory
-        1 run bob show version = 2 permitted
-        0 stop = 3 stopped
+        1 batch add group net; insert group net 1 permit ping = 2 refused 12 Memory
+        1 run bob show version = 3 permitted
+        0 stop = 4 stopped
         ",
-        4,
+        5,
     )
 }
 

@@ -1,7 +1,7 @@
 //! What the tests share: conversations with a hall.
 
-use basics::Bytes;
-use pol_edit::read_edit;
+use basics::{Bytes, Sequence};
+use pol_edit::{Edit, read_edit};
 use pol_names::By;
 use pol_text::Policy;
 use std::alloc::{AllocError, Global};
@@ -70,7 +70,20 @@ pub(crate) fn show_version(alloc: Global) -> Result<Call, AllocError> {
     run(alloc, "bob", "show version")
 }
 
-// `run NAME LINE`, `pass NAME SECRET`, `record NAME TASK`, `records`, `stop`, or an edit.
+// Edits, which `; ` parts, if there are any.
+fn edits(alloc: Global, words: &str) -> Result<Sequence<Edit>, Fail> {
+    let mut edits = Sequence::new(alloc);
+    for line in words.split("; ") {
+        if !line.is_empty() {
+            let edit = read_edit(alloc, line.as_bytes())?;
+            edits.push(edit)?;
+        }
+    }
+    Ok(edits)
+}
+
+// `run NAME LINE`, `pass NAME SECRET`, `record NAME TASK`, `records`, `stop`, `batch EDITS`, or an
+// edit.
 fn call_of(alloc: Global, words: &str) -> Result<Call, Fail> {
     let (verb, rest) = word(words);
     match verb {
@@ -88,6 +101,10 @@ fn call_of(alloc: Global, words: &str) -> Result<Call, Fail> {
         }
         "records" => Ok(Call::Query(Query::Records)),
         "stop" => Ok(Call::Stop),
+        "batch" => {
+            let edits = edits(alloc, rest)?;
+            Ok(Call::Batch(edits))
+        }
         _ => {
             let edit = read_edit(alloc, words.as_bytes())?;
             Ok(Call::Edit(edit))
@@ -107,6 +124,8 @@ fn show_answer(out: &mut String, answer: &CallAnswer) -> Result<(), AllocError> 
         CallAnswer::Ask(_) => write!(out, "another answer"),
         CallAnswer::Edit(Ok(changes)) => write!(out, "changes {}", changes.get().len()),
         CallAnswer::Edit(Err(fault)) => write!(out, "refused {fault}"),
+        CallAnswer::Batch(Ok(changes)) => write!(out, "changes {}", changes.get().len()),
+        CallAnswer::Batch(Err(fault)) => write!(out, "refused {fault}"),
         CallAnswer::Query(Ok(_)) => write!(out, "report"),
         CallAnswer::Query(Err(fault)) => write!(out, "refused {fault}"),
         CallAnswer::Stopped => write!(out, "stopped"),
