@@ -19,6 +19,13 @@ fn by_the_end_of_the_input(rt: HostRuntime) -> Result<(), Fail> {
     ends(&rt, "quit", WHOLE, 99, ("", "Ok(())", 1))?;
     ends(
         &rt,
+        "begin\nadd group net",
+        WHOLE,
+        99,
+        ("ok\nkept 1\n", "Ok(())", 1),
+    )?;
+    ends(
+        &rt,
         "shadow\nquitshadow",
         WHOLE,
         99,
@@ -49,6 +56,13 @@ fn by_a_failed_read(rt: HostRuntime) -> Result<(), Fail> {
         FAILING,
         99,
         ("none\n", "Err(ReadFault)", 2),
+    )?;
+    ends(
+        &rt,
+        "begin\nadd group net\ncommit",
+        FAILING,
+        99,
+        ("ok\nkept 1\n", "Err(ReadFault)", 1),
     )?;
     ends(&rt, "shadow\nquit\n", FAILING, 99, ("none\n", "Ok(())", 2))
 }
@@ -90,8 +104,23 @@ fn by_a_failed_write(rt: HostRuntime) -> Result<(), Fail> {
         0,
         ("", "Err(WriteFault)", 2),
     )?;
+    ends(
+        &rt,
+        "begin\nadd group net\ncommit\n",
+        WHOLE,
+        9,
+        ("ok\nkept 1", "Err(WriteFault)", 1),
+    )?;
     ends(&rt, "hello\nshadow\n", WHOLE, 0, ("", "Err(WriteFault)", 1))
 }
+
+const BEHIND_A_STOP: &str = "\
+ok
+hall 3 Closed
+hall 3 Closed
+refused 1 BadEdit
+hall 3 Closed
+";
 
 #[test]
 fn behind_a_stop(rt: HostRuntime) -> Result<(), Fail> {
@@ -100,8 +129,8 @@ fn behind_a_stop(rt: HostRuntime) -> Result<(), Fail> {
     if hall.call(&rt, &mut other, Call::Stop).is_err() {
         return Err(Fail::from("no stop"));
     }
-    let seen = run(&rt, &hall, b"shadow\n", WHOLE, 99)?;
-    let written = seen.written.as_slice() == b"hall 3 Closed\nhall 3 Closed\n".as_slice();
+    let seen = run(&rt, &hall, b"begin\nshadow\ncommit\ncommit\n", WHOLE, 99)?;
+    let written = seen.written.as_slice() == BEHIND_A_STOP.as_bytes();
     if written && seen.end.as_str() == "Ok(())" && seen.seat.view().is_empty() {
         Ok(())
     } else {

@@ -1,6 +1,7 @@
 //! What lines are answered.
 
 use crate::support::converses;
+use std::alloc::{AllocError, Global};
 use std::test::Fail;
 
 #[test]
@@ -56,7 +57,12 @@ fn nothing_behind_quit(rt: HostRuntime) -> Result<(), Fail> {
         "
         > why bob ping
         denied by default
+        > begin
+        ok
+        > add group net
+        kept 1
         > quit
+        > commit
         > shadow
         > quit
         ",
@@ -74,14 +80,184 @@ fn a_full_log(rt: HostRuntime) -> Result<(), Fail> {
         none
         > hello
         refused 1 BadEdit
+        > begin
+        ok
+        > drop group ops 7
+        kept 1
+        > abandon
+        ok
         > drop group ops 7
         refused 7 BadIndex
         > policy
         hall 1 LogFull
         > hello
         refused 1 BadEdit
+        > begin
+        ok
+        > add group net
+        kept 1
+        > policy
+        hall 1 LogFull
+        > begin
+        refused 1 BadEdit
+        > commit
+        hall 1 LogFull
+        > commit
+        refused 1 BadEdit
+        > begin
+        ok
+        > abandon
+        ok
+        > abandon
+        refused 1 BadEdit
         hall 1 LogFull
         ",
         2,
     )
+}
+
+#[test]
+fn batches(rt: HostRuntime) -> Result<(), Fail> {
+    converses(
+        &rt,
+        9,
+        "
+        > begin
+        ok
+        > commit
+        ok
+        > begin
+        ok
+        > insert group ops 1 deny show .*
+        kept 1
+        > drop group ops 1
+        kept 2
+        > commit
+        ok
+        > begin
+        ok
+        > add group net
+        kept 1
+        > drop group ops 2
+        kept 2
+        > commit
+        refused at edit 2: 7 BadIndex
+        > begin
+        ok
+        > insert group ops 1 deny .*a............
+        kept 1
+        > drop group ops 1
+        kept 2
+        > commit
+        ok
+        > policy
+        group ops
+        permit show .*
+        user bob in ops
+        > begin
+        ok
+        > add group net
+        kept 1
+        > insert group net 1 permit ping
+        kept 2
+        > move user bob in net
+        kept 3
+        > commit
+        ok
+        user bob now permits: ping
+        user bob now denies: show 
+        ",
+        7,
+    )
+}
+
+#[test]
+fn lines_round_batches(rt: HostRuntime) -> Result<(), Fail> {
+    converses(
+        &rt,
+        9,
+        "
+        > commit
+        refused 1 BadEdit
+        > begin
+        ok
+        > begin
+        refused 1 BadEdit
+        > nonsense
+        refused 1 BadEdit
+        > add group net
+        kept 1
+        > reach group net
+        refused 2 NoSuch
+        > login bob
+        refused 1 BadEdit
+        > login bob 
+        kept 2
+        > commit
+        refused at edit 2: 9 BadValue
+        > abandon
+        refused 1 BadEdit
+        > policy
+        group ops
+        permit show .*
+        user bob in ops
+        > begin
+        ok
+        > drop group ops 2
+        kept 1
+        > commit
+        refused at edit 1: 7 BadIndex
+        > drop group ops 2
+        refused 7 BadIndex
+        > begin
+        ok
+        > insert group ops 1 deny .*a............
+        kept 1
+        > add group z
+        kept 2
+        > commit
+        refused 11 TooManyStates group ops
+        > begin
+        ok
+        > insert group ops 1 deny show .*
+        kept 1
+        > abandon
+        ok
+        > why bob show x
+        permitted by group ops rule 1
+        ",
+        8,
+    )
+}
+
+// A batch of so many edits, up to its `commit`.
+fn groups(alloc: Global, count: usize) -> Result<String, AllocError> {
+    let mut talk = String::new(alloc);
+    write!(talk, "> begin\nok\n")?;
+    for number in 1..=count {
+        write!(talk, "> add group a{number}\nkept {number}\n")?;
+    }
+    Ok(talk)
+}
+
+#[test]
+fn sixty_five_edits(rt: HostRuntime) -> Result<(), Fail> {
+    let mut talk = groups(rt.alloc(), 64)?;
+    talk.push_str(
+        "
+        > add group b
+        refused 10 Limit
+        > add group a,b
+        refused 1 BadEdit
+        > why bob show x
+        permitted by group ops rule 1
+        > commit
+        ok
+        > add group a64
+        refused 3 Exists
+        > add group b
+        ok
+        ",
+    )?;
+    converses(&rt, 9, talk.as_str(), 5)
 }

@@ -112,6 +112,18 @@ fn one_line_after_another(rt: HostRuntime) -> Result<(), Fail> {
             answer: b"refused 1 BadEdit\n",
         },
         Turn {
+            line: b"begin\n",
+            answer: b"ok\n",
+        },
+        Turn {
+            line: b"drop group ops 1\n",
+            answer: b"kept 1\n",
+        },
+        Turn {
+            line: b"commit\n",
+            answer: b"ok\nuser bob now permits: show \n",
+        },
+        Turn {
             line: b"quit\n",
             answer: b"",
         },
