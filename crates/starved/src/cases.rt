@@ -29,13 +29,14 @@ pub(crate) enum Case {
     Open,
     Feed,
     ConsoleEdit,
+    ConsoleCommit,
     ConsoleRefused,
     ConsoleQuestion,
 }
 
 impl Case {
     /// All cases, the lowest library first.
-    pub(crate) const ALL: [Case; 23] = [
+    pub(crate) const ALL: [Case; 24] = [
         Case::PrepareInsert,
         Case::PrepareAdd,
         Case::PrepareLogin,
@@ -57,6 +58,7 @@ impl Case {
         Case::Open,
         Case::Feed,
         Case::ConsoleEdit,
+        Case::ConsoleCommit,
         Case::ConsoleRefused,
         Case::ConsoleQuestion,
     ];
@@ -85,6 +87,7 @@ impl Case {
             Case::Open => "open",
             Case::Feed => "feed",
             Case::ConsoleEdit => "console-edit",
+            Case::ConsoleCommit => "console-commit",
             Case::ConsoleRefused => "console-refused",
             Case::ConsoleQuestion => "console-question",
         }
@@ -119,6 +122,7 @@ impl Case {
             Case::Open => server::open(alloc),
             Case::Feed => server::feed(alloc),
             Case::ConsoleEdit => server::console_edit(alloc),
+            Case::ConsoleCommit => server::console_commit(alloc),
             Case::ConsoleRefused => server::console_refused(alloc),
             Case::ConsoleQuestion => server::console_question(alloc),
         }

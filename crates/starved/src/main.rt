@@ -3,7 +3,7 @@
 //! after another.
 //!
 //! It prints the result of the call in a word: `made`; `memory`, where it ran out and all is as
-//! before; `accepted`, where it ran out and the edit of a console's line stands; `served K`, where
+//! before; `accepted`, where it ran out and what a console's line edits stands; `served K`, where
 //! it ran out after K packets of a piece, which have their replies. If what stands is wrong it says
 //! so on standard error, with status 1. If memory runs out before the call or after it, nothing is
 //! printed, with status 3. `starved all` does every case, and prints its name before the word.

@@ -1,7 +1,7 @@
 //! A server's connections and its console.
 
 use crate::findings::{Finding, Trouble, must, must_be_made};
-use crate::scene::{AFTER, BEFORE, INSERT, INSERT_ANSWER, POLICY, RECORDS, Told, policy_of};
+use crate::scene::{AFTER, BATCH, BEFORE, INSERT, INSERT_ANSWER, POLICY, RECORDS, Told, policy_of};
 use hex::FromHexError;
 use pol_edit::EditFault;
 use std::alloc::Global;
@@ -276,6 +276,48 @@ pub(crate) fn console_edit(alloc: Global) -> Result<Finding, Trouble> {
         after: AFTER,
     };
     console(alloc, &line)
+}
+
+// The edits are kept, for a batch.
+fn keeps(alloc: Global, server: &mut Server<LiveDesk>, edits: &str) -> Result<(), Trouble> {
+    tells(alloc, server, "begin", "ok\n")?;
+    for (before, edit) in edits.lines().enumerate() {
+        let answer = format!(in alloc; "kept {}\n", before + 1)?;
+        tells(alloc, server, edit, answer.as_str())?;
+    }
+    Ok(())
+}
+
+// A batch is kept and committed; then none is open.
+fn committed(alloc: Global, server: &mut Server<LiveDesk>) -> Result<Finding, Trouble> {
+    keeps(alloc, server, BATCH)?;
+    let line = Exchange {
+        line: "commit",
+        answer: INSERT_ANSWER,
+        before: BEFORE,
+        after: AFTER,
+    };
+    let finding = typed(alloc, server, &line)?;
+    stands(alloc, server, &line, finding)?;
+    tells(alloc, server, "commit", "refused 1 BadEdit\n")?;
+    Ok(finding)
+}
+
+// If memory ran out before the batch was accepted, it can be typed later.
+fn committed_at_last(alloc: Global, server: &mut Server<LiveDesk>) -> Result<Finding, Trouble> {
+    must_be_made(opened(server, 1)?)?;
+    hears(alloc, server, 1, RECORD, STORED)?;
+    let finding = committed(alloc, server)?;
+    if finding == Finding::Memory {
+        must_be_made(committed(alloc, server)?)?;
+    }
+    Ok(finding)
+}
+
+/// Types a batch after which the record is drift.
+pub(crate) fn console_commit(alloc: Global) -> Result<Finding, Trouble> {
+    let mut server = started(alloc)?;
+    committed_at_last(alloc, &mut server)
 }
 
 // A line that changes nothing.
