@@ -16,7 +16,7 @@ use Rattle.pol_text.specs.Policy.{find_subject}
 use Rattle.pol_text.specs.Change.{is_parent}
 use Rattle.pol_meaning.specs.declared.Shadowed.{Shadowed}
 use Rattle.pol_lint.specs.Words.{column_of, noted, ends, words_of, words_in, keyword_of}
-use Rattle.pol_lint.specs.Habits.{pattern_habits, secret_habits}
+use Rattle.pol_lint.specs.Habits.{last_habit, pattern_habits, secret_habits}
 use Rattle.pol_lint.specs.declared.words.Keyword.{Keyword}
 use Rattle.pol_lint.specs.declared.words.Keyword.TheVariants.{Opens, Secret, Rule}
 use Rattle.pol_lint.specs.declared.finding.Finding.{Finding}
@@ -43,9 +43,11 @@ leaves_end_open pattern =
 abbrev pub is_shell : List ℕ → Bool
 is_shell pattern = bytes_eq pattern [] || bytes_eq pattern (codes "()")
 
--- the pattern fits a line without ` <cr>` alone
+-- the pattern fits no line with ` <cr>`, and nothing else is asked of its end
 abbrev pub lacks_end : List ℕ → Bool
-lacks_end pattern = not (names_end pattern || leaves_end_open pattern || is_shell pattern)
+lacks_end pattern =
+    not (names_end pattern || leaves_end_open pattern || is_shell pattern)
+    && not (is_some (last_habit pattern))
 
 -- whether the pattern of any rule passes the test
 abbrev pub any_pattern : (List ℕ → Bool) → List Subject → Bool

@@ -106,7 +106,8 @@ fn first_habit(pattern: &[u8]) -> Option<Finding>
     blank_before(pattern)
 }
 
-fn last_habit(pattern: &[u8]) -> Option<Finding>
+/// `$` at a pattern's end, or a space.
+pub(crate) fn last_habit(pattern: &[u8]) -> Option<Finding>
     ensures { result ≡ habits.last_habit pattern.now }
 {
     if pattern.ends_with(b"$") && !pattern.ends_with(b"\\$") {

@@ -8,7 +8,7 @@ ghost use Rattle.pol_text.specs.Change.{is_parent as parent_test};
 ghost use Rattle.pol_lint.specs.Remarks as wanted;
 
 use crate::finding::Finding;
-use crate::habits::{note_pattern, note_secret};
+use crate::habits::{last_habit, note_pattern, note_secret};
 use crate::remark::{Remark, column_of, note};
 use crate::words::{Keyword, keyword_of, words_in, words_of};
 use basics::{Lines, Sequence};
@@ -56,6 +56,7 @@ fn lacks_end(pattern: &[u8]) -> bool
 {
     let is_shell = pattern == b"".as_slice() || pattern == b"()".as_slice();
     !(names_end(pattern) || leaves_end_open(pattern) || is_shell)
+        && !last_habit(pattern).is_some()
 }
 
 fn has_end(subject: &Subject) -> bool
