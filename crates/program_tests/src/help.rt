@@ -106,6 +106,41 @@ Exit status:
   3  memory ran out
   4  the file could not be read, or the output could not be written";
 
+pub(crate) const LINT_LONG_ABOUT: &str =
+    "Reads a policy, and prints what in it is right and probably not meant: questions about its rules
+and subjects, each with its line and column. What it says never changes what the policy means.
+
+It asks about what other pattern languages read otherwise ('^', '$', '\\d', '[[:alpha:]]', '{1,3}'),
+about spaces round patterns and secrets, rules without the word <cr> that Cisco IOS ends each line
+with, groups that nobody is in, users without a login, an empty policy, and it names rules that decide
+nothing. Of a policy that is refused it prints every wrong line, and not only the first.";
+
+pub(crate) const LINT_AFTER_LONG_HELP: &str =
+    "'tacd replay --help' describes the lines of a policy.
+
+What is printed, a line for each; columns count bytes from 1, and what is said of the whole line, or
+of the whole policy, stands at column 1:
+  line N column M: TEXT
+
+Example:
+  $ cat eve.policy
+  group desk
+  permit ^show \\d+
+  user eve in desk
+  $ tacd lint eve.policy
+  line 1 column 1: no rule ends in ' <cr>', with which Cisco IOS ends each line: is that meant?
+  line 2 column 8: '^' is a symbol here, and a pattern fits whole lines: is it meant?
+  line 2 column 14: '\\d' is the letter d here: is a digit meant, as '[0-9]'?
+  line 3 column 6: this user has no login: is that meant?
+
+Exit status:
+  0  the policy may stand, and there was nothing to say
+  1  the policy is refused, and why was printed
+  2  the command line is wrong
+  3  memory ran out
+  4  the file could not be read, or the output could not be written
+  5  the policy may stand, and something was printed";
+
 pub(crate) const DIFF_LONG_ABOUT: &str =
     "Prints what users gain and lose where a new policy takes the place of an old one.
 

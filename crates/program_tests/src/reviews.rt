@@ -2,8 +2,8 @@
 
 use crate::fake::Fake;
 use crate::help::{
-    DIFF_AFTER_LONG_HELP, DIFF_LONG_ABOUT, TEST_AFTER_LONG_HELP, TEST_LONG_ABOUT,
-    WHY_AFTER_LONG_HELP, WHY_LONG_ABOUT,
+    DIFF_AFTER_LONG_HELP, DIFF_LONG_ABOUT, LINT_AFTER_LONG_HELP, LINT_LONG_ABOUT,
+    TEST_AFTER_LONG_HELP, TEST_LONG_ABOUT, WHY_AFTER_LONG_HELP, WHY_LONG_ABOUT,
 };
 use crate::running::run_ends;
 use std::net::{Net, TcpListener, TcpStream};
@@ -193,6 +193,23 @@ fn tests_cases(rt: HostRuntime) {
     );
 }
 
+#[test]
+fn lints(rt: HostRuntime) {
+    let words = "tacd lint policy";
+    let asked = "line 3 column 6: this user has no login: is that meant?\n";
+    tells(&rt, words, 5, asked);
+    ends(&rt, words, "user bob\nlogin x\n", "", 0, "", "");
+    let faults = "line 1 column 6: refused: 2 BadName\nline 2 column 1: refused: 1 BadLine\n";
+    ends(&rt, words, "user b/b\nx\n", "", 1, faults, "");
+    let large = "line 2 column 1: refused: TooManyStates: the rules along this chain have over 4096 states\n";
+    let dots = "user b\ngroup g\ndeny .*a............\n";
+    ends(&rt, words, dots, "", 1, large, "");
+    complains(&rt, "tacd lint nowhere", 4, "tacd: nowhere: entity not found\n");
+    complains(&rt, "tacd lint folder", 4, "tacd: folder: it is a folder\n");
+    let unread = "tacd: unreadable: it could not be read\n";
+    complains(&rt, "tacd lint unreadable", 4, unread);
+}
+
 // Where nothing can be written.
 #[test]
 fn unwritten(rt: HostRuntime) {
@@ -203,6 +220,7 @@ fn unwritten(rt: HostRuntime) {
         "tacd why policy bob",
         "tacd test policy cases",
         "tacd test policy policy",
+        "tacd lint policy",
     ];
     for words in all {
         let fake = Fake::new(rt.alloc(), words, POLICY, "", false);
@@ -256,6 +274,20 @@ Options:
 
 ";
 
+const LINT_OPTIONS: &str = "
+
+Usage: tacd lint <FILE>
+
+Arguments:
+  <FILE>
+          The policy's text, at most 268435456 bytes
+
+Options:
+  -h, --help
+          Print help (see a summary with '-h')
+
+";
+
 const WHY_OPTIONS: &str = "
 
 Usage: tacd why <FILE> [USER] [LINE]...
@@ -298,6 +330,8 @@ Options:
 fn help(rt: HostRuntime) -> Result<(), Fail> {
     let diff = format!(in rt.alloc(); "{DIFF_LONG_ABOUT}{DIFF_OPTIONS}{DIFF_AFTER_LONG_HELP}\n")?;
     tells(&rt, "tacd diff --help", 0, diff.as_str());
+    let lint = format!(in rt.alloc(); "{LINT_LONG_ABOUT}{LINT_OPTIONS}{LINT_AFTER_LONG_HELP}\n")?;
+    tells(&rt, "tacd lint --help", 0, lint.as_str());
     let why = format!(in rt.alloc(); "{WHY_LONG_ABOUT}{WHY_OPTIONS}{WHY_AFTER_LONG_HELP}\n")?;
     tells(&rt, "tacd why --help", 0, why.as_str());
     let test = format!(in rt.alloc(); "{TEST_LONG_ABOUT}{TEST_OPTIONS}{TEST_AFTER_LONG_HELP}\n")?;

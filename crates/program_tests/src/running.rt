@@ -312,7 +312,7 @@ For more information, try '--help'.
 ";
 
 const NO_COMMAND: &str = "error: 'tacd' requires a subcommand but one was not provided
-  [subcommands: serve, check, diff, why, test, replay, help]
+  [subcommands: serve, check, lint, diff, why, test, replay, help]
 
 Usage: tacd <COMMAND>
 
@@ -498,6 +498,7 @@ Usage: tacd <COMMAND>
 Commands:
   serve   Serves devices on a port, with a console on standard input
   check   Reads a policy, and prints which of its rules decide nothing
+  lint    Prints what a policy says and probably doesn't mean
   diff    Prints what users gain and lose by a new policy
   why     Prints which rule decides on a command line
   test    Prints which cases of a table a policy doesn't meet

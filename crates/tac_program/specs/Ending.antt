@@ -4,11 +4,14 @@ use Rattle.tac_io.specs.declared.answering.AnswerFault.{AnswerFault}
 use Rattle.tac_io.specs.declared.answering.AnswerFault.TheVariants as answers
 use Rattle.tac_check.specs.declared.checking.CheckEnd.{CheckEnd}
 use Rattle.tac_check.specs.declared.checking.CheckEnd.TheVariants as checks
+use Rattle.tac_lint.specs.declared.linting.LintEnd.{LintEnd}
+use Rattle.tac_lint.specs.declared.linting.LintEnd.TheVariants as lints
 use Rattle.tac_review.specs.declared.task.ReviewEnd.{ReviewEnd}
 use Rattle.tac_review.specs.declared.task.ReviewEnd.TheVariants as reviews
 use Rattle.tac_review.specs.declared.task.ReviewFault.{ReviewFault}
 use Rattle.tac_program.specs.declared.status.Status.{Status}
 use Rattle.tac_program.specs.declared.status.Status.TheVariants.{Done, Refused, OutOfMemory, Failed}
+use Rattle.tac_program.specs.declared.status.Status.TheVariants.{Differs}
 
 -- out of memory is told apart from all else that keeps an input from being answered
 abbrev pub status_of : AnswerFault → Status
@@ -21,6 +24,13 @@ abbrev pub status_of_check : Result CheckEnd AnswerFault → Status
 status_of_check (Ok checks.Sound) = Done
 status_of_check (Ok checks.Refused) = Refused
 status_of_check (Err fault) = status_of fault
+
+-- what is told of a policy that may stand is no refusal
+abbrev pub status_of_lint : Result LintEnd AnswerFault → Status
+status_of_lint (Ok lints.Quiet) = Done
+status_of_lint (Ok lints.Told) = Differs
+status_of_lint (Ok lints.Refused) = Refused
+status_of_lint (Err fault) = status_of fault
 
 -- where something differs it is the one that is given
 abbrev pub status_of_review : Status → Result ReviewEnd ReviewFault → Status

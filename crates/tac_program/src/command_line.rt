@@ -4,7 +4,8 @@ use crate::help::{
     ABOUT, ADDRESS_HELP, AFTER_LONG_HELP, CASES_HELP, CHECK_ABOUT, CHECK_AFTER_HELP,
     CHECK_AFTER_LONG_HELP, CHECK_LONG_ABOUT, CONNECTIONS_HELP, DIFF_ABOUT, DIFF_AFTER_HELP,
     DIFF_AFTER_LONG_HELP, DIFF_LONG_ABOUT, EXIT_CODE_HELP, FILE_HELP, IDLE_HELP, KEY_FILE_HELP,
-    KEY_HELP, LINE_HELP, LONG_ABOUT, NEW_HELP, OLD_HELP, PORT_HELP, REPLAY_ABOUT,
+    KEY_HELP, LINE_HELP, LINT_ABOUT, LINT_AFTER_HELP, LINT_AFTER_LONG_HELP, LINT_LONG_ABOUT,
+    LONG_ABOUT, NEW_HELP, OLD_HELP, PORT_HELP, REPLAY_ABOUT,
     REPLAY_AFTER_HELP, REPLAY_AFTER_LONG_HELP, REPLAY_LONG_ABOUT, SERVE_ABOUT, SERVE_AFTER_HELP,
     SERVE_AFTER_LONG_HELP, SERVE_LONG_ABOUT, TEST_ABOUT, TEST_AFTER_HELP, TEST_AFTER_LONG_HELP,
     TEST_LONG_ABOUT, USER_HELP, WHY_ABOUT, WHY_AFTER_HELP, WHY_AFTER_LONG_HELP, WHY_LONG_ABOUT,
@@ -18,6 +19,9 @@ pub(crate) const SERVE: &str = "serve";
 
 /// The word that asks for a check.
 pub(crate) const CHECK: &str = "check";
+
+/// The word that asks what a policy probably doesn't mean.
+pub(crate) const LINT: &str = "lint";
 
 /// The word that asks what a new policy changes.
 pub(crate) const DIFF: &str = "diff";
@@ -133,6 +137,16 @@ fn check<'a>(alloc: Global) -> Result<Command<'a>, AllocError> {
         .arg(file)
 }
 
+fn lint<'a>(alloc: Global) -> Result<Command<'a>, AllocError> {
+    let file = Arg::new(alloc, FILE).required(true).help(FILE_HELP);
+    Command::new(alloc, LINT)
+        .about(LINT_ABOUT)
+        .long_about(LINT_LONG_ABOUT)
+        .after_help(LINT_AFTER_HELP)
+        .after_long_help(LINT_AFTER_LONG_HELP)
+        .arg(file)
+}
+
 fn diff<'a>(alloc: Global) -> Result<Command<'a>, AllocError> {
     let exit_code = Arg::new(alloc, EXIT_CODE)
         .long(EXIT_CODE)
@@ -193,6 +207,7 @@ pub(crate) fn command<'a>(alloc: Global) -> Result<Command<'a>, AllocError> {
         .subcommand_required(true)
         .subcommand(serve(alloc)?)?
         .subcommand(check(alloc)?)?
+        .subcommand(lint(alloc)?)?
         .subcommand(diff(alloc)?)?
         .subcommand(why(alloc)?)?
         .subcommand(test(alloc)?)?

@@ -9,10 +9,10 @@ pub(crate) const LONG_ABOUT: &str =
 A network device that runs TACACS+ (RFC 8907) asks a server who may log in and which command lines a
 user may run, and has it record what was done. 'tacd serve' is such a server: it listens on a port,
 and takes edits of its policy and questions at a console. 'tacd check' reads a policy and prints
-which of its rules decide nothing; 'tacd diff' prints what a new policy permits and denies that an
-old one didn't, 'tacd why' which rule decides on a line, and 'tacd test' whether all lines of a table
-are decided as it says. 'tacd replay' takes what devices send from a script, together with the
-policy, and prints what is answered; it opens no socket.";
+which of its rules decide nothing, 'tacd lint' what in it is probably not meant; 'tacd diff' prints
+what a new policy permits and denies that an old one didn't, 'tacd why' which rule decides on a line,
+and 'tacd test' whether all lines of a table are decided as it says. 'tacd replay' takes what devices
+send from a script, together with the policy, and prints what is answered; it opens no socket.";
 
 pub(crate) const SERVE_ABOUT: &str = "Serves devices on a port, with a console on standard input";
 
@@ -157,6 +157,49 @@ Exit status:
   2  the command line is wrong
   3  memory ran out
   4  the file could not be read, or the output could not be written";
+
+pub(crate) const LINT_ABOUT: &str = "Prints what a policy says and probably doesn't mean";
+
+/// What `tacd lint --help` begins with.
+pub(crate) const LINT_LONG_ABOUT: &str =
+    "Reads a policy, and prints what in it is right and probably not meant: questions about its rules
+and subjects, each with its line and column. What it says never changes what the policy means.
+
+It asks about what other pattern languages read otherwise ('^', '$', '\\d', '[[:alpha:]]', '{1,3}'),
+about spaces round patterns and secrets, rules without the word <cr> that Cisco IOS ends each line
+with, groups that nobody is in, users without a login, an empty policy, and it names rules that decide
+nothing. Of a policy that is refused it prints every wrong line, and not only the first.";
+
+pub(crate) const LINT_AFTER_HELP: &str = "Example:
+  tacd lint campus.policy
+
+'tacd lint --help' describes what is printed; 'tacd replay --help' the lines of a policy.";
+
+/// What `tacd lint --help` ends with.
+pub(crate) const LINT_AFTER_LONG_HELP: &str = "'tacd replay --help' describes the lines of a policy.
+
+What is printed, a line for each; columns count bytes from 1, and what is said of the whole line, or
+of the whole policy, stands at column 1:
+  line N column M: TEXT
+
+Example:
+  $ cat eve.policy
+  group desk
+  permit ^show \\d+
+  user eve in desk
+  $ tacd lint eve.policy
+  line 1 column 1: no rule ends in ' <cr>', with which Cisco IOS ends each line: is that meant?
+  line 2 column 8: '^' is a symbol here, and a pattern fits whole lines: is it meant?
+  line 2 column 14: '\\d' is the letter d here: is a digit meant, as '[0-9]'?
+  line 3 column 6: this user has no login: is that meant?
+
+Exit status:
+  0  the policy may stand, and there was nothing to say
+  1  the policy is refused, and why was printed
+  2  the command line is wrong
+  3  memory ran out
+  4  the file could not be read, or the output could not be written
+  5  the policy may stand, and something was printed";
 
 pub(crate) const DIFF_ABOUT: &str = "Prints what users gain and lose by a new policy";
 
@@ -387,6 +430,7 @@ Exit status:
 
 pub(crate) const AFTER_LONG_HELP: &str = "Examples:
   tacd check campus.policy
+  tacd lint campus.policy
   tacd diff campus.policy campus-next.policy
   tacd why campus.policy ben show vlan
   tacd test campus.policy campus.cases

@@ -3,7 +3,7 @@
 ghost use Rattle.std.specs.Prelude.{◌≡◌, ◌≢◌, ◌⊎◌};
 ghost use Rattle.clap.specs.Values.{kind_of};
 
-use crate::command_line::{CHECK, DIFF, FILE, SERVE, TEST, WHY, command};
+use crate::command_line::{CHECK, DIFF, FILE, LINT, SERVE, TEST, WHY, command};
 use crate::complaint::complain;
 use crate::opening::open_file;
 use crate::options::Options;
@@ -21,6 +21,7 @@ use std::thread::Threads;
 use std::time::Clock;
 use std::{env, io};
 use tac_check::check;
+use tac_lint::lint;
 use tac_server::replay;
 
 // The script comes from standard input, and what is replied goes to standard output.
@@ -44,6 +45,19 @@ fn check_policy<R: Files + Print + Eprint + AllocGlobal>(rt: &R, path: &str) -> 
         complain(rt, path, fault);
     }
     Status::of_check(outcome)
+}
+
+// The same of what a policy probably doesn't mean.
+fn lint_policy<R: Files + Print + Eprint + AllocGlobal>(rt: &R, path: &str) -> Status {
+    let mut file = match open_file(rt, path) {
+        Ok(file) => file,
+        Err(status) => return status,
+    };
+    let outcome = lint(rt.alloc(), &mut file, &mut io::writer(rt));
+    if let Err(fault) = outcome {
+        complain(rt, path, fault);
+    }
+    Status::of_lint(outcome)
 }
 
 // Prints help to standard output, and what is wrong with the words to standard error.
@@ -93,6 +107,9 @@ where
     if let Some(options) = matches.subcommand_matches(CHECK) {
         // the file is required
         return Some(check_policy(rt, options.get_str(FILE).unwrap_or("")));
+    }
+    if let Some(options) = matches.subcommand_matches(LINT) {
+        return Some(lint_policy(rt, options.get_str(FILE).unwrap_or("")));
     }
     if let Some(options) = matches.subcommand_matches(DIFF) {
         return Some(diff(rt, options));

@@ -1,12 +1,13 @@
 //! What the program's exit status tells.
 
 ghost use Rattle.std.specs.Prelude.{◌≡◌, ◌≢◌, ◌⊎◌};
-ghost use Rattle.tac_program.specs.Ending.{status_of, status_of_check, status_of_review};
+ghost use Rattle.tac_program.specs.Ending.{status_of, status_of_check, status_of_lint, status_of_review};
 
 use clap::error::ErrorKind;
 use std::io::ErrorKind as IoErrorKind;
 use tac_check::CheckEnd;
 use tac_io::{AnswerFault, InputFault};
+use tac_lint::LintEnd;
 use tac_net::ServeFault;
 use tac_review::{ReviewEnd, ReviewFault};
 use tac_server::{ReplayEnd, ReplayFault};
@@ -24,7 +25,7 @@ pub(crate) enum Status {
     OutOfMemory = 3,
     /// Reading or writing failed.
     Failed = 4,
-    /// Someone gains or loses a line by the new policy.
+    /// Someone gains or loses a line by the new policy, or the policy probably isn't meant so.
     Differs = 5,
 }
 
@@ -64,6 +65,18 @@ impl Status {
         match outcome {
             Ok(CheckEnd::Sound) => Status::Done,
             Ok(CheckEnd::Refused) => Status::Refused,
+            Err(fault) => Status::of_answer(fault),
+        }
+    }
+
+    /// The status of a lint.
+    pub(crate) fn of_lint(outcome: Result<LintEnd, AnswerFault>) -> Status
+        ensures { result ≡ status_of_lint outcome }
+    {
+        match outcome {
+            Ok(LintEnd::Quiet) => Status::Done,
+            Ok(LintEnd::Told) => Status::Differs,
+            Ok(LintEnd::Refused) => Status::Refused,
             Err(fault) => Status::of_answer(fault),
         }
     }
