@@ -55,8 +55,7 @@ fn lacks_end(pattern: &[u8]) -> bool
     ensures { result ≡ wanted.lacks_end pattern.now }
 {
     let is_shell = pattern == b"".as_slice() || pattern == b"()".as_slice();
-    !(names_end(pattern) || leaves_end_open(pattern) || is_shell)
-        && !last_habit(pattern).is_some()
+    !(names_end(pattern) || leaves_end_open(pattern) || is_shell) && !last_habit(pattern).is_some()
 }
 
 fn has_end(subject: &Subject) -> bool

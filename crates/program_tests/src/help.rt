@@ -115,8 +115,7 @@ about spaces round patterns and secrets, rules without the word <cr> that Cisco 
 with, groups that nobody is in, users without a login, an empty policy, and it names rules that decide
 nothing. Of a policy that is refused it prints every wrong line, and not only the first.";
 
-pub(crate) const LINT_AFTER_LONG_HELP: &str =
-    "'tacd replay --help' describes the lines of a policy.
+pub(crate) const LINT_AFTER_LONG_HELP: &str = "'tacd replay --help' describes the lines of a policy.
 
 What is printed, a line for each; columns count bytes from 1, and what is said of the whole line, or
 of the whole policy, stands at column 1:

@@ -201,10 +201,16 @@ fn lints(rt: HostRuntime) {
     ends(&rt, words, "user bob\nlogin x\n", "", 0, "", "");
     let faults = "line 1 column 6: refused: 2 BadName\nline 2 column 1: refused: 1 BadLine\n";
     ends(&rt, words, "user b/b\nx\n", "", 1, faults, "");
-    let large = "line 2 column 1: refused: TooManyStates: the rules along this chain have over 4096 states\n";
+    let large =
+        "line 2 column 1: refused: TooManyStates: the rules along this chain have over 4096 states\n";
     let dots = "user b\ngroup g\ndeny .*a............\n";
     ends(&rt, words, dots, "", 1, large, "");
-    complains(&rt, "tacd lint nowhere", 4, "tacd: nowhere: entity not found\n");
+    complains(
+        &rt,
+        "tacd lint nowhere",
+        4,
+        "tacd: nowhere: entity not found\n",
+    );
     complains(&rt, "tacd lint folder", 4, "tacd: folder: it is a folder\n");
     let unread = "tacd: unreadable: it could not be read\n";
     complains(&rt, "tacd lint unreadable", 4, unread);

@@ -9,6 +9,8 @@ mod edits;
 #[cfg(test)]
 mod inputs;
 #[cfg(test)]
+mod lints;
+#[cfg(test)]
 mod policies;
 #[cfg(test)]
 mod tables;
