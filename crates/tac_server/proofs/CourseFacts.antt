@@ -1,15 +1,20 @@
 -- One event more.
-use Rattle.std.proofs.Common.{◌≡◌, ℕ, List, [], ◌∷◌, ◌++◌, Bool, Option, Some, Result, Ok, Err, refl, sym, ap, subst, ◌∙◌}
-use Rattle.std.specs.Prelude.{OnOk}
+use Rattle.std.proofs.Common.{◌≡◌, ℕ, List, [], ◌∷◌, ◌++◌, Bool, true, false, cond, Option, Some, None, Result, Ok, Err, refl, sym, ap, subst, ◌∙◌, nat_cmp}
+use Rattle.std.specs.Prelude.{◌==◌, OnOk}
+use Rattle.std.specs.BTreeMap.{get}
 use Rattle.std.proofs.lemmas.List.{append_cancel_left}
+use Rattle.tac_wire.specs.Stream.{open_end, cut}
+use Rattle.tac_stream.specs.declared.stream.Stream.{Stream}
 use Rattle.tac_desk.specs.Meaning.{Meaning}
-use Rattle.tac_desk.specs.Serving.{said_on, sent_bytes}
+use Rattle.tac_desk.specs.Serving.{Said, said_on, sent_bytes}
 use Rattle.tac_server.specs.Server.{State, opened, lost, heard, typed}
-use Rattle.tac_server.specs.Kept.{HasState, IsOpened, IsHeard, IsAnswered, IsOnlyAnswer}
+use Rattle.tac_server.specs.Kept.{Serves, Ties, HasState, IsOpened, IsCutShort, IsHeard, IsAnswered, IsOnlyAnswer}
 use Rattle.tac_server.specs.Happening.{Happening, Opens, Brings, Loses, Types, Given, Nothing, Packets, Text, Gives, Hears}
-use Rattle.tac_server.specs.Course.{Course, HasRun, RunsOn}
+use Rattle.tac_server.specs.Course.{Course, HasRun, RunsOn, BreaksOff, RunsAfterFault}
 use Rattle.tac_server.specs.declared.server.Server.{Server}
 use Rattle.tac_server.specs.declared.server.ServerFault.{ServerFault}
+use Rattle.tac_server.specs.declared.server.ServerFault.TheVariants as faults
+use Rattle.tac_server.proofs.FrontFacts.{begun_by}
 
 same_bytes : (bytes : Option (List ℕ)) (one two : List ℕ) → bytes ≡ Some one → bytes ≡ Some two → two ≡ one
 same_bytes bytes one two a b = let h : Some two ≡ Some one = sym b ∙ a in cc
@@ -77,6 +82,32 @@ course_split start after event (last ∷ events) outs c =
 
 -- ---- an event last
 
+-- no other outcome of these events is right
+abbrev Alone : State → List Happening → List Given → State → Type 0
+Alone start events outs state = (others : List Given) (other : State) → Course start events others other → (others ≡ outs) × (other ≡ state)
+
+alone_more : (start : State) (events : List Happening) (outs : List Given) (state : State) (event : Happening) (given : Given) (after : State)
+    → Alone start events outs state → ((other : Given) (later : State) → Gives state event other later → (other ≡ given) × (later ≡ after)) → Alone start (event ∷ events) (given ∷ outs) after
+alone_more start events outs state event given after earlier only = λ others other b.
+    let same = earlier b.rest b.before b.was in
+    let one = only b.given other (subst (λ (s : State). Gives s event b.given other) same.1 b.gives) in
+    (b.is ∙ ap (λ (g : Given). g ∷ b.rest) one.0 ∙ ap (λ (l : List Given). given ∷ l) same.0, one.1)
+
+-- ---- a piece that memory breaks off
+
+-- what is held of an open connection is no packet yet
+open_tail : (key : List ℕ) (o : Option Stream) (bytes : Option (List ℕ)) (before : List ℕ) → bytes ≡ Some before → Ties key o bytes → (rest : List ℕ) × ((cut before).tail ≡ open_end rest)
+open_tail key (Some stream) (Some other) before e t =
+    let same : other ≡ before = cc in
+    let serves : Serves key stream before = subst (λ (b : List ℕ). Serves key stream b) same t in
+    (serves.rest, serves.tail)
+open_tail key None (Some other) before e t = absurd t
+open_tail key o None before e t = absurd cc
+
+removed_last : (key : List ℕ) (b : Bool) (g : Option Stream) (x y c : Option (List ℕ)) → Ties key g (cond b x c) → Ties key g (cond b x (cond b y c))
+removed_last key true g x y c t = t
+removed_last key false g x y c t = t
+
 module _ {D : Type 0} (meaning : D → Meaning) where
   -- nothing has happened
   pub run_none : (server : Server D) (start : State) → HasState meaning server start → HasRun meaning server start [] []
@@ -90,10 +121,7 @@ module _ {D : Type 0} (meaning : D → Meaning) where
     state = after;
     has = has;
     course = record { before = h.state; rest = outs; given = given; was = h.course; gives = gives; is = refl };
-    only = λ others other b.
-        let same = h.only b.rest b.before b.was in
-        let one = only b.given other (subst (λ (s : State). Gives s event b.given other) same.1 b.gives) in
-        (b.is ∙ ap (λ (g : Given). g ∷ b.rest) one.0 ∙ ap (λ (l : List Given). given ∷ l) same.0, one.1);
+    only = alone_more start events outs h.state event given after h.only only;
   }
 
   pub run_opened : (old new : Server D) (number : ℕ) (result : Result (Unit {0}) ServerFault) → ((state : State) → HasState meaning old state → IsOpened meaning new number state result)
@@ -121,6 +149,56 @@ module _ {D : Type 0} (meaning : D → Meaning) where
         run_more old new start events outs (Brings number piece) h (Packets number said) (heard number (before ++ piece) said h.state)
             (record { before = before; is_open = s.1; says = refl; leaves = refl }) (only_hears h.state number piece before s.1) s.2.has,
       )
+
+  -- a beginning of the piece came, and the connection is lost
+  breaks_off : (old new : Server D) (was now : List ℕ) (number : ℕ) (piece : List ℕ) (start : State) (events : List Happening) (outs : List Given) (h : HasRun meaning old start events outs)
+      (before : List ℕ) → h.state.connections number ≡ Some before → IsCutShort meaning was now new number before piece h.state → BreaksOff meaning was now new start number piece events outs
+  breaks_off old new was now number piece start events outs h before is_open short =
+      let held = open_tail old.key (get nat_cmp old.connections number) (h.state.connections number) before is_open (h.has.connections number) in
+      let begun = begun_by h.state.key h.state.meaning before piece held.0 short.count held.1 in
+      let said : Said = said_on h.state.key h.state.meaning before begun.front in
+      let middle : State = heard number (before ++ begun.front) said h.state in
+      let gives : Gives h.state (Brings number begun.front) (Packets number said) middle = record { before = before; is_open = is_open; says = refl; leaves = refl } in
+      record {
+        front = begun.front;
+        rest = begun.rest;
+        given = Packets number said;
+        split = begun.split;
+        added = short.sends.0 ∙ ap (λ (s : Said). was ++ sent_bytes h.state.key s.sent) (sym begun.said)
+            ∙ ap (λ (k : List ℕ). was ++ sent_bytes k said.sent) (course_key start events outs h.state h.course);
+        run = record {
+          state = lost number middle;
+          has = record {
+            key = short.has.key;
+            desk = short.has.desk ∙ sym (ap (λ (s : Said). s.meaning) begun.said);
+            connections = λ q. removed_last new.key (q == number) _ _ _ (h.state.connections q) (short.has.connections q);
+            batch = short.has.batch;
+          };
+          course = record {
+            before = middle;
+            rest = Packets number said ∷ outs;
+            given = Nothing;
+            was = record { before = h.state; rest = outs; given = Packets number said; was = h.course; gives = gives; is = refl };
+            gives = (refl, refl);
+            is = refl;
+          };
+          only = alone_more start (Brings number begun.front ∷ events) (Packets number said ∷ outs) middle (Loses number) Nothing (lost number middle)
+              (alone_more start events outs h.state (Brings number begun.front) (Packets number said) middle h.only (only_hears h.state number begun.front before is_open))
+              (λ other later g. g);
+        };
+      }
+
+  pub run_after_fault : (old new : Server D) (was now : List ℕ) (number : ℕ) (piece : List ℕ) (result : Result Bool ServerFault)
+      → ((state : State) → HasState meaning old state → IsHeard meaning was now new number piece state result)
+      → (start : State) (events : List Happening) (outs : List Given) → HasRun meaning old start events outs → RunsAfterFault meaning was now new start number piece events outs result
+  run_after_fault old new was now number piece (Ok closes) step start events outs h = tt
+  run_after_fault old new was now number piece (Err faults.NoConnection) step start events outs h =
+      let s = step h.state h.has in
+      (s.1, record { state = h.state; has = s.2; course = h.course; only = h.only })
+  run_after_fault old new was now number piece (Err faults.AlreadyOpen) step start events outs h = step h.state h.has
+  run_after_fault old new was now number piece (Err (faults.Memory accepted)) step start events outs h =
+      let s = step h.state h.has in
+      breaks_off old new was now number piece start events outs h s.1.0 s.1.1 s.1.2
 
   pub run_told : (old new : Server D) (was now line : List ℕ) (result : Result (Unit {0}) ServerFault)
       → ((state : State) → HasState meaning old state → IsAnswered meaning was now new line state result)

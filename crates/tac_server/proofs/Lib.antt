@@ -5,5 +5,6 @@ pub mod ServerFacts
 pub mod RunFacts
 pub mod EventFacts
 pub mod ShownFacts
+pub mod FrontFacts
 pub mod CourseFacts
 pub mod LinesFacts

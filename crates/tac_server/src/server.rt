@@ -126,6 +126,12 @@ impl<D: Desk> Server<D> {
             D.meaning out.old.items out.new.items self.new start
             (Brings conn piece.now) events outs) }
 
+        // Where memory ran out, a beginning of the piece came, and then the connection was lost.
+        ensures after_fault { (start : servers.State) (events : List Happening)
+            (outs : List Given) → course.HasRun D.meaning self.old start events outs
+            → course.RunsAfterFault D.meaning out.old.items out.new.items self.new start
+            conn piece.now events outs result }
+
         // However bytes are cut into pieces, the same is said.
         ensures pieces { OnOk result ((meaning : MeaningValue) (before first second : List ℕ) →
             said_on self.old.key meaning before (first ++ second)
