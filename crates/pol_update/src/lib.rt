@@ -1,0 +1,15 @@
+//! The edits that make one policy of another, and the lines that the console reads them from.
+#![tactic(auto)]
+
+mod comparing;
+mod fault;
+mod matching;
+mod placing;
+mod plan;
+mod row;
+mod ruling;
+mod setting;
+mod updating;
+
+pub use fault::UpdateFault;
+pub use updating::edits_between;

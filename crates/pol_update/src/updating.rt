@@ -1,0 +1,70 @@
+//! The edits between two policies.
+
+ghost use Rattle.std.specs.Prelude.{◌≡◌, [], Ok, IfOk};
+ghost use Rattle.pol_edit.specs.Batches.{applied_all};
+ghost use Rattle.pol_update.specs.Update.{HaveSame, Updates};
+
+use crate::comparing::have_same;
+use crate::fault::UpdateFault;
+use crate::placing::place_subjects;
+use crate::plan::Plan;
+use crate::ruling::{arrange_rules, drop_rules};
+use crate::setting::set;
+use basics::Sequence;
+use pol_edit::{Edit, EditFault, edited};
+use pol_text::Policy;
+use std::alloc::{AllocError, Global};
+
+// The edits that are tried.
+fn found(alloc: Global, old: &Policy, new: &Policy) -> Result<Sequence<Edit>, AllocError> {
+    let mut plan = Plan::new(alloc, old)?;
+    for subject in new.subjects() {
+        drop_rules(alloc, &mut plan, subject)?;
+    }
+    place_subjects(alloc, &mut plan, old, new)?;
+    for subject in new.subjects() {
+        set(alloc, &mut plan, subject)?;
+        arrange_rules(alloc, &mut plan, subject)?;
+    }
+    Ok(plan.into_edits())
+}
+
+// What the edits make of the old policy.
+fn made(alloc: Global, old: &Policy, edits: &[Edit]) -> Result<Policy, UpdateFault>
+    ensures { IfOk result (λ made. applied_all old.now edits.now ≡ Ok made) }
+{
+    match edited(alloc, old, edits) {
+        Ok(made) => Ok(made),
+        Err(fault) if fault.fault == EditFault::Memory => Err(UpdateFault::Memory),
+        Err(_) => Err(UpdateFault::NotMade),
+    }
+}
+
+/// The edits that make the new policy of the old one, but for the order of its subjects. They were
+/// applied to the old policy, and what they made was compared with the new one.
+///
+/// What is the same in both policies isn't touched: a rule that moved is one `MoveRule`, and of a
+/// subject's rules as many stay in their places as can. Rules are dropped first, then subjects go,
+/// come and move, and then secrets, levels and rules are set; so no limit is exceeded in between.
+/// The cost is quadratic in the rules of each subject that is changed, and a look through all chains
+/// for each subject that moves.
+pub fn edits_between(
+    alloc: Global,
+    old: &Policy,
+    new: &Policy,
+) -> Result<Sequence<Edit>, UpdateFault>
+    ensures found { IfOk result (λ edits. Updates old.now edits new.now) }
+
+    // Where nothing differs there is no edit.
+    ensures none { HaveSame old.now new.now → IfOk result (λ edits. edits ≡ []) }
+{
+    if have_same(old, new) {
+        return Ok(Sequence::new(alloc));
+    }
+    let edits = found(alloc, old, new)?;
+    let made = made(alloc, old, edits.as_slice())?;
+    if !have_same(&made, new) {
+        return Err(UpdateFault::NotMade);
+    }
+    Ok(edits)
+}
