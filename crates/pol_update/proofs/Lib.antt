@@ -1,1 +1,3 @@
 mod Same
+pub mod Texts
+mod Spelled

@@ -10,6 +10,8 @@ mod row;
 mod ruling;
 mod setting;
 mod updating;
+mod writing;
 
 pub use fault::UpdateFault;
 pub use updating::edits_between;
+pub use writing::write_edit;

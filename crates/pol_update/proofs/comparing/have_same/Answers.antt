@@ -1,6 +1,5 @@
-use Rattle.std.proofs.Common.{◌≡◌, Bool, true, false, sym, ap, ◌∙◌, true≢false}
+use Rattle.std.proofs.Common.{◌≡◌, true, sym, ◌∙◌, true≢false}
 use Rattle.std.specs.List.{list_all}
-use Rattle.pol_text.specs.declared.subject.Subject.{Subject}
 use Rattle.pol_update.specs.Update.{HaveSame, has_subject}
 use Rattle.pol_update.proofs.Same.{same_from, all_of_same}
 use Rattle.pol_update.proofs.comparing.have_same.Goals as goal
