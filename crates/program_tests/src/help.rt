@@ -147,7 +147,8 @@ For each user for whom anything changes it prints the shortest command line that
 permits and the old one denies, and the shortest that the new one denies and the old one permits; of
 lines of one length, the first by ASCII. So nothing is printed for a user exactly if the two policies
 decide alike on every line that he could ever give. It is what the console of 'tacd serve' answers
-to edits that make the one policy into the other.";
+to edits that make the one policy into the other. With --edits it prints such edits, which load NEW
+into a server that has OLD.";
 
 pub(crate) const DIFF_AFTER_LONG_HELP: &str = "'tacd replay --help' describes the lines of a policy.
 
@@ -155,6 +156,14 @@ What is printed, first for the users of NEW in its order, then for those of OLD 
   user NAME now permits: LINE
   user NAME now denies: LINE
   same                 where there is no such user
+
+What is printed with --edits, for each 64 edits; nothing where there are none:
+  begin
+  EDIT ..              as 'tacd serve --help' describes them; none of them is refused
+  commit
+Where there are several batches, standard error says how many: between two of them the policy is
+neither OLD nor NEW. If a batch makes a policy that is too large, only this is printed:
+  batch K: refused 11 TooManyStates SUBJECT
 
 What is printed where one of them is refused; OLD is judged first:
   PATH: fault ..       as 'tacd check' prints it
@@ -173,14 +182,19 @@ Example:
   $ tacd diff old.policy new.policy
   user eve now permits: ping .
   user eve now denies: show run
+  $ tacd diff --edits old.policy new.policy
+  begin
+  insert group desk 1 deny show run.*
+  insert group desk 3 permit ping [0-9.]+
+  commit
 
 Exit status:
   0  both policies may stand
-  1  one of them is refused, and why was printed
+  1  one of them is refused, or a batch, and why was printed
   2  the command line is wrong
   3  memory ran out
   4  a file could not be read, or the output could not be written
-  5  with --exit-code: anyone gains or loses a line";
+  5  with --exit-code: anyone gains or loses a line; with --edits: there are edits";
 
 pub(crate) const WHY_LONG_ABOUT: &str =
     "Prints which rule of a policy decides on a command line of a user, as the console of 'tacd serve'

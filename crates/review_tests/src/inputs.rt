@@ -25,11 +25,15 @@ pub(crate) fn reviewed(alloc: Global, what: Review, one: &str, two: &str) -> Res
         return Err(Fail::from(AllocError));
     };
     let mut text = String::new(alloc);
-    text.push_str(match end {
-        ReviewEnd::Done => "done\n",
-        ReviewEnd::Differs => "differs\n",
-        ReviewEnd::Refused => "refused\n",
-    })?;
+    match end {
+        ReviewEnd::Done => text.push_str("done\n")?,
+        ReviewEnd::Differs => text.push_str("differs\n")?,
+        ReviewEnd::Edited(batches) => {
+            let line = format!(in alloc; "batches {batches}\n")?;
+            text.push_str(line.as_str())?;
+        }
+        ReviewEnd::Refused => text.push_str("refused\n")?,
+    }
     text.push_str(str::from_utf8(out.as_slice())?)?;
     Ok(text)
 }

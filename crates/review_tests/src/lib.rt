@@ -14,3 +14,5 @@ mod lints;
 mod policies;
 #[cfg(test)]
 mod tables;
+#[cfg(test)]
+mod updates;

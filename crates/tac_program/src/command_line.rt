@@ -3,9 +3,9 @@
 use crate::help::{
     ABOUT, ADDRESS_HELP, AFTER_LONG_HELP, CASES_HELP, CHECK_ABOUT, CHECK_AFTER_HELP,
     CHECK_AFTER_LONG_HELP, CHECK_LONG_ABOUT, CONNECTIONS_HELP, DIFF_ABOUT, DIFF_AFTER_HELP,
-    DIFF_AFTER_LONG_HELP, DIFF_LONG_ABOUT, EXIT_CODE_HELP, FILE_HELP, IDLE_HELP, KEY_FILE_HELP,
-    KEY_HELP, LINE_HELP, LINT_ABOUT, LINT_AFTER_HELP, LINT_AFTER_LONG_HELP, LINT_LONG_ABOUT,
-    LONG_ABOUT, NEW_HELP, OLD_HELP, PORT_HELP, REPLAY_ABOUT, REPLAY_AFTER_HELP,
+    DIFF_AFTER_LONG_HELP, DIFF_LONG_ABOUT, EDITS_HELP, EXIT_CODE_HELP, FILE_HELP, IDLE_HELP,
+    KEY_FILE_HELP, KEY_HELP, LINE_HELP, LINT_ABOUT, LINT_AFTER_HELP, LINT_AFTER_LONG_HELP,
+    LINT_LONG_ABOUT, LONG_ABOUT, NEW_HELP, OLD_HELP, PORT_HELP, REPLAY_ABOUT, REPLAY_AFTER_HELP,
     REPLAY_AFTER_LONG_HELP, REPLAY_LONG_ABOUT, SERVE_ABOUT, SERVE_AFTER_HELP,
     SERVE_AFTER_LONG_HELP, SERVE_LONG_ABOUT, TEST_ABOUT, TEST_AFTER_HELP, TEST_AFTER_LONG_HELP,
     TEST_LONG_ABOUT, USER_HELP, WHY_ABOUT, WHY_AFTER_HELP, WHY_AFTER_LONG_HELP, WHY_LONG_ABOUT,
@@ -39,6 +39,9 @@ pub(crate) const FILE: &str = "FILE";
 pub(crate) const OLD: &str = "OLD";
 
 pub(crate) const NEW: &str = "NEW";
+
+/// Whether edits are printed that make the new policy of the old one.
+pub(crate) const EDITS: &str = "edits";
 
 /// Whether the exit status tells of a change.
 pub(crate) const EXIT_CODE: &str = "exit-code";
@@ -148,6 +151,10 @@ fn lint<'a>(alloc: Global) -> Result<Command<'a>, AllocError> {
 }
 
 fn diff<'a>(alloc: Global) -> Result<Command<'a>, AllocError> {
+    let edits = Arg::new(alloc, EDITS)
+        .long(EDITS)
+        .action(ArgAction::SetTrue)
+        .help(EDITS_HELP);
     let exit_code = Arg::new(alloc, EXIT_CODE)
         .long(EXIT_CODE)
         .action(ArgAction::SetTrue)
@@ -157,6 +164,7 @@ fn diff<'a>(alloc: Global) -> Result<Command<'a>, AllocError> {
         .long_about(DIFF_LONG_ABOUT)
         .after_help(DIFF_AFTER_HELP)
         .after_long_help(DIFF_AFTER_LONG_HELP)
+        .arg(edits)?
         .arg(exit_code)?
         .arg(Arg::new(alloc, OLD).required(true).help(OLD_HELP))?
         .arg(Arg::new(alloc, NEW).required(true).help(NEW_HELP))

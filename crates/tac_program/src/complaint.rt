@@ -10,3 +10,13 @@ pub(crate) fn complain<R: Eprint>(rt: &R, path: &str, fault: AnswerFault) {
         AnswerFault::WriteFault | AnswerFault::Memory => eprintln!(rt; "tacd: {fault}"),
     };
 }
+
+/// Says how many batches of edits there are, if there are several. It doesn't matter whether this
+/// could be written.
+pub(crate) fn tell_batches<R: Eprint>(rt: &R, batches: usize) {
+    if batches > 1 {
+        let _ = eprintln!(rt;
+            "tacd: {batches} batches; between two of them the policy is neither OLD nor NEW"
+        );
+    }
+}

@@ -1,7 +1,7 @@
 //! The reviews of policies in files.
 
-use crate::command_line::{CASES, EXIT_CODE, FILE, LINE, NEW, OLD, USER};
-use crate::complaint::complain;
+use crate::command_line::{CASES, EDITS, EXIT_CODE, FILE, LINE, NEW, OLD, USER};
+use crate::complaint::{complain, tell_batches};
 use crate::opening::open_file;
 use crate::status::Status;
 use clap::ArgMatches;
@@ -53,10 +53,13 @@ where
         Err(status) => return status,
     };
     let outcome = review_inputs(rt, what, paths, &mut first, &mut second);
+    if let Ok(ReviewEnd::Edited(batches)) = outcome {
+        tell_batches(rt, batches);
+    }
     Status::of_review(outcome, differs)
 }
 
-/// Prints what a new policy changes against an old one.
+/// Prints what a new policy changes against an old one, or which edits make it of that.
 pub(crate) fn diff<R>(rt: &R, matches: &ArgMatches<'_>) -> Status
 where
     R: Files + Print + Eprint + AllocGlobal,
@@ -66,10 +69,15 @@ where
     } else {
         Status::Done
     };
+    let what = if matches.get_flag(EDITS) {
+        Review::Edits
+    } else {
+        Review::Diff
+    };
     // both files are required
     let old = matches.get_str(OLD).unwrap_or("");
     let new = matches.get_str(NEW).unwrap_or("");
-    review_files(rt, Review::Diff, (old, new), differs)
+    review_files(rt, what, (old, new), differs)
 }
 
 /// Prints the cases of a table that aren't so.

@@ -1,3 +1,4 @@
 pub mod OnlyFacts
 pub mod TableFacts
 pub mod ReadingFacts
+pub mod LoadingFacts

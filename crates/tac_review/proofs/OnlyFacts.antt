@@ -5,9 +5,9 @@ use Rattle.pol_text.specs.declared.fault.PolicyFault.{PolicyFault}
 use Rattle.pol_meaning.specs.Changes.{AreChanges}
 use Rattle.pol_meaning.specs.declared.Changed.{Changed}
 use Rattle.tac_review.specs.Judged.{JudgesOf, IsJudgedOf}
-use Rattle.tac_review.specs.Review.{IsOnly, Diffs, DiffsTo, Continues, changes_text, changes_end}
+use Rattle.tac_review.specs.Review.{IsOnly, IsRight, Diffs, DiffsTo, ListsEdits, Continues, changes_text, changes_end}
 use Rattle.tac_review.specs.declared.task.Review.{Review}
-use Rattle.tac_review.specs.declared.task.Review.TheVariants.{Diff}
+use Rattle.tac_review.specs.declared.task.Review.TheVariants.{Diff, Edits}
 use Rattle.tac_review.specs.declared.task.ReviewEnd.{ReviewEnd}
 
 pub ok_so : {X E : Type 0} (r : Result X E) {P Q : X → Type 0} → ((x : X) → P x → Q x) → IfOk r P → IfOk r Q
@@ -33,6 +33,10 @@ changes_only name old new changes output end are one p q = record {
 }
 
 pub diff_continues : (review : Review) (name text : List ℕ) (policy : List Subject) (output : List ℕ) (end : ReviewEnd) → review ≡ Diff → IsOnly (Diffs name text policy) output end
-    → IsOnly (Continues review name text policy) output end
+    → IsRight review (Continues review name text policy) output end
 diff_continues review name text policy output end is only =
-    subst (λ (r : Review). IsOnly (Continues r name text policy) output end) (sym is) (record { wanted = only.wanted; only = λ other last w. only.only other last w })
+    subst (λ (r : Review). IsRight r (Continues r name text policy) output end) (sym is) (record { wanted = only.wanted; only = λ other last w. only.only other last w })
+
+pub edits_continue : (review : Review) (name text : List ℕ) (policy : List Subject) (output : List ℕ) (end : ReviewEnd) → review ≡ Edits → ListsEdits name text policy output end
+    → IsRight review (Continues review name text policy) output end
+edits_continue review name text policy output end is lists = subst (λ (r : Review). IsRight r (Continues r name text policy) output end) (sym is) lists

@@ -1,5 +1,6 @@
 pub mod Judged
 pub mod Asking
 pub mod Tables
+pub mod Loading
 pub mod Review
 pub mod Reading

@@ -12,8 +12,9 @@ use Rattle.tac_console.specs.Faults.{fault_line}
 use Rattle.tac_review.specs.Judged.{Judges}
 use Rattle.tac_review.specs.Asking.{question_of, answer_to}
 use Rattle.tac_review.specs.Tables as tables
+use Rattle.tac_review.specs.Loading.{Loads}
 use Rattle.tac_review.specs.declared.task.Review.{Review}
-use Rattle.tac_review.specs.declared.task.Review.TheVariants.{Diff, Why, Each}
+use Rattle.tac_review.specs.declared.task.Review.TheVariants.{Diff, Edits, Why, Each}
 use Rattle.tac_review.specs.declared.task.ReviewEnd.{ReviewEnd}
 use Rattle.tac_review.specs.declared.task.ReviewEnd.TheVariants.{Done, Differs, Refused}
 use Rattle.tac_review.specs.declared.task.Table.{Table}
@@ -46,6 +47,19 @@ Diffs name text old output end =
     (judged : Result (List Subject) (List ℕ)) × Judges text judged
     × DiffsTo name old judged output end
 
+-- ---- which edits make a new policy
+
+abbrev pub EditsTo : List Subject → List ℕ → Result (List Subject) (List ℕ) → List ℕ → ReviewEnd
+    → Type 0
+EditsTo old name (Err line) output end = (output ≡ named name line) × (end ≡ Refused)
+EditsTo old name (Ok new) output end = Loads old new output end
+
+-- the edits in batches, if the new policy may stand
+abbrev pub ListsEdits : List ℕ → List ℕ → List Subject → List ℕ → ReviewEnd → Type 0
+ListsEdits name text old output end =
+    (judged : Result (List Subject) (List ℕ)) × Judges text judged
+    × EditsTo old name judged output end
+
 -- ---- how a policy decides
 
 abbrev pub Explains : List Subject → Option Query → List ℕ → ReviewEnd → Type 0
@@ -68,6 +82,7 @@ Tells table name text policy output end =
 -- where the first policy may stand, the second input is reviewed, which has this name and text
 abbrev pub Continues : Review → List ℕ → List ℕ → List Subject → List ℕ → ReviewEnd → Type 0
 Continues Diff name text policy output end = Diffs name text policy output end
+Continues Edits name text policy output end = ListsEdits name text policy output end
 Continues Why name text policy output end = Explains policy (question_of text) output end
 Continues (Each table) name text policy output end = Tells table name text policy output end
 
@@ -92,3 +107,8 @@ pub record IsOnly (Wanted : List ℕ → ReviewEnd → Type 0) (output : List �
   pub wanted : Wanted output end
   pub only : (other : List ℕ) (last : ReviewEnd) → Wanted other last
       → (other ≡ output) × (last ≡ end)
+
+-- the same, but of edits others would do as well
+abbrev pub IsRight : Review → (List ℕ → ReviewEnd → Type 0) → List ℕ → ReviewEnd → Type 0
+IsRight Edits Wanted output end = Wanted output end
+IsRight review Wanted output end = IsOnly Wanted output end

@@ -1,9 +1,10 @@
-//! The review of policies: what a new policy changes against an old one, and what a policy decides
-//! of lines, from bytes to bytes.
+//! The review of policies: what a new policy changes against an old one, by which edits it is made
+//! of that, and what a policy decides of lines, from bytes to bytes.
 #![tactic(auto)]
 
 mod asking;
 mod judging;
+mod loading;
 mod output;
 mod reviewing;
 mod table;

@@ -9,6 +9,7 @@ ghost use Rattle.tac_review.specs.Review as reviews;
 
 use crate::asking::{add_answer, question};
 use crate::judging::judge;
+use crate::loading::load;
 use crate::table::tell;
 use crate::task::{Review, ReviewEnd, Table};
 use basics::Bytes;
@@ -80,6 +81,22 @@ fn diff(
             let changes = compare(alloc, old, &new)?;
             show(alloc, &changes)
         }
+        Err(line) => refused(alloc, name, line.as_slice()),
+    }
+}
+
+// The edits that make a policy whose text this is of the old one.
+fn edits(
+    alloc: Global,
+    old: Live,
+    name: &[u8],
+    text: &[u8],
+) -> Result<(Vec<u8>, ReviewEnd), AllocError>
+    ensures { IfOk result (λ output.
+        reviews.ListsEdits name.now text.now old output.0.items output.1) }
+{
+    match judge(alloc, text)? {
+        Ok(new) => load(alloc, old, new.policy()),
         Err(line) => refused(alloc, name, line.as_slice()),
     }
 }
@@ -164,17 +181,18 @@ fn each(
 fn second(
     alloc: Global,
     review: Review,
-    live: &Live,
+    live: Live,
     name: &[u8],
     text: &[u8],
 ) -> Result<(Vec<u8>, ReviewEnd), AllocError>
-    ensures { IfOk result (λ output. reviews.IsOnly
-        (reviews.Continues review name.now text.now live.now) output.0.items output.1) }
+    ensures { IfOk result (λ output. reviews.IsRight review
+        (reviews.Continues review name.now text.now live) output.0.items output.1) }
 {
     match review {
-        Review::Diff => diff(alloc, live, name, text),
-        Review::Why => why(alloc, live, text),
-        Review::Each(table) => each(alloc, live, table, name, text),
+        Review::Diff => diff(alloc, &live, name, text),
+        Review::Edits => edits(alloc, live, name, text),
+        Review::Why => why(alloc, &live, text),
+        Review::Each(table) => each(alloc, &live, table, name, text),
     }
 }
 
@@ -185,14 +203,14 @@ pub(crate) fn output(
     names: (&[u8], &[u8]),
     texts: (&[u8], &[u8]),
 ) -> Result<(Vec<u8>, ReviewEnd), AllocError>
-    ensures { IfOk result (λ output. reviews.IsOnly (reviews.Reviews review
+    ensures { IfOk result (λ output. reviews.IsRight review (reviews.Reviews review
         names.entry.0.now names.entry.1.now texts.entry.0.now texts.entry.1.now)
         output.0.items output.1) }
 {
     let (first_name, second_name) = names;
     let (first_text, second_text) = texts;
     match judge(alloc, first_text)? {
-        Ok(live) => second(alloc, review, &live, second_name, second_text),
+        Ok(live) => second(alloc, review, live, second_name, second_text),
         Err(line) => refused(alloc, first_name, line.as_slice()),
     }
 }

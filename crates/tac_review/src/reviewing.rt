@@ -3,7 +3,7 @@
 ghost use Rattle.std.specs.Prelude.{OnOk};
 ghost use Rattle.std.specs.Io.KnownBytes.{IsAtEnd};
 ghost use Rattle.tac_io.specs.Answering.{IsWorked};
-ghost use Rattle.tac_review.specs.Review.{IsOnly, Reviews};
+ghost use Rattle.tac_review.specs.Review.{IsRight, Reviews};
 ghost use Rattle.tac_review.specs.Reading.{AreAnswered, IsNotRead};
 
 use crate::output::output;
@@ -21,8 +21,8 @@ fn answer<S: Read>(
     second: &mut S,
 ) -> Result<(Vec<u8>, ReviewEnd), InputFault>
     ensures end { OnOk result (IsAtEnd (S.remaining second.new)) }
-    ensures worked { IsWorked (λ text output end.
-        IsOnly (Reviews review names.entry.0.now names.entry.1.now first.now text) output end)
+    ensures worked { IsWorked (λ text output end. IsRight review
+        (Reviews review names.entry.0.now names.entry.1.now first.now text) output end)
         (S.remaining second.old) result }
 {
     let text = read_whole(alloc, second, MAX_INPUT)?;
@@ -58,8 +58,8 @@ pub fn review<R: Read, S: Read, W: Write>(
 
     // What was written is exactly the review's output, the end is the review's, and no others are;
     // or what a fault leaves: nothing, a beginning of the output, or of the line that says Memory.
-    ensures answered { AreAnswered (λ one two output end.
-        IsOnly (Reviews review names.entry.0.now names.entry.1.now one two) output end)
+    ensures answered { AreAnswered (λ one two output end. IsRight review
+        (Reviews review names.entry.0.now names.entry.1.now one two) output end)
         (R.remaining first.old) (S.remaining second.old)
         (W.contents writer.old) (W.contents writer.new) result }
 {

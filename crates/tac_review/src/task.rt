@@ -7,6 +7,8 @@ use tac_io::AnswerFault;
 pub enum Review {
     /// What another policy, whose text is the second input, changes.
     Diff,
+    /// Which edits make of it another policy, whose text is the second input.
+    Edits,
     /// How a line of a user is decided: the second input is `USER`, or `USER LINE`.
     Why,
     /// How the lines of a table are decided.
@@ -29,6 +31,8 @@ pub enum ReviewEnd {
     Done,
     /// Something changes for someone, or some case isn't so.
     Differs,
+    /// Edits were printed, in so many batches.
+    Edited(usize),
     /// An input is refused, and the reason was printed.
     Refused,
 }

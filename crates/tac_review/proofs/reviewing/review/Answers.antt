@@ -1,13 +1,13 @@
 use Rattle.std.proofs.Common.{◌≤◌, length, arith}
 use Rattle.tac_io.proofs.Answered.{answered}
 use Rattle.tac_review.specs.Reading.{given, Wanted}
-use Rattle.tac_review.specs.Review.{IsOnly, Reviews}
+use Rattle.tac_review.specs.Review.{IsRight, Reviews}
 use Rattle.tac_review.proofs.ReadingFacts.{worked_given}
 use Rattle.tac_review.proofs.reviewing.review.Goals as goal
 
 pub returns-in-Ok-write_answer-clause-answered : goal.returns-in-Ok-write_answer-clause-answered
 returns-in-Ok-write_answer-clause-answered g c =
-    let wanted : Wanted = λ one two output end. IsOnly (Reviews c.args.review c.args.names.0.now c.args.names.1.now one two) output end in
+    let wanted : Wanted = λ one two output end. IsRight c.args.review (Reviews c.args.review c.args.names.0.now c.args.names.1.now one two) output end in
     let first = g.R.Read.remaining c.args.first.now in
     let few : length c.in-Ok.text.items ≤ 268435456 = omega (arith, c.in-Ok.text.ok, c.in-Ok.ensures.bound) in
     rw c.in-Ok-write_answer.is at
@@ -16,7 +16,7 @@ returns-in-Ok-write_answer-clause-answered g c =
 
 pub returns-clause-answered : goal.returns-clause-answered
 returns-clause-answered g c =
-    let wanted : Wanted = λ one two output end. IsOnly (Reviews c.args.review c.args.names.0.now c.args.names.1.now one two) output end in
+    let wanted : Wanted = λ one two output end. IsRight c.args.review (Reviews c.args.review c.args.names.0.now c.args.names.1.now one two) output end in
     let first = g.R.Read.remaining c.args.first.now in
     let few : length c.in-Ok.text.items ≤ 268435456 = omega (arith, c.in-Ok.text.ok, c.in-Ok.ensures.bound) in
     rw c.in-Err-write_answer.is at

@@ -1,0 +1,6 @@
+use Rattle.std.proofs.Common.{◌≡◌, ◌++◌, take}
+use Rattle.tac_review.specs.Loading.{edit_lines}
+use Rattle.tac_review.proofs.loading.add_edits.Given as goal
+
+abbrev pub invariant-edits : goal.invariant-edits
+invariant-edits l = l.text.items ≡ l.fn.text.items ++ edit_lines (take l.edit-index l.edits)
