@@ -4,6 +4,7 @@ pub mod TurningFacts
 pub mod ServerFacts
 pub mod RunFacts
 pub mod EventFacts
+pub mod SpellingFacts
 pub mod ShownFacts
 pub mod FrontFacts
 pub mod CourseFacts

@@ -5,6 +5,7 @@ pub mod Happening
 pub mod Kept
 pub mod Turning
 pub mod Command
+pub mod Spelling
 pub mod Events
 pub mod FaultText
 pub mod Course

@@ -6,6 +6,7 @@ ghost use Rattle.pol_meaning.specs.Deciding.{DecisionLaw};
 ghost use Rattle.tac_io.specs.Answering.{IsWorked};
 ghost use Rattle.tac_server.specs.Replay.{fault_by, IsReplayed};
 ghost use Rattle.tac_server.specs.Script.{IsWorkedOut};
+ghost use Rattle.tac_server.specs.Spelling.{EventLaw};
 
 use crate::script::run_script;
 use crate::script_fault::Stop;
@@ -96,6 +97,9 @@ pub fn replay<R: Read, W: Write>(
 
     // What a policy permits by the definitions is what the sets of its patterns permit.
     ensures law { DecisionLaw }
+
+    // Each line after `run` asks for what it spells, and for nothing else.
+    ensures events { EventLaw }
 {
     match write_answer(writer, answer(alloc, reader)) {
         Ok(end) => Ok(end),

@@ -2,6 +2,7 @@ use Rattle.std.proofs.Common.{refl}
 use Rattle.pol_meaning.proofs.DecidingFacts.{decision_law}
 use Rattle.tac_io.proofs.Answered.{answered, at_end}
 use Rattle.tac_server.specs.Script.{IsWorkedOut}
+use Rattle.tac_server.proofs.SpellingFacts.{event_law}
 use Rattle.tac_server.proofs.replaying.replay.Goals as goal
 
 pub returns-in-Ok-clause-read : goal.returns-in-Ok-clause-read
@@ -17,6 +18,9 @@ returns-in-Ok-clause-replayed g c = record {
 pub returns-in-Ok-clause-law : goal.returns-in-Ok-clause-law
 returns-in-Ok-clause-law g c = decision_law
 
+pub returns-in-Ok-clause-events : goal.returns-in-Ok-clause-events
+returns-in-Ok-clause-events g c = event_law
+
 pub returns-in-Err-clause-replayed : goal.returns-in-Err-clause-replayed
 returns-in-Err-clause-replayed g c = record {
   answer = c.write_answer.result;
@@ -26,3 +30,6 @@ returns-in-Err-clause-replayed g c = record {
 
 pub returns-in-Err-clause-law : goal.returns-in-Err-clause-law
 returns-in-Err-clause-law g c = decision_law
+
+pub returns-in-Err-clause-events : goal.returns-in-Err-clause-events
+returns-in-Err-clause-events g c = event_law
