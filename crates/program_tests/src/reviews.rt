@@ -82,11 +82,54 @@ fn diffs(rt: HostRuntime) {
 }
 
 #[test]
+fn edits(rt: HostRuntime) {
+    let edits = "begin\nadd user eve in ops\ninsert group ops 1 deny show run\ncommit\n";
+    let back = "begin\ndrop group ops 1\nremove user eve\ncommit\n";
+    tells(&rt, "tacd diff --edits policy policy", 0, "");
+    tells(&rt, "tacd diff --edits --exit-code policy policy", 0, "");
+    tells(&rt, "tacd diff --edits policy next", 0, edits);
+    tells(&rt, "tacd diff next policy --edits", 0, back);
+    tells(&rt, "tacd diff --exit-code policy next --edits", 5, edits);
+}
+
+// 66 rules, none of which `next` has.
+const RULES: &str = concat!(
+    "group ops\n",
+    "deny a\ndeny a\ndeny a\ndeny a\ndeny a\ndeny a\ndeny a\ndeny a\ndeny a\ndeny a\ndeny a\n",
+    "deny a\ndeny a\ndeny a\ndeny a\ndeny a\ndeny a\ndeny a\ndeny a\ndeny a\ndeny a\ndeny a\n",
+    "deny a\ndeny a\ndeny a\ndeny a\ndeny a\ndeny a\ndeny a\ndeny a\ndeny a\ndeny a\ndeny a\n",
+    "deny a\ndeny a\ndeny a\ndeny a\ndeny a\ndeny a\ndeny a\ndeny a\ndeny a\ndeny a\ndeny a\n",
+    "deny a\ndeny a\ndeny a\ndeny a\ndeny a\ndeny a\ndeny a\ndeny a\ndeny a\ndeny a\ndeny a\n",
+    "deny a\ndeny a\ndeny a\ndeny a\ndeny a\ndeny a\ndeny a\ndeny a\ndeny a\ndeny a\ndeny a\n",
+    "user bob in ops\n",
+);
+
+#[test]
+fn two_batches(rt: HostRuntime) -> Result<(), Fail> {
+    let mut printed = String::new(rt.alloc());
+    printed.push_str("begin\n")?;
+    for rule in (3..=66_u32).rev() {
+        printed.push_str(format!(in rt.alloc(); "drop group ops {rule}\n")?.as_str())?;
+    }
+    printed.push_str("commit\nbegin\ndrop group ops 2\ndrop group ops 1\nadd user eve in ops\n")?;
+    printed.push_str("insert group ops 1 deny show run\ninsert group ops 2 permit show .*\n")?;
+    printed.push_str("commit\n")?;
+    let told = "tacd: 2 batches; between two of them the policy is neither OLD nor NEW\n";
+    let words = "tacd diff --edits policy next";
+    ends(&rt, words, RULES, "", 0, printed.as_str(), told);
+    Ok(())
+}
+
+#[test]
 fn diffs_refused(rt: HostRuntime) {
     let refused = "policy: fault line 2 1 BadLine\n";
     let large = "policy: fault TooManyStates group g\n";
     let dots = "user b\ngroup g\ndeny .*a............\n";
-    for words in ["tacd diff policy next", "tacd diff --exit-code next policy"] {
+    for words in [
+        "tacd diff policy next",
+        "tacd diff --exit-code next policy",
+        "tacd diff --edits policy next",
+    ] {
         ends(&rt, words, "user bob\nx\n", "", 1, refused, "");
         ends(&rt, words, dots, "", 1, large, "");
     }

@@ -56,8 +56,9 @@ pub fn review<R: Read, S: Read, W: Write>(
     ensures first { OnOk result (IsAtEnd (R.remaining first.new)) }
     ensures second { OnOk result (IsAtEnd (S.remaining second.new)) }
 
-    // What was written is exactly the review's output, the end is the review's, and no others are;
-    // or what a fault leaves: nothing, a beginning of the output, or of the line that says Memory.
+    // What was written is exactly the review's output, the end is the review's, and no others are,
+    // except where edits are printed; or what a fault leaves: nothing, a beginning of the output, or
+    // of the line that says Memory.
     ensures answered { AreAnswered (λ one two output end. IsRight review
         (Reviews review names.entry.0.now names.entry.1.now one two) output end)
         (R.remaining first.old) (S.remaining second.old)
