@@ -1,1 +1,2 @@
 mod ChainFacts
+mod HiddenFacts

@@ -3,7 +3,7 @@ use Rattle.std.specs.Prelude.{ℕ, ◌+◌, ◌-◌, ◌^◌, List, [], ◌∷�
 use Rattle.std.specs.Prelude.{not, is_some, ◌&&◌, ◌||◌, Option, Some, None, option_map}
 use Rattle.std.specs.Prelude.{if◌then◌else◌}
 use Rattle.std.specs.Option.{option_map_or}
-use Rattle.std.specs.List.{list_any}
+use Rattle.std.specs.List.{list_any, flat_map}
 use Rattle.std.specs.Str.{bytes_eq}
 use Rattle.basics.specs.Lines.{lines_of}
 use Rattle.pol_names.specs.Name.{name_of}
@@ -98,43 +98,50 @@ abbrev pub subject_finding : List Subject → Option Present → Option Finding
 subject_finding policy None = None
 subject_finding policy (Some present) = lacks policy present.owner.kind present.owner
 
--- the owner's rule of this number decides no line of the owner, and so of nobody
-abbrev pub is_shadowed : List Shadowed → Present → Bool
-is_shadowed rows present =
-    list_any (λ row. (same_id row.subject present.owner && same_id row.owner present.owner)
-    && nat_eq row.number present.rules) rows
+-- the rules that decide no line of their owners, and so of nobody
+abbrev pub hidden_by : Shadowed → List Present
+hidden_by row =
+    if same_id row.subject row.owner
+    then record { owner = row.owner; rules = row.number } ∷ [] else []
 
-abbrev pub shadow_finding : List Shadowed → Option Present → Option Finding
-shadow_finding rows None = None
-shadow_finding rows (Some present) =
-    if is_shadowed rows present then Some findings.Shadowed else None
+abbrev pub hidden_of : List Shadowed → List Present
+hidden_of rows = flat_map hidden_by rows
+
+-- it is the same rule: of the same owner, with the same number
+abbrev pub same_rule : Present → Present → Bool
+same_rule a b = same_id a.owner b.owner && nat_eq a.rules b.rules
+
+abbrev pub shadow_finding : List Present → Option Present → Option Finding
+shadow_finding hidden None = None
+shadow_finding hidden (Some present) =
+    if list_any (same_rule present) hidden then Some findings.Shadowed else None
 
 abbrev pub end_finding : Bool → List ℕ → Option Finding
 end_finding others pattern = if others && lacks_end pattern then Some NoEnd else None
 
 -- of a rule: its pattern's habits, whether it lacks ` <cr>` where others have it, and whether it
 -- decides nothing
-abbrev pub rule_remarks : Bool → List Shadowed → Option Present → ℕ → List ℕ → List ℕ → List Remark
-rule_remarks others rows present number line pattern =
+abbrev pub rule_remarks : Bool → List Present → Option Present → ℕ → List ℕ → List ℕ → List Remark
+rule_remarks others hidden present number line pattern =
     pattern_habits number line pattern
     ++ noted number (length line + 1) (end_finding others pattern)
-    ++ noted number (column_of line pattern) (shadow_finding rows present)
+    ++ noted number (column_of line pattern) (shadow_finding hidden present)
 
 -- of a line whose first word says this, and what comes after it
-abbrev pub remarks_by : List Subject → Bool → List Shadowed → Option Present → ℕ → List ℕ
+abbrev pub remarks_by : List Subject → Bool → List Present → Option Present → ℕ → List ℕ
     → Keyword → List ℕ → List Remark
-remarks_by policy others rows present number line (Opens kind) rest =
+remarks_by policy others hidden present number line (Opens kind) rest =
     noted number (column_of line rest) (subject_finding policy present)
-remarks_by policy others rows present number line Secret rest = secret_habits number line rest
-remarks_by policy others rows present number line Rule rest =
-    rule_remarks others rows present number line rest
-remarks_by policy others rows present number line _ rest = []
+remarks_by policy others hidden present number line Secret rest = secret_habits number line rest
+remarks_by policy others hidden present number line Rule rest =
+    rule_remarks others hidden present number line rest
+remarks_by policy others hidden present number line _ rest = []
 
 -- of a line, after which this subject is the present one
-abbrev pub line_remarks : List Subject → Bool → List Shadowed → Option Present → ℕ → List ℕ
+abbrev pub line_remarks : List Subject → Bool → List Present → Option Present → ℕ → List ℕ
     → List Remark
-line_remarks policy others rows present number line =
-    remarks_by policy others rows present number line
+line_remarks policy others hidden present number line =
+    remarks_by policy others hidden present number line
     (keyword_of (words_in line).0) (words_in line).1
 
 -- the present subject after a line
@@ -142,16 +149,19 @@ abbrev pub after_line : Option Present → List ℕ → Option Present
 after_line present line = after present (keyword_of (words_in line).0) (words_in line).1
 
 -- of these lines, of which the first has this number
-abbrev pub lines_remarks : List Subject → Bool → List Shadowed → Option Present → ℕ
+abbrev pub lines_remarks : List Subject → Bool → List Present → Option Present → ℕ
     → List (List ℕ) → List Remark
-lines_remarks policy others rows present number [] = []
-lines_remarks policy others rows present number (line ∷ lines) =
-    line_remarks policy others rows (after_line present line) number line
-    ++ lines_remarks policy others rows (after_line present line) (number + 1) lines
+lines_remarks policy others hidden present number [] = []
+lines_remarks policy others hidden present number (line ∷ lines) =
+    line_remarks policy others hidden (after_line present line) number line
+    ++ lines_remarks policy others hidden (after_line present line) (number + 1) lines
 
--- what is told of a policy, of whose rules these decide nothing: first of the whole, and then of
--- the lines of its text
-abbrev pub policy_remarks : List ℕ → List Subject → List Shadowed → List Remark
-policy_remarks text policy rows =
+-- first of the whole policy, and then of the lines of its text
+abbrev pub remarks_with : List ℕ → List Subject → List Present → List Remark
+remarks_with text policy hidden =
     noted 1 1 (policy_finding policy)
-    ++ lines_remarks policy (any_pattern names_end policy) rows None 1 (lines_of text)
+    ++ lines_remarks policy (any_pattern names_end policy) hidden None 1 (lines_of text)
+
+-- what is told of a policy, of whose rules these decide nothing
+abbrev pub policy_remarks : List ℕ → List Subject → List Shadowed → List Remark
+policy_remarks text policy rows = remarks_with text policy (hidden_of rows)

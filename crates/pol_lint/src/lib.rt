@@ -5,6 +5,7 @@ mod chains;
 mod faults;
 mod finding;
 mod habits;
+mod hidden;
 mod remark;
 mod remarks;
 mod words;

@@ -9,19 +9,22 @@ ghost use Rattle.pol_lint.specs.Remarks as wanted;
 
 use crate::finding::Finding;
 use crate::habits::{last_habit, note_pattern, note_secret};
+use crate::hidden::hidden_of;
 use crate::remark::{Remark, column_of, note};
 use crate::words::{Keyword, keyword_of, words_in, words_of};
 use basics::{Lines, Sequence};
+use indexmap::IndexSet;
 use pol_meaning::Shadowed;
 use pol_names::{Kind, Name, SubjectId};
 use pol_text::{Policy, Subject};
 use std::alloc::{AllocError, Global};
 
-/// The subject whose lines are read, and how many of its rules were.
-#[derive(Clone, Copy, Debug, PartialEq, Eq)]
+/// The subject whose lines are read, and how many of its rules were: a rule, by its owner and its
+/// number.
+#[derive(Clone, Copy, Debug, PartialEq, Eq, Hash)]
 pub(crate) struct Present {
-    owner: SubjectId,
-    rules: u16,
+    pub(crate) owner: SubjectId,
+    pub(crate) rules: u16,
 }
 
 /// What is known of a policy while its lines are read.
@@ -31,7 +34,7 @@ struct Known<'a> {
     // whether a rule ends in ` <cr>`
     others: bool,
     // the rules that decide nothing
-    rows: &'a [Shadowed],
+    hidden: &'a IndexSet<Present>,
 }
 
 fn names_end(pattern: &[u8]) -> bool
@@ -177,18 +180,11 @@ fn subject_finding(policy: &Policy, present: Option<Present>) -> Option<Finding>
     }
 }
 
-fn is_shadowed(rows: &[Shadowed], present: Present) -> bool
-    ensures { result ≡ wanted.is_shadowed rows.now present }
-{
-    let Present { owner, rules } = present;
-    rows.iter().any(|row| row.subject == owner && row.owner == owner && row.number == rules)
-}
-
-fn shadow_finding(rows: &[Shadowed], present: Option<Present>) -> Option<Finding>
-    ensures { result ≡ wanted.shadow_finding rows.now present }
+fn shadow_finding(hidden: &IndexSet<Present>, present: Option<Present>) -> Option<Finding>
+    ensures { result ≡ wanted.shadow_finding hidden.now.keys present }
 {
     match present {
-        Some(present) if is_shadowed(rows, present) => Some(Finding::Shadowed),
+        Some(present) if hidden.contains(&present) => Some(Finding::Shadowed),
         _ => None,
     }
 }
@@ -213,7 +209,7 @@ fn note_rule(
     pattern: &[u8],
 ) -> Result<(), AllocError>
     ensures { OnOk result (remarks.new ≡ remarks.old ++ wanted.rule_remarks known.now.others
-        known.now.rows.now present number line.now pattern.now) }
+        known.now.hidden.now.keys present number line.now pattern.now) }
 {
     note_pattern(remarks, number, line, pattern)?;
     note(
@@ -226,7 +222,7 @@ fn note_rule(
         remarks,
         number,
         column_of(line, pattern),
-        shadow_finding(known.rows, present),
+        shadow_finding(known.hidden, present),
     )
 }
 
@@ -247,7 +243,7 @@ fn note_line(
     line: &[u8],
 ) -> Result<(), AllocError>
     ensures { OnOk result (remarks.new ≡ remarks.old ++ wanted.line_remarks
-        known.now.policy.now known.now.others known.now.rows.now present.now number line.now) }
+        known.now.policy.now known.now.others known.now.hidden.now.keys present.now number line.now) }
 {
     let (word, rest) = words_in(line);
     match keyword_of(word) {
@@ -261,25 +257,21 @@ fn note_line(
     }
 }
 
-/// What is told of a policy with this text, of whose rules these decide nothing: what is right and
-/// probably not meant.
-///
-/// Linear in the text, but for a look at all subjects for each group, and at all of these rules for
-/// each rule.
-pub fn policy_remarks<'a>(
+// What is told of a policy, of whose rules these decide nothing.
+fn told_of<'a>(
     alloc: Global,
     text: &[u8],
     policy: &'a Policy,
-    rows: &'a [Shadowed],
+    hidden: &'a IndexSet<Present>,
 ) -> Result<Sequence<Remark>, AllocError>
     ensures { IfOk result (λ remarks.
-        remarks ≡ wanted.policy_remarks text.now policy.now rows.now) }
+        remarks ≡ wanted.remarks_with text.now policy.now hidden.now.keys) }
 {
     let others = has_ends(policy);
     let known = Known {
         policy,
         others,
-        rows,
+        hidden,
     };
     let mut remarks = Sequence::new(alloc);
     note(&mut remarks, 1, 1, policy_finding(policy))?;
@@ -290,4 +282,21 @@ pub fn policy_remarks<'a>(
         note_line(&mut remarks, &known, &present, number, line)?;
     }
     Ok(remarks)
+}
+
+/// What is told of a policy with this text, of whose rules these decide nothing: what is right and
+/// probably not meant.
+///
+/// Expected time linear in the text, but for a look at all subjects for each group.
+pub fn policy_remarks(
+    alloc: Global,
+    text: &[u8],
+    policy: &Policy,
+    rows: &[Shadowed],
+) -> Result<Sequence<Remark>, AllocError>
+    ensures { IfOk result (λ remarks.
+        remarks ≡ wanted.policy_remarks text.now policy.now rows.now) }
+{
+    let hidden = hidden_of(alloc, rows)?;
+    told_of(alloc, text, policy, &hidden)
 }

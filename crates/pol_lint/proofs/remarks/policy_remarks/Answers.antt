@@ -1,0 +1,17 @@
+use Rattle.std.proofs.Common.{◌++◌, List, ap, ◌∙◌, None}
+use Rattle.basics.specs.Lines.{lines_of}
+use Rattle.pol_lint.specs.Words.{noted}
+use Rattle.pol_lint.specs.Remarks as wanted
+use Rattle.pol_lint.specs.declared.remark.Remark.{Remark}
+use Rattle.pol_lint.proofs.HiddenFacts.{ok_so, lines_alike}
+use Rattle.pol_lint.proofs.remarks.policy_remarks.Goals as goal
+
+pub returns : goal.returns
+returns c =
+    let policy = c.args.policy.now in
+    let others = wanted.any_pattern wanted.names_end policy in
+    ok_so c.told_of.result
+    (λ remarks told. told
+    ∙ ap (λ (later : List Remark). noted 1 1 (wanted.policy_finding policy) ++ later)
+    (lines_alike policy others c.in_ok-hidden.hidden.keys (wanted.hidden_of c.args.rows.now) c.in_ok-hidden.ensures None 1 (lines_of c.args.text.now)))
+    c.told_of.ensures
