@@ -32,10 +32,10 @@ const CALLS: &str = "? login USER SECRET
 > drop SUBJECT PLACE
 > shift SUBJECT PLACE PLACE
 > begin; > insert SUBJECT PLACE VERDICT PATTERN; > drop SUBJECT PLACE; > commit
-> begin; > move SUBJECT PARENT; > insert SUBJECT PLACE VERDICT PATTERN; > policy; > commit
-> begin; > add user USER; > move SUBJECT PARENT; > clear login USER; > commit
 > begin; > remove SUBJECT; > add user USER in GROUP; > login USER SECRET; > commit
+> begin; > add user USER; > move SUBJECT PARENT; > clear login USER; > commit
 > begin; > remove SUBJECT; > abandon
+> begin; > move SUBJECT PARENT; > insert SUBJECT PLACE VERDICT PATTERN; > policy; > commit
 > policy
 > records
 > shadow
