@@ -19,7 +19,8 @@ fn types<R: Abort + AllocGlobal>(
 ) -> Result<(), Fail> {
     let alloc = rt.alloc();
     let asked = read_console(alloc, line.as_bytes())?;
-    match batch.take(alloc, asked)? {
+    let action = batch.take(alloc, asked)?;
+    match &action {
         Action::Commit(edits) => apply_all(alloc, policy, edits.as_slice())?,
         Action::Tell(Notice::Done | Notice::Kept(_)) => {}
         _ => assert!(rt; false, "{line} isn't of a batch"),
