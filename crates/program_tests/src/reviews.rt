@@ -315,6 +315,9 @@ Arguments:
           The text of the policy that is to take its place
 
 Options:
+      --edits
+          Print the lines of the console that make NEW of OLD
+
       --exit-code
           End with status 5 where anyone gains or loses a line
 

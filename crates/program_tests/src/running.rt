@@ -319,7 +319,7 @@ Usage: tacd <COMMAND>
 For more information, try '--help'.
 ";
 
-const OTHER_COMMAND: &str = "error: unrecognized subcommand 'listen'
+const OTHER_COMMAND: &str = "error: unrecognized subcommand 'export'
 
 Usage: tacd <COMMAND>
 
@@ -483,7 +483,7 @@ fn bad_keys(rt: HostRuntime) -> Result<(), Fail> {
 fn mistakes(rt: HostRuntime) {
     ends(&rt, "tacd serve", "", true, 2, "", NO_PORT);
     ends(&rt, "tacd", "", true, 2, "", NO_COMMAND);
-    ends(&rt, "tacd listen", "", true, 2, "", OTHER_COMMAND);
+    ends(&rt, "tacd export", "", true, 2, "", OTHER_COMMAND);
     ends(&rt, "tacd replay script", "", true, 2, "", OTHER_WORD);
     ends(&rt, "tacd replay --fast", "", true, 2, "", OTHER_FLAG);
     ends(&rt, "tacd check", "", true, 2, "", NO_FILE);
