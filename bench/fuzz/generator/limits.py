@@ -8,8 +8,8 @@ def policy(choices):
 
 
 def states(choices):
-    """Subjects of 4,096 states and fewer, or of twice as many."""
-    dots = choices.choice([9, 10, 11, 11, 12])
+    """Subjects of 16,384 states and fewer, or of twice as many."""
+    dots = choices.choice([11, 12, 13, 13, 14])
     other = choices.choice(["", "permit b*", "deny .*b.", "permit show", f"deny .*a{'.' * dots}"])
     found = ["group g", f"deny .*a{'.' * dots}"]
     found += ["user u in g"] + [other] * (other != "")
@@ -61,7 +61,7 @@ def batch_of_few(choices):
 
 
 def state_edits(choices):
-    dots = "." * choices.choice([8, 9, 10, 11, 12])
+    dots = "." * choices.choice([10, 11, 12, 13, 14])
     edit = choices.choice(
         [
             f"insert group g 1 deny .*a{dots}",

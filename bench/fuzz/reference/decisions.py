@@ -5,7 +5,7 @@ from typing import NamedTuple
 from .policy import GROUP, PERMIT, USER, find
 from .residuals import first_match, has_more_states, state_of, states_with_least_texts
 
-MOST_STATES = 4096
+MOST_STATES = 16384
 
 
 class Entry(NamedTuple):

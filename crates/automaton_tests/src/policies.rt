@@ -106,42 +106,42 @@ fn refusals(rt: HostRuntime) -> Result<(), Fail> {
         &rt,
         "group g\ngroup h in g\nuser u in h\n",
         "
-        # 4,096 residuals are as many as there may be.
-        > insert group g 1 deny .*a...........
+        # 16,384 residuals are as many as there may be.
+        > insert group g 1 deny .*a.............
         ok
         > states user u
-        4096
-        > insert group g 1 deny .*a............
+        16384
+        > insert group g 1 deny .*a..............
         refused 11 TooManyStates group g
         > insert group h 1 deny .*b
         refused 11 TooManyStates group h
         > states user u
-        4096
+        16384
         > insert user u 1 permit .*
         ok
         user u now permits: 
         > states user u
-        4096
+        16384
         # The refusals of an edit come first.
-        > insert group none 1 deny .*a............
+        > insert group none 1 deny .*a..............
         refused 2 NoSuch
-        > insert group g 3 deny .*a............
+        > insert group g 3 deny .*a..............
         refused 7 BadIndex
         > why u a
         permit by user u rule 1
         # Of several edits the first that is refused decides, and no other is looked at.
-        > add group z; insert group g 3 deny .*a............; drop group none 1
+        > add group z; insert group g 3 deny .*a..............; drop group none 1
         refused at edit 2: 7 BadIndex
-        > drop group g 1; drop group g 1; insert group h 1 deny .*a............
+        > drop group g 1; drop group g 1; insert group h 1 deny .*a..............
         refused at edit 2: 7 BadIndex
         # The size is judged once all are made, and is no single edit's.
-        > insert group g 1 deny .*a............; drop group g 1
+        > insert group g 1 deny .*a..............; drop group g 1
         ok
-        > insert group g 1 deny .*a............; add group z
+        > insert group g 1 deny .*a..............; add group z
         refused 11 TooManyStates group g
         > policy
         group g
-        deny .*a...........
+        deny .*a.............
         group h in g
         user u in h
         permit .*
@@ -163,8 +163,8 @@ fn is_too_large(alloc: Global, text: &str, expected: &str) -> Result<bool, Fail>
 #[test]
 fn policies_that_are_too_large(rt: HostRuntime) -> Result<(), Fail> {
     let alloc = rt.alloc();
-    assert!(rt; is_too_large(alloc, "group g\ndeny .*a............\n", "group g")?);
-    let text = "group all\npermit .*b\nuser u in big\ngroup big in all\ndeny .*a...........\n";
+    assert!(rt; is_too_large(alloc, "group g\ndeny .*a..............\n", "group g")?);
+    let text = "group all\npermit .*b\nuser u in big\ngroup big in all\ndeny .*a.............\n";
     assert!(rt; is_too_large(alloc, text, "user u")?);
     Ok(())
 }

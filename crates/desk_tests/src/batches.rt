@@ -154,7 +154,7 @@ fn sizes_of_batches(rt: HostRuntime) -> Result<(), Fail> {
         # Only the policy that all edits make may not be too large.
         > begin
         ok
-        > insert group ops 1 deny .*a............
+        > insert group ops 1 deny .*a..............
         kept 1
         > drop group ops 1
         kept 2
@@ -162,7 +162,7 @@ fn sizes_of_batches(rt: HostRuntime) -> Result<(), Fail> {
         ok
         > begin
         ok
-        > insert group ops 1 deny .*a............
+        > insert group ops 1 deny .*a..............
         kept 1
         > add group z
         kept 2
@@ -171,7 +171,7 @@ fn sizes_of_batches(rt: HostRuntime) -> Result<(), Fail> {
         # An edit's own refusal comes first.
         > begin
         ok
-        > insert group ops 1 deny .*a............
+        > insert group ops 1 deny .*a..............
         kept 1
         > add group ops
         kept 2

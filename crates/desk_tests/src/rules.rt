@@ -146,21 +146,21 @@ fn policies_that_are_too_large(rt: HostRuntime) -> Result<(), Fail> {
         "group g\n",
         9,
         "
-        # 4,096 residuals, and 8,192.
-        > insert group g 1 deny .*a...........
+        # 16,384 residuals, and 32,768.
+        > insert group g 1 deny .*a.............
         ok
-        > insert group g 1 deny .*a............
+        > insert group g 1 deny .*a..............
         refused 11 TooManyStates group g
         > policy
         group g
-        deny .*a...........
+        deny .*a.............
         > reach group g
-        group g rule 1 first reached by: a           
+        group g rule 1 first reached by: a             
         # Its own refusals come first.
-        > insert group g 3 deny .*a............
+        > insert group g 3 deny .*a..............
         refused 7 BadIndex
-        > insert group g 1 deny .*a............(
-        refused 8 BadPattern 3 Unclosed at 15
+        > insert group g 1 deny .*a..............(
+        refused 8 BadPattern 3 Unclosed at 17
         # A record stays, and what a group has counts for those below it.
         ? record bob stop 7 12 show version
         stored

@@ -144,7 +144,7 @@ fn batches(rt: HostRuntime) -> Result<(), Fail> {
         refused at edit 2: 7 BadIndex
         > begin
         ok
-        > insert group ops 1 deny .*a............
+        > insert group ops 1 deny .*a..............
         kept 1
         > drop group ops 1
         kept 2
@@ -211,7 +211,7 @@ fn lines_round_batches(rt: HostRuntime) -> Result<(), Fail> {
         refused 7 BadIndex
         > begin
         ok
-        > insert group ops 1 deny .*a............
+        > insert group ops 1 deny .*a..............
         kept 1
         > add group z
         kept 2

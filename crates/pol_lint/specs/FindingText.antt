@@ -34,4 +34,4 @@ finding_text (findings.Refused refusal) = codes "refused: " ++ refusal_text refu
 finding_text (findings.NoParent name) = codes "the policy has no group " ++ name
 finding_text findings.Cycle = codes "the chain of parents comes back to this group"
 finding_text findings.TooManyStates =
-    codes "refused: TooManyStates: the rules along this chain have over 4096 states"
+    codes "refused: TooManyStates: the rules along this chain have over 16384 states"

@@ -139,7 +139,7 @@ impl fmt::Display for Finding {
             Finding::TooManyStates => {
                 write!(
                     f,
-                    "refused: TooManyStates: the rules along this chain have over 4096 states"
+                    "refused: TooManyStates: the rules along this chain have over 16384 states"
                 )
             }
             Finding::Refused(refusal) => write!(f, "refused: {refusal}"),

@@ -16,7 +16,7 @@ use Rattle.pol_text.specs.Policy.{id_of, find_subject, has_parent, all_of, paren
 use Rattle.pol_text.proofs.ChainFacts.{chain_within_step}
 use Rattle.pol_live.specs.declared.parts.Parts.{Parts}
 use Rattle.pol_meaning.specs.Along.{patterns_of, patterns_along}
-use Rattle.pol_meaning.specs.Sizes.{IsLarge}
+use Rattle.pol_meaning.specs.Sizes.{IsLarge, most_residuals}
 use Rattle.pol_live.specs.Kept.{IsFit, IsOf, IsPutAt, AreParts, Grows, slot, own_patterns, has_rules, is_keeper}
 use Rattle.pol_live.specs.Rise.{is_joined}
 use Rattle.pol_live.proofs.AlongFacts.{patterns_append, patterns_own}
@@ -125,15 +125,15 @@ one_there parts index (Some at) rules own above = by (is_some (slot parts.owns i
 
 -- ---- sizes
 
-pub large_own : (policy : List Subject) (subject : Subject) → InheritsEntries policy subject → HasMoreResiduals (own_patterns subject) 4096 → IsLarge policy subject
+pub large_own : (policy : List Subject) (subject : Subject) → InheritsEntries policy subject → HasMoreResiduals (own_patterns subject) most_residuals → IsLarge policy subject
 large_own policy subject inherits more =
-    subst (λ (es : List (List ℕ)). HasMoreResiduals es 4096) (sym (patterns_inherit policy subject inherits)) (more_front (own_patterns subject) (inherited policy subject) 4096 more)
+    subst (λ (es : List (List ℕ)). HasMoreResiduals es most_residuals) (sym (patterns_inherit policy subject inherits)) (more_front (own_patterns subject) (inherited policy subject) most_residuals more)
 
 pub large_above : (policy : List Subject) (subject group : Subject) → InheritsEntries policy subject → parent_of policy subject ≡ Some group → IsLarge policy group → IsLarge policy subject
 large_above policy subject group inherits parent more =
     let rest : inherited policy subject ≡ patterns_along policy group = ap (λ (p : Option Subject). option_map_or (patterns_along policy) p []) parent in
-    subst (λ (es : List (List ℕ)). HasMoreResiduals es 4096) (sym (patterns_inherit policy subject inherits ∙ ap (λ (es : List (List ℕ)). own_patterns subject ++ es) rest))
-    (more_back (own_patterns subject) (patterns_along policy group) 4096 more)
+    subst (λ (es : List (List ℕ)). HasMoreResiduals es most_residuals) (sym (patterns_inherit policy subject inherits ∙ ap (λ (es : List (List ℕ)). own_patterns subject ++ es) rest))
+    (more_back (own_patterns subject) (patterns_along policy group) most_residuals more)
 
 -- ---- chains that end
 
@@ -186,9 +186,9 @@ module _ (policy : List Subject) (at : ℕ) (subject : Subject) (here : slice_ge
           let lt : at < length mid.wholes = let in_policy = slice_get_within policy at subject here in omega arith in
           (both.0, both.1, ap (λ (ws : List (Option Automaton)). is_some (slot ws at)) wholes ∙ ap is_some (put_there mid.wholes at d lt))
 
-  pub whole_large : ((first rest : List (List ℕ)) → IsOf first (slot mid.owns at) → IsOf rest (option_and_then (slot mid.wholes) parent) → HasMoreResiduals (first ++ rest) 4096)
+  pub whole_large : ((first rest : List (List ℕ)) → IsOf first (slot mid.owns at) → IsOf rest (option_and_then (slot mid.wholes) parent) → HasMoreResiduals (first ++ rest) most_residuals)
       → IsLarge policy subject
-  whole_large more = subst (λ (es : List (List ℕ)). HasMoreResiduals es 4096) (sym (patterns_inherit policy subject inherits)) (more _ _ of_own of_above)
+  whole_large more = subst (λ (es : List (List ℕ)). HasMoreResiduals es most_residuals) (sym (patterns_inherit policy subject inherits)) (more _ _ of_own of_above)
 
 pub contains_at : (policy : List Subject) (at : ℕ) (subject : Subject) → slice_get policy at ≡ Some subject → Contains policy subject
 contains_at policy at subject here = (at, slice_get_within policy at subject here, get_or_from_slice_get policy at subject subject here)

@@ -11,6 +11,7 @@ use Rattle.pol_text.specs.declared.subject.Subject.{Subject}
 use Rattle.pol_text.specs.Policy.{find_subject, parent_of, chain}
 use Rattle.pol_live.specs.declared.parts.Parts.{Parts}
 use Rattle.pol_meaning.specs.Along.{patterns_along}
+use Rattle.pol_meaning.specs.Sizes.{most_residuals}
 
 -- ---- keepers: the subjects that have automata of their own
 
@@ -38,7 +39,7 @@ own_patterns subject = map (λ rule. rule.pattern) subject.rules
 
 -- the automaton is the Decider of these entries, which haven't too many residuals
 abbrev pub IsFit : List (List ℕ) → Automaton → Type 0
-IsFit entries decider = IsDecider decider entries × (¬ (HasMoreResiduals entries 4096))
+IsFit entries decider = IsDecider decider entries × (¬ (HasMoreResiduals entries most_residuals))
 
 -- what there is at a place, if there is anything
 abbrev pub slot : {X : Type 0} → List (Option X) → ℕ → Option X

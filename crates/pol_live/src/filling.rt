@@ -10,7 +10,7 @@ ghost use Rattle.pol_automaton.specs.Automaton.{Automaton, IsDecider};
 ghost use Rattle.pol_residual.specs.Residuals.{HasMoreResiduals};
 ghost use Rattle.pol_text.specs.declared.subject.Subject.{Subject as SubjectValue};
 ghost use Rattle.pol_text.specs.Policy.{parent_of, ends_within, InheritsEntries};
-ghost use Rattle.pol_meaning.specs.Sizes.{IsLarge};
+ghost use Rattle.pol_meaning.specs.Sizes.{IsLarge, most_residuals};
 ghost use Rattle.pol_live.specs.Kept.{IsFit, IsOf, IsPutAt, AreParts, Grows, slot, own_patterns};
 ghost use Rattle.pol_live.specs.Kept.{has_rules as with_rules, is_keeper as keeps};
 ghost use Rattle.pol_live.specs.Counting.{Raised, NotLowered, Counts, weight, states_of};
@@ -24,7 +24,7 @@ use pol_text::{Policy, Subject};
 use std::alloc::Global;
 
 /// The most residuals that the rules along a subject's chain may have together.
-const MOST_STATES: u16 = 4096;
+const MOST_STATES: u16 = 16384;
 
 /// Whether the subject has rules of its own.
 pub(crate) fn has_rules(subject: &Subject) -> bool
@@ -68,7 +68,7 @@ pub(crate) fn parent_index(policy: &Policy, subject: &Subject) -> Option<usize>
 fn build_own(alloc: Global, subject: &Subject, meter: &mut Meter) -> Result<Shared, DeciderFault>
     ensures right { IfOk result (λ own. IsFit (own_patterns subject.now) own) }
     ensures too_many { IsErrOf result DeciderFault.TooManyStates
-        → HasMoreResiduals (own_patterns subject.now) 4096 }
+        → HasMoreResiduals (own_patterns subject.now) most_residuals }
     ensures raised { IfOk result (λ own. Raised meter.old meter.new (count own.table)) }
     ensures kept { OnErr result (NotLowered meter.old meter.new) }
 {
@@ -90,7 +90,7 @@ fn build_joined(
         → IsDecider above.now rest → IfOk result (λ whole. IsFit (first ++ rest) whole) }
     ensures too_many { (first rest : List (List ℕ)) → IsDecider own.now first
         → IsDecider above.now rest → IsErrOf result DeciderFault.TooManyStates
-        → HasMoreResiduals (first ++ rest) 4096 }
+        → HasMoreResiduals (first ++ rest) most_residuals }
     ensures raised { IfOk result (λ whole. Raised meter.old meter.new (count whole.table)) }
     ensures kept { OnErr result (NotLowered meter.old meter.new) }
 {
@@ -117,7 +117,7 @@ fn fill_own(
     ensures keeper { OnOk result ((parts.new.owns ≡ parts.old.owns)
         ⊎ (keeps subject.now ≡ true)) }
     ensures too_many { IsErrOf result DeciderFault.TooManyStates
-        → HasMoreResiduals (own_patterns subject.now) 4096 }
+        → HasMoreResiduals (own_patterns subject.now) most_residuals }
     ensures counts { (policy : List SubjectValue) → slice_get policy index ≡ Some subject.now
         → OnOk result (Counts meter.old meter.new (weight (λ _. true) policy parts.old.owns)
         (weight (λ _. true) policy parts.new.owns)) }
@@ -144,7 +144,7 @@ fn combine(
         → IfOk result (λ whole. IsFit (first ++ rest) whole) }
     ensures too_many { (first rest : List (List ℕ)) → IsOf first (option_copied own.entry)
         → IsOf rest (option_copied above.entry) → IsErrOf result DeciderFault.TooManyStates
-        → HasMoreResiduals (first ++ rest) 4096 }
+        → HasMoreResiduals (first ++ rest) most_residuals }
     ensures raised { IfOk result (λ whole. Raised meter.old meter.new
         (if is_some own.entry && is_some above.entry then count whole.table else 0)) }
     ensures kept { OnErr result (NotLowered meter.old meter.new) }
@@ -184,7 +184,8 @@ fn fill_whole(
         → OnOk result (IsPutAt index (first ++ rest) parts.old.wholes parts.new.wholes) }
     ensures too_many { (first rest : List (List ℕ)) → IsOf first (slot parts.old.owns index)
         → IsOf rest (option_and_then (slot parts.old.wholes) parent)
-        → IsErrOf result DeciderFault.TooManyStates → HasMoreResiduals (first ++ rest) 4096 }
+        → IsErrOf result DeciderFault.TooManyStates
+        → HasMoreResiduals (first ++ rest) most_residuals }
     ensures raised { OnOk result ((whole : Automaton)
         × (parts.new.wholes ≡ slice_set parts.old.wholes index (Some whole))
         × Raised meter.old meter.new (if is_some (slot parts.old.owns index)

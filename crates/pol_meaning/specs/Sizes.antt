@@ -1,5 +1,5 @@
 -- Which policies are too large: sizes are numbers of residuals, and nothing else is.
-use Rattle.std.specs.Prelude.{◌≡◌, ◌⊎◌, List, [], ◌∷◌}
+use Rattle.std.specs.Prelude.{◌≡◌, ◌⊎◌, ℕ, List, [], ◌∷◌}
 use Rattle.pol_residual.specs.Residuals.{HasMoreResiduals}
 use Rattle.pol_names.specs.declared.subject_id.SubjectId.{SubjectId}
 use Rattle.pol_text.specs.declared.subject.Subject.{Subject}
@@ -8,9 +8,13 @@ use Rattle.pol_edit.specs.declared.fault.EditFault.{EditFault}
 use Rattle.pol_edit.specs.declared.fault.EditFault.TheVariants.{TooManyStates}
 use Rattle.pol_meaning.specs.Along.{patterns_along}
 
--- the rules along the chain of the subject have more than 4,096 residuals together
+-- the most residuals that the rules along a subject's chain may have together
+abbrev pub most_residuals : ℕ
+most_residuals = 16384
+
+-- the rules along the chain of the subject have more residuals together
 abbrev pub IsLarge : List Subject → Subject → Type 0
-IsLarge policy subject = HasMoreResiduals (patterns_along policy subject) 4096
+IsLarge policy subject = HasMoreResiduals (patterns_along policy subject) most_residuals
 
 -- of these subjects none is large
 abbrev pub AreSmall : List Subject → List Subject → Type 0

@@ -124,7 +124,7 @@ fn two_batches(rt: HostRuntime) -> Result<(), Fail> {
 fn diffs_refused(rt: HostRuntime) {
     let refused = "policy: fault line 2 1 BadLine\n";
     let large = "policy: fault TooManyStates group g\n";
-    let dots = "user b\ngroup g\ndeny .*a............\n";
+    let dots = "user b\ngroup g\ndeny .*a..............\n";
     for words in [
         "tacd diff policy next",
         "tacd diff --exit-code next policy",
@@ -244,9 +244,9 @@ fn lints(rt: HostRuntime) {
     ends(&rt, words, "user bob\nlogin x\n", "", 0, "", "");
     let faults = "line 1 column 6: refused: 2 BadName\nline 2 column 1: refused: 1 BadLine\n";
     ends(&rt, words, "user b/b\nx\n", "", 1, faults, "");
-    let large =
-        "line 2 column 1: refused: TooManyStates: the rules along this chain have over 4096 states\n";
-    let dots = "user b\ngroup g\ndeny .*a............\n";
+    let large = "line 2 column 1: refused: TooManyStates: \
+                 the rules along this chain have over 16384 states\n";
+    let dots = "user b\ngroup g\ndeny .*a..............\n";
     ends(&rt, words, dots, "", 1, large, "");
     complains(
         &rt,

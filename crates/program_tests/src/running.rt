@@ -160,7 +160,7 @@ fn refuses(rt: HostRuntime) {
     refused(&rt, NINE_GROUPS, "fault line 9 9 TooDeep\n");
     refused(
         &rt,
-        "user b\ngroup g\ndeny .*a............\n",
+        "user b\ngroup g\ndeny .*a..............\n",
         "fault TooManyStates group g\n",
     );
 }

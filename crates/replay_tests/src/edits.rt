@@ -174,9 +174,12 @@ fn policies_that_would_be_too_large(rt: HostRuntime) -> Result<(), Fail> {
         > insert group g 1 deny .*a...........
         ok
         > insert group g 1 deny .*a............
+        ok
+        > insert group g 1 deny .*a..............
         refused 11 TooManyStates group g
         > policy
         group g
+        deny .*a............
         deny .*a...........
         ",
     )
@@ -243,7 +246,7 @@ fn batches(rt: HostRuntime) -> Result<(), Fail> {
         # A policy in between may be too large.
         > begin
         ok
-        > insert group ops 1 deny .*a............
+        > insert group ops 1 deny .*a..............
         kept 1
         > drop group ops 1
         kept 2
@@ -321,7 +324,7 @@ fn refused_batches(rt: HostRuntime) -> Result<(), Fail> {
 
         > begin
         ok
-        > insert group ops 1 deny .*a............
+        > insert group ops 1 deny .*a..............
         kept 1
         > add group z
         kept 2

@@ -65,8 +65,8 @@ fn no_run(rt: HostRuntime) -> Result<(), Fail> {
 
 #[test]
 fn policies_that_are_too_large(rt: HostRuntime) -> Result<(), Fail> {
-    // 8,192 residuals. It is judged before the events.
-    let large = "deny .*a............\n";
+    // 32,768 residuals. It is judged before the events.
+    let large = "deny .*a..............\n";
     stops(
         &rt,
         &[
@@ -88,10 +88,10 @@ fn policies_that_are_too_large(rt: HostRuntime) -> Result<(), Fail> {
         &["key k\ngroup g\n", large, "permit *\nrun\n"],
         "fault line 4 5 BadPattern 5 NothingToRepeat at 0\n",
     )?;
-    // 4,096 residuals.
+    // 16,384 residuals.
     plays(
         &rt,
-        &["key k\ngroup g\ndeny .*a...........\nrun\nconsole why u x\n"],
+        &["key k\ngroup g\ndeny .*a.............\nrun\nconsole why u x\n"],
         "unknown user\n",
     )
 }

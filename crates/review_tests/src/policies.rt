@@ -120,7 +120,7 @@ fn refuses(rt: HostRuntime) -> Result<(), Fail> {
     refused(&rt, "group a in a\n", "fault line 1 8 Cycle")?;
     refused(
         &rt,
-        "user b\ngroup g\ndeny .*a............\n",
+        "user b\ngroup g\ndeny .*a..............\n",
         "fault TooManyStates group g",
     )
 }

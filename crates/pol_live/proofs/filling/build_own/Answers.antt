@@ -2,6 +2,7 @@ use Rattle.std.proofs.Common.{[], Err, ap, sym, subst, ◌∙◌}
 use Rattle.std.proofs.lemmas.Result.{err_from_is_err_and}
 use Rattle.pol_automaton.specs.Automaton.{Automaton, IsDecider}
 use Rattle.pol_live.specs.Kept.{own_patterns}
+use Rattle.pol_meaning.specs.Sizes.{most_residuals}
 use Rattle.pol_live.proofs.filling.build_own.Goals as goal
 
 pub returns-in_err-decider-clause-too_many : goal.returns-in_err-decider-clause-too_many
@@ -14,5 +15,5 @@ returns-clause-right c =
     let entries = c.in_ok-add_patterns.ensures [] c.new-entries.ensures in
     let right = c.in_ok-decider.ensures.decider _ entries in (
       subst (λ (d : Automaton). IsDecider d (own_patterns c.args.subject.now)) (sym c.in_ok-own.ensures) right,
-      λ more. c.in_ok-decider.ensures.excludes _ _ 4096 right.index c.in_ok-decider.ensures.few more,
+      λ more. c.in_ok-decider.ensures.excludes _ _ most_residuals right.index c.in_ok-decider.ensures.few more,
     )
