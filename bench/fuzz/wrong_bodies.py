@@ -42,6 +42,24 @@ WRONG_BODIES = [
         "> MOST_FACTORS + 1",
     ),
     WrongBody(
+        "one group too many in a count",
+        "patterns.py",
+        "(factors, ())),) * (high - low)",
+        "(factors, ())),) * (high - low + 1)",
+    ),
+    WrongBody(
+        "a brace in a class is quoted too",
+        "patterns.py",
+        "and not in_class and not quoted",
+        "and not quoted",
+    ),
+    WrongBody(
+        "the line that says the version isn't counted",
+        "policy.py",
+        "list(enumerate(lines, start=first_line))[version - 1 :]",
+        "enumerate(lines[version - 1 :], start=first_line)",
+    ),
+    WrongBody(
         "a star goes on only with what it begins with",
         "residuals.py",
         "return derivatives(rest, symbol).union(inside)",

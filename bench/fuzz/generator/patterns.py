@@ -3,8 +3,9 @@
 from reference.patterns import CLASS, STAR
 
 LITERALS = "aaabbbsh  "
-SPECIAL = "|*+?.[()\\"
+SPECIAL = "|*+?.[()\\{}"
 ODD_LITERALS = "^-]{}~\"#%0Z"
+COUNTS = ["{2}", "{0}", "{1}", "{0,1}", "{1,3}", "{02}", "{0,0}", "{3,2}", "{33}", "{,2}"]
 
 
 def pattern(choices, wrong=0.02):
@@ -62,6 +63,8 @@ def sequence(choices, units, depth):
             source += choices.choice("***+??")
             if choices.chance(0.1):
                 source += choices.choice("*+?")
+        if choices.chance(0.12):
+            source += choices.choice(COUNTS[:7] if choices.chance(0.9) else COUNTS)
     return source
 
 
@@ -97,7 +100,7 @@ def class_item(choices):
 
 
 def class_symbol(choices):
-    symbol = choices.choice("aabbsm z" + "^.*[(~0")
+    symbol = choices.choice("aabbsm z" + "^.*[(~0{}")
     if choices.chance(0.1):
         return "\\" + choices.choice("]\\-^a")
     return symbol
@@ -107,7 +110,7 @@ def invalid(choices):
     """One of each refusal, or what comes just before it."""
     opened = choices.choice([31, 32, 33, 34])
     repeats = choices.choice([6, 7, 8, 199])
-    length = choices.choice([199, 200, 201])
+    length = choices.choice([199, 200, 201, 399, 400, 401])
     return choices.choice(
         [
             "a)",
@@ -140,6 +143,26 @@ def invalid(choices):
             "(a" + "+" * repeats + ")",
             "(" + "a+" * 66 + ")+" + "a" * choices.choice([1, 2, 3]),  # 399 to 401 factors.
             "(a|(b)(" + "(" * choices.count(0, 3) + "a)",
+            "{2}",
+            "a|{2}",
+            "({x",
+            "a}",
+            "}",
+            "a{",
+            "a{2",
+            "a{}",
+            "a{2}}",
+            "a{032}",
+            "\\{2}",
+            "[{",
+            "[{}]{2}",
+            ".{32}{32}",
+            ".{32}{12}" + "a" * choices.choice([15, 16, 17]),  # 399 to 401 factors.
+            ".{32}{32}{0}",
+            "a{0}{1,2}*",
+            "(a|b){1}*",
+            "a{32}" + "{32}" * 98 + "{0}",
+            "{" * length,
             "a" * length,
             "(" + "a" * length,
             "a" * (length - 1) + "\\",

@@ -17,6 +17,8 @@ def policy(choices):
         lines.extend(settings(choices, first))
     if choices.chance(0.2):
         lines = [dressed(choices, line) for line in lines]
+    if choices.chance(0.4):
+        lines.insert(0, "policy 2")
     return [part for line in lines for part in line.split("\n")]
 
 
@@ -139,6 +141,11 @@ def wrong_line(choices):
             "run ",
             " run",
             "Run",
+            "policy 1",
+            "policy 2",
+            " policy 2",
+            "policy 2 ",
+            "policy 3",
             "#\xe9",
             "   \x7f",
             "\r",

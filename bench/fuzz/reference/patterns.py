@@ -1,16 +1,19 @@
-"""The grammar of patterns, its refusals, and the flat form (docs/POLICY.md, "Patterns").
+"""The grammars of patterns, their refusals, and the flat form (docs/POLICY.md, "Patterns").
 
 A term is a tuple of factors. A factor is a pair: CLASS and the frozen set of its symbols, or GROUP
 or STAR and the tuple of its terms.
 """
 
+import re
 from typing import NamedTuple
 
 from .texts import FIRST_SYMBOL, LAST_SYMBOL, SYMBOLS
 
-LONGEST_PATTERN = 200
+LONGEST_PATTERN = {1: 200, 2: 400}
 MOST_FACTORS = 400
 MOST_OPEN = 32
+MOST_REPEATS = 32
+COUNT = re.compile(r"\{([0-9]{1,2})(?:,([0-9]{1,2}))?\}")
 
 CLASS, GROUP, STAR = "class", "group", "star"
 EVERY_SYMBOL = frozenset(SYMBOLS)
@@ -29,27 +32,44 @@ class Pattern(NamedTuple):
     terms: tuple
 
 
-def read_pattern(source):
-    if len(source) > LONGEST_PATTERN:
+def read_pattern(source, version=2):
+    """The pattern that the source spells in this version; its own source is of version 2."""
+    if len(source) > LONGEST_PATTERN[version]:
         raise refusal(1, "TooLong")
     for place, symbol in enumerate(source):
         if not FIRST_SYMBOL <= ord(symbol) <= LAST_SYMBOL:
             raise refusal(2, "Unprintable", place)
-    alternatives = Reader(source).read()
+    alternatives = Reader(source, version).read()
     if sum(size_of_sequence(sequence) for sequence in alternatives) > MOST_FACTORS:
         raise refusal(9, "TooLarge")
-    return Pattern(source, terms_of(alternatives))
+    return Pattern(source if version == 2 else upgraded(source), terms_of(alternatives))
+
+
+def upgraded(source):
+    """The source of version 2 for one of version 1: braces outside classes are quoted."""
+    found = ""
+    in_class = quoted = False
+    for symbol in source:
+        if symbol in "{}" and not in_class and not quoted:
+            found += "\\"
+        found += symbol
+        if not quoted and symbol in "[]":
+            in_class = symbol == "["
+        quoted = symbol == "\\" and not quoted
+    return found
 
 
 class Reader:
     """Reads the source from the left into its syntax.
 
     Alternatives are a list of sequences, a sequence a list of units, and a unit a pair: "symbols"
-    and a set, "parentheses" and alternatives, or one of `*`, `+`, `?` and the unit before it.
+    and a set, "parentheses" and alternatives, one of `*`, `+`, `?` and the unit before it, or
+    "count" and a triple of the unit before it and how often it stands, at least and at most.
     """
 
-    def __init__(self, source):
+    def __init__(self, source, version):
         self.source = source
+        self.version = version
         self.place = 0
 
     def read(self):
@@ -64,6 +84,11 @@ class Reader:
                 if not alternatives[-1]:
                     raise refusal(5, "NothingToRepeat", at)
                 alternatives[-1].append((symbol, alternatives[-1].pop()))
+            elif symbol in "{}" and self.version == 2:
+                if symbol == "{" and not alternatives[-1]:
+                    raise refusal(5, "NothingToRepeat", at)
+                low, high = self.counts(at)
+                alternatives[-1].append(("count", (alternatives[-1].pop(), low, high)))
             elif symbol == "(":
                 if len(open_places) == MOST_OPEN:
                     raise refusal(8, "TooDeep")
@@ -80,6 +105,17 @@ class Reader:
         if open_places:
             raise refusal(3, "Unclosed", open_places[-1][0])
         return alternatives
+
+    def counts(self, at):
+        """What the brace at this place says, in a right suffix."""
+        suffix = COUNT.match(self.source, at)
+        if suffix is None:
+            raise refusal(11, "BadRepeat", at)
+        low, high = int(suffix[1]), int(suffix[2] or suffix[1])
+        if not low <= high <= MOST_REPEATS:
+            raise refusal(11, "BadRepeat", at)
+        self.place = suffix.end()
+        return low, high
 
     def set_of_atom(self, at, symbol):
         if symbol == ".":
@@ -131,7 +167,23 @@ class Reader:
 
 
 def is_one_group(unit):
-    return unit[0] in ("parentheses", "?")
+    """Whether its factors are exactly one group."""
+    kind, content = unit
+    if kind == "count":
+        inner, low, high = content
+        if low == 0 or length_of(inner) == 0:
+            return high - low == 1
+        return low == high == 1 and is_one_group(inner)
+    return kind in ("parentheses", "?")
+
+
+def length_of(unit):
+    """How many factors it has side by side."""
+    kind, content = unit
+    if kind == "count":
+        inner, low, high = content
+        return low * length_of(inner) + high - low
+    return length_of(content) + 1 if kind == "+" else 1
 
 
 def size_of_sequence(units):
@@ -146,6 +198,9 @@ def size_of(unit):
         return 1 + sum(size_of_sequence(sequence) for sequence in content)
     if kind == "?":
         return 1 + size_of(content)
+    if kind == "count":
+        inner, low, high = content
+        return high * size_of(inner) + high - low
     size = size_of(content)
     starred = size if is_one_group(content) else 1 + size
     return starred if kind == "*" else size + starred
@@ -165,6 +220,11 @@ def factors_of(unit):
         return ((CLASS, content),)
     if kind == "parentheses":
         return ((GROUP, terms_of(content)),)
+    if kind == "count":
+        inner, low, high = content
+        # What stands 0 times is left out, however large it is.
+        factors = factors_of(inner) if high > 0 else ()
+        return factors * low + ((GROUP, (factors, ())),) * (high - low)
     factors = factors_of(content)
     if kind == "?":
         return ((GROUP, (factors, ())),)

@@ -9,6 +9,7 @@ MOST_SUBJECTS = 1024
 MOST_RULES = 256
 LONGEST_CHAIN = 8
 HIGHEST_LEVEL = 15
+VERSION_LINE = "policy 2"
 
 GROUP, USER = "group", "user"
 PERMIT, DENY = "permit", "deny"
@@ -49,8 +50,9 @@ def refuse(number, name):
 
 def read_policy(lines, first_line=1):
     """The policy that the lines say: a tuple of subjects. Lines count from the number given."""
-    reader = Reader()
-    for number, line in enumerate(lines, start=first_line):
+    version = 2 if lines[:1] == [VERSION_LINE] else 1
+    reader = Reader(version)
+    for number, line in list(enumerate(lines, start=first_line))[version - 1 :]:
         try:
             reader.read(line, number)
         except Refused as fault:
@@ -60,7 +62,8 @@ def read_policy(lines, first_line=1):
 
 
 class Reader:
-    def __init__(self):
+    def __init__(self, version):
+        self.version = version
         self.subjects = []
         self.lines = []  # The line at which each subject stands.
 
@@ -123,7 +126,7 @@ class Reader:
     def add_rule(self, verdict, source):
         subject = self.last()
         try:
-            rule = Rule(verdict, read_pattern(source))
+            rule = Rule(verdict, read_pattern(source, self.version))
         except BadPattern as fault:
             raise Refused(f"5 BadPattern {fault}") from None
         if len(subject.rules) == MOST_RULES:
@@ -163,7 +166,7 @@ def chain_length(subjects, subject):
 
 
 def printed(policy):
-    lines = []
+    lines = [VERSION_LINE]
     for subject in policy:
         lines.append(subject.label() + (f" in {subject.parent}" if subject.parent else ""))
         if subject.login is not None:

@@ -140,6 +140,7 @@ fn refusals(rt: HostRuntime) -> Result<(), Fail> {
         > insert group g 1 deny .*a..............; add group z
         refused 11 TooManyStates group g
         > policy
+        policy 2
         group g
         deny .*a.............
         group h in g

@@ -16,6 +16,7 @@ fn accepted_batches(rt: HostRuntime) -> Result<(), Fail> {
         > commit
         ok
         > policy
+        policy 2
         group ops
         permit show .*
         user bob in ops
@@ -100,6 +101,7 @@ fn refused_batches(rt: HostRuntime) -> Result<(), Fail> {
         > commit
         refused at edit 3: 2 NoSuch
         > policy
+        policy 2
         group ops
         permit show .*
         user bob in ops
@@ -178,6 +180,7 @@ fn sizes_of_batches(rt: HostRuntime) -> Result<(), Fail> {
         > commit
         refused at edit 2: 3 Exists
         > policy
+        policy 2
         group ops
         permit show .*
         user bob in ops

@@ -38,6 +38,7 @@ fn accepted_and_refused(rt: HostRuntime) -> Result<(), Fail> {
         > login bob 
         refused 9 BadValue
         > policy
+        policy 2
         group base
         group ops in base
         user bob in ops
@@ -80,6 +81,7 @@ fn accepted_and_refused(rt: HostRuntime) -> Result<(), Fail> {
         > move group ops out
         ok
         > policy
+        policy 2
         group base
         group ops
         priv 7
@@ -91,6 +93,7 @@ fn accepted_and_refused(rt: HostRuntime) -> Result<(), Fail> {
         > remove user bob
         ok
         > policy
+        policy 2
         group base
         group ops
         priv 7

@@ -152,6 +152,7 @@ fn policies_that_are_too_large(rt: HostRuntime) -> Result<(), Fail> {
         > insert group g 1 deny .*a..............
         refused 11 TooManyStates group g
         > policy
+        policy 2
         group g
         deny .*a.............
         > reach group g

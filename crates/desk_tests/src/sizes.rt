@@ -34,7 +34,7 @@ fn push_records(text: &mut String, size: u32) -> Result<(), AllocError> {
 }
 
 fn push_policy(text: &mut String, size: u32) -> Result<(), AllocError> {
-    writeln!(text, "> policy\nuser bob")?;
+    writeln!(text, "> policy\npolicy 2\nuser bob")?;
     for at in 1..=size {
         writeln!(text, "permit ping {at}")?;
     }

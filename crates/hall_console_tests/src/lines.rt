@@ -151,6 +151,7 @@ fn batches(rt: HostRuntime) -> Result<(), Fail> {
         > commit
         ok
         > policy
+        policy 2
         group ops
         permit show .*
         user bob in ops
@@ -198,6 +199,7 @@ fn lines_round_batches(rt: HostRuntime) -> Result<(), Fail> {
         > abandon
         refused 1 BadEdit
         > policy
+        policy 2
         group ops
         permit show .*
         user bob in ops

@@ -6,6 +6,7 @@ use Rattle.std.proofs.lemmas.Bool.{and_parts}
 use Rattle.std.proofs.lemmas.Bool.Decides.{nat_tests}
 use Rattle.pol_names.specs.SubjectId.{same_id, same_id-Decides}
 use Rattle.pol_names.specs.declared.subject_id.SubjectId.{SubjectId}
+use Rattle.pol_pattern.specs.declared.version.Version.{Version}
 use Rattle.pol_text.specs.declared.subject.Subject.{Subject}
 use Rattle.pol_lint.specs.Words.{column_of, noted, keyword_of, words_in}
 use Rattle.pol_lint.specs.Habits.{pattern_habits}
@@ -26,23 +27,23 @@ shadow_alike : (a b : List Present) → ((rule : Present) → list_any (same_rul
 shadow_alike a b alike None = refl
 shadow_alike a b alike (Some present) = ap (λ (found : Bool). if found then Some findings.Shadowed else None) (alike present)
 
-by_alike : (policy : List Subject) (others : Bool) (a b : List Present) → ((rule : Present) → list_any (same_rule rule) a ≡ list_any (same_rule rule) b)
-    → (present : Option Present) (number : ℕ) (line : List ℕ) (says : Keyword) (rest : List ℕ) → wanted.remarks_by policy others a present number line says rest ≡ wanted.remarks_by policy others b present number line says rest
-by_alike policy others a b alike present number line (Opens kind) rest = refl
-by_alike policy others a b alike present number line Secret rest = refl
-by_alike policy others a b alike present number line Level rest = refl
-by_alike policy others a b alike present number line Rule rest =
-    ap (λ (finding : Option Finding). pattern_habits number line rest ++ noted number (length line + 1) (wanted.end_finding others rest) ++ noted number (column_of line rest) finding) (shadow_alike a b alike present)
-by_alike policy others a b alike present number line Nothing rest = refl
+by_alike : (version : Version) (policy : List Subject) (others : Bool) (a b : List Present) → ((rule : Present) → list_any (same_rule rule) a ≡ list_any (same_rule rule) b)
+    → (present : Option Present) (number : ℕ) (line : List ℕ) (says : Keyword) (rest : List ℕ) → wanted.remarks_by version policy others a present number line says rest ≡ wanted.remarks_by version policy others b present number line says rest
+by_alike version policy others a b alike present number line (Opens kind) rest = refl
+by_alike version policy others a b alike present number line Secret rest = refl
+by_alike version policy others a b alike present number line Level rest = refl
+by_alike version policy others a b alike present number line Rule rest =
+    ap (λ (finding : Option Finding). pattern_habits version number line rest ++ noted number (length line + 1) (wanted.end_finding others rest) ++ noted number (column_of line rest) finding) (shadow_alike a b alike present)
+by_alike version policy others a b alike present number line Nothing rest = refl
 
-pub lines_alike : (policy : List Subject) (others : Bool) (a b : List Present) → ((rule : Present) → list_any (same_rule rule) a ≡ list_any (same_rule rule) b)
-    → (present : Option Present) (number : ℕ) (lines : List (List ℕ)) → wanted.lines_remarks policy others a present number lines ≡ wanted.lines_remarks policy others b present number lines
-lines_alike policy others a b alike present number [] = refl
-lines_alike policy others a b alike present number (line ∷ lines) =
+pub lines_alike : (version : Version) (policy : List Subject) (others : Bool) (a b : List Present) → ((rule : Present) → list_any (same_rule rule) a ≡ list_any (same_rule rule) b)
+    → (present : Option Present) (number : ℕ) (lines : List (List ℕ)) → wanted.lines_remarks version policy others a present number lines ≡ wanted.lines_remarks version policy others b present number lines
+lines_alike version policy others a b alike present number [] = refl
+lines_alike version policy others a b alike present number (line ∷ lines) =
     let next = wanted.after_line present line in
-    ap (λ (told : List Remark). told ++ wanted.lines_remarks policy others a next (number + 1) lines)
-    (by_alike policy others a b alike next number line (keyword_of (words_in line).0) (words_in line).1)
-    ∙ ap (λ (told : List Remark). wanted.line_remarks policy others b next number line ++ told) (lines_alike policy others a b alike next (number + 1) lines)
+    ap (λ (told : List Remark). told ++ wanted.lines_remarks version policy others a next (number + 1) lines)
+    (by_alike version policy others a b alike next number line (keyword_of (words_in line).0) (words_in line).1)
+    ∙ ap (λ (told : List Remark). wanted.line_remarks version policy others b next number line ++ told) (lines_alike version policy others a b alike next (number + 1) lines)
 
 -- ---- one rule more
 

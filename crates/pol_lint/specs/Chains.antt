@@ -9,8 +9,9 @@ use Rattle.pol_names.specs.Name.{name_of}
 use Rattle.pol_names.specs.SubjectId.{same_id, group_id}
 use Rattle.pol_names.specs.declared.subject_id.SubjectId.{SubjectId}
 use Rattle.pol_text.specs.declared.fault.PolicyRefusal.{PolicyRefusal}
+use Rattle.pol_text.specs.Text.{body_of}
 use Rattle.pol_lint.specs.Words.{column_of, noted, words_of, words_in, keyword_of}
-use Rattle.pol_lint.specs.Faults.{lines_faults}
+use Rattle.pol_lint.specs.Faults.{body_faults}
 use Rattle.pol_lint.specs.declared.words.Keyword.{Keyword}
 use Rattle.pol_lint.specs.declared.words.Keyword.TheVariants.{Opens}
 use Rattle.pol_lint.specs.declared.chains.Heading.{Heading}
@@ -112,7 +113,7 @@ size_faults text subject =
 
 abbrev pub found_faults : List ℕ → List Remark
 found_faults text =
-    or_else (lines_faults None 1 (lines_of text)) (chain_faults (headings 1 (lines_of text)))
+    or_else (body_faults (body_of (lines_of text))) (chain_faults (headings 1 (lines_of text)))
 
 -- the refusal of a check comes first, at its line, unless something is told of that line
 abbrev pub with_refusal : ℕ → PolicyRefusal → List Remark → List Remark

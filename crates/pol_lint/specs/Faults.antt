@@ -1,5 +1,5 @@
 -- What keeps the lines of a text from being a policy's (docs/REVIEW.md). Each line is judged by
--- itself: as the only one, or as the second, after one that begins a subject.
+-- itself, in a text of the same version: as the only one, or after one that begins a subject.
 use Rattle.std.specs.Prelude.{ℕ, ◌+◌, List, [], ◌∷◌, ◌++◌, ◌==◌, drop, map, codes, Bool, true, false}
 use Rattle.std.specs.Prelude.{not, ◌&&◌, Option, Some, None, Result, Ok, Err, if◌then◌else◌}
 use Rattle.std.specs.Char.{to_ascii_lowercase}
@@ -8,6 +8,8 @@ use Rattle.basics.specs.Symbol.{is_symbol, is_text}
 use Rattle.basics.specs.Lines.{without_leading_spaces}
 use Rattle.pol_names.specs.declared.subject_id.Kind.{Kind}
 use Rattle.pol_names.specs.declared.subject_id.Kind.TheVariants.{Group, User}
+use Rattle.pol_pattern.specs.declared.version.Version.{Version}
+use Rattle.pol_pattern.specs.declared.version.Version.TheVariants.{One, Two}
 use Rattle.pol_pattern.specs.declared.fault.PatternFault.{PatternFault}
 use Rattle.pol_pattern.specs.declared.fault.PatternFault.TheVariants as patterns
 use Rattle.pol_text.specs.declared.subject.Subject.{Subject}
@@ -16,7 +18,7 @@ use Rattle.pol_text.specs.declared.fault.PolicyFault.TheVariants as policies
 use Rattle.pol_text.specs.declared.fault.PolicyRefusal.{PolicyRefusal}
 use Rattle.pol_text.specs.declared.fault.PolicyRefusal.TheVariants.{BadName, BadPattern, BadValue}
 use Rattle.pol_text.specs.declared.fault.PolicyRefusal.TheVariants.{NoSuchParent, Cycle}
-use Rattle.pol_text.specs.Text.{policy_of}
+use Rattle.pol_text.specs.Text.{policy_of, version_line, Body}
 use Rattle.pol_lint.specs.Words.{column_of, noted, begins, words_in, keyword_of}
 use Rattle.pol_lint.specs.declared.words.Keyword.{Keyword}
 use Rattle.pol_lint.specs.declared.words.Keyword.TheVariants.{Opens, Nothing}
@@ -79,6 +81,11 @@ abbrev pub opening_for : Option Kind → Keyword → List ℕ
 opening_for present (Opens kind) = []
 opening_for present _ = opening_of present
 
+-- the line before these: one that says version 2, or an empty one
+abbrev pub first_line : Version → List ℕ
+first_line One = 10 ∷ []
+first_line Two = version_line ++ 10 ∷ []
+
 -- ---- a line by itself
 
 -- a refusal for what a line says; which parents there are is no matter of one line
@@ -92,9 +99,10 @@ refusal_in (Ok policy) = None
 refusal_in (Err policies.Memory) = None
 refusal_in (Err (policies.Refused line refusal)) = own_refusal refusal
 
-abbrev pub refusal_of : Option Kind → List ℕ → Option PolicyRefusal
-refusal_of present line =
-    refusal_in (policy_of (opening_for present (keyword_of (words_in line).0) ++ line))
+abbrev pub refusal_of : Version → Option Kind → List ℕ → Option PolicyRefusal
+refusal_of version present line =
+    refusal_in (policy_of (first_line version
+    ++ opening_for present (keyword_of (words_in line).0) ++ line))
 
 -- how many symbols of a pattern stand before what is wrong with it
 abbrev pub place_in : PatternFault → ℕ
@@ -104,6 +112,7 @@ place_in (patterns.Unopened place) = place
 place_in (patterns.NothingToRepeat place) = place
 place_in (patterns.BadClass place) = place
 place_in (patterns.BadEscape place) = place
+place_in (patterns.BadRepeat place) = place
 place_in _ = 0
 
 -- where it is: in the pattern, at what comes after the first word, or at that word
@@ -119,21 +128,25 @@ refusal_remarks number line (Some refusal) =
     noted number (refusal_column line refusal) (Some (Refused refusal))
 
 -- of a line of symbols
-abbrev pub text_faults : Option Kind → ℕ → List ℕ → List Remark
-text_faults present number line =
+abbrev pub text_faults : Version → Option Kind → ℕ → List ℕ → List Remark
+text_faults version present number line =
     if has_capitals line
     then noted number (column_of line (without_leading_spaces line)) (Some Capitals)
-    else refusal_remarks number line (refusal_of present line)
+    else refusal_remarks number line (refusal_of version present line)
 
 -- of a line of a text, said of a subject of this kind, if of any
-abbrev pub line_faults : Option Kind → ℕ → List ℕ → List Remark
-line_faults present number line =
-    if is_text line then text_faults present number line
+abbrev pub line_faults : Version → Option Kind → ℕ → List ℕ → List Remark
+line_faults version present number line =
+    if is_text line then text_faults version present number line
     else noted number (column_of line (from_odd line)) (odd_finding number line (from_odd line))
 
 -- of these lines, of which the first has this number
-abbrev pub lines_faults : Option Kind → ℕ → List (List ℕ) → List Remark
-lines_faults present number [] = []
-lines_faults present number (line ∷ lines) =
-    line_faults present number line
-    ++ lines_faults (kind_after present line) (number + 1) lines
+abbrev pub lines_faults : Version → Option Kind → ℕ → List (List ℕ) → List Remark
+lines_faults version present number [] = []
+lines_faults version present number (line ∷ lines) =
+    line_faults version present number line
+    ++ lines_faults version (kind_after present line) (number + 1) lines
+
+-- of a text, but for the line that says its version
+abbrev pub body_faults : Body → List Remark
+body_faults body = lines_faults body.version None body.number body.lines

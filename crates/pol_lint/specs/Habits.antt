@@ -2,6 +2,8 @@
 -- spaces that nobody sees.
 use Rattle.std.specs.Prelude.{ℕ, List, [], ◌∷◌, ◌++◌, ◌==◌, length, codes, nat_le, Bool}
 use Rattle.std.specs.Prelude.{false, not, ◌&&◌, ◌||◌, Option, Some, None, if◌then◌else◌}
+use Rattle.pol_pattern.specs.declared.version.Version.{Version}
+use Rattle.pol_pattern.specs.declared.version.Version.TheVariants.{One, Two}
 use Rattle.pol_lint.specs.Words.{column_of, noted, begins, ends}
 use Rattle.pol_lint.specs.declared.finding.Finding.{Finding}
 use Rattle.pol_lint.specs.declared.finding.Finding.TheVariants.{Caret, Dollar, Digit, WordByte}
@@ -24,23 +26,27 @@ is_count [] = false
 is_count (brace ∷ []) = false
 is_count (brace ∷ digit ∷ rest) = (brace == 123 && is_digit digit) && ends_count rest
 
+-- in version 2 it is a repetition
+abbrev pub count_habit : Version → List ℕ → Option Finding
+count_habit One rest = if is_count rest then Some Count else None
+count_habit Two rest = None
+
 -- `\d`, `\w`, `\s`, `[[:alpha:]]` and `{1,3}`, where a pattern has one from here on
-abbrev pub habit_of : List ℕ → Option Finding
-habit_of rest =
+abbrev pub habit_of : Version → List ℕ → Option Finding
+habit_of version rest =
     if begins rest (codes "\\d") then Some Digit
     else if begins rest (codes "\\w") then Some WordByte
     else if begins rest (codes "\\s") then Some Space
     else if begins rest (codes "[[:") then Some NamedClass
-    else if is_count rest then Some Count
-    else None
+    else count_habit version rest
 
 -- such habits in this end of a line; a symbol behind a `\` is no beginning of one
-abbrev pub habits_within : ℕ → List ℕ → Bool → List ℕ → List Remark
-habits_within number line escaped [] = []
-habits_within number line escaped (byte ∷ rest) =
+abbrev pub habits_within : Version → ℕ → List ℕ → Bool → List ℕ → List Remark
+habits_within version number line escaped [] = []
+habits_within version number line escaped (byte ∷ rest) =
     noted number (column_of line (byte ∷ rest))
-    (if escaped then None else habit_of (byte ∷ rest))
-    ++ habits_within number line (not escaped && byte == 92) rest
+    (if escaped then None else habit_of version (byte ∷ rest))
+    ++ habits_within version number line (not escaped && byte == 92) rest
 
 -- a secret or a pattern that begins with a space, or ends with one
 abbrev pub blank_before : List ℕ → Option Finding
@@ -60,10 +66,10 @@ last_habit pattern =
     else blank_after pattern
 
 -- all habits of the pattern, or the secret, at the end of a line
-abbrev pub pattern_habits : ℕ → List ℕ → List ℕ → List Remark
-pattern_habits number line pattern =
+abbrev pub pattern_habits : Version → ℕ → List ℕ → List ℕ → List Remark
+pattern_habits version number line pattern =
     noted number (column_of line pattern) (first_habit pattern)
-    ++ habits_within number line false pattern
+    ++ habits_within version number line false pattern
     ++ noted number (length line) (last_habit pattern)
 
 abbrev pub secret_habits : ℕ → List ℕ → List ℕ → List Remark

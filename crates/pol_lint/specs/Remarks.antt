@@ -11,8 +11,10 @@ use Rattle.pol_names.specs.SubjectId.{same_id}
 use Rattle.pol_names.specs.declared.subject_id.Kind.{Kind}
 use Rattle.pol_names.specs.declared.subject_id.Kind.TheVariants.{Group, User}
 use Rattle.pol_names.specs.declared.subject_id.SubjectId.{SubjectId}
+use Rattle.pol_pattern.specs.declared.version.Version.{Version}
 use Rattle.pol_text.specs.declared.subject.Subject.{Subject}
 use Rattle.pol_text.specs.Policy.{find_subject}
+use Rattle.pol_text.specs.Text.{body_of}
 use Rattle.pol_text.specs.Change.{is_parent}
 use Rattle.pol_meaning.specs.declared.Shadowed.{Shadowed}
 use Rattle.pol_lint.specs.Words.{column_of, noted, ends, words_of, words_in, keyword_of}
@@ -121,27 +123,29 @@ end_finding others pattern = if others && lacks_end pattern then Some NoEnd else
 
 -- of a rule: its pattern's habits, whether it lacks ` <cr>` where others have it, and whether it
 -- decides nothing
-abbrev pub rule_remarks : Bool → List Present → Option Present → ℕ → List ℕ → List ℕ → List Remark
-rule_remarks others hidden present number line pattern =
-    pattern_habits number line pattern
+abbrev pub rule_remarks : Version → Bool → List Present → Option Present → ℕ → List ℕ → List ℕ
+    → List Remark
+rule_remarks version others hidden present number line pattern =
+    pattern_habits version number line pattern
     ++ noted number (length line + 1) (end_finding others pattern)
     ++ noted number (column_of line pattern) (shadow_finding hidden present)
 
 -- of a line whose first word says this, and what comes after it
-abbrev pub remarks_by : List Subject → Bool → List Present → Option Present → ℕ → List ℕ
-    → Keyword → List ℕ → List Remark
-remarks_by policy others hidden present number line (Opens kind) rest =
+abbrev pub remarks_by : Version → List Subject → Bool → List Present → Option Present → ℕ
+    → List ℕ → Keyword → List ℕ → List Remark
+remarks_by version policy others hidden present number line (Opens kind) rest =
     noted number (column_of line rest) (subject_finding policy present)
-remarks_by policy others hidden present number line Secret rest = secret_habits number line rest
-remarks_by policy others hidden present number line Rule rest =
-    rule_remarks others hidden present number line rest
-remarks_by policy others hidden present number line _ rest = []
+remarks_by version policy others hidden present number line Secret rest =
+    secret_habits number line rest
+remarks_by version policy others hidden present number line Rule rest =
+    rule_remarks version others hidden present number line rest
+remarks_by version policy others hidden present number line _ rest = []
 
 -- of a line, after which this subject is the present one
-abbrev pub line_remarks : List Subject → Bool → List Present → Option Present → ℕ → List ℕ
-    → List Remark
-line_remarks policy others hidden present number line =
-    remarks_by policy others hidden present number line
+abbrev pub line_remarks : Version → List Subject → Bool → List Present → Option Present → ℕ
+    → List ℕ → List Remark
+line_remarks version policy others hidden present number line =
+    remarks_by version policy others hidden present number line
     (keyword_of (words_in line).0) (words_in line).1
 
 -- the present subject after a line
@@ -149,18 +153,19 @@ abbrev pub after_line : Option Present → List ℕ → Option Present
 after_line present line = after present (keyword_of (words_in line).0) (words_in line).1
 
 -- of these lines, of which the first has this number
-abbrev pub lines_remarks : List Subject → Bool → List Present → Option Present → ℕ
+abbrev pub lines_remarks : Version → List Subject → Bool → List Present → Option Present → ℕ
     → List (List ℕ) → List Remark
-lines_remarks policy others hidden present number [] = []
-lines_remarks policy others hidden present number (line ∷ lines) =
-    line_remarks policy others hidden (after_line present line) number line
-    ++ lines_remarks policy others hidden (after_line present line) (number + 1) lines
+lines_remarks version policy others hidden present number [] = []
+lines_remarks version policy others hidden present number (line ∷ lines) =
+    line_remarks version policy others hidden (after_line present line) number line
+    ++ lines_remarks version policy others hidden (after_line present line) (number + 1) lines
 
 -- first of the whole policy, and then of the lines of its text
 abbrev pub remarks_with : List ℕ → List Subject → List Present → List Remark
 remarks_with text policy hidden =
     noted 1 1 (policy_finding policy)
-    ++ lines_remarks policy (any_pattern names_end policy) hidden None 1 (lines_of text)
+    ++ lines_remarks (body_of (lines_of text)).version policy (any_pattern names_end policy) hidden
+    None 1 (lines_of text)
 
 -- what is told of a policy, of whose rules these decide nothing
 abbrev pub policy_remarks : List ℕ → List Subject → List Shadowed → List Remark

@@ -1,17 +1,18 @@
 //! What keeps the lines of a text from being a policy's.
 
-ghost use Rattle.std.specs.Prelude.{◌≡◌, ◌++◌, [], drop, None, IfOk, OnOk};
+ghost use Rattle.std.specs.Prelude.{◌≡◌, ◌++◌, [], drop, IfOk, OnOk};
 ghost use Rattle.std.specs.Str.{is_utf8 as utf8_test};
 ghost use Rattle.basics.specs.Lines.{lines_of};
+ghost use Rattle.pol_text.specs.Text.{body_of as body_wanted};
 ghost use Rattle.pol_lint.specs.Faults as faults;
 
 use crate::finding::Finding;
 use crate::remark::{Remark, column_of, note};
 use crate::words::{Keyword, keyword_of, words_in};
-use basics::{Lines, Sequence, is_symbol, is_text, without_leading_spaces};
+use basics::{Sequence, is_symbol, is_text, without_leading_spaces};
 use pol_names::Kind;
-use pol_pattern::PatternFault;
-use pol_text::{Policy, PolicyFault, PolicyRefusal};
+use pol_pattern::{PatternFault, Version};
+use pol_text::{Policy, PolicyFault, PolicyRefusal, body_of};
 use std::alloc::{AllocError, Global};
 use std::str;
 
@@ -109,6 +110,16 @@ fn opening(present: Option<Kind>, says: Keyword) -> &'static str
     }
 }
 
+// The line before these: one that says version 2, or an empty one.
+fn first_line(version: Version) -> &'static str
+    ensures { result.now ≡ faults.first_line version }
+{
+    match version {
+        Version::One => "\n",
+        Version::Two => "policy 2\n",
+    }
+}
+
 fn own_refusal(refusal: PolicyRefusal) -> Option<PolicyRefusal>
     ensures { result ≡ faults.own_refusal refusal }
 {
@@ -121,13 +132,15 @@ fn own_refusal(refusal: PolicyRefusal) -> Option<PolicyRefusal>
 // What a line by itself is refused for.
 fn refusal_of(
     alloc: Global,
+    version: Version,
     present: Option<Kind>,
     line: &[u8],
 ) -> Result<Option<PolicyRefusal>, AllocError>
-    ensures { IfOk result (λ refusal. refusal ≡ faults.refusal_of present line.now) }
+    ensures { IfOk result (λ refusal. refusal ≡ faults.refusal_of version present line.now) }
 {
     let (word, _) = words_in(line);
     let mut text = Vec::new(alloc);
+    text.extend_from_slice(first_line(version).as_bytes())?;
     text.extend_from_slice(opening(present, keyword_of(word)).as_bytes())?;
     text.extend_from_slice(line)?;
     match Policy::read(alloc, text.as_slice()) {
@@ -147,7 +160,8 @@ fn place_in(fault: PatternFault) -> usize
         | PatternFault::Unopened(place)
         | PatternFault::NothingToRepeat(place)
         | PatternFault::BadClass(place)
-        | PatternFault::BadEscape(place) => place,
+        | PatternFault::BadEscape(place)
+        | PatternFault::BadRepeat(place) => place,
         PatternFault::TooLong
         | PatternFault::TooDeep
         | PatternFault::TooLarge
@@ -181,14 +195,15 @@ fn refusal_column(line: &[u8], refusal: PolicyRefusal) -> usize
 fn note_refusal(
     alloc: Global,
     remarks: &mut Sequence<Remark>,
+    version: Version,
     present: Option<Kind>,
     number: usize,
     line: &[u8],
 ) -> Result<(), AllocError>
     ensures { OnOk result (remarks.new ≡ remarks.old
-        ++ faults.refusal_remarks number line.now (faults.refusal_of present line.now)) }
+        ++ faults.refusal_remarks number line.now (faults.refusal_of version present line.now)) }
 {
-    match refusal_of(alloc, present, line)? {
+    match refusal_of(alloc, version, present, line)? {
         Some(refusal) => {
             let column = refusal_column(line, refusal);
             note(remarks, number, column, Some(Finding::Refused(refusal)))
@@ -201,12 +216,13 @@ fn note_refusal(
 fn note_line(
     alloc: Global,
     remarks: &mut Sequence<Remark>,
+    version: Version,
     present: Option<Kind>,
     number: usize,
     line: &[u8],
 ) -> Result<(), AllocError>
     ensures { OnOk result
-        (remarks.new ≡ remarks.old ++ faults.line_faults present number line.now) }
+        (remarks.new ≡ remarks.old ++ faults.line_faults version present number line.now) }
 {
     if !is_text(line) {
         let odd = from_odd(line);
@@ -221,18 +237,19 @@ fn note_line(
         let column = column_of(line, without_leading_spaces(line));
         return note(remarks, number, column, Some(Finding::Capitals));
     }
-    note_refusal(alloc, remarks, present, number, line)
+    note_refusal(alloc, remarks, version, present, number, line)
 }
 
 /// What is wrong with the lines of a text, each by itself.
 pub(crate) fn lines_faults(alloc: Global, text: &[u8]) -> Result<Sequence<Remark>, AllocError>
-    ensures { IfOk result (λ remarks. remarks ≡ faults.lines_faults None 1 (lines_of text.now)) }
+    ensures { IfOk result (λ remarks.
+        remarks ≡ faults.body_faults (body_wanted (lines_of text.now))) }
 {
+    let (version, mut lines) = body_of(text);
     let mut remarks = Sequence::new(alloc);
     let mut present = None;
-    let mut lines = Lines::new(text);
     'lines: while let Some((number, line)) = lines.take_line() {
-        note_line(alloc, &mut remarks, present, number, line)?;
+        note_line(alloc, &mut remarks, version, present, number, line)?;
         present = kind_after(alloc, present, line)?;
     }
     Ok(remarks)

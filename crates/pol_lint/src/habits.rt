@@ -6,6 +6,7 @@ ghost use Rattle.pol_lint.specs.Habits as habits;
 use crate::finding::Finding;
 use crate::remark::{Remark, column_of, note};
 use basics::Sequence;
+use pol_pattern::Version;
 use std::alloc::AllocError;
 
 // Digits and commas up to a `}`.
@@ -34,9 +35,19 @@ fn is_count(text: &[u8]) -> bool
     }
 }
 
+// In version 2 it is a repetition.
+fn count_habit(version: Version, rest: &[u8]) -> Option<Finding>
+    ensures { result ≡ habits.count_habit version rest.now }
+{
+    match version {
+        Version::One if is_count(rest) => Some(Finding::Count),
+        Version::One | Version::Two => None,
+    }
+}
+
 // What a pattern has from here on that stands for something else in other languages.
-fn habit(rest: &[u8]) -> Option<Finding>
-    ensures { result ≡ habits.habit_of rest.now }
+fn habit(version: Version, rest: &[u8]) -> Option<Finding>
+    ensures { result ≡ habits.habit_of version rest.now }
 {
     if rest.starts_with(b"\\d") {
         return Some(Finding::Digit);
@@ -50,26 +61,24 @@ fn habit(rest: &[u8]) -> Option<Finding>
     if rest.starts_with(b"[[:") {
         return Some(Finding::NamedClass);
     }
-    if is_count(rest) {
-        return Some(Finding::Count);
-    }
-    None
+    count_habit(version, rest)
 }
 
 // Adds the habits within the pattern at the end of a line.
 fn note_within(
     remarks: &mut Sequence<Remark>,
+    version: Version,
     number: usize,
     line: &[u8],
     pattern: &[u8],
 ) -> Result<(), AllocError>
     ensures { OnOk result (remarks.new
-        ≡ remarks.old ++ habits.habits_within number line.now false pattern.now) }
+        ≡ remarks.old ++ habits.habits_within version number line.now false pattern.now) }
 {
     let mut escaped = false;
     let mut rest = pattern;
     'symbols: while let [byte, after @ ..] = rest {
-        let finding = if escaped { None } else { habit(rest) };
+        let finding = if escaped { None } else { habit(version, rest) };
         note(remarks, number, column_of(line, rest), finding)?;
         escaped = !escaped && *byte == b'\\';
         rest = after;
@@ -119,12 +128,13 @@ pub(crate) fn last_habit(pattern: &[u8]) -> Option<Finding>
 /// Adds the habits of the pattern at the end of a line.
 pub(crate) fn note_pattern(
     remarks: &mut Sequence<Remark>,
+    version: Version,
     number: usize,
     line: &[u8],
     pattern: &[u8],
 ) -> Result<(), AllocError>
     ensures { OnOk result (remarks.new
-        ≡ remarks.old ++ habits.pattern_habits number line.now pattern.now) }
+        ≡ remarks.old ++ habits.pattern_habits version number line.now pattern.now) }
 {
     note(
         remarks,
@@ -132,7 +142,7 @@ pub(crate) fn note_pattern(
         column_of(line, pattern),
         first_habit(pattern),
     )?;
-    note_within(remarks, number, line, pattern)?;
+    note_within(remarks, version, number, line, pattern)?;
     note(remarks, number, line.len(), last_habit(pattern))
 }
 

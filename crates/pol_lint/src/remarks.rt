@@ -16,7 +16,8 @@ use basics::{Lines, Sequence};
 use indexmap::IndexSet;
 use pol_meaning::Shadowed;
 use pol_names::{Kind, Name, SubjectId};
-use pol_text::{Policy, Subject};
+use pol_pattern::Version;
+use pol_text::{Policy, Subject, body_of};
 use std::alloc::{AllocError, Global};
 
 /// The subject whose lines are read, and how many of its rules were: a rule, by its owner and its
@@ -30,6 +31,7 @@ pub(crate) struct Present {
 /// What is known of a policy while its lines are read.
 #[derive(Clone, Copy)]
 struct Known<'a> {
+    version: Version,
     policy: &'a Policy,
     // whether a rule ends in ` <cr>`
     others: bool,
@@ -208,10 +210,11 @@ fn note_rule(
     line: &[u8],
     pattern: &[u8],
 ) -> Result<(), AllocError>
-    ensures { OnOk result (remarks.new ≡ remarks.old ++ wanted.rule_remarks known.now.others
-        known.now.hidden.now.keys present number line.now pattern.now) }
+    ensures { OnOk result (remarks.new ≡ remarks.old ++ wanted.rule_remarks
+        known.now.version known.now.others known.now.hidden.now.keys
+        present number line.now pattern.now) }
 {
-    note_pattern(remarks, number, line, pattern)?;
+    note_pattern(remarks, known.version, number, line, pattern)?;
     note(
         remarks,
         number,
@@ -243,7 +246,8 @@ fn note_line(
     line: &[u8],
 ) -> Result<(), AllocError>
     ensures { OnOk result (remarks.new ≡ remarks.old ++ wanted.line_remarks
-        known.now.policy.now known.now.others known.now.hidden.now.keys present.now number line.now) }
+        known.now.version known.now.policy.now known.now.others known.now.hidden.now.keys
+        present.now number line.now) }
 {
     let (word, rest) = words_in(line);
     match keyword_of(word) {
@@ -267,8 +271,10 @@ fn told_of<'a>(
     ensures { IfOk result (λ remarks.
         remarks ≡ wanted.remarks_with text.now policy.now hidden.now.keys) }
 {
+    let (version, _) = body_of(text);
     let others = has_ends(policy);
     let known = Known {
+        version,
         policy,
         others,
         hidden,

@@ -2,6 +2,7 @@
 use Rattle.std.proofs.Common.{◌≡◌, ◌↔◌, ℕ, true, false, List, Result, Ok, Err, sym, ap, subst, refl, ◌∙◌}
 use Rattle.std.proofs.lemmas.Bool.{false≢true}
 use Rattle.pol_pattern.specs.declared.fault.PatternFault.{PatternFault}
+use Rattle.pol_pattern.specs.declared.version.Version.TheVariants.{Two}
 use Rattle.pol_pattern.specs.Flat.{Terms}
 use Rattle.pol_pattern.specs.Sets.{InTerms}
 use Rattle.pol_pattern.specs.Spelling.{Spells, Holds}
@@ -27,7 +28,7 @@ reading_fault bytes fault e = ap (λ (r : Result Terms PatternFault). r >>= λ f
 
 -- what is spelled is a pattern
 pub spells_pattern : (bytes : List ℕ) (flat : Terms) → Spells bytes flat → pattern_of bytes ≡ Ok bytes
-spells_pattern bytes flat spelled = reading_pattern bytes flat (spells_reads bytes flat spelled)
+spells_pattern bytes flat spelled = reading_pattern bytes flat (spells_reads Two bytes flat spelled)
 
 -- a pattern is what its source spells
 pub pattern_spells : (bytes source : List ℕ) → pattern_of bytes ≡ Ok source → (source ≡ bytes) × ((flat : Terms) × Spells source flat)
@@ -35,14 +36,14 @@ unfolding pattern_of
 pattern_spells bytes source e =
     let a = bind_ok (reading bytes) (λ flat. done bytes) source e in
     let same : bytes ≡ source = ok_is bytes source a.2 in
-    (sym same, subst (λ (s : List ℕ). (flat : Terms) × Spells s flat) same (a.0, reading_spells bytes a.0 a.1))
+    (sym same, subst (λ (s : List ℕ). (flat : Terms) × Spells s flat) same (a.0, reading_spells Two bytes a.0 a.1))
 
 -- ---- faults
 
 -- what is spelled is refused for no fault but memory
 pub refused_for_memory : (fault : PatternFault) (bytes : List ℕ) (flat : Terms) → Spells bytes flat → Except (is_memory fault) (reading bytes ≡ Err fault) → Except (is_memory fault) (done bytes ≡ Err fault)
 refused_for_memory fault bytes flat spelled =
-    except_map (is_memory fault) (λ e. absurd (refused fault flat (sym e ∙ spells_reads bytes flat spelled)))
+    except_map (is_memory fault) (λ e. absurd (refused fault flat (sym e ∙ spells_reads Two bytes flat spelled)))
 
 -- ---- the test of a text, once it is known for flat forms
 

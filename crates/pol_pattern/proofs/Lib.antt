@@ -8,6 +8,7 @@ pub mod Levels
 pub mod Items
 pub mod Front
 pub mod TreeLevels
+pub mod Suffixes
 pub mod ReadOn
 pub mod Steps
 pub mod ClassFacts
@@ -20,13 +21,18 @@ pub mod Soundness
 pub mod Depth
 pub mod Held
 pub mod Languages
+pub mod Upgraded
 pub mod ClassHolds
 pub mod Symbols
 pub mod Rows
 pub mod Laws
+pub mod OldPatterns
 pub mod Split
 pub mod Left
 pub mod Marks
 pub mod Descent
 pub mod Parts
 pub mod HeldTexts
+pub mod Copies
+pub mod Written
+pub mod Powers

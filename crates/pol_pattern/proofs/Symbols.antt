@@ -2,6 +2,7 @@
 use Rattle.std.proofs.Common.{◌≡◌, ℕ, Bool, true, false, not, eqb, List, [], ◌∷◌, ◌↔◌, Ok, refl, sym, ap, ◌∙◌, inl, inr, arith}
 use Rattle.std.proofs.lemmas.Bool.{and_parts, and_from, eqb-true, eq-eqb}
 use Rattle.basics.specs.Symbol.{is_symbol}
+use Rattle.pol_pattern.specs.declared.version.Version.TheVariants.{Two}
 use Rattle.pol_pattern.specs.Flat.{class_where, class, empty, put, Terms, none, alt}
 use Rattle.pol_pattern.specs.Sets.{InClass, InTerms}
 use Rattle.pol_pattern.specs.Spelling.{single, nothing, once, literal, dot, bracket, escaped, atom_bytes, is_special, is_right_atom, only, any_symbol, Holds}
@@ -13,7 +14,7 @@ use Rattle.pol_pattern.proofs.Held.{holds_in, in_holds, alone, alone_read, one_i
 
 pub empty_law : EmptyLaw
 empty_law text =
-    let read : reading [] ≡ Ok (alt empty none) = spells_reads [] (alt empty none) (single nothing, refl, refl, refl, omega arith, omega arith, omega arith) in
+    let read : reading [] ≡ Ok (alt empty none) = spells_reads Two [] (alt empty none) (single nothing, refl, refl, refl, omega arith, omega arith, omega arith) in
     ((λ held. no_text text (holds_in [] text (alt empty none) read held)), (λ is_empty. in_holds [] text (alt empty none) read (inl is_empty)))
   where
     no_text : (text : List ℕ) → InTerms (alt empty none) text → Empty text
@@ -49,20 +50,20 @@ only_law_at source symbol text right read =
 pub literal_law : LiteralLaw
 literal_law symbol text right ordinary =
     let flat : Terms = alt (put (class (only symbol)) empty) none in
-    let atom : is_right_atom (literal symbol) ≡ true = and_from (is_symbol symbol) (not (is_special symbol)) right (ap not ordinary) in
+    let atom : is_right_atom Two (literal symbol) ≡ true = and_from (is_symbol symbol) (not (is_special Two symbol)) right (ap not ordinary) in
     only_law_at (symbol ∷ []) symbol text right
-    (spells_reads (symbol ∷ []) flat (alone (once (literal symbol)), and_from (is_right_atom (literal symbol)) true atom refl, refl, refl, omega arith, omega arith, omega arith))
+    (spells_reads Two (symbol ∷ []) flat (alone (once (literal symbol)), and_from (is_right_atom Two (literal symbol)) true atom refl, refl, refl, omega arith, omega arith, omega arith))
 
 pub escaped_law : EscapedLaw
 escaped_law symbol text right =
     let flat : Terms = alt (put (class (only symbol)) empty) none in
     only_law_at (92 ∷ symbol ∷ []) symbol text right
-    (spells_reads (92 ∷ symbol ∷ []) flat (alone (once (escaped symbol)), and_from (is_symbol symbol) true right refl, refl, refl, omega arith, omega arith, omega arith))
+    (spells_reads Two (92 ∷ symbol ∷ []) flat (alone (once (escaped symbol)), and_from (is_symbol symbol) true right refl, refl, refl, omega arith, omega arith, omega arith))
 
 pub dot_law : DotLaw
 dot_law text =
     class_law_at (46 ∷ []) (λ symbol. true) text
-    (spells_reads (46 ∷ []) (alt (put (class any_symbol) empty) none) (alone (once dot), refl, refl, refl, omega arith, omega arith, omega arith))
+    (spells_reads Two (46 ∷ []) (alt (put (class any_symbol) empty) none) (alone (once dot), refl, refl, refl, omega arith, omega arith, omega arith))
 
 pub class_law : ClassLaw
 class_law true first others text right whole =

@@ -1,7 +1,7 @@
 -- What the reader's levels make of a tree: its flat form.
 use Rattle.std.proofs.Common.{◌≡◌, refl, sym, ap, ◌∙◌}
 use Rattle.pol_pattern.specs.Flat.{Term, empty, put, Terms, none, alt, join_terms, join_term}
-use Rattle.pol_pattern.specs.Spelling.{Alternatives, Sequence, Repetition, single, or, nothing, next, once, repeated, alternatives_terms, sequence_factors, repetition_factors, atom_factors}
+use Rattle.pol_pattern.specs.Spelling.{suffix_repeat, Alternatives, Sequence, Repetition, single, or, nothing, next, once, repeated, alternatives_terms, sequence_factors, repetition_factors, atom_factors}
 use Rattle.pol_pattern.specs.Reading.{Level, fresh, present, with_atom, with_repeat, finished, with_bar}
 
 -- ---- joins
@@ -22,7 +22,7 @@ join_terms_assoc (alt term a) b c = ap (alt term) (join_terms_assoc a b c)
 
 abbrev pub repetition_level : Level → Repetition → Level
 repetition_level level (once atom) = with_atom level (atom_factors atom)
-repetition_level level (repeated inner repeat) = with_repeat (repetition_level level inner) repeat
+repetition_level level (repeated inner suffix) = with_repeat (repetition_level level inner) (suffix_repeat suffix)
 
 abbrev pub sequence_level : Level → Sequence → Level
 sequence_level level nothing = level
@@ -34,7 +34,7 @@ alternatives_level level (or sequence others) = alternatives_level (with_bar (se
 
 pub repetition_level_is : (level : Level) (tree : Repetition) → repetition_level level tree ≡ record { done = level.done; before = present level; last = repetition_factors tree }
 repetition_level_is level (once atom) = refl
-repetition_level_is level (repeated inner repeat) = ap (λ (l : Level). with_repeat l repeat) (repetition_level_is level inner)
+repetition_level_is level (repeated inner suffix) = ap (λ (l : Level). with_repeat l (suffix_repeat suffix)) (repetition_level_is level inner)
 
 sequence_done : (level : Level) (tree : Sequence) → (sequence_level level tree).done ≡ level.done
 sequence_done level nothing = refl

@@ -6,7 +6,7 @@ use Rattle.pol_pattern.specs.declared.fault.PatternFault.TheVariants.{TooLong, U
 use Rattle.pol_pattern.specs.declared.fault.PatternFault.TheVariants.{Unclosed, Unopened}
 use Rattle.pol_pattern.specs.declared.fault.PatternFault.TheVariants.{NothingToRepeat, BadClass}
 use Rattle.pol_pattern.specs.declared.fault.PatternFault.TheVariants.{BadEscape, TooDeep, TooLarge}
-use Rattle.pol_pattern.specs.declared.fault.PatternFault.TheVariants.{Memory}
+use Rattle.pol_pattern.specs.declared.fault.PatternFault.TheVariants.{Memory, BadRepeat}
 
 -- the kind's number and name, and the place where it has one
 abbrev pub fault_text : PatternFault → List ℕ
@@ -20,3 +20,4 @@ fault_text (BadEscape place) = codes "7 BadEscape at " ++ decimal place
 fault_text TooDeep = codes "8 TooDeep"
 fault_text TooLarge = codes "9 TooLarge"
 fault_text Memory = codes "10 Memory"
+fault_text (BadRepeat place) = codes "11 BadRepeat at " ++ decimal place

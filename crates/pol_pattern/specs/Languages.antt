@@ -1,13 +1,15 @@
 -- Patterns that are put together of patterns, and the sets of texts that they hold, in the words of
 -- automata theory.
-use Rattle.std.specs.Prelude.{◌≡◌, ℕ, Bool, true, not, if◌then◌else◌, List, [], ◌∷◌, ◌++◌, ◌⊎◌, ◌↔◌}
-use Rattle.std.specs.Prelude.{IsOk, IsTrue, IsFalse}
+use Rattle.std.specs.Prelude.{◌≡◌, ◌≤◌, ℕ, zero, suc, Bool, true, not, if◌then◌else◌, List, []}
+use Rattle.std.specs.Prelude.{◌∷◌, ◌++◌, ◌⊎◌, ◌↔◌, Some, IsOk, IsTrue, IsFalse}
 use Rattle.std.specs.List.{list_any}
 use Rattle.basics.specs.Symbol.{is_symbol}
 use Rattle.pol_pattern.specs.Sets.{Joins}
 use Rattle.pol_pattern.specs.Spelling.{Item, bracket, atom_bytes, is_special, is_right_atom, names}
+use Rattle.pol_pattern.specs.Spelling.{exactly, between, suffix_bytes, exact_counts, range_counts}
 use Rattle.pol_pattern.specs.Spelling.{Holds}
 use Rattle.pol_pattern.specs.Reading.{reading}
+use Rattle.pol_pattern.specs.declared.version.Version.TheVariants.{Two}
 
 -- ---- sets of texts
 
@@ -23,6 +25,15 @@ Star P = Joins P
 -- the empty text alone
 abbrev pub Empty : List ℕ → Type 0
 Empty text = text ≡ []
+
+-- so many texts of the set, one after another
+unfoldable pub Power : (List ℕ → Type 0) → ℕ → List ℕ → Type 0
+Power P zero = Empty
+Power P (suc count) = Concatenation P (Power P count)
+
+-- the union of the powers from the lower to the higher
+abbrev pub Powers : (List ℕ → Type 0) → ℕ → ℕ → List ℕ → Type 0
+Powers P low high text = (count : ℕ) × (low ≤ count) × (count ≤ high) × Power P count text
 
 -- the texts of one symbol for which the test is true
 abbrev pub OneSymbol : (ℕ → Bool) → List ℕ → Type 0
@@ -68,6 +79,21 @@ QuestionLaw =
     (p text : List ℕ) → IsPattern p → IsPattern (grouped p ++ 63 ∷ [])
     → Holds (grouped p ++ 63 ∷ []) text ↔ Union (Holds p) Empty text
 
+-- (p){m}
+abbrev pub PowerLaw : Type 0
+PowerLaw =
+    (p digits text : List ℕ) (count : ℕ) → exact_counts digits ≡ Some (count, count)
+    → IsPattern p → IsPattern (grouped p ++ suffix_bytes (exactly digits))
+    → Holds (grouped p ++ suffix_bytes (exactly digits)) text ↔ Power (Holds p) count text
+
+-- (p){m,n}
+abbrev pub PowersLaw : Type 0
+PowersLaw =
+    (p lows highs text : List ℕ) (low high : ℕ) → range_counts lows highs ≡ Some (low, high)
+    → IsPattern p → IsPattern (grouped p ++ suffix_bytes (between lows highs))
+    → Holds (grouped p ++ suffix_bytes (between lows highs)) text
+    ↔ Powers (Holds p) low high text
+
 -- (p)
 abbrev pub GroupLaw : Type 0
 GroupLaw =
@@ -82,7 +108,7 @@ EmptyLaw = (text : List ℕ) → Holds [] text ↔ Empty text
 -- a symbol that represents itself
 abbrev pub LiteralLaw : Type 0
 LiteralLaw =
-    (symbol : ℕ) (text : List ℕ) → IsTrue (is_symbol symbol) → IsFalse (is_special symbol)
+    (symbol : ℕ) (text : List ℕ) → IsTrue (is_symbol symbol) → IsFalse (is_special Two symbol)
     → Holds (symbol ∷ []) text ↔ (text ≡ symbol ∷ [])
 
 -- a `\` and a symbol
@@ -104,7 +130,7 @@ is_in_bracket negated items symbol =
 abbrev pub ClassLaw : Type 0
 ClassLaw =
     (negated : Bool) (first : Item) (others : List Item) (text : List ℕ)
-    → IsTrue (is_right_atom (bracket negated first others))
+    → IsTrue (is_right_atom Two (bracket negated first others))
     → IsPattern (atom_bytes (bracket negated first others))
     → Holds (atom_bytes (bracket negated first others)) text
     ↔ OneSymbol (is_in_bracket negated (first ∷ others)) text
@@ -117,6 +143,8 @@ pub record LanguageLaws : Type 0 where
   pub star : StarLaw
   pub plus : PlusLaw
   pub question : QuestionLaw
+  pub power : PowerLaw
+  pub powers : PowersLaw
   pub group : GroupLaw
   pub empty : EmptyLaw
   pub literal : LiteralLaw

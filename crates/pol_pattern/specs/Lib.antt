@@ -5,6 +5,7 @@ pub mod Sets
 pub mod Spelling
 pub mod FaultText
 pub mod Memory
+pub mod Upgrading
 pub mod Reading
 pub mod Matching
 pub mod Sizes

@@ -7,13 +7,18 @@ use Rattle.std.specs.Prelude.{option_map, slice_get}
 use Rattle.std.specs.Option.{option_and_then, option_map_or}
 use Rattle.std.specs.List.{list_any}
 use Rattle.basics.specs.Symbol.{is_symbol}
+use Rattle.basics.specs.Lines.{split_at_first}
 use Rattle.pol_pattern.specs.Flat.{Class, class_where, class, group, Term, empty, put, Terms, none}
 use Rattle.pol_pattern.specs.Flat.{alt, join_terms, join_term, terms_size}
-use Rattle.pol_pattern.specs.Spelling.{only, any_symbol, repeat_factors}
+use Rattle.pol_pattern.specs.Spelling.{only, any_symbol, repeat_factors, has_counts, most_bytes}
+use Rattle.pol_pattern.specs.Spelling.{exact_counts, range_counts}
+use Rattle.pol_pattern.specs.Upgrading.{upgraded}
 use Rattle.pol_pattern.specs.declared.token.Repeat.{Repeat}
-use Rattle.pol_pattern.specs.declared.token.Repeat.TheVariants.{Star, Plus, Question}
+use Rattle.pol_pattern.specs.declared.token.Repeat.TheVariants.{Star, Plus, Question, Counted}
 use Rattle.pol_pattern.specs.declared.token.Token.{Token}
 use Rattle.pol_pattern.specs.declared.token.Token.TheVariants as tokens
+use Rattle.pol_pattern.specs.declared.version.Version.{Version}
+use Rattle.pol_pattern.specs.declared.version.Version.TheVariants.{One, Two}
 use Rattle.pol_pattern.specs.declared.fault.PatternFault.{PatternFault}
 use Rattle.pol_pattern.specs.declared.fault.PatternFault.TheVariants as faults
 
@@ -77,11 +82,35 @@ class_at bytes =
     then option_and_then (class_unless_empty true) (items_from 1 0 (drop 1 bytes))
     else option_and_then (class_unless_empty false) (items_from 0 0 bytes)
 
+-- ---- counts: how many times a unit may stand, at least and at most
+
+-- the counts that stand between braces: one number, or two with a `,` between them
+abbrev pub counts_in : List ℕ → Option (ℕ × ℕ)
+counts_in text =
+    option_map_or (λ numbers. range_counts numbers.0 numbers.1) (split_at_first 44 text)
+    (exact_counts text)
+
+-- the counts after a `{`, and how many bytes they take with the `}`
+unfoldable pub counts_at : List ℕ → Option ((ℕ × ℕ) × ℕ)
+counts_at bytes = option_and_then (λ parts.
+    option_map (λ counts. (counts, length parts.0 + 1)) (counts_in parts.0))
+    (split_at_first 125 bytes)
+
+-- the token that begins with a `{` at this place
+unfoldable pub counted_at : Bool → ℕ → List ℕ → Result (Token × ℕ) PatternFault
+counted_at has_atom place rest =
+    if has_atom
+    then option_map_or
+    (λ found. Ok (tokens.Repeat (Counted found.0.0 found.0.1), found.1 + 1)) (counts_at rest)
+    (Err (faults.BadRepeat place))
+    else Err (faults.NothingToRepeat place)
+
 -- ---- tokens
 
--- the token that begins with this byte at this place, and how many bytes it takes
-unfoldable pub token_at : ℕ → ℕ → List ℕ → Result (Token × ℕ) PatternFault
-token_at place byte rest =
+-- the token that begins with this byte at this place, and how many bytes it takes, where an atom
+-- stands before it or none does
+unfoldable pub token_at : Version → Bool → ℕ → ℕ → List ℕ → Result (Token × ℕ) PatternFault
+token_at version has_atom place byte rest =
     if byte == 40 then Ok (tokens.Open, 1)
     else if byte == 41 then Ok (tokens.Close, 1)
     else if byte == 124 then Ok (tokens.Bar, 1)
@@ -95,6 +124,8 @@ token_at place byte rest =
     else if byte == 92
     then option_map_or (λ symbol. Ok (tokens.Atom (only symbol), 2)) (slice_get rest 0)
     (Err (faults.BadEscape place))
+    else if has_counts version && byte == 123 then counted_at has_atom place rest
+    else if has_counts version && byte == 125 then Err (faults.BadRepeat place)
     else Ok (tokens.Atom (only byte), 1)
 
 -- what has to be known of the tokens before a place: where the parentheses that are open stand, the
@@ -127,12 +158,15 @@ at_end [] = Ok []
 at_end (last ∷ others) = Err (faults.Unclosed last)
 
 -- the tokens of the bytes, of which the first has this place, after these many are passed over
-unfoldable pub tokens_from : ℕ → ℕ → Context → List ℕ → Result (List Token) PatternFault
-tokens_from place skip context [] = at_end context.opened
-tokens_from place (suc skip) context (byte ∷ rest) = tokens_from (place + 1) skip context rest
-tokens_from place zero context (byte ∷ rest) =
-    token_at place byte rest >>= λ found. context_after place found.0 context >>= λ next.
-    tokens_from (place + 1) (found.1 - 1) next rest >>= λ others. Ok (found.0 ∷ others)
+unfoldable pub tokens_from : Version → ℕ → ℕ → Context → List ℕ
+    → Result (List Token) PatternFault
+tokens_from version place skip context [] = at_end context.opened
+tokens_from version place (suc skip) context (byte ∷ rest) =
+    tokens_from version (place + 1) skip context rest
+tokens_from version place zero context (byte ∷ rest) =
+    token_at version context.has_atom place byte rest
+    >>= λ found. context_after place found.0 context >>= λ next.
+    tokens_from version (place + 1) (found.1 - 1) next rest >>= λ others. Ok (found.0 ∷ others)
 
 -- ---- the flat form
 
@@ -181,13 +215,21 @@ sized flat = if nat_lt 400 (terms_size flat) then Err faults.TooLarge else Ok fl
 abbrev pub is_unprintable : ℕ → Bool
 is_unprintable byte = not (is_symbol byte)
 
--- the flat form of a pattern, or the first fault
-unfoldable pub reading : List ℕ → Result Terms PatternFault
-reading bytes =
-    if nat_lt 200 (length bytes) then Err faults.TooLong
+-- the flat form of a pattern of a version, or the first fault
+unfoldable pub reading_by : Version → List ℕ → Result Terms PatternFault
+reading_by version bytes =
+    if nat_lt (most_bytes version) (length bytes) then Err faults.TooLong
     else option_map_or (λ place. Err (faults.Unprintable place)) (position is_unprintable bytes)
-    (tokens_from 0 0 outermost bytes >>= λ tokens. sized (build fresh [] tokens))
+    (tokens_from version 0 0 outermost bytes >>= λ tokens. sized (build fresh [] tokens))
+
+-- patterns are those of version 2, where no other version is named
+abbrev pub reading : List ℕ → Result Terms PatternFault
+reading = reading_by Two
 
 -- a pattern is seen by its source: the bytes where they have a reading, or its fault
 unfoldable pub pattern_of : List ℕ → Result (List ℕ) PatternFault
 pattern_of bytes = reading bytes >>= λ flat. Ok bytes
+
+-- a pattern of version 1 is seen by its new source, which version 2 reads
+unfoldable pub pattern_of_old : List ℕ → Result (List ℕ) PatternFault
+pattern_of_old bytes = reading_by One bytes >>= λ flat. pattern_of (upgraded bytes)

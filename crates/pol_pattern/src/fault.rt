@@ -11,7 +11,7 @@ use std::fmt;
 /// What is wrong with the bytes, and where: places are counted from 0.
 #[derive(Clone, Copy, Debug, PartialEq, Eq)]
 pub enum PatternFault {
-    /// There are more than 200 bytes.
+    /// There are more than 400 bytes, or 200 in version 1.
     TooLong,
     /// The byte is no symbol.
     Unprintable(usize),
@@ -19,7 +19,7 @@ pub enum PatternFault {
     Unclosed(usize),
     /// The `)` closes nothing.
     Unopened(usize),
-    /// The `*`, `+` or `?` has nothing before it.
+    /// The `*`, `+`, `?` or `{` has nothing before it.
     NothingToRepeat(usize),
     /// The class that begins here is empty, isn't closed, or has a wrong item.
     BadClass(usize),
@@ -31,6 +31,8 @@ pub enum PatternFault {
     TooLarge,
     /// Memory ran out.
     Memory,
+    /// The `{` begins no counts, or the `}` ends none.
+    BadRepeat(usize),
 }
 
 impl fmt::Display for PatternFault {
@@ -48,6 +50,7 @@ impl fmt::Display for PatternFault {
             PatternFault::TooDeep => write!(f, "8 TooDeep"),
             PatternFault::TooLarge => write!(f, "9 TooLarge"),
             PatternFault::Memory => write!(f, "10 Memory"),
+            PatternFault::BadRepeat(place) => write!(f, "11 BadRepeat at {place}"),
         }
     }
 }

@@ -2,7 +2,9 @@
 
 ghost use Rattle.std.specs.Prelude.{◌≡◌, ◌+◌, ◌<◌, ◌≤◌, ◌==◌, slice_index, length, slice_get, IfOk};
 ghost use Rattle.std.specs.Prelude.{IfSome};
-ghost use Rattle.pol_pattern.specs.Reading.{class_symbol_at, item_at, class_at, token_at};
+ghost use Rattle.pol_pattern.specs.Spelling.{range_counts, has_counts as counts_by};
+ghost use Rattle.pol_pattern.specs.Reading.{class_symbol_at, item_at, class_at, counts_in};
+ghost use Rattle.pol_pattern.specs.Reading.{counted_at, token_at};
 ghost use Rattle.pol_pattern.specs.Reading.{tokens_from, outermost as outermost_context};
 ghost use Rattle.pol_pattern.specs.Reading.{context_after};
 ghost use Rattle.basics.specs.Memory.{GivesUnlessMemory};
@@ -11,12 +13,17 @@ ghost use Rattle.pol_pattern.specs.Memory.{is_memory};
 use crate::fault::PatternFault;
 use crate::flat::Class;
 use crate::token::{Repeat, Token};
+use crate::version::Version;
 use arrayvec::ArrayVec;
+use basics::{read_number, split_once};
 use std::alloc::Global;
 use std::marker::Model;
 
 /// How many parentheses may be open at once.
 const DEPTH: usize = 32;
+
+/// How many times a counted unit may stand.
+const MOST: u32 = 32;
 
 /// The symbol of a class that the bytes begin with, and how many of them spell it.
 #[tactic(auto, unfolding(crate::specs::Reading::class_symbol_at))]
@@ -80,10 +87,66 @@ fn read_class(bytes: &[u8]) -> Option<(Class, usize)>
     None
 }
 
+/// The counts of a repeat, at least and at most, by the digits of each.
+fn read_counts(low: &[u8], high: &[u8]) -> Option<(u32, u32)>
+    ensures { result ≡ range_counts low.now high.now }
+{
+    let low = read_number(low, 2)?;
+    let high = read_number(high, 2)?;
+    if low > high || high > MOST {
+        return None;
+    }
+    Some((low, high))
+}
+
+/// The counts that stand between braces.
+fn read_braced(text: &[u8]) -> Option<(u32, u32)>
+    ensures { result ≡ counts_in text.now }
+{
+    match split_once(text, b',') {
+        Some((low, high)) => read_counts(low, high),
+        None => read_counts(text, text),
+    }
+}
+
+/// The token that begins with a `{` at this place, and how many bytes it takes.
+#[tactic(auto, unfolding(crate::specs::Reading::counted_at, crate::specs::Reading::counts_at))]
+fn read_counted(has_atom: bool, place: usize, rest: &[u8]) -> Result<(Token, usize), PatternFault>
+    ensures exact { result ≡ counted_at has_atom place rest.now }
+    ensures within { IfOk result (λ found. (0 < found.1) × (found.1 ≤ length rest.now + 1)) }
+{
+    if !has_atom {
+        return Err(PatternFault::NothingToRepeat(place));
+    }
+    let Some((text, _)) = split_once(rest, b'}') else {
+        return Err(PatternFault::BadRepeat(place));
+    };
+    match read_braced(text) {
+        Some((low, high)) => Ok((Token::Repeat(Repeat::Counted(low, high)), text.len() + 2)),
+        None => Err(PatternFault::BadRepeat(place)),
+    }
+}
+
+/// Whether braces count repeats.
+fn has_counts(version: Version) -> bool
+    ensures { result ≡ counts_by version }
+{
+    match version {
+        Version::One => false,
+        Version::Two => true,
+    }
+}
+
 /// The token that begins with the byte at its place, and how many bytes it takes.
 #[tactic(auto, unfolding(crate::specs::Reading::token_at))]
-fn read_token(place: usize, byte: u8, rest: &[u8]) -> Result<(Token, usize), PatternFault>
-    ensures exact { result ≡ token_at place byte rest.now }
+fn read_token(
+    version: Version,
+    has_atom: bool,
+    place: usize,
+    byte: u8,
+    rest: &[u8],
+) -> Result<(Token, usize), PatternFault>
+    ensures exact { result ≡ token_at version has_atom place byte rest.now }
     ensures within { IfOk result (λ found. (0 < found.1) × (found.1 ≤ length rest.now + 1)) }
 {
     match byte {
@@ -102,6 +165,8 @@ fn read_token(place: usize, byte: u8, rest: &[u8]) -> Result<(Token, usize), Pat
             Some(symbol) => Ok((Token::Atom(Class::only(*symbol)), 2)),
             None => Err(PatternFault::BadEscape(place)),
         },
+        b'{' if has_counts(version) => read_counted(has_atom, place, rest),
+        b'}' if has_counts(version) => Err(PatternFault::BadRepeat(place)),
         _ => Ok((Token::Atom(Class::only(byte)), 1)),
     }
 }
@@ -160,6 +225,13 @@ impl Context {
         Ok(Context { opened, has_atom })
     }
 
+    /// Whether there is an atom to repeat.
+    fn has_atom(&self) -> bool
+        ensures { result ≡ self.now.has_atom }
+    {
+        self.has_atom
+    }
+
     /// The parenthesis that was opened last and is still open.
     fn last_opened(&self) -> Option<usize>
         ensures { result ≡ slice_get self.now.opened 0 }
@@ -169,15 +241,20 @@ impl Context {
 }
 
 /// The tokens of a pattern, or the first fault.
-pub(crate) fn tokens(alloc: Global, bytes: &[u8]) -> Result<Vec<Token>, PatternFault>
+pub(crate) fn tokens(
+    alloc: Global,
+    version: Version,
+    bytes: &[u8],
+) -> Result<Vec<Token>, PatternFault>
     ensures { GivesUnlessMemory is_memory (λ tokens. tokens.items) result
-        (tokens_from 0 0 outermost_context bytes.now) }
+        (tokens_from version 0 0 outermost_context bytes.now) }
 {
     let mut tokens = Vec::new(alloc);
     let mut context = Context::outermost();
     let mut place = 0;
     'tokens: while place < bytes.len() {
-        let (token, size) = read_token(place, bytes[place], &bytes[place + 1..])?;
+        let rest = &bytes[place + 1..];
+        let (token, size) = read_token(version, context.has_atom(), place, bytes[place], rest)?;
         context = context.after(place, &token)?;
         tokens.push(token)?;
         place += size;

@@ -12,8 +12,11 @@ mod pattern;
 mod reading;
 mod sizes;
 mod token;
+mod upgrading;
+mod version;
 
 pub use fault::PatternFault;
 pub use flat::{Class, Factor, Term};
-pub use law::match_law;
+pub use law::{match_law, upgrade_law};
 pub use pattern::Pattern;
+pub use version::Version;

@@ -9,14 +9,18 @@ ghost use Rattle.basics.specs.Memory.{GivesUnlessMemory};
 ghost use Rattle.basics.specs.Symbol.{is_text};
 ghost use Rattle.pol_pattern.specs.Memory.{is_memory};
 ghost use Rattle.pol_pattern.specs.Flat.{Terms, terms_value};
-ghost use Rattle.pol_pattern.specs.Spelling.{Spells, Holds};
+ghost use Rattle.pol_pattern.specs.Spelling.{SpellsBy, Spells, Holds};
+ghost use Rattle.pol_pattern.specs.Upgrading.{upgraded as upgraded_bytes, UpgradeLaw};
 ghost use Rattle.pol_pattern.specs.Languages.{LanguageLaws};
+ghost use Rattle.pol_pattern.specs.declared.version.Version.TheVariants.{One as VersionOne};
 ghost use Rattle.pol_pattern.specs.Matching.{matches, MatchLaw};
-ghost use Rattle.pol_pattern.specs.Reading.{reading as reading_of, pattern_of, is_unprintable};
+ghost use Rattle.pol_pattern.specs.Reading.{reading as reading_of, pattern_of, pattern_of_old};
+ghost use Rattle.pol_pattern.specs.Reading.{is_unprintable};
 
 use crate::fault::PatternFault;
 use crate::flat::Term;
-use crate::reading::BYTES;
+use crate::upgrading::upgraded;
+use crate::version::Version;
 use crate::{matching, reading};
 use basics::Bytes;
 use std::alloc::{AllocError, Global};
@@ -79,12 +83,40 @@ impl Pattern {
             → GivesUnlessMemory is_memory (λ p. p) result (Ok bytes.now) }
 
         // What is refused before anything is built is refused even without memory.
-        ensures too_long { BYTES < length bytes.now → result ≡ Err PatternFault.TooLong }
-        ensures unprintable { length bytes.now ≤ BYTES → IfSome (position is_unprintable bytes.now)
+        ensures too_long { 400 < length bytes.now → result ≡ Err PatternFault.TooLong }
+        ensures unprintable { length bytes.now ≤ 400 → IfSome (position is_unprintable bytes.now)
             (λ place. result ≡ Err (PatternFault.Unprintable place)) }
     {
-        let terms = reading::flat(alloc, bytes)?;
+        let terms = reading::flat(alloc, Version::Two, bytes)?;
         let source = Bytes::from_slice(alloc, bytes)?;
+        let whole = Arc::new(alloc, Whole { source, terms })?;
+        Ok(Pattern { whole })
+    }
+
+    /// Reads a pattern by the grammar of version 1. What it gives is a pattern of version 2, whose
+    /// source has a `\` before each brace that version 2 would count by.
+    pub fn read_v1(alloc: Global, bytes: &[u8]) -> Result<Pattern, PatternFault>
+        // Which bytes are read, and which fault it is, at its place in these bytes.
+        ensures exact { GivesUnlessMemory is_memory (λ p. p) result (pattern_of_old bytes.now) }
+
+        // What is read is spelled so by version 1, and the same pattern by the new source.
+        ensures found { IfOk result
+            (λ p. (flat : Terms) × SpellsBy VersionOne bytes.now flat × Spells p flat) }
+
+        // What version 1 spells is read, unless memory runs out, and never refused for its size.
+        ensures only { (flat : Terms) → SpellsBy VersionOne bytes.now flat
+            → GivesUnlessMemory is_memory (λ p. p) result (Ok (upgraded_bytes bytes.now)) }
+
+        // What is refused before anything is built is refused even without memory.
+        ensures too_long { 200 < length bytes.now → result ≡ Err PatternFault.TooLong }
+        ensures unprintable { length bytes.now ≤ 200 → IfSome (position is_unprintable bytes.now)
+            (λ place. result ≡ Err (PatternFault.Unprintable place)) }
+
+        // A pattern of version 1 and its new source hold the same texts.
+        ensures law { UpgradeLaw }
+    {
+        let terms = reading::flat(alloc, Version::One, bytes)?;
+        let source = upgraded(alloc, bytes)?;
         let whole = Arc::new(alloc, Whole { source, terms })?;
         Ok(Pattern { whole })
     }

@@ -1,7 +1,8 @@
 //! How large the flat form of a pattern is, before it is built: a row of `+` doubles it with each.
 
-ghost use Rattle.std.specs.Prelude.{◌≡◌, ◌+◌, [], IfOk, min};
+ghost use Rattle.std.specs.Prelude.{◌≡◌, ◌+◌, ◌*◌, [], IfOk, min};
 ghost use Rattle.pol_pattern.specs.Flat.{Term as TermValue, terms_size, term_size};
+ghost use Rattle.pol_pattern.specs.Spelling.{repeat_factors};
 ghost use Rattle.pol_pattern.specs.Reading.{Level, fresh as fresh_level};
 ghost use Rattle.pol_pattern.specs.Reading.{with_atom as level_with_atom};
 ghost use Rattle.pol_pattern.specs.Reading.{with_repeat as level_with_repeat};
@@ -18,16 +19,22 @@ pub(crate) const FACTORS: usize = 400;
 /// Sizes are counted up to here.
 const CAP: usize = FACTORS + 1;
 
-fn capped_sum(a: usize, b: usize) -> usize
+pub(crate) fn capped_sum(a: usize, b: usize) -> usize
     ensures { result ≡ min CAP (a + b) }
 {
     a.saturating_add(b).min(CAP)
 }
 
+fn capped_product(count: u32, size: usize) -> usize
+    ensures { result ≡ min CAP (count * size) }
+{
+    (count as usize).saturating_mul(size).min(CAP)
+}
+
 /// The sizes of what was read of some alternatives: of those that are done, and of the present
 /// one's factors before its last repetition and within it.
 #[derive(Clone, Copy)]
-struct Sizes {
+pub(crate) struct Sizes {
     done: usize,
     before: usize,
     last: usize,
@@ -35,7 +42,7 @@ struct Sizes {
 }
 
 impl Sizes {
-    fn fresh() -> Sizes
+    pub(crate) fn fresh() -> Sizes
         ensures { result ≡ size_of fresh_level }
     {
         Sizes {
@@ -47,7 +54,7 @@ impl Sizes {
     }
 
     /// After one more factor.
-    fn with_factor(self, size: usize, is_group: bool) -> Sizes
+    pub(crate) fn with_factor(self, size: usize, is_group: bool) -> Sizes
         ensures { (level : Level) (factors : TermValue) → self ≡ size_of level
             → size ≡ min CAP (term_size factors) → is_group ≡ is_one_group factors
             → result ≡ size_of (level_with_atom level factors) }
@@ -60,7 +67,32 @@ impl Sizes {
         }
     }
 
-    fn with_repeat(self, repeat: Repeat) -> Sizes
+    /// The size of the last repetition, repeated from `low` to `high` times.
+    fn counted(self, low: u32, high: u32) -> usize
+        ensures { (level : Level) → self ≡ size_of level
+            → result ≡ min CAP (term_size (repeat_factors (Repeat.Counted low high) level.last)) }
+    {
+        let options = capped_product(high.saturating_sub(low), capped_sum(self.last, 1));
+        capped_sum(capped_product(low, self.last), options)
+    }
+
+    /// Whether it is exactly one group then.
+    fn counted_is_group(self, low: u32, high: u32) -> bool
+        ensures { (level : Level) → self ≡ size_of level
+            → result ≡ is_one_group (repeat_factors (Repeat.Counted low high) level.last) }
+    {
+        let options = high.saturating_sub(low);
+        // without factors of the unit only the groups are left that `?` makes
+        if low == 0 || self.last == 0 {
+            return options == 1;
+        }
+        if low > 1 || options > 0 {
+            return false;
+        }
+        self.last_is_group
+    }
+
+    pub(crate) fn with_repeat(self, repeat: Repeat) -> Sizes
         ensures { (level : Level) → self ≡ size_of level
             → result ≡ size_of (level_with_repeat level repeat) }
     {
@@ -70,6 +102,9 @@ impl Sizes {
             Repeat::Star => (star, false),
             Repeat::Plus => (capped_sum(self.last, star), false),
             Repeat::Question => (capped_sum(self.last, 1), true),
+            Repeat::Counted(low, high) => {
+                (self.counted(low, high), self.counted_is_group(low, high))
+            }
         };
         Sizes {
             done: self.done,
@@ -79,14 +114,21 @@ impl Sizes {
         }
     }
 
-    fn finished(self) -> usize
+    /// The size of the last repetition.
+    pub(crate) fn last(self) -> usize
+        ensures { result ≡ self.last }
+    {
+        self.last
+    }
+
+    pub(crate) fn finished(self) -> usize
         ensures { (level : Level) → self ≡ size_of level
             → result ≡ min CAP (terms_size (level_finished level)) }
     {
         capped_sum(self.done, capped_sum(self.before, self.last))
     }
 
-    fn with_bar(self) -> Sizes
+    pub(crate) fn with_bar(self) -> Sizes
         ensures { (level : Level) → self ≡ size_of level
             → result ≡ size_of (level_with_bar level) }
     {

@@ -11,6 +11,8 @@ pub(crate) enum Repeat {
     Plus,
     /// `?`: once or not at all.
     Question,
+    /// `{m,n}`: at least m times and at most n times.
+    Counted(u32, u32),
 }
 
 /// A part of a pattern that is read at once.

@@ -2,6 +2,7 @@
 use Rattle.std.proofs.Common.{◌≡◌, ℕ, ◌+◌, Bool, true, false, cond, ◌||◌, List, [], ◌∷◌, ◌++◌, length, map, nat_le, Option, Some, Result, Ok, Err, is_some, refl, sym, ap, ◌∙◌}
 use Rattle.std.specs.List.{list_any}
 use Rattle.std.proofs.lemmas.List.{map-append}
+use Rattle.pol_pattern.specs.declared.version.Version.{Version}
 use Rattle.pol_names.specs.declared.subject_id.Kind.{Kind}
 use Rattle.pol_names.specs.declared.subject_id.SubjectId.{SubjectId}
 use Rattle.pol_text.specs.declared.subject.Subject.{Subject}
@@ -82,21 +83,21 @@ ids_kept keys subjects front old next is e same =
 
 -- ---- lines one after another
 
-pub lines_fail : (fault : LineFault) (number at : ℕ) (left rest : List (List ℕ)) (line : List ℕ) (draft : Draft) (total : Result Draft PolicyFault) → at ≡ number → left ≡ line ∷ rest
-    → with_lines number left draft ≡ total → LineFails fault (with_line at line draft) → FailsUnlessMemory (at_place at fault) total
+pub lines_fail : (fault : LineFault) (version : Version) (number at : ℕ) (left rest : List (List ℕ)) (line : List ℕ) (draft : Draft) (total : Result Draft PolicyFault) → at ≡ number → left ≡ line ∷ rest
+    → with_lines version number left draft ≡ total → LineFails fault (with_line version at line draft) → FailsUnlessMemory (at_place at fault) total
 unfolding with_lines
-lines_fail lines.Memory number at left rest line draft total same e told fails = tt
-lines_fail (lines.Refused refusal) number at left rest line draft total same e told fails =
-    sym told ∙ ap (λ (ls : List (List ℕ)). with_lines number ls draft) e ∙ rw (← same, fails) refl
+lines_fail lines.Memory version number at left rest line draft total same e told fails = tt
+lines_fail (lines.Refused refusal) version number at left rest line draft total same e told fails =
+    sym told ∙ ap (λ (ls : List (List ℕ)). with_lines version number ls draft) e ∙ rw (← same, fails) refl
 
-pub lines_go_on : (number at after : ℕ) (left rest : List (List ℕ)) (line : List ℕ) (draft next : Draft) (total : Result Draft PolicyFault) → at ≡ number → left ≡ line ∷ rest
-    → with_lines number left draft ≡ total → with_line at line draft ≡ Ok next → after ≡ number + 1 → with_lines after rest next ≡ total
+pub lines_go_on : (version : Version) (number at after : ℕ) (left rest : List (List ℕ)) (line : List ℕ) (draft next : Draft) (total : Result Draft PolicyFault) → at ≡ number → left ≡ line ∷ rest
+    → with_lines version number left draft ≡ total → with_line version at line draft ≡ Ok next → after ≡ number + 1 → with_lines version after rest next ≡ total
 unfolding with_lines
-lines_go_on number at after left rest line draft next total same e told good more =
-    let here : with_line number line draft ≡ Ok next = rw (← same) good in
-    let step : with_lines number (line ∷ rest) draft ≡ with_lines (number + 1) rest next = rw here refl in
-    rw more (sym step ∙ ap (λ (ls : List (List ℕ)). with_lines number ls draft) (sym e) ∙ told)
+lines_go_on version number at after left rest line draft next total same e told good more =
+    let here : with_line version number line draft ≡ Ok next = rw (← same) good in
+    let step : with_lines version number (line ∷ rest) draft ≡ with_lines version (number + 1) rest next = rw here refl in
+    rw more (sym step ∙ ap (λ (ls : List (List ℕ)). with_lines version number ls draft) (sym e) ∙ told)
 
-pub lines_done : (number : ℕ) (left : List (List ℕ)) (draft : Draft) (total : Result Draft PolicyFault) → left ≡ [] → with_lines number left draft ≡ total → total ≡ Ok draft
+pub lines_done : (version : Version) (number : ℕ) (left : List (List ℕ)) (draft : Draft) (total : Result Draft PolicyFault) → left ≡ [] → with_lines version number left draft ≡ total → total ≡ Ok draft
 unfolding with_lines
-lines_done number left draft total e told = sym told ∙ ap (λ (ls : List (List ℕ)). with_lines number ls draft) e
+lines_done version number left draft total e told = sym told ∙ ap (λ (ls : List (List ℕ)). with_lines version number ls draft) e

@@ -4,7 +4,7 @@ use Rattle.std.specs.List.{position_or_len}
 use Rattle.std.specs.Result.{is_ok}
 use Rattle.std.proofs.lemmas.Bool.Decides.{nat_tests}
 use Rattle.basics.specs.Symbol.{is_text, is_symbol}
-use Rattle.pol_pattern.specs.Reading.{pattern_of, reading, is_unprintable}
+use Rattle.pol_pattern.specs.Reading.{pattern_of, reading, reading_by, is_unprintable}
 use Rattle.pol_pattern.specs.Flat.{Terms}
 use Rattle.pol_pattern.specs.declared.fault.PatternFault.{PatternFault}
 
@@ -28,13 +28,13 @@ no_unprintable (byte ∷ bytes) h = by (is_symbol byte) (λ k. no_unprintable by
 
 -- and they are symbols
 pub pattern_text : (bytes : List ℕ) → is_ok (pattern_of bytes) ≡ true → is_text bytes ≡ true
-unfolding pattern_of reading
+unfolding pattern_of reading_by
 pattern_text bytes h = by (nat_lt (position_or_len is_unprintable bytes) (length bytes)) refl
   where
-    over : (b : Bool) → nat_lt 200 (length bytes) ≡ b → nat_lt (position_or_len is_unprintable bytes) (length bytes) ≡ true → ⊥
+    over : (b : Bool) → nat_lt 400 (length bytes) ≡ b → nat_lt (position_or_len is_unprintable bytes) (length bytes) ≡ true → ⊥
     over true f e = let k = rw f at h in absurd cc
     over false f e = let k = rw (f, e) at h in absurd cc
 
     by : (b : Bool) → nat_lt (position_or_len is_unprintable bytes) (length bytes) ≡ b → is_text bytes ≡ true
-    by true e = absurd (over (nat_lt 200 (length bytes)) refl e)
+    by true e = absurd (over (nat_lt 400 (length bytes)) refl e)
     by false e = no_unprintable bytes (grind (arith, nat_tests))

@@ -15,55 +15,55 @@ use Rattle.pol_names.specs.declared.subject_id.Kind.{Kind}
 use Rattle.pol_names.specs.declared.subject_id.Kind.TheVariants.{Group, User}
 use Rattle.pol_names.specs.declared.decision.Verdict.{Verdict}
 use Rattle.pol_names.specs.declared.decision.Verdict.TheVariants.{Permit, Deny}
+use Rattle.pol_pattern.specs.declared.version.Version.{Version}
 use Rattle.pol_text.specs.declared.subject.Subject.{Subject}
 use Rattle.pol_text.specs.declared.fault.PolicyRefusal.{PolicyRefusal}
 use Rattle.pol_text.specs.Policy.{find_subject, all_of}
-use Rattle.pol_text.specs.Text.{◌>>=◌, Draft, subjects_of, is_field, heading, new_subject, with_subject, behind_first, split_last, with_present, with_login, with_enable, level_of, with_priv, with_rule, with_words, is_blank, with_trimmed, with_line, with_lines, policy_of}
+use Rattle.pol_text.specs.Text.{◌>>=◌, Draft, subjects_of, is_field, heading, new_subject, with_subject, behind_first, split_last, with_present, with_login, with_enable, level_of, with_priv, with_rule, with_words, is_blank, with_trimmed, with_line, with_lines, policy_of, body_of}
 use Rattle.pol_text.specs.Spelling.{Sets, login, enable, level, rule, Adds, begins, sets, Extends, meaningful, Spells}
 use Rattle.pol_text.proofs.SettingFacts.{and_left, and_right, rule_read}
-use Rattle.pol_text.proofs.PatternFacts.{pattern_same}
 use Rattle.pol_text.proofs.DraftFacts.{split_last-push, present_is}
 use Rattle.pol_text.proofs.RightFacts.{split_back, subjects-push}
 use Rattle.pol_text.proofs.RoundFacts.{behind_name, heading_is, subject_new, chains_read}
 
 -- ---- the line that begins a subject
 
-group_begins : (number : ℕ) (rest : List ℕ) (draft : Draft)
-    → with_trimmed number (codes "group " ++ rest) draft ≡ (heading rest (split_at_first 32 rest) >>= λ ids. with_subject number Group ids.0 ids.1 draft)
+group_begins : (version : Version) (number : ℕ) (rest : List ℕ) (draft : Draft)
+    → with_trimmed version number (codes "group " ++ rest) draft ≡ (heading rest (split_at_first 32 rest) >>= λ ids. with_subject number Group ids.0 ids.1 draft)
 unfolding with_trimmed with_words
-group_begins number rest draft = refl
+group_begins version number rest draft = refl
 
-user_begins : (number : ℕ) (rest : List ℕ) (draft : Draft)
-    → with_trimmed number (codes "user " ++ rest) draft ≡ (heading rest (split_at_first 32 rest) >>= λ ids. with_subject number User ids.0 ids.1 draft)
+user_begins : (version : Version) (number : ℕ) (rest : List ℕ) (draft : Draft)
+    → with_trimmed version number (codes "user " ++ rest) draft ≡ (heading rest (split_at_first 32 rest) >>= λ ids. with_subject number User ids.0 ids.1 draft)
 unfolding with_trimmed with_words
-user_begins number rest draft = refl
+user_begins version number rest draft = refl
 
-begun : (number : ℕ) (kind : Kind) (name : List ℕ) (parent : Option (List ℕ)) (draft : Draft) → is_name name ≡ true → all_of is_name parent ≡ true
+begun : (version : Version) (number : ℕ) (kind : Kind) (name : List ℕ) (parent : Option (List ℕ)) (draft : Draft) → is_name name ≡ true → all_of is_name parent ≡ true
     → is_some (find_subject (record { kind = kind; name = name }) (subjects_of draft)) ≡ false → length draft < 1024
-    → with_trimmed number (kind_word kind ++ (name ++ behind_name parent)) draft ≡ Ok (draft ++ (number, new_subject kind name parent) ∷ [])
-begun number Group name parent draft h k none room =
-    group_begins number (name ++ behind_name parent) draft ∙ rw (heading_is name parent h k) (subject_new number Group name parent draft none room)
-begun number User name parent draft h k none room =
-    user_begins number (name ++ behind_name parent) draft ∙ rw (heading_is name parent h k) (subject_new number User name parent draft none room)
+    → with_trimmed version number (kind_word kind ++ (name ++ behind_name parent)) draft ≡ Ok (draft ++ (number, new_subject kind name parent) ∷ [])
+begun version number Group name parent draft h k none room =
+    group_begins version number (name ++ behind_name parent) draft ∙ rw (heading_is name parent h k) (subject_new number Group name parent draft none room)
+begun version number User name parent draft h k none room =
+    user_begins version number (name ++ behind_name parent) draft ∙ rw (heading_is name parent h k) (subject_new number User name parent draft none room)
 
 -- ---- settings
 
-login_line : (number : ℕ) (text : List ℕ) (draft : Draft) → with_trimmed number (codes "login " ++ text) draft ≡ with_present (with_login text) draft
+login_line : (version : Version) (number : ℕ) (text : List ℕ) (draft : Draft) → with_trimmed version number (codes "login " ++ text) draft ≡ with_present (with_login text) draft
 unfolding with_trimmed with_words
-login_line number text draft = refl
+login_line version number text draft = refl
 
-enable_line : (number : ℕ) (text : List ℕ) (draft : Draft) → with_trimmed number (codes "enable " ++ text) draft ≡ with_present (with_enable text) draft
+enable_line : (version : Version) (number : ℕ) (text : List ℕ) (draft : Draft) → with_trimmed version number (codes "enable " ++ text) draft ≡ with_present (with_enable text) draft
 unfolding with_trimmed with_words
-enable_line number text draft = refl
+enable_line version number text draft = refl
 
-level_line : (number : ℕ) (text : List ℕ) (draft : Draft) → is_field text ≡ true → with_trimmed number (codes "priv " ++ text) draft ≡ with_present (with_priv text) draft
+level_line : (version : Version) (number : ℕ) (text : List ℕ) (draft : Draft) → is_field text ≡ true → with_trimmed version number (codes "priv " ++ text) draft ≡ with_present (with_priv text) draft
 unfolding with_trimmed with_words
-level_line number text draft h = rw h refl
+level_line version number text draft h = rw h refl
 
-rule_line : (number : ℕ) (verdict : Verdict) (text : List ℕ) (draft : Draft) → with_trimmed number (verdict_word verdict ++ text) draft ≡ with_present (with_rule verdict text) draft
+rule_line : (version : Version) (number : ℕ) (verdict : Verdict) (text : List ℕ) (draft : Draft) → with_trimmed version number (verdict_word verdict ++ text) draft ≡ with_present (with_rule version verdict text) draft
 unfolding with_trimmed with_words
-rule_line number Permit text draft = refl
-rule_line number Deny text draft = refl
+rule_line version number Permit text draft = refl
+rule_line version number Deny text draft = refl
 
 -- a number has no space
 digits_field : (value n : ℕ) (text : List ℕ) → digits_after value text ≡ Some n → split_at_first 32 text ≡ None
@@ -85,13 +85,13 @@ level_field text n h = by (nat_lt 0 (length text) && nat_le (length text) 4) (di
     by true None e k = absurd cc
     by true (Some m) e k = rw (digits_field 0 m text e) refl
 
-module _ (number at : ℕ) (front : Draft) (old new : Subject) where
+module _ (version : Version) (number at : ℕ) (front : Draft) (old new : Subject) where
   before : Draft
   before = front ++ (at, old) ∷ []
 
   -- a change of the last subject that goes well
   abbrev Goes : List ℕ → Type 0
-  Goes line = with_trimmed number line (front ++ (at, old) ∷ []) ≡ Ok (front ++ (at, new) ∷ [])
+  Goes line = with_trimmed version number line (front ++ (at, old) ∷ []) ≡ Ok (front ++ (at, new) ∷ [])
 
   changed : (change : Subject → Result Subject PolicyRefusal) → change old ≡ Ok new → with_present change (front ++ (at, old) ∷ []) ≡ Ok (front ++ (at, new) ∷ [])
   changed change h = present_is change front at old ∙ rw h refl
@@ -105,18 +105,18 @@ module _ (number at : ℕ) (front : Draft) (old new : Subject) where
   levelled : (text : List ℕ) (n : ℕ) → level_of text ≡ Some n → old.priv_lvl ≡ None → with_priv text old ≡ Ok (record old { priv_lvl = Some n })
   levelled text n right none = rw (none, right) refl
 
-  set_read : (line : List ℕ) → Sets old line new → Goes line
+  set_read : (line : List ℕ) → Sets version old line new → Goes line
   set_read line (login text right spelled user none is) =
-      subst Goes (sym spelled) (login_line number text (front ++ (at, old) ∷ []) ∙ changed (with_login text) (logged text right user none ∙ sym (ap (λ (s : Subject). Ok s) is)))
+      subst Goes (sym spelled) (login_line version number text (front ++ (at, old) ∷ []) ∙ changed (with_login text) (logged text right user none ∙ sym (ap (λ (s : Subject). Ok s) is)))
   set_read line (enable text right spelled user none is) =
-      subst Goes (sym spelled) (enable_line number text (front ++ (at, old) ∷ []) ∙ changed (with_enable text) (enabled text right user none ∙ sym (ap (λ (s : Subject). Ok s) is)))
+      subst Goes (sym spelled) (enable_line version number text (front ++ (at, old) ∷ []) ∙ changed (with_enable text) (enabled text right user none ∙ sym (ap (λ (s : Subject). Ok s) is)))
   set_read line (level text n right spelled none is) =
-      subst Goes (sym spelled) (level_line number text (front ++ (at, old) ∷ []) (level_field text n right) ∙ changed (with_priv text) (levelled text n right none ∙ sym (ap (λ (s : Subject). Ok s) is)))
-  set_read line (rule next right spelled room is) =
+      subst Goes (sym spelled) (level_line version number text (front ++ (at, old) ∷ []) (level_field text n right) ∙ changed (with_priv text) (levelled text n right none ∙ sym (ap (λ (s : Subject). Ok s) is)))
+  set_read line (rule verdict text pattern right spelled room is) =
       let test : nat_le 256 (length old.rules) ≡ false = grind (arith, nat_tests) in
-      let made : with_rule next.verdict next.pattern old ≡ Ok (record old { rules = old.rules ++ next ∷ [] }) =
-      rule_read next.verdict next.pattern next.pattern old (pattern_same next.pattern right) ∙ rw test refl in
-      subst Goes (sym spelled) (rule_line number next.verdict next.pattern (front ++ (at, old) ∷ []) ∙ changed (with_rule next.verdict next.pattern) (made ∙ sym (ap (λ (s : Subject). Ok s) is)))
+      let made : with_rule version verdict text old ≡ Ok (record old { rules = old.rules ++ record { verdict = verdict; pattern = pattern } ∷ [] }) =
+      rule_read version verdict text pattern old right ∙ rw test refl in
+      subst Goes (sym spelled) (rule_line version number verdict text (front ++ (at, old) ∷ []) ∙ changed (with_rule version verdict text) (made ∙ sym (ap (λ (s : Subject). Ok s) is)))
 
 -- ---- the last subject of a draft
 
@@ -153,60 +153,61 @@ last_of (entry ∷ rest) front old e =
 
 -- ---- lines
 
-record Reads (number : ℕ) (draft : Draft) (line : List ℕ) (after : List Subject) : Type 0 where
+record Reads (version : Version) (number : ℕ) (draft : Draft) (line : List ℕ) (after : List Subject) : Type 0 where
   next : Draft
-  goes : with_trimmed number line draft ≡ Ok next
+  goes : with_trimmed version number line draft ≡ Ok next
   is : subjects_of next ≡ after
 
-adds_read : (number : ℕ) (draft : Draft) (line : List ℕ) (after : List Subject) → Adds (subjects_of draft) line after → Reads number draft line after
-adds_read number draft line after (begins kind name parent right belongs spelled none room is) =
+adds_read : (version : Version) (number : ℕ) (draft : Draft) (line : List ℕ) (after : List Subject) → Adds version (subjects_of draft) line after → Reads version number draft line after
+adds_read version number draft line after (begins kind name parent right belongs spelled none room is) =
     let sizes : length (subjects_of draft) ≡ length draft = length-map draft (λ (entry : ℕ × Subject). entry.1) in
     let whole : line ≡ kind_word kind ++ (name ++ behind_name parent) = spelled ∙ append_assoc (kind_word kind) name (behind_name parent) in
     record {
       next = draft ++ (number, new_subject kind name parent) ∷ [];
-      goes = ap (λ (l : List ℕ). with_trimmed number l draft) whole ∙ begun number kind name parent draft right belongs (ap is_some none) (omega arith);
+      goes = ap (λ (l : List ℕ). with_trimmed version number l draft) whole ∙ begun version number kind name parent draft right belongs (ap is_some none) (omega arith);
       is = subjects-push draft number (new_subject kind name parent) ∙ sym is;
     }
-adds_read number draft line after (sets front old new set was is) =
+adds_read version number draft line after (sets front old new set was is) =
     let l = last_of draft front old was in
     record {
       next = l.rest ++ (l.at, new) ∷ [];
-      goes = ap (with_trimmed number line) l.is ∙ set_read number l.at l.rest old new line set;
+      goes = ap (with_trimmed version number line) l.is ∙ set_read version number l.at l.rest old new line set;
       is = subjects-push l.rest l.at new ∙ ap (λ (f : List Subject). f ++ new ∷ []) l.fronts ∙ sym is;
     }
 
-record AllRead (number : ℕ) (draft : Draft) (lines : List (List ℕ)) (after : List Subject) : Type 0 where
+record AllRead (version : Version) (number : ℕ) (draft : Draft) (lines : List (List ℕ)) (after : List Subject) : Type 0 where
   next : Draft
-  goes : with_lines number lines draft ≡ Ok next
+  goes : with_lines version number lines draft ≡ Ok next
   is : subjects_of next ≡ after
 
-one_line : (number : ℕ) (line : List ℕ) (lines : List (List ℕ)) (draft mid last : Draft) → is_text line ≡ true → with_trimmed number (without_leading_spaces line) draft ≡ Ok mid
-    → with_lines (number + 1) lines mid ≡ Ok last → with_lines number (line ∷ lines) draft ≡ Ok last
+one_line : (version : Version) (number : ℕ) (line : List ℕ) (lines : List (List ℕ)) (draft mid last : Draft) → is_text line ≡ true → with_trimmed version number (without_leading_spaces line) draft ≡ Ok mid
+    → with_lines version (number + 1) lines mid ≡ Ok last → with_lines version number (line ∷ lines) draft ≡ Ok last
 unfolding with_lines with_line
-one_line number line lines draft mid last text h later = rw (text, h) later
+one_line version number line lines draft mid last text h later = rw (text, h) later
 
-blank_read : (number : ℕ) (line : List ℕ) (draft : Draft) → is_blank line ≡ true → with_trimmed number line draft ≡ Ok draft
+blank_read : (version : Version) (number : ℕ) (line : List ℕ) (draft : Draft) → is_blank line ≡ true → with_trimmed version number line draft ≡ Ok draft
 unfolding with_trimmed
-blank_read number line draft h = rw h refl
+blank_read version number line draft h = rw h refl
 
-lines_read : (number : ℕ) (lines : List (List ℕ)) (draft : Draft) (after : List Subject) → list_all is_text lines ≡ true → Extends (subjects_of draft) (meaningful lines) after → AllRead number draft lines after
+lines_read : (version : Version) (number : ℕ) (lines : List (List ℕ)) (draft : Draft) (after : List Subject) → list_all is_text lines ≡ true → Extends version (subjects_of draft) (meaningful lines) after → AllRead version number draft lines after
 unfolding with_lines
-lines_read number [] draft after texts h = record { next = draft; goes = refl; is = h }
-lines_read number (line ∷ lines) draft after texts h =
-    by (is_blank (without_leading_spaces line)) refl (λ mid e. lines_read (number + 1) lines mid after (and_right (is_text line) _ texts) e) h
+lines_read version number [] draft after texts h = record { next = draft; goes = refl; is = h }
+lines_read version number (line ∷ lines) draft after texts h =
+    by (is_blank (without_leading_spaces line)) refl (λ mid e. lines_read version (number + 1) lines mid after (and_right (is_text line) _ texts) e) h
   where
-    more : (mid : Draft) → with_trimmed number (without_leading_spaces line) draft ≡ Ok mid → AllRead (number + 1) mid lines after → AllRead number draft (line ∷ lines) after
-    more mid k r = record { next = r.next; goes = one_line number line lines draft mid r.next (and_left (is_text line) _ texts) k r.goes; is = r.is }
+    more : (mid : Draft) → with_trimmed version number (without_leading_spaces line) draft ≡ Ok mid → AllRead version (number + 1) mid lines after → AllRead version number draft (line ∷ lines) after
+    more mid k r = record { next = r.next; goes = one_line version number line lines draft mid r.next (and_left (is_text line) _ texts) k r.goes; is = r.is }
 
-    by : (b : Bool) → is_blank (without_leading_spaces line) ≡ b → ((mid : Draft) → Extends (subjects_of mid) (meaningful lines) after → AllRead (number + 1) mid lines after)
-        → Extends (subjects_of draft) (cond b (meaningful lines) (without_leading_spaces line ∷ meaningful lines)) after → AllRead number draft (line ∷ lines) after
-    by true e later k = more draft (blank_read number (without_leading_spaces line) draft e) (later draft k)
+    by : (b : Bool) → is_blank (without_leading_spaces line) ≡ b → ((mid : Draft) → Extends version (subjects_of mid) (meaningful lines) after → AllRead version (number + 1) mid lines after)
+        → Extends version (subjects_of draft) (cond b (meaningful lines) (without_leading_spaces line ∷ meaningful lines)) after → AllRead version number draft (line ∷ lines) after
+    by true e later k = more draft (blank_read version number (without_leading_spaces line) draft e) (later draft k)
     by false e later (mid, adds, k) =
-        let r = adds_read number draft (without_leading_spaces line) mid adds in
-        more r.next r.goes (later r.next (subst (λ (s : List Subject). Extends s (meaningful lines) after) (sym r.is) k))
+        let r = adds_read version number draft (without_leading_spaces line) mid adds in
+        more r.next r.goes (later r.next (subst (λ (s : List Subject). Extends version s (meaningful lines) after) (sym r.is) k))
 
 pub read_back : (text : List ℕ) (policy : List Subject) → Spells text policy → policy_of text ≡ Ok policy
 unfolding policy_of
 read_back text policy h =
-    let r = lines_read 1 (lines_of text) [] policy h.texts h.lines in
+    let body = body_of (lines_of text) in
+    let r = lines_read body.version body.number body.lines [] policy h.texts h.lines in
     rw r.goes (chains_read r.next policy r.is h.parents h.short)

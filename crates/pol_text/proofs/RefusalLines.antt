@@ -2,10 +2,13 @@
 use Rattle.std.proofs.Common.{◌≡◌, ℕ, ◌+◌, ◌<◌, ◌≤◌, Bool, true, false, not, List, [], ◌∷◌, ◌++◌, length, find, Option, None, Some, Result, Ok, Err, ok_or, eqb, refl, subst, arith}
 use Rattle.std.specs.Bool.{if◌then◌else◌}
 use Rattle.std.specs.Option.{option_map_or}
+use Rattle.std.specs.Str.{bytes_eq}
 use Rattle.basics.specs.Symbol.{is_text}
 use Rattle.basics.specs.Lines.{lines_of, onto_first, split_at_first, without_leading_spaces}
 use Rattle.pol_text.specs.Policy.{has_parent, ends_within}
-use Rattle.pol_text.specs.Text.{◌>>=◌, Draft, subjects_of, heading, is_blank, new_subject, with_subject, split_last, behind_first, with_present, with_login, with_enable, with_priv, with_rule, with_words, with_trimmed, with_line, with_lines, at_line, checked, with_right_chains, policy_of, IsUnlessMemory}
+use Rattle.pol_text.specs.Text.{◌>>=◌, Draft, subjects_of, heading, is_blank, new_subject, with_subject, split_last, behind_first, with_present, with_login, with_enable, with_priv, with_rule, with_words, with_trimmed, with_line, with_lines, at_line, checked, with_right_chains, policy_of, IsUnlessMemory, version_line, Body, body_of, with_body}
+use Rattle.pol_pattern.specs.declared.version.Version.{Version}
+use Rattle.pol_pattern.specs.declared.version.Version.TheVariants.{One, Two}
 use Rattle.pol_names.specs.declared.subject_id.Kind.{Kind}
 use Rattle.pol_names.specs.declared.subject_id.Kind.TheVariants.{Group, User}
 use Rattle.pol_names.specs.declared.decision.Verdict.TheVariants.{Permit, Deny}
@@ -70,27 +73,27 @@ present_keeps : (n : ℕ) (change : Subject → Result Subject PolicyRefusal) (d
 unfolding with_present
 present_keeps n change draft h = parts_keep n change (split_last draft) (split_before n draft h)
 
-words_keep : (n : ℕ) (word rest : List ℕ) (draft : Draft) → AllBefore (n + 1) draft → Keeps (n + 1) (with_words n word rest draft)
+words_keep : (version : Version) (n : ℕ) (word rest : List ℕ) (draft : Draft) → AllBefore (n + 1) draft → Keeps (n + 1) (with_words version n word rest draft)
 unfolding with_words
-words_keep n word rest draft h =
+words_keep version n word rest draft h =
     let group = keeps_then (n + 1) (heading rest (split_at_first 32 rest)) (λ ids. with_subject n Group ids.0 ids.1 draft) (λ ids. subject_keeps n Group ids.0 ids.1 draft h) in
     let user = keeps_then (n + 1) (heading rest (split_at_first 32 rest)) (λ ids. with_subject n User ids.0 ids.1 draft) (λ ids. subject_keeps n User ids.0 ids.1 draft h) in
     let login = present_keeps (n + 1) (with_login rest) draft h in
     let enable = present_keeps (n + 1) (with_enable rest) draft h in
     let level = present_keeps (n + 1) (with_priv rest) draft h in
-    let permit = present_keeps (n + 1) (with_rule Permit rest) draft h in
-    let deny = present_keeps (n + 1) (with_rule Deny rest) draft h in
+    let permit = present_keeps (n + 1) (with_rule version Permit rest) draft h in
+    let deny = present_keeps (n + 1) (with_rule version Deny rest) draft h in
     search (keeps_if, group, user, login, enable, level, permit, deny) depth 12
 
-trimmed_keeps : (n : ℕ) (line : List ℕ) (draft : Draft) → AllBefore (n + 1) draft → Keeps (n + 1) (with_trimmed n line draft)
+trimmed_keeps : (version : Version) (n : ℕ) (line : List ℕ) (draft : Draft) → AllBefore (n + 1) draft → Keeps (n + 1) (with_trimmed version n line draft)
 unfolding with_trimmed
-trimmed_keeps n line draft h =
-    keeps_if (n + 1) (is_blank line) (Ok draft) (ok_or (split_at_first 32 line) BadLine >>= λ parts. with_words n parts.0 parts.1 draft) h
-    (keeps_then (n + 1) (ok_or (split_at_first 32 line) BadLine) (λ parts. with_words n parts.0 parts.1 draft) (λ parts. words_keep n parts.0 parts.1 draft h))
+trimmed_keeps version n line draft h =
+    keeps_if (n + 1) (is_blank line) (Ok draft) (ok_or (split_at_first 32 line) BadLine >>= λ parts. with_words version n parts.0 parts.1 draft) h
+    (keeps_then (n + 1) (ok_or (split_at_first 32 line) BadLine) (λ parts. with_words version n parts.0 parts.1 draft) (λ parts. words_keep version n parts.0 parts.1 draft h))
 
-line_keeps : (n : ℕ) (line : List ℕ) (draft : Draft) → AllBefore (n + 1) draft → Keeps (n + 1) (with_line n line draft)
+line_keeps : (version : Version) (n : ℕ) (line : List ℕ) (draft : Draft) → AllBefore (n + 1) draft → Keeps (n + 1) (with_line version n line draft)
 unfolding with_line
-line_keeps n line draft h = keeps_if (n + 1) (is_text line) (with_trimmed n (without_leading_spaces line) draft) (Err BadLine) (trimmed_keeps n (without_leading_spaces line) draft h) tt
+line_keeps version n line draft h = keeps_if (n + 1) (is_text line) (with_trimmed version n (without_leading_spaces line) draft) (Err BadLine) (trimmed_keeps version n (without_leading_spaces line) draft h) tt
 
 -- ---- whole texts
 
@@ -99,21 +102,21 @@ Bounded P n (Ok x) = P x
 Bounded P n (Err (Refused line refusal)) = line < n
 Bounded P n (Err Memory) = Unit {0}
 
-line_bounded : (number n : ℕ) (lines : List (List ℕ)) (made : Result Draft PolicyRefusal) → number < n → Keeps (number + 1) made
-    → ((next : Draft) → AllBefore (number + 1) next → Bounded (AllBefore n) n (with_lines (number + 1) lines next))
-    → Bounded (AllBefore n) n (at_line number made >>= λ next. with_lines (number + 1) lines next)
-line_bounded number n lines (Ok next) lt h go_on = go_on next h
-line_bounded number n lines (Err refusal) lt h go_on = lt
+line_bounded : (version : Version) (number n : ℕ) (lines : List (List ℕ)) (made : Result Draft PolicyRefusal) → number < n → Keeps (number + 1) made
+    → ((next : Draft) → AllBefore (number + 1) next → Bounded (AllBefore n) n (with_lines version (number + 1) lines next))
+    → Bounded (AllBefore n) n (at_line number made >>= λ next. with_lines version (number + 1) lines next)
+line_bounded version number n lines (Ok next) lt h go_on = go_on next h
+line_bounded version number n lines (Err refusal) lt h go_on = lt
 
 before_at : (n m : ℕ) (draft : Draft) → n ≡ m → AllBefore n draft → AllBefore m draft
 before_at n m draft e h = let P : ℕ → Type 0 = λ k. AllBefore k draft in subst P e h
 
-lines_bounded : (number n : ℕ) (lines : List (List ℕ)) (draft : Draft) → number + length lines ≡ n → AllBefore number draft → Bounded (AllBefore n) n (with_lines number lines draft)
+lines_bounded : (version : Version) (number n : ℕ) (lines : List (List ℕ)) (draft : Draft) → number + length lines ≡ n → AllBefore number draft → Bounded (AllBefore n) n (with_lines version number lines draft)
 unfolding with_lines
-lines_bounded number n [] draft e h = before_at number n draft (omega arith) h
-lines_bounded number n (line ∷ lines) draft e h =
-    line_bounded number n lines (with_line number line draft) (omega arith) (line_keeps number line draft (before_more number draft h))
-    (λ next below. lines_bounded (number + 1) n lines next (omega arith) below)
+lines_bounded version number n [] draft e h = before_at number n draft (omega arith) h
+lines_bounded version number n (line ∷ lines) draft e h =
+    line_bounded version number n lines (with_line version number line draft) (omega arith) (line_keeps version number line draft (before_more number draft h))
+    (λ next below. lines_bounded version (number + 1) n lines next (omega arith) below)
 
 abbrev FoundBefore : ℕ → Option (ℕ × Subject) → Type 0
 FoundBefore n None = Unit {0}
@@ -169,12 +172,24 @@ few_lines : (text : List ℕ) → length (lines_of text) ≤ length text
 few_lines [] = omega arith
 few_lines (byte ∷ bytes) = omega (arith, lines_few (eqb byte 10) byte (length bytes) (lines_of bytes) (few_lines bytes))
 
+-- a line that says the version counts
+body_if : (b : Bool) (line : List ℕ) (lines : List (List ℕ)) (body : Body)
+    → body ≡ (if b then record { version = Two; number = 2; lines = lines } else record { version = One; number = 1; lines = line ∷ lines })
+    → body.number + length body.lines ≡ 1 + length (line ∷ lines)
+body_if true line lines body e = rw e (omega arith)
+body_if false line lines body e = rw e refl
+
+body_long : (lines : List (List ℕ)) → (body_of lines).number + length (body_of lines).lines ≡ 1 + length lines
+body_long [] = refl
+body_long (line ∷ lines) = body_if (bytes_eq line version_line) line lines (body_of (line ∷ lines)) refl
+
 policy_bounded : (text : List ℕ) → Bounded Any (1 + length (lines_of text)) (policy_of text)
 unfolding policy_of
 policy_bounded text =
+    let body = body_of (lines_of text) in
     let n = 1 + length (lines_of text) in
-    then_bounded (AllBefore n) Any n (with_lines 1 (lines_of text) []) with_right_chains
-    (lines_bounded 1 n (lines_of text) [] refl tt) (λ d all. chains_bounded n d all)
+    then_bounded (AllBefore n) Any n (with_body body) with_right_chains
+    (lines_bounded body.version body.number n body.lines [] (body_long (lines_of text)) tt) (λ d all. chains_bounded n d all)
 
 refused_at : (n line : ℕ) (refusal : PolicyRefusal) (r : Result (List Subject) PolicyFault) → r ≡ Err (Refused line refusal) → Bounded Any n r → line < n
 refused_at n line refusal r e h = let P : Result (List Subject) PolicyFault → Type 0 = Bounded Any n in subst P e h

@@ -9,6 +9,7 @@ use Rattle.std.proofs.lemmas.List.{map-append, length-map}
 use Rattle.std.proofs.lemmas.List.Folds.{list_all-append, list_any-append}
 use Rattle.basics.specs.Symbol.{is_text}
 use Rattle.basics.specs.Lines.{split_at_first, lines_of, without_leading_spaces}
+use Rattle.pol_pattern.specs.declared.version.Version.{Version}
 use Rattle.pol_names.specs.declared.subject_id.Kind.{Kind}
 use Rattle.pol_names.specs.declared.subject_id.Kind.TheVariants.{Group, User}
 use Rattle.pol_names.specs.declared.decision.Verdict.TheVariants.{Permit, Deny}
@@ -21,7 +22,7 @@ use Rattle.pol_text.specs.Draft.{RightDraft}
 use Rattle.pol_names.specs.Name.{is_name, name_of}
 use Rattle.pol_names.specs.SubjectId.{same_kind, same_id}
 use Rattle.pol_text.specs.Policy.{id_of, find_subject, all_distinct, all_of, is_right_subject, has_parent, ends_within, WellFormed}
-use Rattle.pol_text.specs.Text.{◌>>=◌, Draft, subjects_of, named, is_field, with_parent, heading, new_subject, with_subject, behind_first, split_last, with_present, with_login, with_enable, with_priv, with_rule, with_words, is_blank, with_trimmed, with_line, at_line, with_lines, checked, with_right_chains, policy_of}
+use Rattle.pol_text.specs.Text.{◌>>=◌, Draft, subjects_of, named, is_field, with_parent, heading, new_subject, with_subject, behind_first, split_last, with_present, with_login, with_enable, with_priv, with_rule, with_words, is_blank, with_trimmed, with_line, at_line, with_lines, checked, with_right_chains, body_of, with_body, policy_of}
 use Rattle.pol_text.proofs.SettingFacts.{and_left, and_right, right_parts, right_whole, Kept, login_kept, enable_kept, priv_kept, rule_kept}
 
 -- ---- steps that go well
@@ -199,38 +200,38 @@ begun_right number kind rest draft next r h =
     let named = heading_right rest (split_at_first 32 rest) p.0 p.1 in
     subject_right number kind p.0.0 p.0.1 draft next named.0 named.1 r p.2
 
-words_right : (number : ℕ) (word rest : List ℕ) (draft next : Draft) → RightDraft draft → with_words number word rest draft ≡ Ok next → RightDraft next
+words_right : (version : Version) (number : ℕ) (word rest : List ℕ) (draft next : Draft) → RightDraft draft → with_words version number word rest draft ≡ Ok next → RightDraft next
 unfolding with_words
-words_right number word rest draft next r h =
+words_right version number word rest draft next r h =
     either_ok (bytes_eq word (codes "group")) _ _ next (λ k. begun_right number Group rest draft next r k) (λ k.
     either_ok (bytes_eq word (codes "user")) _ _ next (λ k. begun_right number User rest draft next r k) (λ k.
     either_ok (bytes_eq word (codes "login")) _ _ next (λ k. present_right (with_login rest) draft next (login_kept rest) r k) (λ k.
     either_ok (bytes_eq word (codes "enable")) _ _ next (λ k. present_right (with_enable rest) draft next (enable_kept rest) r k) (λ k.
     either_ok (bytes_eq word (codes "priv")) _ _ next (λ k. present_right (with_priv rest) draft next (priv_kept rest) r (first_ok (is_field rest) _ BadLine next k).1) (λ k.
-    either_ok (bytes_eq word (codes "permit")) _ _ next (λ k. present_right (with_rule Permit rest) draft next (rule_kept Permit rest) r k) (λ k.
-    present_right (with_rule Deny rest) draft next (rule_kept Deny rest) r (first_ok (bytes_eq word (codes "deny")) _ BadLine next k).1) k) k) k) k) k) h
+    either_ok (bytes_eq word (codes "permit")) _ _ next (λ k. present_right (with_rule version Permit rest) draft next (rule_kept version Permit rest) r k) (λ k.
+    present_right (with_rule version Deny rest) draft next (rule_kept version Deny rest) r (first_ok (bytes_eq word (codes "deny")) _ BadLine next k).1) k) k) k) k) k) h
 
-trimmed_right : (number : ℕ) (line : List ℕ) (draft next : Draft) → RightDraft draft → with_trimmed number line draft ≡ Ok next → RightDraft next
+trimmed_right : (version : Version) (number : ℕ) (line : List ℕ) (draft next : Draft) → RightDraft draft → with_trimmed version number line draft ≡ Ok next → RightDraft next
 unfolding with_trimmed
-trimmed_right number line draft next r h =
+trimmed_right version number line draft next r h =
     either_ok (is_blank line) (Ok draft) _ next (λ k. let same : next ≡ draft = cc in rw same r)
-    (λ k. let p = bind_ok (ok_or (split_at_first 32 line) BadLine) _ next k in words_right number p.0.0 p.0.1 draft next r p.2) h
+    (λ k. let p = bind_ok (ok_or (split_at_first 32 line) BadLine) _ next k in words_right version number p.0.0 p.0.1 draft next r p.2) h
 
-line_right : (number : ℕ) (line : List ℕ) (draft next : Draft) → RightDraft draft → with_line number line draft ≡ Ok next → RightDraft next
+line_right : (version : Version) (number : ℕ) (line : List ℕ) (draft next : Draft) → RightDraft draft → with_line version number line draft ≡ Ok next → RightDraft next
 unfolding with_line
-line_right number line draft next r h =
-    trimmed_right number (without_leading_spaces line) draft next r (first_ok (is_text line) _ BadLine next h).1
+line_right version number line draft next r h =
+    trimmed_right version number (without_leading_spaces line) draft next r (first_ok (is_text line) _ BadLine next h).1
 
 pub placed_ok : {A : Type 0} (number : ℕ) (r : Result A PolicyRefusal) (x : A) → at_line number r ≡ Ok x → r ≡ Ok x
 placed_ok number (Ok y) x h = cc
 placed_ok number (Err e) x h = absurd cc
 
-pub lines_right : (number : ℕ) (lines : List (List ℕ)) (draft next : Draft) → RightDraft draft → with_lines number lines draft ≡ Ok next → RightDraft next
+pub lines_right : (version : Version) (number : ℕ) (lines : List (List ℕ)) (draft next : Draft) → RightDraft draft → with_lines version number lines draft ≡ Ok next → RightDraft next
 unfolding with_lines
-lines_right number [] draft next r h = let same : next ≡ draft = cc in rw same r
-lines_right number (line ∷ lines) draft next r h =
-    let p = bind_ok (at_line number (with_line number line draft)) _ next h in
-    lines_right (number + 1) lines p.0 next (line_right number line draft p.0 r (placed_ok number (with_line number line draft) p.0 p.1)) p.2
+lines_right version number [] draft next r h = let same : next ≡ draft = cc in rw same r
+lines_right version number (line ∷ lines) draft next r h =
+    let p = bind_ok (at_line number (with_line version number line draft)) _ next h in
+    lines_right version (number + 1) lines p.0 next (line_right version number line draft p.0 r (placed_ok number (with_line version number line draft) p.0 p.1)) p.2
 
 -- ---- chains
 
@@ -289,5 +290,6 @@ chains_right draft policy r h =
 pub read_well_formed : (text : List ℕ) (policy : List Subject) → policy_of text ≡ Ok policy → WellFormed policy
 unfolding policy_of
 read_well_formed text policy h =
-    let p = bind_ok (with_lines 1 (lines_of text) []) with_right_chains policy h in
-    chains_right p.0 policy (lines_right 1 (lines_of text) [] p.0 right-nil p.1) p.2
+    let body = body_of (lines_of text) in
+    let p = bind_ok (with_body body) with_right_chains policy h in
+    chains_right p.0 policy (lines_right body.version body.number body.lines [] p.0 right-nil p.1) p.2

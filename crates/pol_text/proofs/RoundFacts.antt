@@ -10,6 +10,8 @@ use Rattle.std.proofs.lemmas.List.Folds.{list_all-append, list_any-append}
 use Rattle.basics.specs.Symbol.{is_text, is_symbol}
 use Rattle.basics.specs.Lines.{split_at_first, lines_of, onto_first}
 use Rattle.pol_pattern.specs.Reading.{pattern_of}
+use Rattle.pol_pattern.specs.declared.version.Version.{Version}
+use Rattle.pol_pattern.specs.declared.version.Version.TheVariants.{Two}
 use Rattle.pol_names.specs.declared.subject_id.Kind.{Kind}
 use Rattle.pol_names.specs.declared.subject_id.Kind.TheVariants.{Group, User}
 use Rattle.pol_names.specs.declared.decision.Verdict.{Verdict}
@@ -48,28 +50,28 @@ lines_of-text (line ∷ lines) h =
     lines_of-line line (text_of_lines lines) (and_left (is_text line) _ h) ∙ ap (λ (rest : List (List ℕ)). line ∷ rest) (lines_of-text lines (and_right (is_text line) _ h))
 
 -- lines that are read are texts
-pub read_text : (number : ℕ) (lines : List (List ℕ)) (draft next : Draft) → with_lines number lines draft ≡ Ok next → list_all is_text lines ≡ true
+pub read_text : (version : Version) (number : ℕ) (lines : List (List ℕ)) (draft next : Draft) → with_lines version number lines draft ≡ Ok next → list_all is_text lines ≡ true
 unfolding with_lines with_line
-read_text number [] draft next h = refl
-read_text number (line ∷ lines) draft next h =
-    let p = bind_ok (at_line number (with_line number line draft)) _ next h in
-    let q = first_ok (is_text line) _ BadLine p.0 (placed_ok number (with_line number line draft) p.0 p.1) in
-    and_both _ _ q.0 (read_text (number + 1) lines p.0 next p.2)
+read_text version number [] draft next h = refl
+read_text version number (line ∷ lines) draft next h =
+    let p = bind_ok (at_line number (with_line version number line draft)) _ next h in
+    let q = first_ok (is_text line) _ BadLine p.0 (placed_ok number (with_line version number line draft) p.0 p.1) in
+    and_both _ _ q.0 (read_text version (number + 1) lines p.0 next p.2)
 
 -- ---- lines one after another
 
-one_line : (number : ℕ) (line : List ℕ) (draft next : Draft) → with_line number line draft ≡ Ok next → with_lines number (line ∷ []) draft ≡ Ok next
+one_line : (number : ℕ) (line : List ℕ) (draft next : Draft) → with_line Two number line draft ≡ Ok next → with_lines Two number (line ∷ []) draft ≡ Ok next
 unfolding with_lines
 one_line number line draft next h = rw h refl
 
-both : (number : ℕ) (a b : List (List ℕ)) (draft next last : Draft) → with_lines number a draft ≡ Ok next → with_lines (number + length a) b next ≡ Ok last → with_lines number (a ++ b) draft ≡ Ok last
+both : (number : ℕ) (a b : List (List ℕ)) (draft next last : Draft) → with_lines Two number a draft ≡ Ok next → with_lines Two (number + length a) b next ≡ Ok last → with_lines Two number (a ++ b) draft ≡ Ok last
 unfolding with_lines
 both number [] b draft next last h k =
     let same : draft ≡ next = cc in
     let none : number + 0 ≡ number = omega arith in
     rw same (rw none at k)
 both number (line ∷ a) b draft next last h k =
-    let p = bind_ok (at_line number (with_line number line draft)) _ next h in
+    let p = bind_ok (at_line number (with_line Two number line draft)) _ next h in
     let more : number + suc (length a) ≡ number + 1 + length a = omega arith in
     rw p.1 (both (number + 1) a b p.0 next last p.2 (rw more at k))
 
@@ -104,12 +106,12 @@ named_is name h = rw h refl
 -- ---- the line that begins a subject
 
 group_line : (number : ℕ) (rest : List ℕ) (draft : Draft) → is_text rest ≡ true
-    → with_line number (codes "group " ++ rest) draft ≡ (heading rest (split_at_first 32 rest) >>= λ ids. with_subject number Group ids.0 ids.1 draft)
+    → with_line Two number (codes "group " ++ rest) draft ≡ (heading rest (split_at_first 32 rest) >>= λ ids. with_subject number Group ids.0 ids.1 draft)
 unfolding with_line with_trimmed with_words
 group_line number rest draft h = rw h refl
 
 user_line : (number : ℕ) (rest : List ℕ) (draft : Draft) → is_text rest ≡ true
-    → with_line number (codes "user " ++ rest) draft ≡ (heading rest (split_at_first 32 rest) >>= λ ids. with_subject number User ids.0 ids.1 draft)
+    → with_line Two number (codes "user " ++ rest) draft ≡ (heading rest (split_at_first 32 rest) >>= λ ids. with_subject number User ids.0 ids.1 draft)
 unfolding with_line with_trimmed with_words
 user_line number rest draft h = rw h refl
 
@@ -137,7 +139,7 @@ subject_new number kind name parent draft none room =
 
 begun : (number : ℕ) (kind : Kind) (name : List ℕ) (parent : Option (List ℕ)) (draft : Draft) → is_name name ≡ true → all_of is_name parent ≡ true
     → is_some (find_subject (record { kind = kind; name = name }) (subjects_of draft)) ≡ false → length draft < 1024
-    → with_line number (kind_word kind ++ name ++ behind_name parent) draft ≡ Ok (draft ++ (number, new_subject kind name parent) ∷ [])
+    → with_line Two number (kind_word kind ++ name ++ behind_name parent) draft ≡ Ok (draft ++ (number, new_subject kind name parent) ∷ [])
 begun number Group name parent draft h k none room =
     group_line number (name ++ behind_name parent) draft (heading_text name parent h k) ∙ rw (heading_is name parent h k) (subject_new number Group name parent draft none room)
 begun number User name parent draft h k none room =
@@ -145,19 +147,19 @@ begun number User name parent draft h k none room =
 
 -- ---- settings
 
-login_line : (number : ℕ) (text : List ℕ) (draft : Draft) → is_text text ≡ true → with_line number (codes "login " ++ text) draft ≡ with_present (with_login text) draft
+login_line : (number : ℕ) (text : List ℕ) (draft : Draft) → is_text text ≡ true → with_line Two number (codes "login " ++ text) draft ≡ with_present (with_login text) draft
 unfolding with_line with_trimmed with_words
 login_line number text draft h = rw h refl
 
-enable_line : (number : ℕ) (text : List ℕ) (draft : Draft) → is_text text ≡ true → with_line number (codes "enable " ++ text) draft ≡ with_present (with_enable text) draft
+enable_line : (number : ℕ) (text : List ℕ) (draft : Draft) → is_text text ≡ true → with_line Two number (codes "enable " ++ text) draft ≡ with_present (with_enable text) draft
 unfolding with_line with_trimmed with_words
 enable_line number text draft h = rw h refl
 
-priv_line : (number : ℕ) (text : List ℕ) (draft : Draft) → is_text text ≡ true → is_field text ≡ true → with_line number (codes "priv " ++ text) draft ≡ with_present (with_priv text) draft
+priv_line : (number : ℕ) (text : List ℕ) (draft : Draft) → is_text text ≡ true → is_field text ≡ true → with_line Two number (codes "priv " ++ text) draft ≡ with_present (with_priv text) draft
 unfolding with_line with_trimmed with_words
 priv_line number text draft h k = rw (h, k) refl
 
-verdict_line : (number : ℕ) (verdict : Verdict) (text : List ℕ) (draft : Draft) → is_text text ≡ true → with_line number (verdict_word verdict ++ text) draft ≡ with_present (with_rule verdict text) draft
+verdict_line : (number : ℕ) (verdict : Verdict) (text : List ℕ) (draft : Draft) → is_text text ≡ true → with_line Two number (verdict_word verdict ++ text) draft ≡ with_present (with_rule Two verdict text) draft
 unfolding with_line with_trimmed with_words
 verdict_line number Permit text draft h = rw h refl
 verdict_line number Deny text draft h = rw h refl
@@ -174,7 +176,7 @@ module _ (number at : ℕ) (front : Draft) (name : List ℕ) (parent : Option (L
   with_last subject = front ++ (at, subject) ∷ []
 
   logged : (kind : Kind) (login enable : Option (List ℕ)) → all_of is_secret login ≡ true → (same_kind kind User || not (is_some login || is_some enable)) ≡ true
-      → with_lines number (line_for (λ secret. codes "login " ++ secret) login) (with_last (made kind name parent None None None [])) ≡ Ok (with_last (made kind name parent login None None []))
+      → with_lines Two number (line_for (λ secret. codes "login " ++ secret) login) (with_last (made kind name parent None None None [])) ≡ Ok (with_last (made kind name parent login None None []))
   unfolding with_lines
   logged kind None enable right user = refl
   logged Group (Some secret) enable right user = absurd cc
@@ -184,7 +186,7 @@ module _ (number at : ℕ) (front : Draft) (name : List ℕ) (parent : Option (L
       ∙ present_is (with_login secret) front at (made User name parent None None None []) ∙ rw right refl)
 
   enabled : (kind : Kind) (login enable : Option (List ℕ)) → all_of is_secret enable ≡ true → (same_kind kind User || not (is_some login || is_some enable)) ≡ true
-      → with_lines number (line_for (λ secret. codes "enable " ++ secret) enable) (with_last (made kind name parent login None None [])) ≡ Ok (with_last (made kind name parent login enable None []))
+      → with_lines Two number (line_for (λ secret. codes "enable " ++ secret) enable) (with_last (made kind name parent login None None [])) ≡ Ok (with_last (made kind name parent login enable None []))
   unfolding with_lines
   enabled kind login None right user = refl
   enabled Group None (Some secret) right user = absurd cc
@@ -195,7 +197,7 @@ module _ (number at : ℕ) (front : Draft) (name : List ℕ) (parent : Option (L
       ∙ present_is (with_enable secret) front at (made User name parent login None None []) ∙ rw right refl)
 
   levelled : (kind : Kind) (login enable : Option (List ℕ)) (level : Option ℕ) → all_of (λ level. nat_le level 15) level ≡ true
-      → with_lines number (line_for (λ level. codes "priv " ++ decimal level) level) (with_last (made kind name parent login enable None [])) ≡ Ok (with_last (made kind name parent login enable level []))
+      → with_lines Two number (line_for (λ level. codes "priv " ++ decimal level) level) (with_last (made kind name parent login enable None [])) ≡ Ok (with_last (made kind name parent login enable level []))
   unfolding with_lines
   levelled kind login enable None right = refl
   levelled kind login enable (Some level) right =
@@ -205,17 +207,17 @@ module _ (number at : ℕ) (front : Draft) (name : List ℕ) (parent : Option (L
       ∙ present_is (with_priv (decimal level)) front at (made kind name parent login enable None []) ∙ rw r.read refl)
 
   ruled : (kind : Kind) (login enable : Option (List ℕ)) (level : Option ℕ) (verdict : Verdict) (pattern : List ℕ) (done : List Rule) → is_ok (pattern_of pattern) ≡ true → length done < 256
-      → with_line number (verdict_word verdict ++ pattern) (with_last (made kind name parent login enable level done))
+      → with_line Two number (verdict_word verdict ++ pattern) (with_last (made kind name parent login enable level done))
       ≡ Ok (with_last (made kind name parent login enable level (done ++ record { verdict = verdict; pattern = pattern } ∷ [])))
   ruled kind login enable level verdict pattern done right room =
       let test : nat_le 256 (length done) ≡ false = grind (arith, nat_tests) in
       verdict_line number verdict pattern (with_last (made kind name parent login enable level done)) (pattern_text pattern right)
-      ∙ present_is (with_rule verdict pattern) front at (made kind name parent login enable level done)
-      ∙ rw (rule_read verdict pattern pattern (made kind name parent login enable level done) (pattern_same pattern right), test) refl
+      ∙ present_is (with_rule Two verdict pattern) front at (made kind name parent login enable level done)
+      ∙ rw (rule_read Two verdict pattern pattern (made kind name parent login enable level done) (pattern_same pattern right), test) refl
 
 all_ruled : (number at : ℕ) (front : Draft) (name : List ℕ) (parent : Option (List ℕ)) (kind : Kind) (login enable : Option (List ℕ)) (level : Option ℕ) (done rules : List Rule)
     → list_all is_right_rule rules ≡ true → length done + length rules ≤ 256
-    → with_lines number (map rule_line rules) (front ++ (at, made kind name parent login enable level done) ∷ []) ≡ Ok (front ++ (at, made kind name parent login enable level (done ++ rules)) ∷ [])
+    → with_lines Two number (map rule_line rules) (front ++ (at, made kind name parent login enable level done) ∷ []) ≡ Ok (front ++ (at, made kind name parent login enable level (done ++ rules)) ∷ [])
 unfolding with_lines
 all_ruled number at front name parent kind login enable level done [] right room =
     let whole : done ++ [] ≡ done = rules-nil done in rw whole refl
@@ -234,7 +236,7 @@ all_ruled number at front name parent kind login enable level done (rule ∷ rul
 -- ---- a subject
 
 subject_read : (number : ℕ) (draft : Draft) (subject : Subject) → is_right_subject subject ≡ true → is_some (find_subject (id_of subject) (subjects_of draft)) ≡ false → length draft < 1024
-    → with_lines number (subject_lines subject) draft ≡ Ok (draft ++ (number, subject) ∷ [])
+    → with_lines Two number (subject_lines subject) draft ≡ Ok (draft ++ (number, subject) ∷ [])
 subject_read number draft subject right none room =
     let r = right_parts subject right in
     let kind = subject.kind in
@@ -283,7 +285,7 @@ apart (x ∷ before) after id h =
     not_is false k = refl
 
 policy_read : (number : ℕ) (draft : Draft) (policy : List Subject) → list_all is_right_subject policy ≡ true → all_distinct (map id_of (subjects_of draft ++ policy)) ≡ true
-    → length draft + length policy ≤ 1024 → with_lines number (policy_lines policy) draft ≡ Ok (draft ++ numbered number policy)
+    → length draft + length policy ≤ 1024 → with_lines Two number (policy_lines policy) draft ≡ Ok (draft ++ numbered number policy)
 unfolding with_lines numbered
 policy_read number draft [] right distinct few = let whole : draft ++ [] ≡ draft = draft-nil draft in rw whole refl
   where
@@ -334,6 +336,6 @@ pub read_again : (policy : List Subject) → WellFormed policy → policy_of (te
 unfolding policy_of text_of
 read_again policy well =
     let few = well.few in
-    let read = policy_read 1 [] policy well.right well.distinct (omega arith) in
-    let lines = lines_of-text (policy_lines policy) (read_text 1 (policy_lines policy) [] (numbered 1 policy) read) in
-    rw (lines, read) (chains_read (numbered 1 policy) policy (subjects-numbered 1 policy) well.parents well.short)
+    let read = policy_read 2 [] policy well.right well.distinct (omega arith) in
+    let lines = lines_of-text (policy_lines policy) (read_text Two 2 (policy_lines policy) [] (numbered 2 policy) read) in
+    rw (lines, read) (chains_read (numbered 2 policy) policy (subjects-numbered 2 policy) well.parents well.short)

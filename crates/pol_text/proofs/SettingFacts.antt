@@ -6,7 +6,10 @@ use Rattle.std.specs.Option.{option_and_then}
 use Rattle.std.proofs.lemmas.Bool.Decides.{nat_tests}
 use Rattle.std.proofs.lemmas.List.Folds.{list_all-append}
 use Rattle.basics.specs.Number.{number_of}
-use Rattle.pol_pattern.specs.Reading.{pattern_of, reading}
+use Rattle.pol_pattern.specs.Upgrading.{upgraded}
+use Rattle.pol_pattern.specs.Reading.{reading_by, reading, pattern_of, pattern_of_old}
+use Rattle.pol_pattern.specs.declared.version.Version.{Version}
+use Rattle.pol_pattern.specs.declared.version.Version.TheVariants.{One, Two}
 use Rattle.pol_pattern.specs.Flat.{Terms}
 use Rattle.pol_pattern.specs.declared.fault.PatternFault.{PatternFault}
 use Rattle.pol_names.specs.declared.secret.Credential.TheVariants.{Login, Enable}
@@ -22,7 +25,7 @@ use Rattle.pol_names.specs.Secret.{is_secret, secret_of}
 use Rattle.pol_names.specs.SubjectId.{same_kind}
 use Rattle.pol_text.specs.Policy.{id_of, all_of, is_right_rule, has_right_secrets, is_right_subject}
 use Rattle.pol_text.specs.Setting.{changed_by}
-use Rattle.pol_text.specs.Text.{set_once, with_login, with_enable, with_priv, with_rule, level_of}
+use Rattle.pol_text.specs.Text.{set_once, with_login, with_enable, with_priv, with_rule, level_of, pattern_in}
 
 -- ---- tests
 
@@ -98,9 +101,9 @@ level_right text level h = by (number_of 4 text) h
     by (Some n) k = within n (nat_le n 15) refl k
 
 -- what is read as a pattern is one
-pattern_right : (text pattern : List ℕ) → pattern_of text ≡ Ok pattern → is_ok (pattern_of pattern) ≡ true
+new_right : (text pattern : List ℕ) → pattern_of text ≡ Ok pattern → is_ok (pattern_of pattern) ≡ true
 unfolding pattern_of
-pattern_right text pattern h = by (reading text) refl h
+new_right text pattern h = by (reading text) refl h
   where
     by : (r : Result Terms PatternFault) → reading text ≡ r → pattern_of text ≡ Ok pattern → is_ok (pattern_of pattern) ≡ true
     by (Ok flat) e k =
@@ -108,6 +111,19 @@ pattern_right text pattern h = by (reading text) refl h
         let same : text ≡ pattern = cc in
         rw (← same, e) refl
     by (Err fault) e k = let none = rw e at k in absurd cc
+
+-- of an old one too, as its new source is read
+old_right : (text pattern : List ℕ) → pattern_of_old text ≡ Ok pattern → is_ok (pattern_of pattern) ≡ true
+unfolding pattern_of_old
+old_right text pattern h = by (reading_by One text) refl h
+  where
+    by : (r : Result Terms PatternFault) → reading_by One text ≡ r → pattern_of_old text ≡ Ok pattern → is_ok (pattern_of pattern) ≡ true
+    by (Ok flat) e k = new_right (upgraded text) pattern (rw e at k)
+    by (Err fault) e k = let none = rw e at k in absurd cc
+
+pub pattern_right : (version : Version) (text pattern : List ℕ) → pattern_in version text ≡ Ok pattern → is_ok (pattern_of pattern) ≡ true
+pattern_right One text pattern h = old_right text pattern h
+pattern_right Two text pattern h = new_right text pattern h
 
 -- ---- what a change keeps
 
@@ -182,21 +198,21 @@ priv_kept text subject next h =
       } in rw m.2 made;
     }
 
-pub rule_read : (verdict : Verdict) (text pattern : List ℕ) (subject : Subject) → pattern_of text ≡ Ok pattern
-    → with_rule verdict text subject ≡ cond (nat_le 256 (length subject.rules)) (Err Limit) (Ok (record subject { rules = subject.rules ++ record { verdict = verdict; pattern = pattern } ∷ [] }))
+pub rule_read : (version : Version) (verdict : Verdict) (text pattern : List ℕ) (subject : Subject) → pattern_in version text ≡ Ok pattern
+    → with_rule version verdict text subject ≡ cond (nat_le 256 (length subject.rules)) (Err Limit) (Ok (record subject { rules = subject.rules ++ record { verdict = verdict; pattern = pattern } ∷ [] }))
 unfolding with_rule
-rule_read verdict text pattern subject e = rw e refl
+rule_read version verdict text pattern subject e = rw e refl
 
-pub rule_refused : (verdict : Verdict) (text : List ℕ) (fault : PatternFault) (subject : Subject) → pattern_of text ≡ Err fault → with_rule verdict text subject ≡ Err (BadPattern fault)
+pub rule_refused : (version : Version) (verdict : Verdict) (text : List ℕ) (fault : PatternFault) (subject : Subject) → pattern_in version text ≡ Err fault → with_rule version verdict text subject ≡ Err (BadPattern fault)
 unfolding with_rule
-rule_refused verdict text fault subject e = rw e refl
+rule_refused version verdict text fault subject e = rw e refl
 
-pub rule_kept : (verdict : Verdict) (text : List ℕ) (subject next : Subject) → with_rule verdict text subject ≡ Ok next → Kept subject next
-rule_kept verdict text subject next h = by (pattern_of text) refl
+pub rule_kept : (version : Version) (verdict : Verdict) (text : List ℕ) (subject next : Subject) → with_rule version verdict text subject ≡ Ok next → Kept subject next
+rule_kept version verdict text subject next h = by (pattern_in version text) refl
   where
-    more : (pattern : List ℕ) → pattern_of text ≡ Ok pattern → Right subject → nat_le 256 (length subject.rules) ≡ false → Right (record subject { rules = subject.rules ++ record { verdict = verdict; pattern = pattern } ∷ [] })
+    more : (pattern : List ℕ) → pattern_in version text ≡ Ok pattern → Right subject → nat_le 256 (length subject.rules) ≡ false → Right (record subject { rules = subject.rules ++ record { verdict = verdict; pattern = pattern } ∷ [] })
     more pattern e r room =
-        let one : is_right_rule (record { verdict = verdict; pattern = pattern }) ≡ true = pattern_right text pattern e in
+        let one : is_right_rule (record { verdict = verdict; pattern = pattern }) ≡ true = pattern_right version text pattern e in
         record {
           name = r.name;
           parent = r.parent;
@@ -208,19 +224,19 @@ rule_kept verdict text subject next h = by (pattern_of text) refl
           rules = list_all-append is_right_rule subject.rules (record { verdict = verdict; pattern = pattern } ∷ []) ∙ rw (r.rules, one) refl;
         }
 
-    fits : (pattern : List ℕ) → pattern_of text ≡ Ok pattern → (b : Bool) → nat_le 256 (length subject.rules) ≡ b
+    fits : (pattern : List ℕ) → pattern_in version text ≡ Ok pattern → (b : Bool) → nat_le 256 (length subject.rules) ≡ b
         → cond b (Err Limit) (Ok (record subject { rules = subject.rules ++ record { verdict = verdict; pattern = pattern } ∷ [] })) ≡ Ok next → Kept subject next
     fits pattern e true room k = absurd cc
     fits pattern e false room k =
         let is : next ≡ record subject { rules = subject.rules ++ record { verdict = verdict; pattern = pattern } ∷ [] } = cc in
         record { same = ap id_of is; right = λ (r : Right subject). rw is (more pattern e r room) }
 
-    by : (p : Result (List ℕ) PatternFault) → pattern_of text ≡ p → Kept subject next
-    by (Ok pattern) e = fits pattern e (nat_le 256 (length subject.rules)) refl (sym (rule_read verdict text pattern subject e) ∙ h)
-    by (Err fault) e = let none = sym (rule_refused verdict text fault subject e) ∙ h in absurd cc
+    by : (p : Result (List ℕ) PatternFault) → pattern_in version text ≡ p → Kept subject next
+    by (Ok pattern) e = fits pattern e (nat_le 256 (length subject.rules)) refl (sym (rule_read version verdict text pattern subject e) ∙ h)
+    by (Err fault) e = let none = sym (rule_refused version verdict text fault subject e) ∙ h in absurd cc
 
 pub change_kept : (setting : Setting) (subject next : Subject) → changed_by setting subject ≡ Ok next → Kept subject next
 change_kept (settings.Secret Login text) subject next h = login_kept text.now subject next h
 change_kept (settings.Secret Enable text) subject next h = enable_kept text.now subject next h
 change_kept (settings.Priv text) subject next h = priv_kept text.now subject next h
-change_kept (settings.Rule verdict text) subject next h = rule_kept verdict text.now subject next h
+change_kept (settings.Rule version verdict text) subject next h = rule_kept version verdict text.now subject next h

@@ -1,7 +1,6 @@
 -- What is read is spelled so.
 use Rattle.std.proofs.Common.{◌≡◌, ℕ, ◌+◌, ◌<◌, Bool, true, false, cond, eqb, ◌&&◌, List, [], ◌∷◌, ◌++◌, length, codes, nat_le, Option, None, Some, Result, Ok, Err, ok_or, is_some, refl, sym, ap, subst, ◌∙◌, arith, append-nil, append_assoc}
 use Rattle.std.specs.Option.{option_map}
-use Rattle.std.specs.Result.{is_ok}
 use Rattle.std.specs.Str.{bytes_eq}
 use Rattle.std.proofs.lemmas.Bool.{eqb-true}
 use Rattle.std.proofs.lemmas.Bool.Decides.{nat_tests}
@@ -9,7 +8,7 @@ use Rattle.std.proofs.lemmas.List.{length-map}
 use Rattle.std.proofs.lemmas.Slice.Eq.{bytes_eq-Decides}
 use Rattle.basics.specs.Symbol.{is_text}
 use Rattle.basics.specs.Lines.{split_at_first, lines_of, without_leading_spaces}
-use Rattle.pol_pattern.specs.Reading.{pattern_of}
+use Rattle.pol_pattern.specs.declared.version.Version.{Version}
 use Rattle.pol_pattern.specs.declared.fault.PatternFault.{PatternFault}
 use Rattle.pol_names.specs.Name.{is_name, name_of}
 use Rattle.pol_names.specs.Secret.{is_secret, secret_of}
@@ -23,10 +22,9 @@ use Rattle.pol_text.specs.declared.subject.Subject.{Subject}
 use Rattle.pol_text.specs.declared.fault.PolicyRefusal.{PolicyRefusal}
 use Rattle.pol_text.specs.declared.fault.PolicyRefusal.TheVariants.{BadLine, BadName, Repeated, Limit, NoSubject}
 use Rattle.pol_text.specs.Policy.{find_subject}
-use Rattle.pol_text.specs.Text.{◌>>=◌, Draft, subjects_of, named, is_field, with_parent, heading, new_subject, with_subject, split_last, with_present, set_once, with_login, with_enable, level_of, with_priv, with_rule, with_words, is_blank, with_trimmed, with_line, at_line, with_lines, with_right_chains, policy_of}
+use Rattle.pol_text.specs.Text.{◌>>=◌, Draft, subjects_of, named, is_field, with_parent, heading, new_subject, with_subject, split_last, with_present, set_once, with_login, with_enable, level_of, with_priv, with_rule, with_words, is_blank, with_trimmed, with_line, at_line, with_lines, with_right_chains, policy_of, pattern_in, body_of, with_body}
 use Rattle.pol_text.specs.Spelling.{Sets, login, enable, level, rule, Adds, begins, sets, Extends, meaningful, Spells}
 use Rattle.pol_text.proofs.SettingFacts.{and_left, rule_read, rule_refused}
-use Rattle.pol_text.proofs.PatternFacts.{pattern_same}
 use Rattle.pol_text.proofs.RightFacts.{bind_ok, some_of, first_ok, second_ok, placed_ok, heading_right, split_back, subjects-push, chains_same, read_well_formed}
 use Rattle.pol_text.proofs.RoundFacts.{behind_name, read_text}
 
@@ -92,10 +90,10 @@ none_found : {A : Type 0} (o : Option A) → is_some o ≡ false → o ≡ None
 none_found None h = refl
 none_found (Some x) h = absurd cc
 
-begun_adds : (number : ℕ) (kind : Kind) (line rest : List ℕ) (draft next : Draft) → line ≡ kind_word kind ++ rest
-    → (heading rest (split_at_first 32 rest) >>= λ ids. with_subject number kind ids.0 ids.1 draft) ≡ Ok next → Adds (subjects_of draft) line (subjects_of next)
+begun_adds : (version : Version) (number : ℕ) (kind : Kind) (line rest : List ℕ) (draft next : Draft) → line ≡ kind_word kind ++ rest
+    → (heading rest (split_at_first 32 rest) >>= λ ids. with_subject number kind ids.0 ids.1 draft) ≡ Ok next → Adds version (subjects_of draft) line (subjects_of next)
 unfolding with_subject
-begun_adds number kind line rest draft next spelled h =
+begun_adds version number kind line rest draft next spelled h =
     let p = bind_ok (heading rest (split_at_first 32 rest)) _ next h in
     let right = heading_right rest (split_at_first 32 rest) p.0 p.1 in
     let a = second_ok (is_some (find_subject (record { kind = kind; name = p.0.0 }) (subjects_of draft))) Repeated _ next p.2 in
@@ -124,49 +122,47 @@ secret_same text secret h = by (is_secret text) refl h
     by true e k = (e, cc)
     by false e k = absurd cc
 
-login_sets : (line text : List ℕ) (old new : Subject) → line ≡ codes "login " ++ text → with_login text old ≡ Ok new → Sets old line new
-login_sets line text old new spelled h = by old.kind refl h
+login_sets : (version : Version) (line text : List ℕ) (old new : Subject) → line ≡ codes "login " ++ text → with_login text old ≡ Ok new → Sets version old line new
+login_sets version line text old new spelled h = by old.kind refl h
   where
-    by : (k : Kind) → old.kind ≡ k → cond (same_kind k Group) (Err BadLine) (set_once old.login (secret_of text) (λ secret. record old { login = Some secret })) ≡ Ok new → Sets old line new
+    by : (k : Kind) → old.kind ≡ k → cond (same_kind k Group) (Err BadLine) (set_once old.login (secret_of text) (λ secret. record old { login = Some secret })) ≡ Ok new → Sets version old line new
     by Group e k = absurd cc
     by User e k =
         let m = once old.login (secret_of text) (λ secret. record old { login = Some secret }) new k in
         let s = secret_same text m.1.0 m.1.1 in
         login text s.0 spelled e m.0 (m.1.2 ∙ ap (λ (secret : List ℕ). record old { login = Some secret }) s.1)
 
-enable_sets : (line text : List ℕ) (old new : Subject) → line ≡ codes "enable " ++ text → with_enable text old ≡ Ok new → Sets old line new
-enable_sets line text old new spelled h = by old.kind refl h
+enable_sets : (version : Version) (line text : List ℕ) (old new : Subject) → line ≡ codes "enable " ++ text → with_enable text old ≡ Ok new → Sets version old line new
+enable_sets version line text old new spelled h = by old.kind refl h
   where
-    by : (k : Kind) → old.kind ≡ k → cond (same_kind k Group) (Err BadLine) (set_once old.enable (secret_of text) (λ secret. record old { enable = Some secret })) ≡ Ok new → Sets old line new
+    by : (k : Kind) → old.kind ≡ k → cond (same_kind k Group) (Err BadLine) (set_once old.enable (secret_of text) (λ secret. record old { enable = Some secret })) ≡ Ok new → Sets version old line new
     by Group e k = absurd cc
     by User e k =
         let m = once old.enable (secret_of text) (λ secret. record old { enable = Some secret }) new k in
         let s = secret_same text m.1.0 m.1.1 in
         enable text s.0 spelled e m.0 (m.1.2 ∙ ap (λ (secret : List ℕ). record old { enable = Some secret }) s.1)
 
-level_sets : (line text : List ℕ) (old new : Subject) → line ≡ codes "priv " ++ text → with_priv text old ≡ Ok new → Sets old line new
-level_sets line text old new spelled h =
+level_sets : (version : Version) (line text : List ℕ) (old new : Subject) → line ≡ codes "priv " ++ text → with_priv text old ≡ Ok new → Sets version old line new
+level_sets version line text old new spelled h =
     let m = once old.priv_lvl (level_of text) (λ level. record old { priv_lvl = Some level }) new h in
     level text m.1.0 m.1.1 spelled m.0 m.1.2
 
-rule_sets : (verdict : Verdict) (line text : List ℕ) (old new : Subject) → line ≡ verdict_word verdict ++ text → with_rule verdict text old ≡ Ok new → Sets old line new
-rule_sets verdict line text old new spelled h = by (pattern_of text) refl
+rule_sets : (version : Version) (verdict : Verdict) (line text : List ℕ) (old new : Subject) → line ≡ verdict_word verdict ++ text → with_rule version verdict text old ≡ Ok new → Sets version old line new
+rule_sets version verdict line text old new spelled h = by (pattern_in version text) refl
   where
-    by : (p : Result (List ℕ) PatternFault) → pattern_of text ≡ p → Sets old line new
+    by : (p : Result (List ℕ) PatternFault) → pattern_in version text ≡ p → Sets version old line new
     by (Ok pattern) e =
-        let right : is_ok (pattern_of text) ≡ true = ap is_ok e in
-        let itself : pattern_of text ≡ Ok text = pattern_same text right in
-        let k = second_ok (nat_le 256 (length old.rules)) Limit _ new (sym (rule_read verdict text text old itself) ∙ h) in
+        let k = second_ok (nat_le 256 (length old.rules)) Limit _ new (sym (rule_read version verdict text pattern old e) ∙ h) in
         let test = k.0 in
         let room : length old.rules < 256 = grind (arith, nat_tests) in
-        let is : new ≡ record old { rules = old.rules ++ record { verdict = verdict; pattern = text } ∷ [] } = cc in
-        rule (record { verdict = verdict; pattern = text }) right spelled room is
-    by (Err fault) e = let none = sym (rule_refused verdict text fault old e) ∙ h in absurd cc
+        let is : new ≡ record old { rules = old.rules ++ record { verdict = verdict; pattern = pattern } ∷ [] } = cc in
+        rule verdict text pattern e spelled room is
+    by (Err fault) e = let none = sym (rule_refused version verdict text fault old e) ∙ h in absurd cc
 
-set_adds : (line : List ℕ) (change : Subject → Result Subject PolicyRefusal) (draft next : Draft) → ((old new : Subject) → change old ≡ Ok new → Sets old line new)
-    → with_present change draft ≡ Ok next → Adds (subjects_of draft) line (subjects_of next)
+set_adds : (version : Version) (line : List ℕ) (change : Subject → Result Subject PolicyRefusal) (draft next : Draft) → ((old new : Subject) → change old ≡ Ok new → Sets version old line new)
+    → with_present change draft ≡ Ok next → Adds version (subjects_of draft) line (subjects_of next)
 unfolding with_present
-set_adds line change draft next each h =
+set_adds version line change draft next each h =
     let p = bind_ok (ok_or (split_last draft) NoSubject) _ next h in
     let q = bind_ok (change p.0.1.1) _ next p.2 in
     let is : next ≡ p.0.0 ++ (p.0.1.0, q.0) ∷ [] = cc in
@@ -179,52 +175,53 @@ set_adds line change draft next each h =
 abbrev behind_word : List ℕ → List ℕ → List ℕ
 behind_word rest word = word ++ 32 ∷ rest
 
-words_add : (number : ℕ) (word rest : List ℕ) (draft next : Draft) → with_words number word rest draft ≡ Ok next → Adds (subjects_of draft) (word ++ 32 ∷ rest) (subjects_of next)
+words_add : (version : Version) (number : ℕ) (word rest : List ℕ) (draft next : Draft) → with_words version number word rest draft ≡ Ok next → Adds version (subjects_of draft) (word ++ 32 ∷ rest) (subjects_of next)
 unfolding with_words
-words_add number word rest draft next h =
-    either (bytes_eq word (codes "group")) _ _ next (λ w k. begun_adds number Group (word ++ 32 ∷ rest) rest draft next (ap (behind_word rest) (word_is word (codes "group") w)) k) (λ k.
-    either (bytes_eq word (codes "user")) _ _ next (λ w k. begun_adds number User (word ++ 32 ∷ rest) rest draft next (ap (behind_word rest) (word_is word (codes "user") w)) k) (λ k.
-    either (bytes_eq word (codes "login")) _ _ next (λ w k. set_adds (word ++ 32 ∷ rest) (with_login rest) draft next (λ old new. login_sets (word ++ 32 ∷ rest) rest old new (ap (behind_word rest) (word_is word (codes "login") w))) k) (λ k.
-    either (bytes_eq word (codes "enable")) _ _ next (λ w k. set_adds (word ++ 32 ∷ rest) (with_enable rest) draft next (λ old new. enable_sets (word ++ 32 ∷ rest) rest old new (ap (behind_word rest) (word_is word (codes "enable") w))) k) (λ k.
-    either (bytes_eq word (codes "priv")) _ _ next (λ w k. set_adds (word ++ 32 ∷ rest) (with_priv rest) draft next (λ old new. level_sets (word ++ 32 ∷ rest) rest old new (ap (behind_word rest) (word_is word (codes "priv") w))) (first_ok (is_field rest) _ BadLine next k).1) (λ k.
-    either (bytes_eq word (codes "permit")) _ _ next (λ w k. set_adds (word ++ 32 ∷ rest) (with_rule Permit rest) draft next (λ old new. rule_sets Permit (word ++ 32 ∷ rest) rest old new (ap (behind_word rest) (word_is word (codes "permit") w))) k) (λ k.
+words_add version number word rest draft next h =
+    either (bytes_eq word (codes "group")) _ _ next (λ w k. begun_adds version number Group (word ++ 32 ∷ rest) rest draft next (ap (behind_word rest) (word_is word (codes "group") w)) k) (λ k.
+    either (bytes_eq word (codes "user")) _ _ next (λ w k. begun_adds version number User (word ++ 32 ∷ rest) rest draft next (ap (behind_word rest) (word_is word (codes "user") w)) k) (λ k.
+    either (bytes_eq word (codes "login")) _ _ next (λ w k. set_adds version (word ++ 32 ∷ rest) (with_login rest) draft next (λ old new. login_sets version (word ++ 32 ∷ rest) rest old new (ap (behind_word rest) (word_is word (codes "login") w))) k) (λ k.
+    either (bytes_eq word (codes "enable")) _ _ next (λ w k. set_adds version (word ++ 32 ∷ rest) (with_enable rest) draft next (λ old new. enable_sets version (word ++ 32 ∷ rest) rest old new (ap (behind_word rest) (word_is word (codes "enable") w))) k) (λ k.
+    either (bytes_eq word (codes "priv")) _ _ next (λ w k. set_adds version (word ++ 32 ∷ rest) (with_priv rest) draft next (λ old new. level_sets version (word ++ 32 ∷ rest) rest old new (ap (behind_word rest) (word_is word (codes "priv") w))) (first_ok (is_field rest) _ BadLine next k).1) (λ k.
+    either (bytes_eq word (codes "permit")) _ _ next (λ w k. set_adds version (word ++ 32 ∷ rest) (with_rule version Permit rest) draft next (λ old new. rule_sets version Permit (word ++ 32 ∷ rest) rest old new (ap (behind_word rest) (word_is word (codes "permit") w))) k) (λ k.
     let q = first_ok (bytes_eq word (codes "deny")) _ BadLine next k in
-    set_adds (word ++ 32 ∷ rest) (with_rule Deny rest) draft next (λ old new. rule_sets Deny (word ++ 32 ∷ rest) rest old new (ap (behind_word rest) (word_is word (codes "deny") q.0))) q.1) k) k) k) k) k) h
+    set_adds version (word ++ 32 ∷ rest) (with_rule version Deny rest) draft next (λ old new. rule_sets version Deny (word ++ 32 ∷ rest) rest old new (ap (behind_word rest) (word_is word (codes "deny") q.0))) q.1) k) k) k) k) k) h
 
-trimmed_adds : (number : ℕ) (line : List ℕ) (draft next : Draft) → is_blank line ≡ false → with_trimmed number line draft ≡ Ok next → Adds (subjects_of draft) line (subjects_of next)
+trimmed_adds : (version : Version) (number : ℕ) (line : List ℕ) (draft next : Draft) → is_blank line ≡ false → with_trimmed version number line draft ≡ Ok next → Adds version (subjects_of draft) line (subjects_of next)
 unfolding with_trimmed
-trimmed_adds number line draft next says h =
+trimmed_adds version number line draft next says h =
     let p = bind_ok (ok_or (split_at_first 32 line) BadLine) _ next (rw says at h) in
     let whole = joined line p.0 (some_of (split_at_first 32 line) BadLine p.0 p.1) in
-    subst (λ (l : List ℕ). Adds (subjects_of draft) l (subjects_of next)) (sym whole) (words_add number p.0.0 p.0.1 draft next p.2)
+    subst (λ (l : List ℕ). Adds version (subjects_of draft) l (subjects_of next)) (sym whole) (words_add version number p.0.0 p.0.1 draft next p.2)
 
-blank_adds : (number : ℕ) (line : List ℕ) (draft next : Draft) → is_blank line ≡ true → with_trimmed number line draft ≡ Ok next → draft ≡ next
+blank_adds : (version : Version) (number : ℕ) (line : List ℕ) (draft next : Draft) → is_blank line ≡ true → with_trimmed version number line draft ≡ Ok next → draft ≡ next
 unfolding with_trimmed
-blank_adds number line draft next says h = let same = rw says at h in cc
+blank_adds version number line draft next says h = let same = rw says at h in cc
 
-pub lines_extend : (number : ℕ) (lines : List (List ℕ)) (draft next : Draft) → with_lines number lines draft ≡ Ok next → Extends (subjects_of draft) (meaningful lines) (subjects_of next)
+pub lines_extend : (version : Version) (number : ℕ) (lines : List (List ℕ)) (draft next : Draft) → with_lines version number lines draft ≡ Ok next → Extends version (subjects_of draft) (meaningful lines) (subjects_of next)
 unfolding with_lines with_line
-lines_extend number [] draft next h = let same : draft ≡ next = cc in ap subjects_of same
-lines_extend number (line ∷ lines) draft next h =
-    let p = bind_ok (at_line number (with_line number line draft)) _ next h in
-    let q = first_ok (is_text line) _ BadLine p.0 (placed_ok number (with_line number line draft) p.0 p.1) in
-    by (is_blank (without_leading_spaces line)) refl p.0 q.1 (lines_extend (number + 1) lines p.0 next p.2)
+lines_extend version number [] draft next h = let same : draft ≡ next = cc in ap subjects_of same
+lines_extend version number (line ∷ lines) draft next h =
+    let p = bind_ok (at_line number (with_line version number line draft)) _ next h in
+    let q = first_ok (is_text line) _ BadLine p.0 (placed_ok number (with_line version number line draft) p.0 p.1) in
+    by (is_blank (without_leading_spaces line)) refl p.0 q.1 (lines_extend version (number + 1) lines p.0 next p.2)
   where
-    by : (b : Bool) → is_blank (without_leading_spaces line) ≡ b → (mid : Draft) → with_trimmed number (without_leading_spaces line) draft ≡ Ok mid
-        → Extends (subjects_of mid) (meaningful lines) (subjects_of next)
-        → Extends (subjects_of draft) (cond b (meaningful lines) (without_leading_spaces line ∷ meaningful lines)) (subjects_of next)
-    by true e mid k later = rw (blank_adds number (without_leading_spaces line) draft mid e k) later
-    by false e mid k later = (subjects_of mid, trimmed_adds number (without_leading_spaces line) draft mid e k, later)
+    by : (b : Bool) → is_blank (without_leading_spaces line) ≡ b → (mid : Draft) → with_trimmed version number (without_leading_spaces line) draft ≡ Ok mid
+        → Extends version (subjects_of mid) (meaningful lines) (subjects_of next)
+        → Extends version (subjects_of draft) (cond b (meaningful lines) (without_leading_spaces line ∷ meaningful lines)) (subjects_of next)
+    by true e mid k later = rw (blank_adds version number (without_leading_spaces line) draft mid e k) later
+    by false e mid k later = (subjects_of mid, trimmed_adds version number (without_leading_spaces line) draft mid e k, later)
 
 pub spelled_so : (text : List ℕ) (policy : List Subject) → policy_of text ≡ Ok policy → Spells text policy
 unfolding policy_of
 spelled_so text policy h =
     let well = read_well_formed text policy h in
-    let p = bind_ok (with_lines 1 (lines_of text) []) with_right_chains policy h in
+    let body = body_of (lines_of text) in
+    let p = bind_ok (with_body body) with_right_chains policy h in
     let is : policy ≡ subjects_of p.0 = chains_same p.0 policy p.2 in
     record {
-      texts = read_text 1 (lines_of text) [] p.0 p.1;
-      lines = rw is (lines_extend 1 (lines_of text) [] p.0 p.1);
+      texts = read_text body.version body.number body.lines [] p.0 p.1;
+      lines = rw is (lines_extend body.version body.number body.lines [] p.0 p.1);
       parents = well.parents;
       short = well.short;
     }

@@ -31,7 +31,7 @@ secret_given credential text subject =
 abbrev pub changed_by : Setting → Subject → Result Subject PolicyRefusal
 changed_by (Secret credential text) = secret_given credential text.now
 changed_by (Priv text) = with_priv text.now
-changed_by (Rule verdict text) = with_rule verdict text.now
+changed_by (Rule version verdict text) = with_rule version verdict text.now
 
 -- the draft after a line that begins a subject, by what follows the line's first word
 abbrev pub with_heading : ℕ → Kind → List ℕ → Draft → Result Draft PolicyRefusal

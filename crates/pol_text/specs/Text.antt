@@ -1,5 +1,6 @@
 -- The text of a policy: which policy its lines make, or the first refusal and its line
--- (docs/POLICY.md).
+-- (docs/POLICY.md). It is of version 2 if its first line says so, else of version 1, and the
+-- versions differ in the grammar of patterns alone.
 use Rattle.std.specs.Prelude.{◌≡◌, ℕ, ◌+◌, List, [], ◌∷◌, ◌++◌, length, map, find, codes, Bool}
 use Rattle.std.specs.Prelude.{true, not, ◌&&◌, nat_le, nat_eq, is_some, ok_or, Option, Some, None}
 use Rattle.std.specs.Prelude.{Result, Ok, Err, if◌then◌else◌}
@@ -9,7 +10,9 @@ use Rattle.std.specs.Fmt.{decimal}
 use Rattle.basics.specs.Symbol.{is_text}
 use Rattle.basics.specs.Lines.{split_at_first, without_leading_spaces, lines_of}
 use Rattle.basics.specs.Number.{number_of}
-use Rattle.pol_pattern.specs.Reading.{pattern_of}
+use Rattle.pol_pattern.specs.Reading.{pattern_of, pattern_of_old}
+use Rattle.pol_pattern.specs.declared.version.Version.{Version}
+use Rattle.pol_pattern.specs.declared.version.Version.TheVariants.{One, Two}
 use Rattle.pol_pattern.specs.declared.fault.PatternFault.{PatternFault}
 use Rattle.pol_names.specs.Name.{name_of}
 use Rattle.pol_names.specs.Secret.{secret_of}
@@ -135,17 +138,23 @@ abbrev pub with_priv : List ℕ → Subject → Result Subject PolicyRefusal
 with_priv text subject =
     set_once subject.priv_lvl (level_of text) (λ level. record subject { priv_lvl = Some level })
 
-abbrev pub pattern_read : List ℕ → Result (List ℕ) PolicyRefusal
-pattern_read text = refusing (pattern_of text)
+-- the pattern that a text of this version spells; a pattern's own source is of version 2
+abbrev pub pattern_in : Version → List ℕ → Result (List ℕ) PatternFault
+pattern_in One text = pattern_of_old text
+pattern_in Two text = pattern_of text
+
+abbrev pub pattern_read : Version → List ℕ → Result (List ℕ) PolicyRefusal
+pattern_read version text = refusing (pattern_in version text)
   where
     refusing : Result (List ℕ) PatternFault → Result (List ℕ) PolicyRefusal
     refusing (Ok source) = Ok source
     refusing (Err fault) = Err (BadPattern fault)
 
 -- a rule goes last, where there is room
-unfoldable pub with_rule : Verdict → List ℕ → Subject → Result Subject PolicyRefusal
-with_rule verdict text subject =
-    pattern_read text >>= λ pattern. if nat_le max_rules (length subject.rules) then Err Limit
+unfoldable pub with_rule : Version → Verdict → List ℕ → Subject → Result Subject PolicyRefusal
+with_rule version verdict text subject =
+    pattern_read version text >>= λ pattern.
+    if nat_le max_rules (length subject.rules) then Err Limit
     else Ok (record subject {
       rules = subject.rules
           ++ record { verdict = verdict; pattern = pattern } ∷ [];
@@ -154,8 +163,8 @@ with_rule verdict text subject =
 -- ---- lines
 
 -- the policy after a line of this first word, which a space follows
-unfoldable pub with_words : ℕ → List ℕ → List ℕ → Draft → Result Draft PolicyRefusal
-with_words number word rest draft =
+unfoldable pub with_words : Version → ℕ → List ℕ → List ℕ → Draft → Result Draft PolicyRefusal
+with_words version number word rest draft =
     if bytes_eq word (codes "group")
     then (heading rest (split_at_first 32 rest)
     >>= λ ids. with_subject number Group ids.0 ids.1 draft)
@@ -166,8 +175,8 @@ with_words number word rest draft =
     else if bytes_eq word (codes "enable") then with_present (with_enable rest) draft
     else if bytes_eq word (codes "priv")
     then (if is_field rest then with_present (with_priv rest) draft else Err BadLine)
-    else if bytes_eq word (codes "permit") then with_present (with_rule Permit rest) draft
-    else if bytes_eq word (codes "deny") then with_present (with_rule Deny rest) draft
+    else if bytes_eq word (codes "permit") then with_present (with_rule version Permit rest) draft
+    else if bytes_eq word (codes "deny") then with_present (with_rule version Deny rest) draft
     else Err BadLine
 
 -- an empty line, or one that begins with `#`
@@ -175,16 +184,17 @@ abbrev pub is_blank : List ℕ → Bool
 is_blank [] = true
 is_blank (byte ∷ bytes) = nat_eq byte 35
 
-unfoldable pub with_trimmed : ℕ → List ℕ → Draft → Result Draft PolicyRefusal
-with_trimmed number line draft =
+unfoldable pub with_trimmed : Version → ℕ → List ℕ → Draft → Result Draft PolicyRefusal
+with_trimmed version number line draft =
     if is_blank line then Ok draft
     else (ok_or (split_at_first 32 line) BadLine
-    >>= λ parts. with_words number parts.0 parts.1 draft)
+    >>= λ parts. with_words version number parts.0 parts.1 draft)
 
 -- the policy after one more line: it has symbols alone, and its leading spaces are dropped
-unfoldable pub with_line : ℕ → List ℕ → Draft → Result Draft PolicyRefusal
-with_line number line draft =
-    if is_text line then with_trimmed number (without_leading_spaces line) draft else Err BadLine
+unfoldable pub with_line : Version → ℕ → List ℕ → Draft → Result Draft PolicyRefusal
+with_line version number line draft =
+    if is_text line then with_trimmed version number (without_leading_spaces line) draft
+    else Err BadLine
 
 -- a refusal with the line that it is at
 abbrev pub at_line : {A : Type 0} → ℕ → Result A PolicyRefusal → Result A PolicyFault
@@ -192,12 +202,34 @@ at_line number (Ok x) = Ok x
 at_line number (Err refusal) = Err (Refused number refusal)
 
 -- the policy after these lines, of which the first has this number; the first faulty line decides
-unfoldable pub with_lines : ℕ → List (List ℕ) → Draft → Result Draft PolicyFault
-with_lines number [] draft = Ok draft
-with_lines number (line ∷ lines) draft =
-    at_line number (with_line number line draft) >>= λ next. with_lines (number + 1) lines next
+unfoldable pub with_lines : Version → ℕ → List (List ℕ) → Draft → Result Draft PolicyFault
+with_lines version number [] draft = Ok draft
+with_lines version number (line ∷ lines) draft =
+    at_line number (with_line version number line draft)
+    >>= λ next. with_lines version (number + 1) lines next
 
 -- ---- whole texts
+
+-- the first line of a text of version 2
+abbrev pub version_line : List ℕ
+version_line = codes "policy 2"
+
+-- lines that say a policy, the number of the first, and their version
+pub record Body : Type 0 where
+  pub version : Version
+  pub number : ℕ
+  pub lines : List (List ℕ)
+
+-- the lines of a text without the one that says version 2, which counts
+abbrev pub body_of : List (List ℕ) → Body
+body_of [] = record { version = One; number = 1; lines = [] }
+body_of (line ∷ lines) =
+    if bytes_eq line version_line
+    then record { version = Two; number = 2; lines = lines }
+    else record { version = One; number = 1; lines = line ∷ lines }
+
+abbrev pub with_body : Body → Result Draft PolicyFault
+with_body body = with_lines body.version body.number body.lines []
 
 -- the first subject that fails a test is refused, at its line
 unfoldable pub checked : (Subject → Bool) → PolicyRefusal → Draft → Result Draft PolicyFault
@@ -216,7 +248,7 @@ with_right_chains draft =
 
 -- the policy that a text says, or the first refusal with its line
 unfoldable pub policy_of : List ℕ → Result (List Subject) PolicyFault
-policy_of text = with_lines 1 (lines_of text) [] >>= with_right_chains
+policy_of text = with_body (body_of (lines_of text)) >>= with_right_chains
 
 -- ---- the printed form
 
@@ -250,8 +282,9 @@ abbrev pub text_of_lines : List (List ℕ) → List ℕ
 text_of_lines [] = []
 text_of_lines (line ∷ lines) = line ++ 10 ∷ text_of_lines lines
 
+-- it is of version 2, also that of the empty policy
 unfoldable pub text_of : List Subject → List ℕ
-text_of policy = text_of_lines (policy_lines policy)
+text_of policy = text_of_lines (version_line ∷ policy_lines policy)
 
 -- ---- what a function returned, against what was wanted
 

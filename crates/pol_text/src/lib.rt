@@ -17,4 +17,5 @@ mod subject;
 pub use fault::{ChainFault, PolicyFault, PolicyRefusal};
 pub use pol_names::{By, Credential, Decision, Kind, Name, Secret, SubjectId, Verdict};
 pub use policy::Policy;
+pub use reading::body_of;
 pub use subject::{Rule, Subject};

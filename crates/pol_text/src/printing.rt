@@ -88,8 +88,9 @@ fn print_subject(alloc: Global, text: &mut Bytes, subject: &Subject) -> Result<(
 }
 
 impl Policy {
-    /// The policy's text in its printed form: every subject in order, with its settings and its
-    /// rules, one line each. The error means that memory ran out.
+    /// The policy's text in its printed form, of version 2: the line that says so, and then every
+    /// subject in order, with its settings and its rules, one line each. The error means that
+    /// memory ran out.
     #[tactic(auto, unfolding(crate::specs::Text::text_of))]
     pub fn print(&self, alloc: Global) -> Result<Bytes, AllocError>
         ensures text { IfOk result (λ text. text ≡ text_of self.now) }
@@ -97,8 +98,10 @@ impl Policy {
         // Reading it again gives the same policy.
         ensures again { policy_of (text_of self.now) ≡ Ok self.now }
     {
+        let all = self.subjects();
         let mut text = Bytes::new(alloc);
-        'subjects: for subject in self.subjects() {
+        print_line(&mut text, b"policy 2", b"")?;
+        'subjects: for subject in all {
             print_subject(alloc, &mut text, subject)?;
         }
         Ok(text)

@@ -1,6 +1,6 @@
 //! Reading a policy's text: its lines, and then whether its chains are right.
 
-ghost use Rattle.std.specs.Prelude.{◌≡◌, ◌≤◌, ℕ, List, [], length, false, Ok, Err, IfOk, codes};
+ghost use Rattle.std.specs.Prelude.{◌≡◌, ◌≤◌, ℕ, List, length, false, Ok, Err, IfOk, codes};
 ghost use Rattle.std.specs.Prelude.{bytes_eq};
 ghost use Rattle.basics.specs.Lines.{split_at_first, lines_of};
 ghost use Rattle.pol_text.specs.Draft.{LineGives, at_place};
@@ -10,7 +10,8 @@ ghost use Rattle.pol_text.specs.Policy.{WellFormed, TellsEndless};
 ghost use Rattle.pol_text.specs.Spelling.{Spells};
 ghost use Rattle.pol_text.specs.Text.{IsUnlessMemory, named as name_wanted, is_field as field_test};
 ghost use Rattle.pol_text.specs.Text.{with_parent, heading as heading_wanted};
-ghost use Rattle.pol_text.specs.Text.{with_words, with_trimmed, with_line, with_lines, policy_of};
+ghost use Rattle.pol_text.specs.Text.{with_words, with_trimmed, with_line, with_body, policy_of};
+ghost use Rattle.pol_text.specs.Text.{body_of as body_wanted};
 ghost use Rattle.pol_text.specs.declared.fault.PolicyFault.TheVariants.{Refused};
 ghost use Rattle.pol_text.specs.declared.fault.PolicyRefusal.{PolicyRefusal as RefusalValue};
 ghost use Rattle.pol_text.specs.declared.subject.Subject.{Subject as SubjectValue};
@@ -22,6 +23,7 @@ use crate::policy::Policy;
 use crate::setting::Setting;
 use basics::{Lines, is_text, split_once, without_leading_spaces};
 use pol_names::{Credential, Kind, Name, Verdict};
+use pol_pattern::Version;
 use std::alloc::Global;
 
 fn named(text: &[u8]) -> Result<Name, PolicyRefusal>
@@ -85,11 +87,11 @@ fn add_subject(
 
 // What a line of this first word sets; nothing for a word that begins no such line.
 #[tactic(auto, unfolding(crate::specs::Text::with_words))]
-fn setting_of<'a>(word: &[u8], rest: &'a [u8]) -> Option<Setting<'a>>
+fn setting_of<'a>(version: Version, word: &[u8], rest: &'a [u8]) -> Option<Setting<'a>>
     requires group { bytes_eq word.now (codes "group") ≡ false }
     requires user { bytes_eq word.now (codes "user") ≡ false }
     ensures { (number : ℕ) (draft : DraftValue) →
-        with_words number word.now rest.now draft ≡ with_setting result draft }
+        with_words version number word.now rest.now draft ≡ with_setting result draft }
 {
     if word == b"login".as_slice() {
         return Some(Setting::Secret(Credential::Login, rest));
@@ -105,10 +107,10 @@ fn setting_of<'a>(word: &[u8], rest: &'a [u8]) -> Option<Setting<'a>>
         };
     }
     if word == b"permit".as_slice() {
-        return Some(Setting::Rule(Verdict::Permit, rest));
+        return Some(Setting::Rule(version, Verdict::Permit, rest));
     }
     if word == b"deny".as_slice() {
-        return Some(Setting::Rule(Verdict::Deny, rest));
+        return Some(Setting::Rule(version, Verdict::Deny, rest));
     }
     None
 }
@@ -118,11 +120,12 @@ fn setting_of<'a>(word: &[u8], rest: &'a [u8]) -> Option<Setting<'a>>
 fn add_words(
     alloc: Global,
     draft: Draft,
+    version: Version,
     number: usize,
     word: &[u8],
     rest: &[u8],
 ) -> Result<Draft, LineFault>
-    ensures { LineGives result (with_words number word.now rest.now draft) }
+    ensures { LineGives result (with_words version number word.now rest.now draft) }
 {
     if word == b"group".as_slice() {
         return add_subject(alloc, draft, number, Kind::Group, rest);
@@ -130,15 +133,21 @@ fn add_words(
     if word == b"user".as_slice() {
         return add_subject(alloc, draft, number, Kind::User, rest);
     }
-    match setting_of(word, rest) {
+    match setting_of(version, word, rest) {
         Some(setting) => draft.with_present(alloc, setting),
         None => Err(LineFault::Refused(PolicyRefusal::BadLine)),
     }
 }
 
 #[tactic(auto, unfolding(crate::specs::Text::with_trimmed))]
-fn add_trimmed(alloc: Global, draft: Draft, number: usize, line: &[u8]) -> Result<Draft, LineFault>
-    ensures { LineGives result (with_trimmed number line.now draft) }
+fn add_trimmed(
+    alloc: Global,
+    draft: Draft,
+    version: Version,
+    number: usize,
+    line: &[u8],
+) -> Result<Draft, LineFault>
+    ensures { LineGives result (with_trimmed version number line.now draft) }
 {
     if let [] | [b'#', ..] = line {
         return Ok(draft);
@@ -146,18 +155,24 @@ fn add_trimmed(alloc: Global, draft: Draft, number: usize, line: &[u8]) -> Resul
     let Some((word, rest)) = split_once(line, b' ') else {
         return Err(LineFault::Refused(PolicyRefusal::BadLine));
     };
-    add_words(alloc, draft, number, word, rest)
+    add_words(alloc, draft, version, number, word, rest)
 }
 
 // The draft after one more line.
 #[tactic(auto, unfolding(crate::specs::Text::with_line))]
-fn add_line(alloc: Global, draft: Draft, number: usize, line: &[u8]) -> Result<Draft, LineFault>
-    ensures { LineGives result (with_line number line.now draft) }
+fn add_line(
+    alloc: Global,
+    draft: Draft,
+    version: Version,
+    number: usize,
+    line: &[u8],
+) -> Result<Draft, LineFault>
+    ensures { LineGives result (with_line version number line.now draft) }
 {
     if !is_text(line) {
         return Err(LineFault::Refused(PolicyRefusal::BadLine));
     }
-    add_trimmed(alloc, draft, number, without_leading_spaces(line))
+    add_trimmed(alloc, draft, version, number, without_leading_spaces(line))
 }
 
 fn at_line(line: usize, fault: LineFault) -> PolicyFault
@@ -169,14 +184,27 @@ fn at_line(line: usize, fault: LineFault) -> PolicyFault
     }
 }
 
-// The subjects of all lines. Expected time linear in the text.
-fn read_lines(alloc: Global, text: &[u8]) -> Result<Draft, PolicyFault>
-    ensures { IsUnlessMemory (λ draft. draft) result (with_lines 1 (lines_of text.now) []) }
+/// The version of a policy's text, and its lines but for the one that says version 2: a text is of
+/// version 2 if its first line is exactly `policy 2`.
+pub fn body_of(text: &[u8]) -> (Version, Lines<'_>)
+    ensures { let body = body_wanted (lines_of text.now) in (result.0 ≡ body.version)
+        × (result.1.number ≡ body.number) × (result.1.lines ≡ body.lines) }
 {
     let mut lines = Lines::new(text);
+    match lines.take_line() {
+        Some((_, line)) if line == b"policy 2".as_slice() => (Version::Two, lines),
+        _ => (Version::One, Lines::new(text)),
+    }
+}
+
+// The subjects of all lines. Expected time linear in the text.
+fn read_lines(alloc: Global, text: &[u8]) -> Result<Draft, PolicyFault>
+    ensures { IsUnlessMemory (λ draft. draft) result (with_body (body_wanted (lines_of text.now))) }
+{
+    let (version, mut lines) = body_of(text);
     let mut draft = Draft::new(alloc);
     'lines: while let Some((number, line)) = lines.take_line() {
-        match add_line(alloc, draft, number, line) {
+        match add_line(alloc, draft, version, number, line) {
             Ok(next) => draft = next,
             Err(fault) => return Err(at_line(number, fault)),
         }

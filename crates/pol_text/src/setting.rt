@@ -1,6 +1,8 @@
 //! What a line says of the present subject.
 
 ghost use Rattle.std.specs.Prelude.{◌≡◌, Ok, Err, ok_or, if◌then◌else◌};
+ghost use Rattle.basics.specs.Memory.{GivesUnlessMemory};
+ghost use Rattle.pol_pattern.specs.Memory.{is_memory};
 ghost use Rattle.pol_text.specs.declared.fault.PolicyRefusal.TheVariants.{BadLine, BadValue};
 ghost use Rattle.pol_names.specs.declared.subject_id.Kind.TheVariants.{Group};
 ghost use Rattle.pol_text.specs.Draft.{LineGives};
@@ -8,14 +10,14 @@ ghost use Rattle.pol_names.specs.SubjectId.{same_kind};
 ghost use Rattle.pol_names.specs.Secret.{secret_of};
 ghost use Rattle.pol_text.specs.Setting.{changed_by, secret_given};
 ghost use Rattle.pol_text.specs.Text.{level_of, pattern_read, with_priv as priv_set};
-ghost use Rattle.pol_text.specs.Text.{with_rule as rule_added};
+ghost use Rattle.pol_text.specs.Text.{with_rule as rule_added, pattern_in as pattern_wanted};
 
 use crate::fault::{LineFault, PolicyRefusal};
 use crate::policy::Policy;
 use crate::subject::{Rule, Subject};
 use basics::read_number;
 use pol_names::{Credential, Kind, Secret, Verdict};
-use pol_pattern::{Pattern, PatternFault};
+use pol_pattern::{Pattern, PatternFault, Version};
 use std::alloc::Global;
 
 /// A line of a subject, after its first word.
@@ -23,7 +25,7 @@ use std::alloc::Global;
 pub(crate) enum Setting<'a> {
     Secret(Credential, &'a [u8]),
     Priv(&'a [u8]),
-    Rule(Verdict, &'a [u8]),
+    Rule(Version, Verdict, &'a [u8]),
 }
 
 impl<'a> Setting<'a> {
@@ -34,7 +36,9 @@ impl<'a> Setting<'a> {
         match self {
             Setting::Secret(credential, text) => with_secret(alloc, subject, credential, text),
             Setting::Priv(text) => with_priv(subject, text),
-            Setting::Rule(verdict, text) => with_rule(alloc, subject, verdict, text),
+            Setting::Rule(version, verdict, text) => {
+                with_rule(alloc, subject, version, verdict, text)
+            }
         }
     }
 }
@@ -99,11 +103,21 @@ fn with_priv(mut subject: Subject, text: &[u8]) -> Result<Subject, LineFault>
     Ok(subject)
 }
 
-// A rule's pattern.
-fn pattern(alloc: Global, text: &[u8]) -> Result<Pattern, LineFault>
-    ensures { LineGives result (pattern_read text.now) }
+// The pattern that a text of this version spells.
+fn pattern_in(alloc: Global, version: Version, text: &[u8]) -> Result<Pattern, PatternFault>
+    ensures { GivesUnlessMemory is_memory (λ p. p) result (pattern_wanted version text.now) }
 {
-    match Pattern::read(alloc, text) {
+    match version {
+        Version::One => Pattern::read_v1(alloc, text),
+        Version::Two => Pattern::read(alloc, text),
+    }
+}
+
+// A rule's pattern.
+fn pattern(alloc: Global, version: Version, text: &[u8]) -> Result<Pattern, LineFault>
+    ensures { LineGives result (pattern_read version text.now) }
+{
+    match pattern_in(alloc, version, text) {
         Ok(pattern) => Ok(pattern),
         Err(PatternFault::Memory) => Err(LineFault::Memory),
         Err(fault) => Err(LineFault::Refused(PolicyRefusal::BadPattern(fault))),
@@ -114,12 +128,13 @@ fn pattern(alloc: Global, text: &[u8]) -> Result<Pattern, LineFault>
 fn with_rule(
     alloc: Global,
     mut subject: Subject,
+    version: Version,
     verdict: Verdict,
     text: &[u8],
 ) -> Result<Subject, LineFault>
-    ensures { LineGives result (rule_added verdict text.now subject) }
+    ensures { LineGives result (rule_added version verdict text.now subject) }
 {
-    let pattern = pattern(alloc, text)?;
+    let pattern = pattern(alloc, version, text)?;
     if subject.rules.len() >= Policy::MAX_RULES {
         return Err(LineFault::Refused(PolicyRefusal::Limit));
     }

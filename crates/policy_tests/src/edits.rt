@@ -376,10 +376,13 @@ fn a_secret_of_129_symbols(rt: HostRuntime) -> Result<(), Fail> {
 
 // A policy that is full refuses rules.
 fn is_full<R: Abort + AllocGlobal>(rt: &R, printed: &[u8]) -> Result<(), Fail> {
+    let printed = str::from_utf8(printed)?
+        .strip_prefix("policy 2\n")
+        .ok_or("no version")?;
     // A pattern comes before a limit.
     refuses_each(
         rt,
-        str::from_utf8(printed)?,
+        printed,
         "8 BadPattern 5 NothingToRepeat at 0: insert group g 257 deny *
          10 Limit: insert group g 257 deny x",
     )

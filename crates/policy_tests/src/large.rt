@@ -38,7 +38,7 @@ fn longer(alloc: Global, line: &str, count: usize) -> Result<String, AllocError>
     Ok(text)
 }
 
-// A user with as many rules as there may be, each of the longest pattern.
+// A user with as many rules as there may be, each of the longest pattern of version 1.
 fn many_rules(alloc: Global) -> Result<String, AllocError> {
     let mut text = String::from_str(alloc, "user bob\n")?;
     let rule = longer(alloc, "deny ", 200)?;
@@ -54,8 +54,9 @@ fn edits_of_a_large_policy(rt: HostRuntime) -> Result<(), Fail> {
     let rules = many_rules(alloc)?;
     let rules = rules.as_str();
     is_printed(&rt, rules, rules)?;
-    refuses(&rt, rules, "insert user bob 1 permit x", "10 Limit")?;
-    for count in [201, 5_000, 200_000] {
+    let line = longer(alloc, "insert user bob 1 permit ", 400)?;
+    refuses(&rt, rules, line.as_str(), "10 Limit")?;
+    for count in [401, 5_000, 200_000] {
         let line = longer(alloc, "insert user bob 1 permit ", count)?;
         refuses(&rt, rules, line.as_str(), "8 BadPattern 1 TooLong")?;
     }

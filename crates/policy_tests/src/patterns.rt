@@ -1,6 +1,6 @@
 //! Patterns: which bytes are one, and which texts they hold.
 
-use pol_pattern::{Factor, Pattern, Term};
+use pol_pattern::{Factor, Pattern, PatternFault, Term};
 use std::alloc::Global;
 use std::process::Abort;
 use std::test::Fail;
@@ -13,9 +13,20 @@ fn tells(alloc: Global, source: &[u8], text: &[u8], expected: bool) -> bool {
     }
 }
 
-// Whether the bytes are refused with this printed fault.
-fn is_refused(alloc: Global, source: &[u8], expected: &[u8]) -> bool {
-    let Some(fault) = Pattern::read(alloc, source).err() else {
+// Whether version 1 reads the bytes as the pattern that version 2 reads from the new source.
+fn is_upgraded(alloc: Global, source: &[u8], new: &[u8]) -> bool {
+    let Ok(old) = Pattern::read_v1(alloc, source) else {
+        return false;
+    };
+    match Pattern::read(alloc, new) {
+        Ok(pattern) => old.source() == new && old == pattern,
+        Err(_) => false,
+    }
+}
+
+// Whether what was read is a refusal, and is printed so.
+fn is_fault(alloc: Global, fault: Option<PatternFault>, expected: &[u8]) -> bool {
+    let Some(fault) = fault else {
         return false;
     };
     match format!(in alloc; "{fault}") {
@@ -24,13 +35,24 @@ fn is_refused(alloc: Global, source: &[u8], expected: &[u8]) -> bool {
     }
 }
 
+// Whether the bytes are refused with this printed fault, and by version 1.
+fn is_refused(alloc: Global, source: &[u8], expected: &[u8]) -> bool {
+    is_fault(alloc, Pattern::read(alloc, source).err(), expected)
+}
+
+fn is_refused_v1(alloc: Global, source: &[u8], expected: &[u8]) -> bool {
+    is_fault(alloc, Pattern::read_v1(alloc, source).err(), expected)
+}
+
 // Whether what a line says of the source is so: `+` a text that it holds, `-` one that it doesn't
-// hold, `!` the refusal.
+// hold, `!` the refusal; `>` its new source as one of version 1, `<` version 1's refusal.
 fn is_so(alloc: Global, source: &[u8], line: &[u8]) -> bool {
     match line {
         [b'+', text @ ..] => tells(alloc, source, text, true),
         [b'-', text @ ..] => tells(alloc, source, text, false),
         [b'!', fault @ ..] => is_refused(alloc, source, fault),
+        [b'>', new @ ..] => is_upgraded(alloc, source, new),
+        [b'<', fault @ ..] => is_refused_v1(alloc, source, fault),
         _ => false,
     }
 }
@@ -134,6 +156,67 @@ fn texts_of_patterns(rt: HostRuntime) {
         +-
         /\\.\\*
         +.*
+
+        # Counts.
+        /a{2}
+        +aa
+        -a
+        -aaa
+        /a{02}
+        +aa
+        /ping [0-9]{1,3}
+        +ping 0
+        +ping 123
+        -ping 
+        -ping 1234
+        /a{0}
+        +
+        -a
+        /a{0}*
+        +
+        -a
+        /a{2}3
+        +aa3
+        /a{2}{3}
+        +aaaaaa
+        -aaaaa
+        /a*{2}
+        +aaa
+        /a{2}*
+        +aaaa
+        -aaa
+        /(ab|c){1,2}
+        +abc
+        -
+        -ccc
+        /ping [0-9]{1,3}a{32}{12}aaaaaa
+        -a
+        /.{32}{32}{0}
+        +
+        -a
+        /(a{32}{32}){0}b
+        +b
+
+        # Braces that don't count.
+        /[{}]\\{\\}
+        +{{}
+        +}{}
+
+        # Version 1, with the braces of classes and behind a backslash.
+        /a{2}
+        >a\\{2\\}
+        /a\\{2\\}
+        +a{2}
+        -aa
+        >a\\{2\\}
+        /{
+        >\\{
+        /[{}]{[^a-b\\]}]}
+        >[{}]\\{[^a-b\\]}]\\}
+        /\\\\{\\[{
+        >\\\\\\{\\[\\{
+        /({3,2}|]})*
+        >(\\{3,2\\}|]\\})*
         ",
     );
 }
@@ -200,6 +283,76 @@ fn bytes_that_are_no_pattern(rt: HostRuntime) {
         /a++++++++
         !9 TooLarge
 
+        # Braces.
+        /a{3,2}
+        !11 BadRepeat at 1
+        /a}
+        !11 BadRepeat at 1
+        /a{
+        !11 BadRepeat at 1
+        /a{33}
+        !11 BadRepeat at 1
+        /a{0,33}
+        !11 BadRepeat at 1
+        /a{2
+        !11 BadRepeat at 1
+        /a{2)
+        !11 BadRepeat at 1
+        /a{}
+        !11 BadRepeat at 1
+        /a{,2}
+        !11 BadRepeat at 1
+        /a{2,}
+        !11 BadRepeat at 1
+        /a{032}
+        !11 BadRepeat at 1
+        /a{1,2,3}
+        !11 BadRepeat at 1
+        /a{ 2}
+        !11 BadRepeat at 1
+        /a{+2}
+        !11 BadRepeat at 1
+        /a{2}}
+        !11 BadRepeat at 4
+        /a{2}{
+        !11 BadRepeat at 4
+        /\\{2}
+        !11 BadRepeat at 3
+        /}
+        !11 BadRepeat at 0
+        /(}
+        !11 BadRepeat at 1
+        /a|}
+        !11 BadRepeat at 2
+        /{2}
+        !5 NothingToRepeat at 0
+        /{x
+        !5 NothingToRepeat at 0
+        /a|{2}
+        !5 NothingToRepeat at 2
+        /({
+        !5 NothingToRepeat at 1
+        /[{
+        !6 BadClass at 0
+        /.{32}{32}
+        !9 TooLarge
+        /ping [0-9]{1,3}a{32}{12}aaaaaaa
+        !9 TooLarge
+        /a{0,32}{6}a{0,2}
+        -b
+        /a{0,32}{6}a{0,9}
+        !9 TooLarge
+
+        # Of version 1, at the places of its own bytes.
+        /{{*)
+        <4 Unopened at 3
+        /a{2}\u{7f}
+        <2 Unprintable at 4
+        /{[
+        <6 BadClass at 1
+        /a{++++++++
+        <9 TooLarge
+
         # Of two faults, first a byte that is no symbol.
         /*\u{7f}
         !2 Unprintable at 1
@@ -223,6 +376,10 @@ fn bytes_that_are_no_pattern(rt: HostRuntime) {
         !6 BadClass at 1
         /(\\
         !7 BadEscape at 1
+        /)}
+        !4 Unopened at 0
+        /}*
+        !11 BadRepeat at 0
         /((((((((((((((((((((((((((((((((()
         !8 TooDeep
         /((((((((((((((((((((((((((((((((*(
@@ -238,11 +395,12 @@ fn bytes_that_are_no_pattern(rt: HostRuntime) {
         ",
     );
     assert!(&rt; is_refused(rt.alloc(), &[b'('; 33], b"8 TooDeep"));
-    assert!(&rt; is_refused(rt.alloc(), &[b'a'; 201], b"1 TooLong"));
+    assert!(&rt; is_refused(rt.alloc(), &[b'a'; 401], b"1 TooLong"));
     // The length comes before all else.
-    assert!(&rt; is_refused(rt.alloc(), &[0xff; 201], b"1 TooLong"));
-    // A size of about two to the power of 200 is not counted out.
-    let mut deep = [b'+'; 200];
+    assert!(&rt; is_refused(rt.alloc(), &[0xff; 401], b"1 TooLong"));
+    assert!(&rt; is_refused_v1(rt.alloc(), &[0xff; 201], b"1 TooLong"));
+    // A size of about two to the power of 400 is not counted out.
+    let mut deep = [b'+'; 400];
     deep[0] = b'a';
     assert!(&rt; is_refused(rt.alloc(), &deep, b"9 TooLarge"));
 }
@@ -254,13 +412,26 @@ fn as_large_as_a_pattern_may_be(rt: HostRuntime) {
     // 255, 127, 15 and 3 are 400, and one more is too many.
     assert!(&rt; tells(rt.alloc(), b"a+++++++a++++++a+++a+", b"aaaa", true));
     assert!(&rt; is_refused(rt.alloc(), b"a+++++++a++++++a+++a+a", b"9 TooLarge"));
-    assert!(&rt; tells(rt.alloc(), &[b'a'; 200], &[b'a'; 200], true));
+    assert!(&rt; tells(rt.alloc(), &[b'a'; 400], &[b'a'; 400], true));
     // 32 parentheses open at once.
     let mut deep = [b')'; 65];
     deep[..32].copy_from_slice(&[b'('; 32]);
     deep[32] = b'a';
     assert!(&rt; tells(rt.alloc(), &deep, b"a", true));
     assert!(&rt; tells(rt.alloc(), &deep, b"aa", false));
+}
+
+#[test]
+fn what_is_dropped_takes_no_time(rt: HostRuntime) -> Result<(), Fail> {
+    let (counts, none) = ("{32}".repeat(rt.alloc(), 98)?, "{0}");
+    let source = format!(in rt.alloc(); "a{counts}{none}")?;
+    assert!(&rt; tells(rt.alloc(), source.as_bytes(), b"", true));
+    let source = format!(in rt.alloc(); "(a{counts}){none}")?;
+    assert!(&rt; tells(rt.alloc(), source.as_bytes(), b"a", false));
+    let doubled = "+".repeat(rt.alloc(), 394)?;
+    let source = format!(in rt.alloc(); "(a{doubled}){none}")?;
+    assert!(&rt; tells(rt.alloc(), source.as_bytes(), b"", true));
+    Ok(())
 }
 
 // The terms are one star of two terms, of which the second is empty.
@@ -308,6 +479,8 @@ fn stars_of_groups(rt: HostRuntime) {
     // A star of exactly one group is a star of the group's terms.
     assert!(&rt; is_star_of_two(rt.alloc(), b"(a|)*"));
     assert!(&rt; is_star_of_two(rt.alloc(), b"a?*"));
+    assert!(&rt; is_star_of_two(rt.alloc(), b"a{0,1}*"));
+    assert!(&rt; is_star_of_two(rt.alloc(), b"(a|){1}*"));
 }
 
 #[test]

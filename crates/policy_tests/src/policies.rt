@@ -35,6 +35,12 @@ fn texts_that_are_no_policy(rt: HostRuntime) -> Result<(), Fail> {
         &rt,
         "user bob\npermit (a",
         "line 2: 5 BadPattern 3 Unclosed at 0",
+    )?;
+    refuses(&rt, "policy 3", "line 1: 1 BadLine")?;
+    refuses(
+        &rt,
+        "policy 2\nuser bob\npermit a}",
+        "line 3: 5 BadPattern 11 BadRepeat at 1",
     )
 }
 
@@ -75,7 +81,34 @@ fn printed_policies(rt: HostRuntime) -> Result<(), Fail> {
         FULL,
     )?;
     let empty = Policy::new(rt.alloc());
-    prints(&rt, &empty, "")
+    prints(&rt, &empty, "")?;
+    is_printed(&rt, "policy 2", "")
+}
+
+// As many braces as a pattern of version 1 may have, which are twice as many bytes in version 2.
+fn many_braces<R: Abort + AllocGlobal>(rt: &R) -> Result<(), Fail> {
+    let braces = "{".repeat(rt.alloc(), 200)?;
+    let quoted = "\\{".repeat(rt.alloc(), 200)?;
+    let old = format!(in rt.alloc(); "user b\npermit {braces}\n")?;
+    let new = format!(in rt.alloc(); "user b\npermit {quoted}\n")?;
+    is_printed(rt, old.as_str(), new.as_str())?;
+    let again = format!(in rt.alloc(); "policy 2\n{new}")?;
+    is_printed(rt, again.as_str(), new.as_str())
+}
+
+#[test]
+fn printed_braces(rt: HostRuntime) -> Result<(), Fail> {
+    is_printed(
+        &rt,
+        "user b\npermit a{2}[{}]\\{\\\\{\n",
+        "user b\npermit a\\{2\\}[{}]\\{\\\\\\{\n",
+    )?;
+    is_printed(
+        &rt,
+        "policy 2\nuser b\npermit a{02}[{}]\\{{1,3}\n",
+        "user b\npermit a{02}[{}]\\{{1,3}\n",
+    )?;
+    many_braces(&rt)
 }
 
 // Adds the subjects, with a comma and a blank after each.

@@ -43,8 +43,8 @@ fn copies_each<R: Abort + AllocGlobal>(rt: &R, source: &[u8]) {
 
 #[test]
 fn patterns_of_every_length(rt: HostRuntime) {
-    copies_each(&rt, &[b'a'; 200]);
-    copies_each(&rt, &[b'|'; 200]);
+    copies_each(&rt, &[b'a'; 400]);
+    copies_each(&rt, &[b'|'; 400]);
     // Every second factor is a group or a star.
     let mut repeated = [b'a'; 200];
     for place in 0..100 {
@@ -87,9 +87,9 @@ fn refuses_last<R: Abort + AllocGlobal>(
     place: usize,
     expected: PatternFault,
 )
-    requires { place < 200 }
+    requires { place < 400 }
 {
-    let mut others = [other; 200];
+    let mut others = [other; 400];
     let source = &mut others[..=place];
     source[place] = last;
     refuses(rt, source, expected);
@@ -97,27 +97,54 @@ fn refuses_last<R: Abort + AllocGlobal>(
 
 #[test]
 fn faults_at_every_place(rt: HostRuntime) {
-    for place in 0..200 {
+    for place in 0..400 {
         refuses_last(&rt, b'a', 0x7f, place, PatternFault::Unprintable(place));
         refuses_last(&rt, b'a', b'(', place, PatternFault::Unclosed(place));
         refuses_last(&rt, b'a', b')', place, PatternFault::Unopened(place));
         refuses_last(&rt, b'|', b'*', place, PatternFault::NothingToRepeat(place));
         refuses_last(&rt, b'a', b'[', place, PatternFault::BadClass(place));
         refuses_last(&rt, b'a', b'\\', place, PatternFault::BadEscape(place));
+        refuses_last(&rt, b'.', b'}', place, PatternFault::BadRepeat(place));
+        refuses_last(&rt, b'|', b'{', place, PatternFault::NothingToRepeat(place));
+        if place > 0 {
+            refuses_last(&rt, b'.', b'{', place, PatternFault::BadRepeat(place));
+        }
     }
 }
 
 #[test]
 fn faults_of_every_length(rt: HostRuntime) {
-    for length in 201..=400 {
-        refuses(&rt, &[b'a'; 400][..length], PatternFault::TooLong);
+    for length in 401..=500 {
+        refuses(&rt, &[b'a'; 500][..length], PatternFault::TooLong);
     }
     for length in 33..=200 {
         refuses(&rt, &[b'('; 200][..length], PatternFault::TooDeep);
     }
-    let mut source = [b'+'; 200];
+    let mut source = [b'+'; 400];
     source[0] = b'a';
-    for length in 9..=200 {
+    for length in 9..=400 {
         refuses(&rt, &source[..length], PatternFault::TooLarge);
     }
+}
+
+// Whether version 1 reads so many braces, as a pattern of twice as many bytes.
+fn reads_braces(alloc: Global, source: &[u8]) -> bool {
+    match Pattern::read_v1(alloc, source) {
+        Ok(pattern) => {
+            pattern.contains(source) && is_copied(alloc, &pattern, pattern.source(), source)
+        }
+        Err(_) => false,
+    }
+}
+
+#[test]
+fn braces_of_every_length(rt: HostRuntime) {
+    for length in 0..=200 {
+        assert!(&rt;
+            reads_braces(rt.alloc(), &[b'{'; 200][..length]),
+            "{length}"
+        );
+    }
+    let fault = Pattern::read_v1(rt.alloc(), &[b'{'; 201]).err();
+    assert_eq!(&rt; fault, Some(PatternFault::TooLong));
 }

@@ -277,6 +277,7 @@ every session asks for a login or a command line, or tells what was done. The wh
 
 pub(crate) const REPLAY_AFTER_LONG_HELP: &str = "Lines of a script, in this order:
   key TEXT             line 1: the key, 1 to 128 printable ASCII characters
+  policy 2             line 2: patterns of the policy have counts, as '{1,3}'; it may be left out
   the policy, any number of these:
     group NAME           begins a group; with ' in GROUP', one that has that group's rules too
     user NAME            begins a user; with ' in GROUP', one that has that group's rules too
@@ -295,10 +296,12 @@ pub(crate) const REPLAY_AFTER_LONG_HELP: &str = "Lines of a script, in this orde
     console LINE         an operator types LINE: an edit or a question, as at 'tacd serve'
 
 In the policy, empty lines, lines that begin with '#' and leading spaces are passed over. A NAME is
-1 to 32 of the characters A-Z a-z 0-9 _ - . @. A PATTERN, up to 200 characters long, is to fit a
+1 to 32 of the characters A-Z a-z 0-9 _ - . @. A PATTERN, up to 400 characters long, is to fit a
 whole command line: '.' fits any character, '[a-z]' and '[^a-z]' one of a class or one that isn't in
 it, 'A|B' what A or B fits; behind a character, a class or a part in parentheses, '*' means any number
-of it, '+' at least one, and '?' at most one; a '\\' takes the next character as it is. The first rule
+of it, '+' at least one, '?' at most one, '{3}' three and '{1,3}' one to three, where no number is
+over 32; a '\\' takes the next character as it is. Without the line 'policy 2' a PATTERN has at most
+200 characters, and '{' and '}' fit themselves. The first rule
 that fits decides, a user's own before the group's, and a group's own before those of its group; where
 none fits, the command is denied.
 

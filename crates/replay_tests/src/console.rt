@@ -234,7 +234,7 @@ fn lines_that_ask_nothing(rt: HostRuntime) -> Result<(), Fail> {
         plays(
             &rt,
             &["key k\n", BOB, "run\nconsole ", line, "\nconsole policy\n"],
-            "refused 1 BadEdit\ngroup ops\npermit show .*\nuser bob in ops\nlogin secret\n",
+            "refused 1 BadEdit\npolicy 2\ngroup ops\npermit show .*\nuser bob in ops\nlogin secret\n",
         )?;
     }
     Ok(())
@@ -252,6 +252,6 @@ fn nothing_is_changed_for_connections(rt: HostRuntime) -> Result<(), Fail> {
     plays(
         &rt,
         &[script.as_str()],
-        "group ops\npermit show .*\nuser bob in ops\nnone\ndenied by default\n",
+        "policy 2\ngroup ops\npermit show .*\nuser bob in ops\nnone\ndenied by default\n",
     )
 }

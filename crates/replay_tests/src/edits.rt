@@ -79,6 +79,7 @@ fn each_refusal(rt: HostRuntime) -> Result<(), Fail> {
         > login bob
         refused 1 BadEdit
         > policy
+        policy 2
         group base
         group ops in base
         user bob in ops
@@ -148,6 +149,7 @@ fn each_edit_accepted(rt: HostRuntime) -> Result<(), Fail> {
         > remove user bob
         ok
         > policy
+        policy 2
         group base
         group ops in base
         permit ping
@@ -175,9 +177,10 @@ fn policies_that_would_be_too_large(rt: HostRuntime) -> Result<(), Fail> {
         ok
         > insert group g 1 deny .*a............
         ok
-        > insert group g 1 deny .*a..............
+        > insert group g 1 deny .*a.{14}
         refused 11 TooManyStates group g
         > policy
+        policy 2
         group g
         deny .*a............
         deny .*a...........
@@ -237,6 +240,7 @@ fn batches(rt: HostRuntime) -> Result<(), Fail> {
         user bob now permits: ping
         user bob now denies: show 
         > policy
+        policy 2
         group ops
         permit show .*
         user bob in net
@@ -295,6 +299,7 @@ fn refused_batches(rt: HostRuntime) -> Result<(), Fail> {
         > abandon
         refused 1 BadEdit
         > policy
+        policy 2
         group ops
         permit show .*
         user bob in ops

@@ -73,13 +73,25 @@ fn lines_that_are_none(rt: HostRuntime) -> Result<(), Fail> {
         "Login x",
         "  run",
         "run ",
+        "policy",
+        "policy 1",
+        "policy 3",
+        "policy 02",
+        "policy 2 ",
+        " policy 2",
+        "policy 2\r",
     ];
     for line in &lines {
         faults(&rt, line, "2 1 BadLine")?;
         // Also after other lines.
         faults_after(&rt, "group ops\n\n# none\n", line, "5 1 BadLine")?;
+        // Also in a text of version 2, of which the line that says so counts.
+        faults_after(&rt, "policy 2\n", line, "3 1 BadLine")?;
     }
-    Ok(())
+    // The version is said by the first line alone.
+    faults(&rt, "policy 2\npolicy 2", "3 1 BadLine")?;
+    faults(&rt, "\npolicy 2", "3 1 BadLine")?;
+    faults(&rt, "# none\npolicy 2", "3 1 BadLine")
 }
 
 #[test]
@@ -271,7 +283,19 @@ fn long_patterns(rt: HostRuntime) -> Result<(), Fail> {
     )?;
     // It is judged before the symbols.
     let policy = joined(&rt, &["user b\npermit *", fifty, fifty, fifty, fifty])?;
-    faults(&rt, policy.as_str(), "3 5 BadPattern 1 TooLong")
+    faults(&rt, policy.as_str(), "3 5 BadPattern 1 TooLong")?;
+    // In version 2 there may be 400.
+    let hundred = joined(&rt, &[fifty, fifty])?;
+    let hundred = hundred.as_str();
+    let front = "key k\npolicy 2\nuser b\npermit ";
+    plays(
+        &rt,
+        &[front, hundred, hundred, hundred, hundred, "\nrun\n"],
+        "",
+    )?;
+    let policy = ["policy 2\nuser b\npermit *", hundred, hundred, hundred];
+    let policy = joined(&rt, &policy)?;
+    faults_after(&rt, policy.as_str(), hundred, "4 5 BadPattern 1 TooLong")
 }
 
 #[test]

@@ -28,11 +28,57 @@ fn rules_behind_others(rt: HostRuntime) -> Result<(), Fail> {
 fn patterns_of_nothing(rt: HostRuntime) -> Result<(), Fail> {
     converses(
         &rt,
-        "group g\ndeny [^ -~]\npermit (()*)*\n",
+        "policy 2\ngroup g\ndeny [^ -~]\npermit a{0}\npermit (()*)*\n",
         "
         > reach group g
         group g rule 1 never reached
         group g rule 2 first reached by: 
+        group g rule 3 never reached
+        ",
+    )
+}
+
+#[test]
+fn braces(rt: HostRuntime) -> Result<(), Fail> {
+    // In version 1 they are symbols. Edits are of version 2.
+    converses(
+        &rt,
+        "group g\npermit a{2}\n",
+        "
+        > policy
+        policy 2
+        group g
+        permit a\\{2\\}
+        > insert group g 1 permit a{2}
+        ok
+        > insert group g 1 permit a{3,2}
+        refused 8 BadPattern 11 BadRepeat at 1
+        > insert group g 1 permit a}
+        refused 8 BadPattern 11 BadRepeat at 1
+        > insert group g 1 permit {2}
+        refused 8 BadPattern 5 NothingToRepeat at 0
+        > insert group g 1 permit .{32}{32}
+        refused 8 BadPattern 9 TooLarge
+        > reach group g
+        group g rule 1 first reached by: aa
+        group g rule 2 first reached by: a{2}
+        ",
+    )?;
+    // In version 2 they count.
+    converses(
+        &rt,
+        "policy 2\ngroup g\npermit a{2}\nuser bob\npermit ping [0-9]{1,3}\n",
+        "
+        > reach group g
+        group g rule 1 first reached by: aa
+        > reach user bob
+        user bob rule 1 first reached by: ping 0
+        > policy
+        policy 2
+        group g
+        permit a{2}
+        user bob
+        permit ping [0-9]{1,3}
         ",
     )
 }

@@ -88,11 +88,16 @@ fn policies_that_are_too_large(rt: HostRuntime) -> Result<(), Fail> {
         &["key k\ngroup g\n", large, "permit *\nrun\n"],
         "fault line 4 5 BadPattern 5 NothingToRepeat at 0\n",
     )?;
-    // 16,384 residuals.
+    // 16,384 residuals, and 32,768 in a text of version 2.
     plays(
         &rt,
-        &["key k\ngroup g\ndeny .*a.............\nrun\nconsole why u x\n"],
+        &["key k\npolicy 2\ngroup g\ndeny .*a.{13}\nrun\nconsole why u x\n"],
         "unknown user\n",
+    )?;
+    stops(
+        &rt,
+        &["key k\npolicy 2\ngroup g\ndeny .*a.{14}\nrun\n"],
+        "fault TooManyStates group g\n",
     )
 }
 

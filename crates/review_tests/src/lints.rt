@@ -76,6 +76,10 @@ fn patterns(rt: HostRuntime) -> Result<(), Fail> {
         &rt,
         "user bob\nlogin x\npermit vlan [0-9]{1,3} <cr>\n",
         "line 3 column 18: '{' and '}' are symbols here: is a repetition meant, as '+'?\n",
+    )?;
+    is_quiet(
+        &rt,
+        "policy 2\nuser bob\nlogin x\npermit vlan [0-9]{1,3} <cr>\n",
     )
 }
 
@@ -195,6 +199,17 @@ line 5 column 1: a keyword in capitals: keywords are in lower case
 line 6 column 1: refused: 1 BadLine
 line 8 column 1: refused: 1 BadLine
 ",
+    )?;
+    // A line is of the version that the first line says.
+    refuses(
+        &rt,
+        "policy 2\nuser bob\npermit show a}\n",
+        "line 3 column 14: refused: 5 BadPattern 11 BadRepeat at 6\n",
+    )?;
+    refuses(
+        &rt,
+        "\npolicy 2\nuser bob\npermit show a}\n",
+        "line 2 column 1: refused: 1 BadLine\n",
     )?;
     refuses(
         &rt,

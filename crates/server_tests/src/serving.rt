@@ -65,6 +65,7 @@ fn another_desk_through_the_same_server(rt: HostRuntime) -> Result<(), Fail> {
         record 1 user bob update task 7 elapsed 0
         record 2 user bob update task 8 elapsed 0
         > policy
+        policy 2
         > shadow
         none
         > reach group ops
@@ -143,6 +144,7 @@ fn want_of_memory_at_the_console(rt: HostRuntime) -> Result<(), Fail> {
         > insert group ops 1 deny show .*
         memory
         > policy
+        policy 2
         group ops
         permit show .*
         user bob in ops
@@ -155,6 +157,7 @@ fn want_of_memory_at_the_console(rt: HostRuntime) -> Result<(), Fail> {
         ok
         user bob now denies: show\u{20}
         > policy
+        policy 2
         group ops
         deny show .*
         permit show .*
@@ -192,6 +195,7 @@ fn want_of_memory_for_a_batch(rt: HostRuntime) -> Result<(), Fail> {
         > commit
         refused 1 BadEdit
         > policy
+        policy 2
         group ops
         permit show .*
         user bob in ops

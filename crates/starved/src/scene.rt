@@ -7,12 +7,13 @@ use pol_text::{Policy, PolicyFault};
 use std::alloc::{AllocError, Global};
 use tac_tally::{AcctKind, Record};
 
-pub(crate) const POLICY: &str = "group ops\npermit show .*\nuser bob in ops\nlogin secret\n";
+pub(crate) const POLICY: &str =
+    "policy 2\ngroup ops\npermit show .*\nuser bob in ops\nlogin secret\n";
 
 pub(crate) const INSERT: &str = "insert group ops 1 deny show .*";
 
 pub(crate) const INSERTED: &str =
-    "group ops\ndeny show .*\npermit show .*\nuser bob in ops\nlogin secret\n";
+    "policy 2\ngroup ops\ndeny show .*\npermit show .*\nuser bob in ops\nlogin secret\n";
 
 /// Edits that make the same of it together.
 pub(crate) const BATCH: &str =

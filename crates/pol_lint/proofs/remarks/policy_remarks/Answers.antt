@@ -1,5 +1,6 @@
 use Rattle.std.proofs.Common.{◌++◌, List, ap, ◌∙◌, None}
 use Rattle.basics.specs.Lines.{lines_of}
+use Rattle.pol_text.specs.Text.{body_of}
 use Rattle.pol_lint.specs.Words.{noted}
 use Rattle.pol_lint.specs.Remarks as wanted
 use Rattle.pol_lint.specs.declared.remark.Remark.{Remark}
@@ -13,5 +14,5 @@ returns c =
     ok_so c.told_of.result
     (λ remarks told. told
     ∙ ap (λ (later : List Remark). noted 1 1 (wanted.policy_finding policy) ++ later)
-    (lines_alike policy others c.in_ok-hidden.hidden.keys (wanted.hidden_of c.args.rows.now) c.in_ok-hidden.ensures None 1 (lines_of c.args.text.now)))
+    (lines_alike (body_of (lines_of c.args.text.now)).version policy others c.in_ok-hidden.hidden.keys (wanted.hidden_of c.args.rows.now) c.in_ok-hidden.ensures None 1 (lines_of c.args.text.now)))
     c.told_of.ensures

@@ -7,7 +7,7 @@ use Rattle.pol_pattern.proofs.lexing.tokens.Given as goal
 abbrev pub invariant-tokens : goal.invariant-tokens
 invariant-tokens l = record {
   within : l.place ≤ length l.bytes;
-  so_far : with_front l.tokens.items (tokens_from l.place 0 l.context (drop l.place l.bytes)) ≡ tokens_from 0 0 outermost l.bytes;
+  so_far : with_front l.tokens.items (tokens_from l.version l.place 0 l.context (drop l.place l.bytes)) ≡ tokens_from l.version 0 0 outermost l.bytes;
 }
 
 abbrev pub decreases-tokens : goal.decreases-tokens

@@ -1,6 +1,23 @@
-use Rattle.std.proofs.Common.{refl}
-use Rattle.pol_pattern.proofs.Values.{term_value-append}
+use Rattle.std.proofs.Common.{List, [], ◌∷◌, ◌++◌, ap, ◌∙◌, arith}
+use Rattle.pol_pattern.specs.Flat.{Factor, empty, put, term_value}
+use Rattle.pol_pattern.specs.declared.flat.Factor.{Factor as FactorValue}
+use Rattle.pol_pattern.proofs.Written.{present_written}
 use Rattle.pol_pattern.proofs.building.Level.with_factor.Goals as goal
 
+pub returns-then-size-gt-FACTORS : goal.returns-then-size-gt-FACTORS
+returns-then-size-gt-FACTORS c = λ level read same size one value. record {
+  sizes = c.with_factor-sizes.ensures level (put read empty) same.sizes (omega (arith, size)) one;
+  done = same.done;
+  before = present_written c.args.self level _ same c.in_ok-append.ensures.items;
+  last = λ fits. absurd (omega (arith, fits, size, c.if-size-gt-FACTORS.true));
+}
+
 pub returns : goal.returns
-returns c = rw (c.in_ok-push.ensures.items, c.in_ok-append.ensures.other_items, c.in_ok-append.ensures.items, term_value-append) refl
+returns c = λ level read same size one value. record {
+  sizes = c.with_factor-sizes.ensures level (put read empty) same.sizes (omega (arith, size)) one;
+  done = same.done;
+  before = present_written c.args.self level _ same c.in_ok-append.ensures.items;
+  last = λ fits.
+      ap term_value (c.in_ok-push.ensures.items ∙ ap (λ (f : List FactorValue). f ++ c.args.factor ∷ []) c.in_ok-append.ensures.other_items)
+      ∙ ap (λ (f : Factor). put f empty) (value (omega (arith, fits)));
+}

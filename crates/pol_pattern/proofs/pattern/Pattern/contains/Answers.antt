@@ -1,8 +1,9 @@
 use Rattle.std.proofs.Common.{◌≤◌, sym, arith}
 use Rattle.std.specs.Arc.{arc_value}
+use Rattle.pol_pattern.specs.declared.version.Version.TheVariants.{Two}
 use Rattle.pol_pattern.specs.Flat.{terms_value, terms_size}
 use Rattle.pol_pattern.proofs.Soundness.{reading_spells}
-use Rattle.pol_pattern.proofs.Languages.{union_law, concatenation_law, star_law, plus_law, question_law, group_law}
+use Rattle.pol_pattern.proofs.Languages.{union_law, concatenation_law, star_law, plus_law, question_law, power_law, powers_law, group_law}
 use Rattle.pol_pattern.proofs.Symbols.{empty_law, literal_law, escaped_law, dot_law, class_law}
 use Rattle.pol_pattern.proofs.Laws.{matches_is, holds_text, test_is_set}
 use Rattle.pol_pattern.proofs.HeldTexts.{held_text}
@@ -13,7 +14,7 @@ pub holds-requires : goal.holds-requires
 holds-requires c =
     let whole = arc_value c.self.inside.whole in
     let flat = terms_value whole.terms.items in
-    let spelled = reading_spells whole.source flat c.self.invariant in
+    let spelled = reading_spells Two whole.source flat c.self.invariant in
     let small : terms_size flat ≤ 400 = spelled.6 in
     rw (c.deref-2.ensures.value, c.deref.ensures) (omega (arith, small, terms_positions-le_size flat))
 
@@ -42,6 +43,8 @@ returns-clause-languages c = record {
   star = star_law;
   plus = plus_law;
   question = question_law;
+  power = power_law;
+  powers = powers_law;
   group = group_law;
   empty = empty_law;
   literal = literal_law;

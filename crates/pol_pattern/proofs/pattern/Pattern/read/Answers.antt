@@ -1,5 +1,5 @@
-use Rattle.std.proofs.Common.{Ok}
 use Rattle.std.proofs.lemmas.Result.{err_from_is_err_and}
+use Rattle.pol_pattern.specs.declared.version.Version.TheVariants.{Two}
 use Rattle.pol_pattern.specs.Flat.{terms_value}
 use Rattle.pol_pattern.proofs.Front.{pattern_is, pattern_fails}
 use Rattle.pol_pattern.proofs.Soundness.{reading_spells}
@@ -22,4 +22,4 @@ returns-clause-exact c =
 
 pub returns-clause-found : goal.returns-clause-found
 returns-clause-found c =
-    (terms_value c.in_ok-terms.terms.items, rw (c.in_ok-whole.ensures.ok, c.in_ok-source.ensures) (reading_spells c.args.bytes.now (terms_value c.in_ok-terms.terms.items) c.in_ok-terms.ensures.exact))
+    (terms_value c.in_ok-terms.terms.items, rw (c.in_ok-whole.ensures.ok, c.in_ok-source.ensures) (reading_spells Two c.args.bytes.now (terms_value c.in_ok-terms.terms.items) c.in_ok-terms.ensures.exact))

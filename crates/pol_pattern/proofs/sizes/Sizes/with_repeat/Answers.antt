@@ -1,5 +1,6 @@
-use Rattle.std.proofs.Common.{◌∙◌}
-use Rattle.pol_pattern.proofs.Counts.{extra_byte, star_sizes, plus_sizes, question_sizes}
+use Rattle.std.proofs.Common.{◌∙◌, ap}
+use Rattle.pol_pattern.specs.declared.sizes.Sizes.{Sizes}
+use Rattle.pol_pattern.proofs.Counts.{same_sizes, extra_byte, star_sizes, plus_sizes, question_sizes}
 use Rattle.pol_pattern.proofs.sizes.Sizes.with_repeat.Goals as goal
 
 pub returns-in-Star : goal.returns-in-Star
@@ -10,3 +11,6 @@ returns-in-Plus c = λ level is. rw c.in-Plus.is (plus_sizes c.args.self level c
 
 pub returns-in-Question : goal.returns-in-Question
 returns-in-Question c = λ level is. rw c.in-Question.is (question_sizes c.args.self level c.capped_sum-in-Question.result is c.capped_sum-in-Question.ensures)
+
+pub returns-in-Counted : goal.returns-in-Counted
+returns-in-Counted c = λ level is. rw c.in-Counted.is (same_sizes _ _ _ _ _ _ _ _ (ap (λ (s : Sizes). s.done) is) (ap (λ (s : Sizes). s.before) is) (c.counted.ensures level is) (c.counted_is_group.ensures level is))
