@@ -9,9 +9,10 @@ use std::test::Fail;
 use std::thread::Threads;
 use std::time::Clock;
 use tac_desks::PlainDesk;
-use tac_hall::{End, Gate, Hall, Seat};
+use tac_hall::{Hall, Seat};
 use tac_net::serve_on;
 use tac_wire::{Header, Key, PacketType, pad_in_place};
+use tac_worker::{End, Gate};
 
 const BODY: &[u8; 54] =
     b"\x06\x01\x01\x01\x03\x04\x00\x03\x0d\x08\x0fbobtty0service=shellcmd=showcmd-arg=version";

@@ -10,8 +10,9 @@ use std::test::Fail;
 use std::thread::{Threads, map_vec, sleep};
 use std::time::{Clock, Duration};
 use tac_desks::PlainDesk;
-use tac_hall::{End, Entry, Gate, Hall, Seat, Worked, work};
+use tac_hall::{Entry, Hall, Seat};
 use tac_wire::Key;
+use tac_worker::{End, Gate, Worked, work};
 
 const PAUSE: u64 = 50;
 

@@ -6,7 +6,8 @@ use std::sync::Wait;
 use std::test::Fail;
 use std::thread::Threads;
 use std::time::Clock;
-use tac_hall::{End, OpenGate, Seat};
+use tac_hall::Seat;
+use tac_worker::{End, OpenGate};
 
 // Whether the seats are in order, each with this end.
 fn all_ended(served: &[(Seat, End)], end: End) -> bool {

@@ -1,9 +1,4 @@
 pub mod HistoryFacts
 pub mod SeatFacts
 pub mod ClosingFacts
-pub mod ServedFacts
-pub mod CallFacts
-pub mod HearFacts
-pub mod TurnFacts
-pub mod WorkFacts
 pub mod Crossing

@@ -3,7 +3,4 @@ pub mod History
 pub mod Room
 pub mod Seat
 pub mod Closing
-pub mod Served
-pub mod Worked
-pub mod Working
 pub mod Opening

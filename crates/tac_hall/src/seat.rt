@@ -141,7 +141,8 @@ impl Seat {
         }
     }
 
-    pub(crate) fn alloc(&self) -> Global {
+    /// Where the seat takes its memory.
+    pub fn alloc(&self) -> Global {
         self.alloc
     }
 

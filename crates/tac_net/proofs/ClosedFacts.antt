@@ -11,7 +11,7 @@ use Rattle.tac_conn.specs.Judging.{closes as outcome_closes}
 use Rattle.tac_conn.specs.History.{outcome, is_closed}
 use Rattle.tac_stream.specs.Turns.{packets_of}
 use Rattle.tac_desk.specs.Meaning.{Meaning}
-use Rattle.tac_hall.specs.Served.{asked_by, asks_in, is_refused}
+use Rattle.tac_worker.specs.Served.{asked_by, asks_in, is_refused}
 use Rattle.tac_desk.specs.Serving.{Said, says, closed_by, unless_closed}
 use Rattle.tac_net.specs.Shared.{says_shared, said_shared, CloseLaw}
 use Rattle.tac_net.proofs.SharedFacts.{history}

@@ -9,8 +9,8 @@ use Rattle.tac_hall.specs.declared.entry.Entry.{Entry}
 use Rattle.tac_hall.specs.declared.entry.Made.{Made}
 use Rattle.tac_hall.specs.Closing.{view_of}
 use Rattle.tac_hall.specs.History.{Answers, Legal, at_first, and_then}
-use Rattle.tac_hall.specs.Served.{served, asks, bytes_sent}
-use Rattle.tac_hall.specs.Worked.{Exchange, asks_of, answers_of, in_view}
+use Rattle.tac_worker.specs.Served.{served, asks, bytes_sent}
+use Rattle.tac_worker.specs.Worked.{Exchange, asks_of, answers_of, in_view}
 use Rattle.tac_net.specs.Shared.{packets_in, answers_by}
 use Rattle.tac_net.specs.Places.{StoodAt, IsSaid, PlacesLaw}
 use Rattle.tac_net.proofs.SharedFacts.{sent_on, sent_stream_law}

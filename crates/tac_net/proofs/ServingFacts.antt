@@ -1,6 +1,6 @@
 -- Connections one after another, and workers side by side.
 use Rattle.std.proofs.Common.{◌≡◌, ℕ, suc, ◌+◌, ◌<◌, ◌≤◌, List, [], ◌∷◌, length, true, false, Result, Ok, Err, IfOk, slice_index_or, arith}
-use Rattle.tac_hall.specs.declared.worked.End.{End}
+use Rattle.tac_worker.specs.declared.worked.End.{End}
 use Rattle.tac_hall.specs.Seat.{Sitting}
 use Rattle.tac_net.specs.Serving.{Came, and_then, Connects, goes_on, Serves, HaveServed}
 

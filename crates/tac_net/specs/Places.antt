@@ -3,11 +3,11 @@ use Rattle.std.specs.Prelude.{◌≡◌, ℕ, List, [], ◌∷◌, ◌++◌, tak
 use Rattle.tac_desk.specs.Meaning.{Meaning}
 use Rattle.tac_hall.specs.declared.entry.Entry.{Entry}
 use Rattle.tac_hall.specs.declared.entry.Made.{Made}
-use Rattle.tac_hall.specs.declared.worked.End.{End}
+use Rattle.tac_worker.specs.declared.worked.End.{End}
 use Rattle.tac_hall.specs.Closing.{view_of}
 use Rattle.tac_hall.specs.History.{Legal}
-use Rattle.tac_hall.specs.Served.{served, bytes_sent}
-use Rattle.tac_hall.specs.Worked.{Exchange, answers_of, Calling, IsServed}
+use Rattle.tac_worker.specs.Served.{served, bytes_sent}
+use Rattle.tac_worker.specs.Worked.{Exchange, answers_of, Calling, IsServed}
 use Rattle.tac_desk.specs.Serving.{sent_bytes}
 use Rattle.tac_net.specs.Shared.{said_shared_on, packets_in}
 

@@ -1,11 +1,11 @@
 -- What a worker has done that served connections one after another, and what several have.
 use Rattle.std.specs.Prelude.{◌≡◌, ◌≤◌, ◌+◌, ◌⊎◌, ℕ, List, [], ◌∷◌, Bool, true, false, Option}
 use Rattle.tac_hall.specs.declared.entry.Receipt.{Receipt}
-use Rattle.tac_hall.specs.declared.worked.End.{End}
-use Rattle.tac_hall.specs.declared.worked.End.TheVariants.{Finished, Stopped, LogFull, ReadFault}
-use Rattle.tac_hall.specs.declared.worked.End.TheVariants.{Held, NoSeat}
+use Rattle.tac_worker.specs.declared.worked.End.{End}
+use Rattle.tac_worker.specs.declared.worked.End.TheVariants.{Finished, Stopped, LogFull, ReadFault}
+use Rattle.tac_worker.specs.declared.worked.End.TheVariants.{Held, NoSeat}
 use Rattle.tac_hall.specs.Seat.{Sitting}
-use Rattle.tac_hall.specs.Worked.{IsServed}
+use Rattle.tac_worker.specs.Worked.{IsServed}
 
 -- ---- one connection
 

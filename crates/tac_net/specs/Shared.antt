@@ -13,7 +13,7 @@ use Rattle.tac_conn.specs.History.{outcome}
 use Rattle.tac_stream.specs.Turns.{packets_of}
 use Rattle.tac_desk.specs.Meaning.{Meaning}
 use Rattle.tac_desk.specs.Asking.{asked}
-use Rattle.tac_hall.specs.Served.{Sending, served_to, asks_in, served, asks, closes, bytes_sent}
+use Rattle.tac_worker.specs.Served.{Sending, served_to, asks_in, served, asks, closes, bytes_sent}
 use Rattle.tac_desk.specs.Serving.{Said, says, unless_closed, closed_by, said_to, said_on}
 use Rattle.tac_desk.specs.Serving.{sent_bytes}
 

@@ -8,7 +8,8 @@ use basics::send;
 use std::alloc::AllocError;
 use std::io::Write;
 use tac_desk::Desk;
-use tac_hall::{End, Hall, Seat};
+use tac_hall::{Hall, Seat};
+use tac_worker::End;
 
 const REFUSED: &[u8] = b"close refused\n";
 

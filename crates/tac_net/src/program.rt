@@ -18,8 +18,9 @@ use std::sync::Wait;
 use std::thread::{Threads, join_mut};
 use std::time::Clock;
 use tac_desk::Desk;
-use tac_hall::{End, Hall, HallFault, OpenGate, Seat};
+use tac_hall::{Hall, HallFault, Seat};
 use tac_hall_console::OperatorFault;
+use tac_worker::{End, OpenGate};
 
 // Workers serve in threads of their own, while this one serves the console. Once that has ended,
 // they end.

@@ -11,8 +11,9 @@ use std::sync::Wait;
 use std::thread::{Threads, map_vec};
 use std::time::Clock;
 use tac_desk::Desk;
-use tac_hall::{End, Gate, Hall, Seat};
+use tac_hall::{Hall, Seat};
 use tac_wire::Key;
+use tac_worker::{End, Gate};
 
 /// The same as [`serve_on`], but a connection is given up, and a worker ends as Stopped, where the
 /// vigil says so.

@@ -10,8 +10,9 @@ use std::net::{TcpListener, TcpStream};
 use std::sync::Wait;
 use std::time::Clock;
 use tac_desk::Desk;
-use tac_hall::{End, Gate, Hall, Seat, Worked, work};
+use tac_hall::{Hall, Seat};
 use tac_wire::Key;
+use tac_worker::{End, Gate, Worked, work};
 
 /// Whether a worker takes another connection after one that ended so.
 fn goes_on(end: End) -> bool

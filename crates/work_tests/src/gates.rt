@@ -7,7 +7,7 @@ use std::process::Abort;
 use std::sync::Wait;
 use std::sync::atomic::{AtomicU64, Ordering};
 use std::test::Fail;
-use tac_hall::{End, Gate, work};
+use tac_worker::{End, Gate, work};
 
 /// Opens at this turn, and counts its turns.
 #[derive(Drop)]

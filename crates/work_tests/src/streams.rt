@@ -5,7 +5,7 @@ ghost use Rattle.std.specs.Prelude.{◌≡◌, ◌≤◌, length};
 use std::alloc::Global;
 use std::io::{self, ErrorKind, Read, Write};
 use std::sync::atomic::{AtomicU64, Ordering};
-use tac_hall::Gate;
+use tac_worker::Gate;
 
 /// Gives the question for a `p`, the record for an `r`, twelve bytes that are no header for an `h`,
 /// is interrupted for an `i`, and fails for an `x`. After the last letter nothing is left.

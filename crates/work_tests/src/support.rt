@@ -9,8 +9,9 @@ use std::sync::atomic::{AtomicU64, Ordering};
 use std::test::Fail;
 use tac_desk::Desk;
 use tac_desks::PlainDesk;
-use tac_hall::{End, Hall, Seat, Worked, work};
+use tac_hall::{Hall, Seat};
 use tac_wire::Key;
+use tac_worker::{End, Worked, work};
 
 pub(crate) fn key() -> Result<Key, Fail> {
     match Key::read(b"k") {

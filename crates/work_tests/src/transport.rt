@@ -7,8 +7,9 @@ use std::process::Abort;
 use std::sync::Wait;
 use std::test::Fail;
 use tac_desks::PlainDesk;
-use tac_hall::{End, Hall, OpenGate, Seat, Worked, work};
+use tac_hall::{Hall, Seat};
 use tac_wire::Key;
+use tac_worker::{End, OpenGate, Worked, work};
 
 // The result of a connection: its end, how many receipts there are, and what is written.
 #[derive(Clone, Copy)]

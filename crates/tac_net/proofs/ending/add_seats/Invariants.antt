@@ -1,6 +1,6 @@
 use Rattle.std.proofs.Common.{◌≡◌, ◌++◌, map}
 use Rattle.tac_hall.specs.Seat.{Sitting}
-use Rattle.tac_hall.specs.declared.worked.End.{End}
+use Rattle.tac_worker.specs.declared.worked.End.{End}
 use Rattle.tac_net.proofs.ending.add_seats.Given as goal
 
 -- the seats so far follow those that were there

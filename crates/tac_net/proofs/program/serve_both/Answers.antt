@@ -11,7 +11,7 @@ use Rattle.tac_hall.specs.contracts.seat.Seat as Seat
 use Rattle.std.proofs.Crossing.{crosses}
 use Rattle.tac_hall.proofs.Crossing.{Seat-send, Hall-sync}
 use Rattle.tac_net.proofs.Crossing.{Listener-sync, Settings-sync, Vigil-sync}
-use Rattle.tac_hall.proofs.worked.End.TheSendSync as ends
+use Rattle.tac_worker.proofs.worked.End.TheSendSync as ends
 use Rattle.tac_net.proofs.program.serve_both.Goals as goal
 
 Waiting-send : IsSend (Option.the_row (Vec.the_row Seat.the_row Heap.the_row ghosts))

@@ -2,7 +2,7 @@ use denote.Param.{param}
 use denote.Param.Send.{sendable}
 use Rattle.std.proofs.Common.{arith}
 use Rattle.std.proofs.Crossing.{crosses}
-use Rattle.tac_hall.proofs.worked.End.TheSendSync as ends
+use Rattle.tac_worker.proofs.worked.End.TheSendSync as ends
 use Rattle.tac_hall.proofs.Crossing.{Seat-send, Key-sync, Hall-sync}
 use Rattle.tac_net.proofs.Crossing.{Listener-sync, Number-sync, Vigil-sync}
 use Rattle.tac_net.proofs.ServingFacts.{each_served, ok_both}

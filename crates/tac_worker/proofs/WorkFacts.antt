@@ -10,13 +10,13 @@ use Rattle.tac_conn.specs.History.{is_closed}
 use Rattle.tac_stream.specs.declared.stream.Stream.{Stream}
 use Rattle.tac_stream.specs.Turns.{packets_of}
 use Rattle.tac_stream.specs.Kept.{IsReady, Stands}
-use Rattle.tac_hall.specs.declared.worked.End.{End}
-use Rattle.tac_hall.specs.declared.worked.End.TheVariants.{Finished, ByProtocol, Stopped, LogFull, Memory, ReadFault, WriteFault, Held, NoSeat}
-use Rattle.tac_hall.specs.Served.{served_to, asks_in, is_refused, closes}
-use Rattle.tac_hall.specs.Worked.{Calling, Leaves, Closes, Writes, Ends, IsServed}
-use Rattle.tac_hall.specs.Working.{GoesOn, TakesOne, IsAtRest, EndsAt, HearsMore, Heard, Serving}
-use Rattle.tac_hall.proofs.ServedFacts.{packets_of-append, goes_none, goes-then, ends-behind}
-use Rattle.tac_hall.proofs.TurnFacts.{served_at_end, asks_at_end, ends_memory, ends_none}
+use Rattle.tac_worker.specs.declared.worked.End.{End}
+use Rattle.tac_worker.specs.declared.worked.End.TheVariants.{Finished, ByProtocol, Stopped, LogFull, Memory, ReadFault, WriteFault, Held, NoSeat}
+use Rattle.tac_worker.specs.Served.{served_to, asks_in, is_refused, closes}
+use Rattle.tac_worker.specs.Worked.{Calling, Leaves, Closes, Writes, Ends, IsServed}
+use Rattle.tac_worker.specs.Working.{GoesOn, TakesOne, IsAtRest, EndsAt, HearsMore, Heard, Serving}
+use Rattle.tac_worker.proofs.ServedFacts.{packets_of-append, goes_none, goes-then, ends-behind}
+use Rattle.tac_worker.proofs.TurnFacts.{served_at_end, asks_at_end, ends_memory, ends_none}
 
 next_of_list : (n : ℕ) (xs : List Frame) (x : Frame) (more : List Frame) → drop n xs ≡ x ∷ more → take (suc n) xs ≡ take n xs ++ x ∷ []
 next_of_list zero [] x more e = absurd cc

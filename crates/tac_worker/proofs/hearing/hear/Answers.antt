@@ -1,5 +1,5 @@
-use Rattle.tac_hall.proofs.HearFacts.{prolongs_cut, hears_nothing, heard_memory}
-use Rattle.tac_hall.proofs.hearing.hear.Goals as goal
+use Rattle.tac_worker.proofs.HearFacts.{prolongs_cut, hears_nothing, heard_memory}
+use Rattle.tac_worker.proofs.hearing.hear.Goals as goal
 
 pub returns-in-Ok-None-clause-heard : goal.returns-in-Ok-None-clause-heard
 returns-in-Ok-None-clause-heard g c = hears_nothing _ _ _ (rw (c.in-Ok-None.is, c.in-Ok-None.field-0-is) at c.read_piece.ensures.bytes)

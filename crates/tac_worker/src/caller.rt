@@ -2,20 +2,17 @@
 
 ghost use Rattle.std.specs.Prelude.{◌≡◌, [], ◌∷◌, ℕ, IfOk, IfErr, OnErr};
 ghost use Rattle.tac_conn.specs.Ask.{kind_of_ask, kind_of_answer};
-ghost use Rattle.tac_hall.specs.Worked.{Makes};
-ghost use Rattle.tac_hall.specs.Working.{IsUncalled};
+ghost use Rattle.tac_worker.specs.Worked.{Makes};
+ghost use Rattle.tac_worker.specs.Working.{IsUncalled};
 
-use crate::call::{Call, CallAnswer};
-use crate::entry::Receipt;
 use crate::gate::{Gate, lets_call};
-use crate::hall::Hall;
-use crate::seat::Seat;
 use crate::worked::{End, Worked};
 use std::alloc::Global;
 use std::marker::Model;
 use std::sync::Wait;
 use tac_conn::{Answer, Ask};
 use tac_desk::Desk;
+use tac_hall::{Call, CallAnswer, Hall, Receipt, Seat};
 
 /// A seat that calls, and the receipts that it got, which a contract sees.
 #[derive(Drop)]
@@ -25,7 +22,7 @@ pub(crate) struct Caller {
 }
 
 impl Model for Caller {
-    ghost use Rattle.tac_hall.specs.Worked.{Calling};
+    ghost use Rattle.tac_worker.specs.Worked.{Calling};
 
     ghost Value = { Calling };
 

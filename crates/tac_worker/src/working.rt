@@ -1,17 +1,16 @@
 //! Workers, who serve connections.
 
 ghost use Rattle.std.specs.Prelude.{[]};
-ghost use Rattle.tac_hall.specs.Worked.{IsServed};
+ghost use Rattle.tac_worker.specs.Worked.{IsServed};
 
 use crate::caller::Caller;
 use crate::gate::Gate;
-use crate::hall::Hall;
-use crate::seat::Seat;
 use crate::serving::serve;
 use crate::worked::Worked;
 use std::io::{Read, Write};
 use std::sync::Wait;
 use tac_desk::Desk;
+use tac_hall::{Hall, Seat};
 use tac_wire::Key;
 
 /// Serves one connection: reads what comes, asks the hall as this seat, and writes the replies,

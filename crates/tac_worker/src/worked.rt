@@ -1,13 +1,11 @@
 //! What a worker gives back.
 
 ghost use Rattle.std.specs.Prelude.{◌≡◌};
-ghost use Rattle.tac_hall.specs.Worked.{end_by};
-ghost use Rattle.tac_hall.specs.declared.worked.End.TheVariants.{Memory};
+ghost use Rattle.tac_worker.specs.Worked.{end_by};
+ghost use Rattle.tac_worker.specs.declared.worked.End.TheVariants.{Memory};
 
-use crate::entry::Receipt;
-use crate::fault::HallFault;
-use crate::seat::Seat;
 use std::alloc::{AllocError, AllocFailed};
+use tac_hall::{HallFault, Receipt, Seat};
 
 /// How the serving of a connection ended.
 #[derive(Clone, Copy, Debug, PartialEq, Eq)]

@@ -13,11 +13,11 @@ use Rattle.tac_conn.specs.Packet.{clear, sent}
 use Rattle.tac_stream.specs.Turns.{packets_of}
 use Rattle.tac_hall.specs.declared.entry.Made.{Made}
 use Rattle.tac_hall.specs.declared.entry.Receipt.{Receipt}
-use Rattle.tac_hall.specs.declared.worked.End.{End}
-use Rattle.tac_hall.specs.declared.worked.End.TheVariants.{Finished, ByProtocol, Stopped, LogFull, Memory, ReadFault, WriteFault, Held, NoSeat}
-use Rattle.tac_hall.specs.Served.{Sending, served_to, asks_in, bytes_sent, carried}
-use Rattle.tac_hall.specs.Worked.{Exchange, asks_of, answers_of, in_view, receipt_for, Calling, Makes, WritesSome, WritesBeginning, Writes, Ends}
-use Rattle.tac_hall.specs.Working.{Handled, GoesOn}
+use Rattle.tac_worker.specs.declared.worked.End.{End}
+use Rattle.tac_worker.specs.declared.worked.End.TheVariants.{Finished, ByProtocol, Stopped, LogFull, Memory, ReadFault, WriteFault, Held, NoSeat}
+use Rattle.tac_worker.specs.Served.{Sending, served_to, asks_in, bytes_sent, carried}
+use Rattle.tac_worker.specs.Worked.{Exchange, asks_of, answers_of, in_view, receipt_for, Calling, Makes, WritesSome, WritesBeginning, Writes, Ends}
+use Rattle.tac_worker.specs.Working.{Handled, GoesOn}
 
 -- ---- lists
 

@@ -9,12 +9,12 @@ use Rattle.tac_hall.specs.declared.entry.Made.{Made}
 use Rattle.tac_hall.specs.declared.entry.Receipt.{Receipt}
 use Rattle.tac_hall.specs.declared.fault.HallFault.{HallFault}
 use Rattle.tac_hall.specs.declared.fault.HallFault.TheVariants as refusals
-use Rattle.tac_hall.specs.declared.worked.End.{End}
-use Rattle.tac_hall.specs.declared.worked.End.TheVariants.{Finished, ByProtocol, Stopped, LogFull}
-use Rattle.tac_hall.specs.declared.worked.End.TheVariants.{Memory, ReadFault, WriteFault}
-use Rattle.tac_hall.specs.declared.worked.End.TheVariants.{NoSeat}
+use Rattle.tac_worker.specs.declared.worked.End.{End}
+use Rattle.tac_worker.specs.declared.worked.End.TheVariants.{Finished, ByProtocol, Stopped, LogFull}
+use Rattle.tac_worker.specs.declared.worked.End.TheVariants.{Memory, ReadFault, WriteFault}
+use Rattle.tac_worker.specs.declared.worked.End.TheVariants.{NoSeat}
 use Rattle.tac_hall.specs.Seat.{Sitting}
-use Rattle.tac_hall.specs.Served.{Sending, served, asks, closes, bytes_sent, carried}
+use Rattle.tac_worker.specs.Served.{Sending, served, asks, closes, bytes_sent, carried}
 
 -- ---- its calls
 

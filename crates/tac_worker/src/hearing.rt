@@ -1,7 +1,7 @@
 //! Reading what comes on a connection.
 
 ghost use Rattle.std.specs.Prelude.{◌≡◌, ◌<◌, length};
-ghost use Rattle.tac_hall.specs.Working.{Heard};
+ghost use Rattle.tac_worker.specs.Working.{Heard};
 
 use crate::worked::End;
 use std::io::Read;

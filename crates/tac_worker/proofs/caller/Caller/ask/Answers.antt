@@ -1,5 +1,5 @@
-use Rattle.tac_hall.proofs.CallFacts.{makes_one}
-use Rattle.tac_hall.proofs.caller.Caller.ask.Goals as goal
+use Rattle.tac_worker.proofs.CallFacts.{makes_one}
+use Rattle.tac_worker.proofs.caller.Caller.ask.Goals as goal
 
 pub returns-clause-makes : goal.returns-clause-makes
 returns-clause-makes g c =

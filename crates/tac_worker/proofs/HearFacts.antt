@@ -5,9 +5,9 @@ use Rattle.std.proofs.KnownBytes.{Consumes-nil, Consumes-kept}
 use Rattle.tac_wire.specs.declared.frame.Frame.{Frame}
 use Rattle.tac_wire.specs.Stream.{Parts, Tail, open_end, fault, cut, continued}
 use Rattle.tac_stream.specs.declared.stream.Stream.{Stream}
-use Rattle.tac_hall.specs.declared.worked.End.{End}
-use Rattle.tac_hall.specs.declared.worked.End.TheVariants.{Memory}
-use Rattle.tac_hall.specs.Working.{Prolongs, HearsMore, Heard}
+use Rattle.tac_worker.specs.declared.worked.End.{End}
+use Rattle.tac_worker.specs.declared.worked.End.TheVariants.{Memory}
+use Rattle.tac_worker.specs.Working.{Prolongs, HearsMore, Heard}
 
 -- after a header that is refused no packet comes; else the open end goes on
 pub prolongs_cut : (piece : List ℕ) → ((bytes more : List ℕ) → cut (bytes ++ more) ≡ continued (cut bytes) more) → Prolongs piece

@@ -6,7 +6,7 @@ use Rattle.tac_hall.specs.declared.call.Call.TheVariants as calls
 use Rattle.tac_hall.specs.declared.call.CallAnswer.TheVariants as answers
 use Rattle.tac_hall.specs.declared.entry.Receipt.{Receipt}
 use Rattle.tac_hall.specs.Seat.{IsMade}
-use Rattle.tac_hall.specs.Worked.{Calling, Makes}
+use Rattle.tac_worker.specs.Worked.{Calling, Makes}
 
 -- a call that was made, with its receipt kept
 pub makes_one : (was now : Calling) (ask : Ask) (receipt : Receipt) (answer : Answer) → IsMade was.seat (calls.Ask ask) receipt now.seat → receipt.answer ≡ answers.Ask answer

@@ -22,14 +22,14 @@ use Rattle.tac_stream.specs.declared.turn.Turn.{Turn}
 use Rattle.tac_stream.specs.declared.turn.Turn.TheVariants.{Reply, Asks, Silent, Need, Close}
 use Rattle.tac_stream.specs.Turns.{packets_of, turn_of, turn_by, IsTurn}
 use Rattle.tac_stream.specs.Kept.{Stands, closed_of, pending_of}
-use Rattle.tac_hall.specs.declared.worked.End.{End}
-use Rattle.tac_hall.specs.declared.worked.End.TheVariants.{Finished, ByProtocol, Stopped, LogFull, Memory, ReadFault, WriteFault, Held, NoSeat}
-use Rattle.tac_hall.specs.declared.serving.Went.{Went}
-use Rattle.tac_hall.specs.declared.serving.Went.TheVariants.{On, Rests}
-use Rattle.tac_hall.specs.Served.{Sending, plain, carrying, served_for, asked_by, served_to, asks_in, is_refused, closes, bytes_sent, carried}
-use Rattle.tac_hall.specs.Worked.{Exchange, asks_of, answers_of, Calling, Makes, Leaves, Closes, Writes, Ends}
-use Rattle.tac_hall.specs.Working.{Handled, GoesOn, IsUncalled, Replies, taken_of, left_of, Turned}
-use Rattle.tac_hall.proofs.ServedFacts.{packets_of-append, makes_none}
+use Rattle.tac_worker.specs.declared.worked.End.{End}
+use Rattle.tac_worker.specs.declared.worked.End.TheVariants.{Finished, ByProtocol, Stopped, LogFull, Memory, ReadFault, WriteFault, Held, NoSeat}
+use Rattle.tac_worker.specs.declared.serving.Went.{Went}
+use Rattle.tac_worker.specs.declared.serving.Went.TheVariants.{On, Rests}
+use Rattle.tac_worker.specs.Served.{Sending, plain, carrying, served_for, asked_by, served_to, asks_in, is_refused, closes, bytes_sent, carried}
+use Rattle.tac_worker.specs.Worked.{Exchange, asks_of, answers_of, Calling, Makes, Leaves, Closes, Writes, Ends}
+use Rattle.tac_worker.specs.Working.{Handled, GoesOn, IsUncalled, Replies, taken_of, left_of, Turned}
+use Rattle.tac_worker.proofs.ServedFacts.{packets_of-append, makes_none}
 
 -- ---- the outcome of a packet, by its turn
 

@@ -2,12 +2,11 @@
 
 ghost use Rattle.std.specs.Prelude.{◌≡◌, ◌<◌, ℕ, List, [], length};
 ghost use Rattle.tac_stream.specs.Kept.{IsReady, Stands};
-ghost use Rattle.tac_hall.specs.Worked.{IsServed};
-ghost use Rattle.tac_hall.specs.Working as working;
+ghost use Rattle.tac_worker.specs.Worked.{IsServed};
+ghost use Rattle.tac_worker.specs.Working as working;
 
 use crate::caller::Caller;
 use crate::gate::Gate;
-use crate::hall::Hall;
 use crate::hearing::hear;
 use crate::worked::End;
 use basics::send;
@@ -16,6 +15,7 @@ use std::io::{Read, Write};
 use std::sync::Wait;
 use tac_conn::Sent;
 use tac_desk::Desk;
+use tac_hall::Hall;
 use tac_stream::{Stream, Turn};
 use tac_wire::Key;
 

@@ -11,14 +11,14 @@ use Rattle.tac_conn.specs.declared.packet.Packet.{Packet}
 use Rattle.tac_stream.specs.declared.stream.Stream.{Stream}
 use Rattle.tac_stream.specs.Turns.{packets_of}
 use Rattle.tac_stream.specs.Kept.{IsReady, Stands, closed_of, pending_of}
-use Rattle.tac_hall.specs.declared.worked.End.{End}
-use Rattle.tac_hall.specs.declared.worked.End.TheVariants.{Finished, ByProtocol, Memory}
-use Rattle.tac_hall.specs.declared.worked.End.TheVariants.{ReadFault, WriteFault}
-use Rattle.tac_hall.specs.declared.serving.Went.{Went}
-use Rattle.tac_hall.specs.declared.serving.Went.TheVariants.{On, Rests}
-use Rattle.tac_hall.specs.Served.{Sending, served_to, asks_in, is_refused, closes}
-use Rattle.tac_hall.specs.Served.{bytes_sent, carried}
-use Rattle.tac_hall.specs.Worked.{Exchange, asks_of, answers_of, Calling, Makes, Closes, Ends}
+use Rattle.tac_worker.specs.declared.worked.End.{End}
+use Rattle.tac_worker.specs.declared.worked.End.TheVariants.{Finished, ByProtocol, Memory}
+use Rattle.tac_worker.specs.declared.worked.End.TheVariants.{ReadFault, WriteFault}
+use Rattle.tac_worker.specs.declared.serving.Went.{Went}
+use Rattle.tac_worker.specs.declared.serving.Went.TheVariants.{On, Rests}
+use Rattle.tac_worker.specs.Served.{Sending, served_to, asks_in, is_refused, closes}
+use Rattle.tac_worker.specs.Served.{bytes_sent, carried}
+use Rattle.tac_worker.specs.Worked.{Exchange, asks_of, answers_of, Calling, Makes, Closes, Ends}
 
 -- ---- packets that were served
 

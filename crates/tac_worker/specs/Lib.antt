@@ -1,0 +1,3 @@
+pub mod Served
+pub mod Worked
+pub mod Working
