@@ -118,6 +118,7 @@ const BEHIND_A_STOP: &str = "\
 ok
 hall 3 Closed
 hall 3 Closed
+hall 3 Closed
 refused 1 BadEdit
 hall 3 Closed
 ";
@@ -129,7 +130,13 @@ fn behind_a_stop(rt: HostRuntime) -> Result<(), Fail> {
     if hall.call(&rt, &mut other, Call::Stop).is_err() {
         return Err(Fail::from("no stop"));
     }
-    let seen = run(&rt, &hall, b"begin\nshadow\ncommit\ncommit\n", WHOLE, 99)?;
+    let seen = run(
+        &rt,
+        &hall,
+        b"begin\nshadow\nrotate\ncommit\ncommit\n",
+        WHOLE,
+        99,
+    )?;
     let written = seen.written.as_slice() == BEHIND_A_STOP.as_bytes();
     if written && seen.end.as_str() == "Ok(())" && seen.seat.view().is_empty() {
         Ok(())

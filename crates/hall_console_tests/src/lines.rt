@@ -42,6 +42,12 @@ fn no_console_line(rt: HostRuntime) -> Result<(), Fail> {
         refused 1 BadEdit
         > quit 
         refused 1 BadEdit
+        > Rotate
+        refused 1 BadEdit
+        >  rotate
+        refused 1 BadEdit
+        > rotate 
+        refused 1 BadEdit
         > why b,b
         refused 1 BadEdit
         ",
@@ -110,9 +116,57 @@ fn a_full_log(rt: HostRuntime) -> Result<(), Fail> {
         ok
         > abandon
         refused 1 BadEdit
+        ",
+        3,
+    )
+}
+
+#[test]
+fn a_log_without_room(rt: HostRuntime) -> Result<(), Fail> {
+    converses(
+        &rt,
+        0,
+        "
+        > shadow
+        hall 1 LogFull
         hall 1 LogFull
         ",
+        0,
+    )
+}
+
+#[test]
+fn rotations(rt: HostRuntime) -> Result<(), Fail> {
+    converses(
+        &rt,
         2,
+        "
+        > rotate
+        rotated 0 entries 0
+        > shadow
+        none
+        > drop group ops 7
+        refused 7 BadIndex
+        > shadow
+        hall 1 LogFull
+        > begin
+        ok
+        > add group net
+        kept 1
+        > rotate
+        rotated 1 entries 2
+        > add group a,b
+        refused 1 BadEdit
+        > commit
+        ok
+        > rotate
+        rotated 2 entries 1
+        > why bob show x
+        permitted by group ops rule 1
+        > reach group net
+        none
+        ",
+        6,
     )
 }
 

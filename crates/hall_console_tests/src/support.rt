@@ -2,9 +2,10 @@
 
 use crate::streams::{Manner, Room, Typed};
 use pol_text::Policy;
-use std::alloc::AllocError;
+use std::alloc::{AllocError, Global};
 use std::sync::Wait;
 use std::test::Fail;
+use tac_chain::{Archive, Chain};
 use tac_desks::PlainDesk;
 use tac_hall::{Call, Hall, HallFault, Seat};
 use tac_hall_console::operate;
@@ -23,12 +24,13 @@ pub(crate) fn hall_of<R: AllocGlobal>(rt: &R, limit: usize) -> Result<Hall<Plain
     Ok(Hall::new(rt, desk, limit)?)
 }
 
-/// What a console wrote, how it ended, and its seat.
+/// What a console wrote, how it ended, its seat, and what was taken out of the log.
 #[derive(Drop)]
 pub(crate) struct Seen {
     pub(crate) written: Vec<u8>,
     pub(crate) end: String,
     pub(crate) seat: Seat,
+    pub(crate) chain: Chain,
 }
 
 /// Runs the console of a hall on these bytes, which come in this manner, with so much room for what
@@ -50,11 +52,21 @@ pub(crate) fn run<R: Wait + AllocGlobal>(
         left: room,
         taken: Vec::new(rt.alloc()),
     };
-    let (seat, end) = operate(rt, rt.alloc(), hall, seat, &mut reader, &mut writer);
+    let archive = Archive::new(rt.alloc());
+    let (seat, end) = operate(
+        rt,
+        rt.alloc(),
+        hall,
+        &archive,
+        seat,
+        &mut reader,
+        &mut writer,
+    );
     Ok(Seen {
         written: writer.taken,
         end: format!(in rt.alloc(); "{end:?}")?,
         seat,
+        chain: archive.into_chain(),
     })
 }
 
@@ -93,6 +105,19 @@ fn fail<R: AllocGlobal>(rt: &R, what: &str, seen: &Seen) -> Fail {
     }
 }
 
+// Whether the hall is closed with all that was taken out of its log, once the seat has shed that.
+fn closes(alloc: Global, hall: Hall<PlainDesk>, chain: &Chain, seat: Seat) -> bool {
+    let mut seat = seat;
+    if !chain.shed_by(&mut seat) {
+        return false;
+    }
+    let mut seats = Vec::new(alloc);
+    if let Err(_) = seats.push(seat) {
+        return false;
+    }
+    chain.close(hall, seats).is_ok()
+}
+
 // One conversation at a new hall, in one manner.
 fn talks<R: Wait + AllocGlobal>(
     rt: &R,
@@ -110,7 +135,11 @@ fn talks<R: Wait + AllocGlobal>(
     if seen.end.as_str() != "Ok(())" || seen.seat.view().len() != made {
         return Err(fail(rt, "another end or number of calls", &seen));
     }
-    Ok(())
+    if closes(rt.alloc(), hall, &seen.chain, seen.seat) {
+        Ok(())
+    } else {
+        Err(Fail::from("the hall isn't closed with its chain"))
+    }
 }
 
 /// The lines after `> ` are typed at the console of a hall whose log takes so many calls; then all

@@ -6,6 +6,7 @@ use std::cell::RefCell;
 use std::io::{self, ErrorKind, Read, Write};
 use std::sync::Wait;
 use std::test::Fail;
+use tac_chain::Archive;
 use tac_hall_console::operate;
 
 /// A line that is typed, and its answer.
@@ -85,7 +86,16 @@ fn takes_turns<R: Wait + AllocGlobal>(rt: &R, turns: &[Turn]) -> Result<(), Fail
         early: false,
     };
     let mut screen = Screen { written: &written };
-    let (_, end) = operate(rt, rt.alloc(), &hall, seat, &mut typist, &mut screen);
+    let archive = Archive::new(rt.alloc());
+    let (_, end) = operate(
+        rt,
+        rt.alloc(),
+        &hall,
+        &archive,
+        seat,
+        &mut typist,
+        &mut screen,
+    );
     if typist.early {
         return Err(Fail::from("a line is waited for before the last is answered"));
     }

@@ -9,9 +9,9 @@ fn a_log_of_three_calls(rt: HostRuntime) -> Result<(), Fail> {
         &rt,
         3,
         "
-        1 run bob show version = 0 permitted
-        0 insert group ops 1 deny show .* = 1 changes 1
-        1 batch = 2 changes 0
+        1 run bob show version = 0:0 permitted
+        0 insert group ops 1 deny show .* = 0:1 changes 1
+        1 batch = 0:2 changes 0
         1 run bob show version = 1 LogFull
         1 batch = 1 LogFull
         0 stop = 1 LogFull
@@ -26,11 +26,11 @@ fn edits_count_for_the_other_seat(rt: HostRuntime) -> Result<(), Fail> {
         &rt,
         5,
         "
-        1 run bob show version = 0 permitted
-        0 insert group ops 1 deny show .* = 1 changes 1
-        1 run bob show version = 2 denied by group ops rule 1
-        0 batch insert group ops 1 permit ping; drop group ops 2 = 3 changes 1
-        1 run bob show version = 4 permitted
+        1 run bob show version = 0:0 permitted
+        0 insert group ops 1 deny show .* = 0:1 changes 1
+        1 run bob show version = 0:2 denied by group ops rule 1
+        0 batch insert group ops 1 permit ping; drop group ops 2 = 0:3 changes 1
+        1 run bob show version = 0:4 permitted
         ",
         5,
     )
@@ -42,11 +42,11 @@ fn logins_are_answered_by_the_desk(rt: HostRuntime) -> Result<(), Fail> {
         &rt,
         9,
         "
-        1 pass bob blue-lake = 0 fail
-        0 login bob blue-lake = 1 changes 0
-        1 pass bob blue-lake = 2 pass
-        1 pass bob red-lake = 3 fail
-        1 pass eve blue-lake = 4 fail
+        1 pass bob blue-lake = 0:0 fail
+        0 login bob blue-lake = 0:1 changes 0
+        1 pass bob blue-lake = 0:2 pass
+        1 pass bob red-lake = 0:3 fail
+        1 pass eve blue-lake = 0:4 fail
         ",
         5,
     )
@@ -58,9 +58,9 @@ fn records_are_stored_by_the_desk(rt: HostRuntime) -> Result<(), Fail> {
         &rt,
         3,
         "
-        0 record bob 7 = 0 stored
-        1 record bob 7 = 1 stored
-        0 record bob 8 = 2 stored
+        0 record bob 7 = 0:0 stored
+        1 record bob 7 = 0:1 stored
+        0 record bob 8 = 0:2 stored
         1 record bob 8 = 1 LogFull
         ",
         3,
@@ -73,13 +73,13 @@ fn refused_edits_stand_in_the_log(rt: HostRuntime) -> Result<(), Fail> {
         &rt,
         9,
         "
-        0 remove user eve = 0 refused 2 NoSuch
-        1 records = 1 report
-        0 batch add group net; drop group ops 2 = 2 refused at edit 2: 7 BadIndex
-        0 run bob show version = 3 permitted
-        1 insert group ops 1 deny show .* = 4 changes 1
-        0 batch add group net; drop group ops 2 = 5 changes 0
-        1 add group net = 6 refused 3 Exists
+        0 remove user eve = 0:0 refused 2 NoSuch
+        1 records = 0:1 report
+        0 batch add group net; drop group ops 2 = 0:2 refused at edit 2: 7 BadIndex
+        0 run bob show version = 0:3 permitted
+        1 insert group ops 1 deny show .* = 0:4 changes 1
+        0 batch add group net; drop group ops 2 = 0:5 changes 0
+        1 add group net = 0:6 refused 3 Exists
         ",
         7,
     )
@@ -91,8 +91,8 @@ fn a_stop_is_the_last_call(rt: HostRuntime) -> Result<(), Fail> {
         &rt,
         2,
         "
-        0 run bob show version = 0 permitted
-        1 stop = 1 stopped
+        0 run bob show version = 0:0 permitted
+        1 stop = 0:1 stopped
         0 run bob show version = 3 Closed
         1 stop = 3 Closed
         ",

@@ -4,6 +4,8 @@
 #[cfg(test)]
 mod calls;
 #[cfg(test)]
+mod rotation;
+#[cfg(test)]
 mod seats;
 #[cfg(test)]
 mod starved;

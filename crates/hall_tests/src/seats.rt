@@ -1,6 +1,8 @@
 //! Seats that there are no more of, that are another hall's, and that are missing.
 
-use crate::support::{OPS, closes, closes_with, hall_of, seats_of, show_version, talks};
+use crate::support::{
+    Kept, OPS, closes, closes_with, hall_of, refused, seats_of, show_version, talks,
+};
 use std::sync::Wait;
 use std::test::Fail;
 use tac_desks::PlainDesk;
@@ -32,8 +34,9 @@ fn is_refused<R: Wait + AllocGlobal>(
     mut seat: Seat,
 ) -> Result<(), Fail> {
     let call = show_version(rt.alloc())?;
+    let made = seat.view().len();
     match hall.call(rt, &mut seat, call) {
-        Err(HallFault::NoSeat) if seat.view().is_empty() => Ok(()),
+        Err(HallFault::NoSeat) if seat.view().len() == made => Ok(()),
         _ => Err(Fail::from("taken")),
     }
 }
@@ -46,12 +49,17 @@ fn a_seat_of_another_hall(rt: HostRuntime) -> Result<(), Fail> {
     is_refused(&rt, &hall, third)
 }
 
-// The hall isn't closed with these seats; hall and seats come back.
-fn refused(hall: Hall<PlainDesk>, seats: Vec<Seat>) -> Result<(Hall<PlainDesk>, Vec<Seat>), Fail> {
-    match hall.close(seats) {
-        Ok(_) => Err(Fail::from("closed")),
-        Err(back) => Ok(back),
-    }
+const LATER_FIRST: &str = "
+    1 rotate = 0 of 0
+    1 run bob show version = 1:0 permitted
+";
+
+#[test]
+fn a_seat_of_a_later_segment(rt: HostRuntime) -> Result<(), Fail> {
+    let hall = hall_of(&rt, OPS, 9)?;
+    let _seats = seats_of(&rt, &hall, 2)?;
+    let later = last_seat(&rt, 2, LATER_FIRST)?;
+    is_refused(&rt, &hall, later)
 }
 
 // The hall isn't closed without its last seat; it comes back with all of them.
@@ -93,23 +101,26 @@ fn a_missing_seat(rt: HostRuntime) -> Result<(), Fail> {
 
 // What a hall of six calls goes on with after three of them.
 const LATER: &str = "
-    0 run bob show version = 3 denied by group ops rule 1
-    1 records = 4 report
-    1 batch drop group ops 1; add group net = 5 changes 1
+    0 run bob show version = 0:3 denied by group ops rule 1
+    1 records = 0:4 report
+    1 batch drop group ops 1; add group net = 0:5 changes 1
     0 run bob show version = 1 LogFull
     1 stop = 1 LogFull
 ";
 
-const ALL: &str = "
-    1 run bob show version = permitted
-    0 insert group ops 1 deny show .* = changes 1
-    1 run bob show version = denied by group ops rule 1
-    0 run bob show version = denied by group ops rule 1
-    1 records = report
-    1 batch drop group ops 1; add group net = changes 1
-";
-
-const OPS_AT_LAST: &str = "group ops\npermit show .*\nuser bob in ops\ngroup net\n";
+const ALL: Kept = Kept {
+    number: 0,
+    base: OPS,
+    lines: "
+        1 run bob show version = permitted
+        0 insert group ops 1 deny show .* = changes 1
+        1 run bob show version = denied by group ops rule 1
+        0 run bob show version = denied by group ops rule 1
+        1 records = report
+        1 batch drop group ops 1; add group net = changes 1
+    ",
+    policy: "group ops\npermit show .*\nuser bob in ops\ngroup net\n",
+};
 
 #[test]
 fn a_missing_seat_after_calls(rt: HostRuntime) -> Result<(), Fail> {
@@ -120,25 +131,25 @@ fn a_missing_seat_after_calls(rt: HostRuntime) -> Result<(), Fail> {
         &hall,
         seats.as_mut_slice(),
         "
-        1 run bob show version = 0 permitted
-        0 insert group ops 1 deny show .* = 1 changes 1
-        1 run bob show version = 2 denied by group ops rule 1
+        1 run bob show version = 0:0 permitted
+        0 insert group ops 1 deny show .* = 0:1 changes 1
+        1 run bob show version = 0:2 denied by group ops rule 1
         ",
     )?;
     let (hall, mut seats) = refused_without_last(hall, seats)?;
     talks(&rt, &hall, seats.as_mut_slice(), LATER)?;
-    closes_with(rt.alloc(), hall, seats, ALL, OPS_AT_LAST)
+    closes_with(rt.alloc(), hall, seats, &ALL)
 }
 
 // The other seat of another hall, whose call stands at another place.
 const FIRST_LAST: &str = "
-    1 run bob show version = 0 permitted
-    0 run bob show version = 1 permitted
+    1 run bob show version = 0:0 permitted
+    0 run bob show version = 0:1 permitted
 ";
 
 const LAST_FIRST: &str = "
-    0 run bob show version = 0 permitted
-    1 run bob show version = 1 permitted
+    0 run bob show version = 0:0 permitted
+    1 run bob show version = 0:1 permitted
 ";
 
 #[test]
@@ -161,10 +172,10 @@ fn seats_in_another_order(rt: HostRuntime) -> Result<(), Fail> {
         &hall,
         seats.as_mut_slice(),
         "
-        2 run bob show version = 0 permitted
-        0 records = 1 report
-        1 run bob show clock = 2 permitted
-        2 records = 3 report
+        2 run bob show version = 0:0 permitted
+        0 records = 0:1 report
+        1 run bob show clock = 0:2 permitted
+        2 records = 0:3 report
         ",
     )?;
     seats.as_mut_slice().reverse();

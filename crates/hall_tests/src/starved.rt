@@ -1,5 +1,6 @@
-//! A desk that has no memory for edits, for copies of its records, nor for a record. Edits and a
-//! question are answered so, as others are answered; a record is refused.
+//! A desk that has no memory for edits, for copies of its records, nor for a record, and once it
+//! was asked, none for a copy of all that it represents. Edits and a question are answered so, as
+//! others are answered; a record and a rotation are refused.
 
 ghost use Rattle.std.specs.Prelude.{◌≡◌, []};
 
@@ -20,6 +21,7 @@ use tac_hall::Hall;
 #[derive(Drop)]
 struct Starved {
     inner: PlainDesk,
+    asked: bool,
 }
 
 impl Model for Starved {
@@ -36,7 +38,10 @@ impl Model for Starved {
 impl Starved {
     fn new(alloc: Global, policy: Policy) -> Result<Starved, EditFault> {
         let inner = PlainDesk::new(alloc, policy, 9)?;
-        Ok(Starved { inner })
+        Ok(Starved {
+            inner,
+            asked: false,
+        })
     }
 }
 
@@ -44,6 +49,7 @@ impl Desk for Starved {
     ghost meaning = { λ desk. desk };
 
     fn ask(&mut self, ask: &Ask) -> Result<Answer, AllocError> {
+        self.asked = true;
         match ask {
             Ask::Authenticate { .. } | Ask::Authorise { .. } => self.inner.ask(ask),
             Ask::Account(_) => Err(AllocError),
@@ -62,7 +68,11 @@ impl Desk for Starved {
     }
 
     fn state(&self) -> Result<State, AllocError> {
-        self.inner.state()
+        if self.asked {
+            Err(AllocError)
+        } else {
+            self.inner.state()
+        }
     }
 }
 
@@ -79,11 +89,11 @@ fn want_of_memory_stands_in_the_log(rt: HostRuntime) -> Result<(), Fail> {
     starves(
         &rt,
         "
-        0 insert group ops 1 deny show .* = 0 refused 12 Memory
-        1 records = 1 refused 12 Memory
-        1 batch add group net; insert group net 1 permit ping = 2 refused 12 Memory
-        1 run bob show version = 3 permitted
-        0 stop = 4 stopped
+        0 insert group ops 1 deny show .* = 0:0 refused 12 Memory
+        1 records = 0:1 refused 12 Memory
+        1 batch add group net; insert group net 1 permit ping = 0:2 refused 12 Memory
+        1 run bob show version = 0:3 permitted
+        0 stop = 0:4 stopped
         ",
         5,
     )
@@ -95,11 +105,11 @@ fn a_record_that_is_not_stored(rt: HostRuntime) -> Result<(), Fail> {
         &rt,
         "
         0 record bob 7 = 2 Memory
-        0 run bob show version = 0 permitted
+        0 run bob show version = 0:0 permitted
         0 record bob 7 = 2 Memory
         1 record bob 8 = 2 Memory
-        1 run bob show version = 1 permitted
-        0 stop = 2 stopped
+        1 run bob show version = 0:1 permitted
+        0 stop = 0:2 stopped
         1 record bob 7 = 3 Closed
         ",
         3,
@@ -112,9 +122,26 @@ fn a_record_for_a_full_log(rt: HostRuntime) -> Result<(), Fail> {
     starves(
         &rt,
         "
-        1 run bob show version = 0 permitted
+        1 run bob show version = 0:0 permitted
         0 record bob 7 = 1 LogFull
         ",
         1,
+    )
+}
+
+// After a rotation that has no memory the log goes on as it was.
+#[test]
+fn a_rotation_without_memory(rt: HostRuntime) -> Result<(), Fail> {
+    starves(
+        &rt,
+        "
+        0 rotate = 0 of 0
+        0 run bob show version = 1:0 permitted
+        0 rotate = 2 Memory
+        1 run bob show version = 1:1 permitted
+        0 stop = 1:2 stopped
+        0 rotate = 3 Closed
+        ",
+        3,
     )
 }

@@ -10,7 +10,7 @@ use std::test::Fail;
 use tac_conn::{Answer, Ask, Proof, Service};
 use tac_desk::{Desk, Query, State};
 use tac_desks::PlainDesk;
-use tac_hall::{Call, CallAnswer, Entry, Hall, HallFault, Receipt, Seat, Settled};
+use tac_hall::{Call, CallAnswer, Entry, Hall, HallFault, Receipt, Seat, Segment, Settled, joins};
 use tac_request::{AcctKind, Record};
 
 /// A policy under which bob may show things.
@@ -132,29 +132,81 @@ fn show_answer(out: &mut String, answer: &CallAnswer) -> Result<(), AllocError> 
     }
 }
 
-// The place of a call and its answer, or why it is refused.
+// The segment and the place of a call, and its answer, or why it is refused.
 fn show(out: &mut String, told: &Result<Receipt, HallFault>) -> Result<(), AllocError> {
     match told {
         Ok(receipt) => {
-            write!(out, "{} ", receipt.place)?;
+            write!(out, "{}:{} ", receipt.segment, receipt.place)?;
             show_answer(out, &receipt.answer)
         }
         Err(fault) => write!(out, "{fault}"),
     }
 }
 
-// Makes a call by a seat, which has to have this result.
-fn says<D: Desk, R: Wait + AllocGlobal>(
+// Makes a call by a seat.
+fn calls<D: Desk, R: Wait + AllocGlobal>(
     rt: &R,
     hall: &Hall<D>,
     seat: &mut Seat,
     words: &str,
-    wanted: &str,
+    shown: &mut String,
 ) -> Result<(), Fail> {
     let call = call_of(rt.alloc(), words)?;
     let told = hall.call(rt, seat, call);
+    Ok(show(shown, &told)?)
+}
+
+// Rotates the log, and adds the segment to the others.
+fn rotates<D: Desk, R: Wait + AllocGlobal>(
+    rt: &R,
+    hall: &Hall<D>,
+    seat: &mut Seat,
+    segments: &mut Vec<Segment>,
+    shown: &mut String,
+) -> Result<(), Fail> {
+    match hall.rotate(rt, seat) {
+        Ok(segment) => {
+            write!(shown, "{} of {}", segment.number(), segment.log().len())?;
+            segments.push(segment)?;
+        }
+        Err(fault) => write!(shown, "{fault}")?,
+    }
+    Ok(())
+}
+
+// The segment that was taken out so many others before.
+fn segment_at<'a>(segments: &'a [Segment], words: &str) -> Result<&'a Segment, Fail> {
+    match segments.get(words.parse::<usize>()?) {
+        Some(segment) => Ok(segment),
+        None => Err(Fail::from("no such segment")),
+    }
+}
+
+// Does one thing, which has to have this result.
+fn says<D: Desk, R: Wait + AllocGlobal>(
+    rt: &R,
+    hall: &Hall<D>,
+    seat: &mut Seat,
+    segments: &mut Vec<Segment>,
+    line: (&str, &str),
+) -> Result<(), Fail> {
+    let (words, wanted) = line;
     let mut shown = String::new(rt.alloc());
-    show(&mut shown, &told)?;
+    let (verb, rest) = word(words);
+    match verb {
+        "rotate" => rotates(rt, hall, seat, segments, &mut shown)?,
+        "shed" => {
+            let segment = segment_at(segments.as_slice(), rest)?;
+            write!(shown, "{}", seat.shed(segment))?;
+        }
+        "joins" => {
+            let (first, second) = word(rest);
+            let first = segment_at(segments.as_slice(), first)?;
+            let second = segment_at(segments.as_slice(), second)?;
+            write!(shown, "{}", joins(first, second))?;
+        }
+        _ => calls(rt, hall, seat, words, &mut shown)?,
+    }
     if shown.as_str() == wanted {
         Ok(())
     } else {
@@ -167,30 +219,51 @@ fn exchanges<D: Desk, R: Wait + AllocGlobal>(
     rt: &R,
     hall: &Hall<D>,
     seats: &mut [Seat],
+    segments: &mut Vec<Segment>,
     line: &str,
 ) -> Result<(), Fail> {
     let (asked, wanted) = line.split_once(" = ").unwrap_or((line, ""));
     let (number, words) = word(asked);
     match seats.get_mut(number.parse::<usize>()?) {
-        Some(seat) => says(rt, hall, seat, words, wanted),
+        Some(seat) => says(rt, hall, seat, segments, (words, wanted)),
         None => Err(Fail::from("no such seat")),
     }
 }
 
-/// Each line is `SEAT CALL = PLACE ANSWER`, or `SEAT CALL = REFUSAL`.
+/// Each line is one of these:
+///
+///     SEAT CALL = SEGMENT:PLACE ANSWER
+///     SEAT rotate = SEGMENT of CALLS
+///     SEAT shed SEGMENT = true
+///     SEAT joins SEGMENT SEGMENT = true
+///
+/// or has a refusal, or false, for the answer. A rotation adds its segment to the others, which
+/// `shed` and `joins` count from 0.
+pub(crate) fn talks_on<D: Desk, R: Wait + AllocGlobal>(
+    rt: &R,
+    hall: &Hall<D>,
+    seats: &mut [Seat],
+    segments: &mut Vec<Segment>,
+    talk: &str,
+) -> Result<(), Fail> {
+    for line in talk.lines() {
+        let line = line.trim();
+        if !line.is_empty() {
+            exchanges(rt, hall, seats, segments, line)?;
+        }
+    }
+    Ok(())
+}
+
+/// The same with no segments before.
 pub(crate) fn talks<D: Desk, R: Wait + AllocGlobal>(
     rt: &R,
     hall: &Hall<D>,
     seats: &mut [Seat],
     talk: &str,
 ) -> Result<(), Fail> {
-    for line in talk.lines() {
-        let line = line.trim();
-        if !line.is_empty() {
-            exchanges(rt, hall, seats, line)?;
-        }
-    }
-    Ok(())
+    let mut segments = Vec::new(rt.alloc());
+    talks_on(rt, hall, seats, &mut segments, talk)
 }
 
 // The hall is closed with these seats, and its log has so many calls.
@@ -244,39 +317,50 @@ fn is_state_of(alloc: Global, state: &State, policy: &str) -> Result<bool, Fail>
     Ok(wanted.same(state))
 }
 
-// What a hall kept: its desk represented bob's policy at first, took these calls, each with its
-// answer, and represents this policy now.
-fn has_kept(
-    alloc: Global,
-    settled: &Settled<PlainDesk>,
-    lines: &str,
-    policy: &str,
-) -> Result<(), Fail> {
+/// What a hall has to have kept: the number of its last segment, the policy at the beginning of
+/// that, its calls, each line of which is `SEAT CALL = ANSWER`, and the policy at the end.
+pub(crate) struct Kept {
+    pub(crate) number: u64,
+    pub(crate) base: &'static str,
+    pub(crate) lines: &'static str,
+    pub(crate) policy: &'static str,
+}
+
+fn has_kept(alloc: Global, settled: &Settled<PlainDesk>, kept: &Kept) -> Result<(), Fail> {
     let now = settled.desk.state()?;
-    if !is_state_of(alloc, &settled.base, OPS)? {
+    if settled.number != kept.number || !is_state_of(alloc, settled.base.get(), kept.base)? {
         return Err(Fail::from("another base"));
     }
-    if !are_entries(alloc, settled.log.as_slice(), lines)? {
+    if !are_entries(alloc, settled.log.as_slice(), kept.lines)? {
         return Err(Fail::from("another log"));
     }
-    if !is_state_of(alloc, &now, policy)? {
+    if !is_state_of(alloc, &now, kept.policy)? {
         return Err(Fail::from("another desk"));
     }
     Ok(())
 }
 
-/// The hall, of bob's policy at first, is closed with these seats. Each line is
-/// `SEAT CALL = ANSWER`, an entry of its log, and its desk represents this policy.
+/// The hall is closed with these seats, and has kept this.
 pub(crate) fn closes_with(
     alloc: Global,
     hall: Hall<PlainDesk>,
     seats: Vec<Seat>,
-    lines: &str,
-    policy: &str,
+    kept: &Kept,
 ) -> Result<(), Fail> {
     match hall.close(seats) {
-        Ok(settled) => has_kept(alloc, &settled, lines, policy),
+        Ok(settled) => has_kept(alloc, &settled, kept),
         Err(_) => Err(Fail::from("close refused")),
+    }
+}
+
+/// The hall isn't closed with these seats; hall and seats come back.
+pub(crate) fn refused(
+    hall: Hall<PlainDesk>,
+    seats: Vec<Seat>,
+) -> Result<(Hall<PlainDesk>, Vec<Seat>), Fail> {
+    match hall.close(seats) {
+        Ok(_) => Err(Fail::from("closed")),
+        Err(back) => Ok(back),
     }
 }
 
@@ -294,8 +378,8 @@ pub(crate) fn seats_of<D: Desk, R: Wait + AllocGlobal>(
     Ok(seats)
 }
 
-/// Each line is `SEAT CALL = PLACE ANSWER`, or `SEAT CALL = REFUSAL`, at this hall, with its first
-/// two seats; after them the hall is closed, and its log has so many calls.
+/// A conversation with this hall and its first two seats; after it the hall is closed, and its log
+/// has so many calls.
 pub(crate) fn converses_in<D: Desk, R: Wait + AllocGlobal>(
     rt: &R,
     hall: Hall<D>,

@@ -59,7 +59,7 @@ fn a_log_of_257_calls(rt: HostRuntime) -> Result<(), Fail> {
         &rt,
         257,
         "
-        3 stop = 256 stopped
+        3 stop = 0:256 stopped
         0 run bob show version = 3 Closed
         ",
         257,

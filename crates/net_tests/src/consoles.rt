@@ -20,8 +20,13 @@ struct Course {
     idle: u32,
     /// He keeps a silent connection open.
     keeps: bool,
-    /// He asks as a client does, and goes on if that was permitted.
-    asks: bool,
+    /// So many calls the hall's log takes.
+    limit: usize,
+    /// Before this call of a segment the log is taken out.
+    rotate_at: u32,
+    /// He asks as a client does, once for each letter, and goes on if he was permitted at each p,
+    /// and not answered at each x.
+    asks: &'static str,
     /// Then he types this.
     types: &'static str,
     /// Then his input fails, where it doesn't end.
@@ -34,7 +39,9 @@ const QUITS: Course = Course {
     workers: 4,
     idle: 0,
     keeps: false,
-    asks: true,
+    limit: 9,
+    rotate_at: 9,
+    asks: "p",
     types: "quit\n",
     fails: false,
     room: 0,
@@ -62,9 +69,9 @@ where
     }
 
     fn ask(&self) -> io::Result<()> {
-        if self.course.asks {
+        for letter in self.course.asks.bytes() {
             let client = asks(self.rt, self.address)?;
-            if !is_permitted(self.rt.alloc(), &client)? {
+            if is_permitted(self.rt.alloc(), &client)? != (letter == b'p') {
                 return Err(io::Error::from(ErrorKind::PermissionDenied));
             }
         }
@@ -165,8 +172,9 @@ where
         workers: course.workers,
         connections: 9,
         idle: course.idle,
+        rotate_at: course.rotate_at,
     };
-    let hall = hall_of(rt, 9)?;
+    let hall = hall_of(rt, course.limit)?;
     let mut operator = Operator {
         rt,
         address,
@@ -192,7 +200,7 @@ fn a_silent_device_holds_up_no_end(rt: HostRuntime) -> Result<(), Fail> {
     let course = Course {
         workers: 1,
         keeps: true,
-        asks: false,
+        asks: "",
         ..QUITS
     };
     ends(&rt, course, "", Ok(()))
@@ -208,6 +216,45 @@ fn a_silent_device_is_given_up(rt: HostRuntime) -> Result<(), Fail> {
         ..QUITS
     };
     ends(&rt, course, "", Ok(()))
+}
+
+// The operator takes the log out in the middle, and finds a full one at his end.
+#[test]
+fn a_log_that_is_taken_out(rt: HostRuntime) -> Result<(), Fail> {
+    let in_the_middle = Course {
+        types: "rotate\nshadow\nquit\n",
+        room: 99,
+        ..QUITS
+    };
+    ends(&rt, in_the_middle, "rotated 0 entries 1\nnone\n", Ok(()))?;
+    let full = Course {
+        limit: 2,
+        asks: "pp",
+        ..QUITS
+    };
+    ends(&rt, full, "", Ok(()))
+}
+
+// Before each second call the log is taken out, so each log has one call. Where it is taken out too
+// late, an ask comes to a full log and isn't answered, and the one worker serves the next.
+#[test]
+fn a_log_that_is_taken_out_by_itself(rt: HostRuntime) -> Result<(), Fail> {
+    let by_itself = Course {
+        limit: 1,
+        rotate_at: 2,
+        asks: "ppppp",
+        types: "rotate\nquit\n",
+        room: 99,
+        ..QUITS
+    };
+    ends(&rt, by_itself, "rotated 4 entries 1\n", Ok(()))?;
+    let too_late = Course {
+        workers: 1,
+        rotate_at: 3,
+        asks: "pxp",
+        ..by_itself
+    };
+    ends(&rt, too_late, "rotated 1 entries 1\n", Ok(()))
 }
 
 // Workers end too, one with a silent device and some that wait for one, after a console that can't

@@ -13,7 +13,8 @@ finding_text findings.WordByte = codes "'\\w' is the letter w here: is '[A-Za-z0
 finding_text findings.Space = codes "'\\s' is the letter s here: is a space meant?"
 finding_text findings.NamedClass =
     codes "'[[:' begins a class of these symbols here: is a range meant, as '[a-z]'?"
-finding_text findings.Count = codes "'{' and '}' are symbols here: is a repetition meant, as '+'?"
+finding_text findings.Count =
+    codes "'{' and '}' are symbols here: is a count meant, as in 'policy 2'?"
 finding_text findings.BlankBefore = codes "it begins with a space: is that meant?"
 finding_text findings.BlankAfter = codes "it ends with a space: is that meant?"
 finding_text findings.NoEnd = codes "other rules end in ' <cr>': is it meant that this one doesn't?"

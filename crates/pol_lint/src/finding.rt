@@ -96,7 +96,7 @@ impl fmt::Display for Finding {
             Finding::Count => {
                 write!(
                     f,
-                    "'{{' and '}}' are symbols here: is a repetition meant, as '+'?"
+                    "'{{' and '}}' are symbols here: is a count meant, as in 'policy 2'?"
                 )
             }
             Finding::BlankBefore => write!(f, "it begins with a space: is that meant?"),

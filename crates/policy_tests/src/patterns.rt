@@ -141,7 +141,7 @@ fn texts_of_patterns(rt: HostRuntime) {
         /a?*
         +aa
 
-        # Classes, and symbols behind a backslash.
+        # Classes, and symbols after a backslash.
         /[a-c]x
         +bx
         -dx
@@ -175,6 +175,9 @@ fn texts_of_patterns(rt: HostRuntime) {
         /a{0}*
         +
         -a
+        /a{0}{1,2}*
+        +
+        -a
         /a{2}3
         +aa3
         /a{2}{3}
@@ -202,7 +205,7 @@ fn texts_of_patterns(rt: HostRuntime) {
         +{{}
         +}{}
 
-        # Version 1, with the braces of classes and behind a backslash.
+        # Version 1, with the braces of classes and after a backslash.
         /a{2}
         >a\\{2\\}
         /a\\{2\\}

@@ -21,6 +21,7 @@ fn refuses<R: Abort + AllocGlobal>(rt: &R, text: &str, expected: &str) -> Result
 fn texts_that_are_no_policy(rt: HostRuntime) -> Result<(), Fail> {
     refuses(&rt, "permit x", "line 1: 4 NoSubject")?;
     refuses(&rt, "user bob in ops", "line 1: 7 NoSuchParent")?;
+    refuses(&rt, "policy 2\nuser bob in ops", "line 2: 7 NoSuchParent")?;
     refuses(&rt, "group a in b\ngroup b in a\n", "line 1: 8 Cycle")?;
     refuses(
         &rt,

@@ -234,7 +234,12 @@ fn so_many_are_served_at_once(rt: HostRuntime) -> Result<(), Fail> {
 
 #[test]
 fn at_an_address(rt: HostRuntime) -> Result<(), Fail> {
-    visited(&rt, "--idle 1", [127, 0, 0, 2], Visit::TenTimes)?;
+    visited(
+        &rt,
+        "--idle 1 --rotate-at 3",
+        [127, 0, 0, 2],
+        Visit::TenTimes,
+    )?;
     let options = "--address 127.0.0.2 --workers 1";
     visited(&rt, options, [127, 0, 0, 2], Visit::TenTimes)
 }

@@ -34,12 +34,15 @@ Lines of the console, where a SUBJECT is 'user NAME' or 'group NAME':
   shift SUBJECT N M    rule N gets the number M
   begin, commit, abandon
                        edits after 'begin', up to 64, are kept, and made by 'commit' all or none
+  rotate               puts the log away and begins the next; its number and how many calls it has
+                       are printed
   quit                 the server stops, as it does where the input ends
 
 An edit and a 'commit' are answered by 'ok', and for each user whom they concern by the shortest
 line that is now permitted, and the shortest that is now denied; or by 'refused' and why, and have
 changed nothing.
-A call that the server doesn't take is answered by 'hall' and why: 65536 calls are taken in all.
+A call that the server doesn't take is answered by 'hall' and why. A log takes 65536 calls. It is
+put away before it is full, as --rotate-at says, and nothing is printed then.
 
 Where the server stops, the port is closed, and all connections are closed within half a second.
 
@@ -277,7 +280,8 @@ every session asks for a login or a command line, or tells what was done. The wh
 
 pub(crate) const REPLAY_AFTER_LONG_HELP: &str = "Lines of a script, in this order:
   key TEXT             line 1: the key, 1 to 128 printable ASCII characters
-  policy 2             line 2: patterns of the policy have counts, as '{1,3}'; it may be left out
+  policy 2             line 2, or the first of a file that has a policy alone: its patterns may
+                       count, as '{1,3}'; it may be left out
   the policy, any number of these:
     group NAME           begins a group; with ' in GROUP', one that has that group's rules too
     user NAME            begins a user; with ' in GROUP', one that has that group's rules too
@@ -298,12 +302,12 @@ pub(crate) const REPLAY_AFTER_LONG_HELP: &str = "Lines of a script, in this orde
 In the policy, empty lines, lines that begin with '#' and leading spaces are passed over. A NAME is
 1 to 32 of the characters A-Z a-z 0-9 _ - . @. A PATTERN, up to 400 characters long, is to fit a
 whole command line: '.' fits any character, '[a-z]' and '[^a-z]' one of a class or one that isn't in
-it, 'A|B' what A or B fits; behind a character, a class or a part in parentheses, '*' means any number
-of it, '+' at least one, '?' at most one, '{3}' three and '{1,3}' one to three, where no number is
-over 32; a '\\' takes the next character as it is. Without the line 'policy 2' a PATTERN has at most
-200 characters, and '{' and '}' fit themselves. The first rule
-that fits decides, a user's own before the group's, and a group's own before those of its group; where
-none fits, the command is denied.
+it, 'A|B' what A or B fits; after a character, a class or a part in parentheses, '*' means any
+number of it, '+' at least one, '?' at most one, '{3}' three and '{1,3}' one to three, where no
+number is over 32; a '\\' takes the next character as it is. Without the line 'policy 2' a PATTERN
+of the policy has at most 200 characters, and '{' and '}' fit themselves; in edits they always
+count. The first rule that fits decides, a user's own before the group's, and a group's own before
+those of its group; where none fits, the command is denied.
 
 What is printed:
   reply N HEX          the server sends a packet on connection N, here with its body in the clear

@@ -416,6 +416,12 @@ fn bad_options(rt: HostRuntime) -> Result<(), Fail> {
     )?;
     bad_option(
         &rt,
+        "--port 1 --rotate-at 0",
+        "--rotate-at <N>",
+        "0 is not in 1..=65536",
+    )?;
+    bad_option(
+        &rt,
         "--port 1 --address 127.0.0",
         address,
         "invalid IP address syntax",
@@ -525,6 +531,7 @@ Options:
       --workers <W>      How many connections are served at once, 1 to 63 [default: 4]
       --idle <SECONDS>   After how many seconds without a reply a connection is closed, 0 to 86400; 0 is never [default: 300]
       --connections <N>  How many connections each worker serves before it ends, at least 1 [default: 4294967295]
+      --rotate-at <N>    Put a log away, and begin the next, before its Nth call, 1 to 65536 [default: 32768]
   -h, --help             Print help (see more with '--help')
 
 Example:
@@ -570,6 +577,11 @@ Options:
           How many connections each worker serves before it ends, at least 1
           
           [default: 4294967295]
+
+      --rotate-at <N>
+          Put a log away, and begin the next, before its Nth call, 1 to 65536
+          
+          [default: 32768]
 
   -h, --help
           Print help (see a summary with '-h')

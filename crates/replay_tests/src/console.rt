@@ -219,6 +219,7 @@ fn lines_that_ask_nothing(rt: HostRuntime) -> Result<(), Fail> {
         "reach",
         "reach ops",
         "quit",
+        "rotate",
         "\u{e9}",
         "why bob \t",
         "run",
@@ -234,7 +235,8 @@ fn lines_that_ask_nothing(rt: HostRuntime) -> Result<(), Fail> {
         plays(
             &rt,
             &["key k\n", BOB, "run\nconsole ", line, "\nconsole policy\n"],
-            "refused 1 BadEdit\npolicy 2\ngroup ops\npermit show .*\nuser bob in ops\nlogin secret\n",
+            "refused 1 BadEdit\npolicy 2\ngroup ops\npermit show .*\n\
+            user bob in ops\nlogin secret\n",
         )?;
     }
     Ok(())

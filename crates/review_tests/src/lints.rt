@@ -75,7 +75,7 @@ fn patterns(rt: HostRuntime) -> Result<(), Fail> {
     tells(
         &rt,
         "user bob\nlogin x\npermit vlan [0-9]{1,3} <cr>\n",
-        "line 3 column 18: '{' and '}' are symbols here: is a repetition meant, as '+'?\n",
+        "line 3 column 18: '{' and '}' are symbols here: is a count meant, as in 'policy 2'?\n",
     )?;
     is_quiet(
         &rt,

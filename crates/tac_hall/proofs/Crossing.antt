@@ -15,11 +15,13 @@ use Rattle.tac_hall.specs.contracts.shared.Shared as Shared
 use Rattle.tac_hall.specs.contracts.entry.Made as Made
 use Rattle.tac_hall.specs.contracts.entry.Entry as Entry
 use Rattle.tac_hall.specs.contracts.seat.Seat as Seat
+use Rattle.tac_hall.specs.contracts.segment.Segment as Segment
 use denote.RattleType.{RattleType}
 use Rattle.tac_wire.specs.contracts.key.Key as Key
 use Rattle.tac_desk.specs.declared.desk.Desk as desk
 use Rattle.tac_hall.specs.contracts.laws.Room as Room
 use Rattle.tac_hall.specs.contracts.hall.Hall as Hall
+use Rattle.basics.specs.contracts.sequence.Sequence as Sequence
 use Rattle.basics.proofs.sequence.Sequence.TheSendSync as sequence
 use Rattle.pol_names.proofs.decision.Decision.TheSendSync as decision
 use Rattle.pol_meaning.proofs.Reached.TheSendSync as reached
@@ -93,11 +95,24 @@ CallAnswer-field = search (Report-send, Report-sync, shared.the_send, sequence.t
 pub Kept-send : IsSend (Shared.the_row Call.the_row)
 Kept-send = shared.the_send Call.the_row call.the_send call.the_sync
 
+pub SharedState-send : IsSend (Shared.the_row State.the_row)
+SharedState-send = shared.the_send State.the_row State-send State-sync
+
+pub SharedState-sync : IsSync (Shared.the_row State.the_row)
+SharedState-sync = shared.the_sync State.the_row State-send State-sync
+
 pub Made-send : IsSend Made.the_row
 Made-send = search (CallAnswer-field, Kept-send, sendable) depth 60
 
 pub Entry-send : IsSend Entry.the_row
 Entry-send = search (CallAnswer-field, Kept-send, sendable) depth 60
+
+pub Entries-send : IsSend (Sequence.the_row Entry.the_row)
+Entries-send = sequence.the_send Entry.the_row Entry-send
+
+-- a segment may be handed on
+pub Segment-send : IsSend Segment.the_row
+Segment-send = search (Entries-send, SharedState-send, crosses, sendable) depth 60
 
 pub Seat-send : IsSend Seat.the_row
 Seat-send = search (Made-send, crosses, sendable) depth 60
@@ -107,7 +122,7 @@ Key-sync = search (crosses, sendable) depth 60
 
 module _ (D : RattleType) (g : desk.Ghosts D.Denot) where
   pub Room-send : IsSend D → IsSend (Room.the_row D g)
-  Room-send d = search (Entry-send, State-field, crosses, sendable) depth 60 fits 20000
+  Room-send d = search (Entry-send, SharedState-send, crosses, sendable) depth 60 fits 20000
 
   pub Hall-sync : IsSend D → IsSync (Hall.the_row D g)
-  Hall-sync d = let room = Room-send d in search (room, State-shared, crosses, sendable) depth 60 fits 20000
+  Hall-sync d = let room = Room-send d in search (room, SharedState-sync, crosses, sendable) depth 60 fits 20000

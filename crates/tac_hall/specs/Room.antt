@@ -12,28 +12,40 @@ use Rattle.tac_hall.specs.declared.laws.Step.TheVariants as steps
 use Rattle.tac_hall.specs.declared.laws.Done.{Done}
 use Rattle.tac_hall.specs.declared.laws.Done.TheVariants as done
 use Rattle.tac_hall.specs.History.{Answers, IsOfKind, is_closed, Legal}
+use Rattle.tac_hall.specs.Segment.{Stretch}
 
--- what the desk represented at first, the calls since then, what it represents now, how many
--- calls the log takes, and how
--- many seats were made
+-- the number of the present segment, what the desk represented at its beginning, the calls since
+-- then, what the desk represents now, how many calls the log takes, and how many seats were made
 pub record Contents : Type 0 where
+  pub number : ℕ
   pub base : Meaning
   pub log : List Entry
   pub meaning : Meaning
   pub limit : ℕ
   pub seats : ℕ
 
-abbrev pub contents : Meaning → List Entry → Meaning → ℕ → ℕ → Contents
-contents base log meaning limit seats =
-    record { base = base; log = log; meaning = meaning; limit = limit; seats = seats }
+abbrev pub contents : ℕ → Meaning → List Entry → Meaning → ℕ → ℕ → Contents
+contents number base log meaning limit seats = record {
+  number = number;
+  base = base;
+  log = log;
+  meaning = meaning;
+  limit = limit;
+  seats = seats;
+}
 
 -- no more seats are made
 abbrev pub most_seats : ℕ
 most_seats = 64
 
+-- no segment has a greater number
+abbrev pub last_segment : ℕ
+last_segment = 18446744073709551615
+
 -- the log is a legal history from the base to what the desk represents
 pub record IsLawful (room : Contents) : Type 0 where
   pub legal : Legal room.base room.log room.meaning
+  pub numbered : room.number ≤ last_segment
   pub within : length room.log ≤ room.limit
   pub seated : room.seats ≤ most_seats
 
@@ -59,11 +71,13 @@ pub record IsCalled (was : Contents) (seat : ℕ) (call : Call) (done : Called) 
     Type 0 where
   pub goes_on : is_closed was.log ≡ false
   pub room : length was.log < was.limit
+  pub segment : done.segment ≡ was.number
   pub place : done.place ≡ length was.log
   pub same : done.kept ≡ done.given
   pub kind : IsOfKind call done.given
   pub answers : Answers was.meaning call done.given now.meaning
   pub log : now.log ≡ was.log ++ record { seat = seat; call = call; answer = done.given } ∷ []
+  pub number : now.number ≡ was.number
   pub base : now.base ≡ was.base
   pub limit : now.limit ≡ was.limit
   pub seats : now.seats ≡ was.seats
@@ -79,11 +93,32 @@ Calls was seat call (Err Memory) now =
     (is_closed was.log ≡ false) × (length was.log < was.limit) × (now ≡ was)
 Calls was seat call (Err NoSeat) now = ⊥
 
--- what a step does, of either kind
+-- the log was taken out, whole, and the next segment begins: with an empty log, from what the desk
+-- represents
+pub record IsRotated (was : Contents) (segment : Stretch) (now : Contents) : Type 0 where
+  pub goes_on : is_closed was.log ≡ false
+  pub numbered : was.number < last_segment
+  pub taken : segment
+      ≡ record { number = was.number; base = was.base; log = was.log; end = was.meaning }
+  pub left : now ≡ record was { number = suc was.number; base = was.meaning; log = [] }
+
+-- a rotation is refused after a Stop, else where no number is left, else perhaps because memory ran
+-- out; that changes nothing
+abbrev pub Rotates : Contents → Result Stretch HallFault → Contents → Type 0
+Rotates was (Ok segment) now = IsRotated was segment now
+Rotates was (Err Closed) now = (is_closed was.log ≡ true) × (now ≡ was)
+Rotates was (Err LogFull) now =
+    (is_closed was.log ≡ false) × (was.number ≡ last_segment) × (now ≡ was)
+Rotates was (Err Memory) now =
+    (is_closed was.log ≡ false) × (was.number < last_segment) × (now ≡ was)
+Rotates was (Err NoSeat) now = ⊥
+
+-- what a step does, of any kind
 abbrev pub Does : Contents → Step → Result Done HallFault → Contents → Type 0
 Does was steps.Seat (Ok (done.Seated number)) now = Sits was (Ok number) now
-Does was steps.Seat (Ok (done.Called called)) now = ⊥
 Does was steps.Seat (Err fault) now = Sits was (Err fault) now
-Does was (steps.Call seat call) (Ok (done.Seated number)) now = ⊥
 Does was (steps.Call seat call) (Ok (done.Called called)) now = Calls was seat call (Ok called) now
 Does was (steps.Call seat call) (Err fault) now = Calls was seat call (Err fault) now
+Does was steps.Rotate (Ok (done.Rotated segment)) now = Rotates was (Ok segment) now
+Does was steps.Rotate (Err fault) now = Rotates was (Err fault) now
+Does was step (Ok other) now = ⊥

@@ -1,60 +1,43 @@
 //! Closing a hall: whether the views of its seats are what its log has of them.
 
-ghost use Rattle.std.specs.Prelude.{◌≡◌, ◌≤◌, ◌∷◌, Some, IsTrue, slice_get, length};
+ghost use Rattle.std.specs.Prelude.{◌≡◌, IsTrue};
 ghost use Rattle.tac_hall.specs.Closing as closing;
+ghost use Rattle.tac_hall.specs.Shedding.{view_of};
 
-use crate::entry::{Entry, Made};
+use crate::entry::Entry;
+use crate::part::end_of_part;
 use crate::seat::Seat;
+use crate::shared::Shared;
 use tac_desk::State;
 
-/// A hall that was closed: what its desk represented at first, all calls since then, and the desk.
+/// A hall that was closed: the number of its last segment, what its desk represented at the
+/// beginning of that, all calls since then, and the desk.
 #[derive(Drop)]
 pub struct Settled<D> {
-    pub base: State,
+    pub number: u64,
+    pub base: Shared<State>,
     pub log: Vec<Entry>,
     pub desk: D,
 }
 
-// Whether the view has this entry next.
-fn is_next(view: &[Made], at: usize, place: usize, entry: &Entry) -> bool
-    ensures { IsTrue result → slice_get view.now at
-        ≡ Some (record { place = place; call = entry.now.call; answer = entry.now.answer }) }
+// Whether the seat's view is what the log of this segment has of it.
+fn is_view(segment: u64, log: &[Entry], seat: &Seat) -> bool
+    ensures { IsTrue result → view_of segment seat.now.number 0 log.now ≡ seat.now.view }
 {
-    match view.get(at) {
-        Some(made) => {
-            made.place == place
-                && made.call.get().same(entry.call.get())
-                && made.answer.same(&entry.answer)
-        }
+    let view = seat.view();
+    match end_of_part(view, 0, segment, seat.number(), log) {
+        Some(end) => end == view.len(),
         None => false,
     }
 }
 
-// Whether the seat's view is what the log has of it.
-fn is_view(log: &[Entry], seat: &Seat) -> bool
-    ensures { IsTrue result → closing.view_of seat.now.number 0 log.now ≡ seat.now.view }
-{
-    let number = seat.number();
-    let view = seat.view();
-    let mut at = 0;
-    'entries: for (place, entry) in log.iter().enumerate() {
-        if entry.seat != number {
-            continue;
-        }
-        if !is_next(view, at, place, entry) {
-            return false;
-        }
-        at += 1;
-    }
-    at == view.len()
-}
-
-/// Whether each seat's view is what the log has of it. Linear in the log, for each seat.
-pub(crate) fn are_views(log: &[Entry], seats: &[Seat]) -> bool
-    ensures { IsTrue result → closing.AreViews log.now seats.now }
+/// Whether each seat's view is what the log of this segment has of it. Linear in the log, for each
+/// seat.
+pub(crate) fn are_views(segment: u64, log: &[Entry], seats: &[Seat]) -> bool
+    ensures { IsTrue result → closing.AreViews segment log.now seats.now }
 {
     'seats: for seat in seats {
-        if !is_view(log, seat) {
+        if !is_view(segment, log, seat) {
             return false;
         }
     }
@@ -73,7 +56,7 @@ fn is_there(number: u32, seats: &[Seat]) -> bool
 }
 
 /// Whether each call of the log was made by one of the seats.
-pub(crate) fn are_theirs(log: &[Entry], seats: &[Seat]) -> bool
+pub fn are_theirs(log: &[Entry], seats: &[Seat]) -> bool
     ensures { result ≡ closing.are_theirs log.now seats.now }
 {
     'entries: for entry in log {

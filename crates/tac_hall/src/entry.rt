@@ -11,20 +11,22 @@ pub struct Entry {
     pub answer: CallAnswer,
 }
 
-/// A call in the view of the seat that made it: its place in the log, counted from 0, and its
-/// answer.
+/// A call in the view of the seat that made it: the number of its segment, its place in the log of
+/// that, both counted from 0, and its answer.
 #[derive(Drop)]
 pub struct Made {
+    pub segment: u64,
     pub place: usize,
     pub call: Shared<Call>,
     pub answer: CallAnswer,
 }
 
-/// What the maker of a call is told: the number of the seat, the place of the call in the log, and
-/// the answer.
+/// What the maker of a call is told: the number of the seat, the segment in which the call stands,
+/// its place in the log of that, and the answer.
 #[derive(Drop)]
 pub struct Receipt {
     pub seat: u32,
+    pub segment: u64,
     pub place: usize,
     pub answer: CallAnswer,
 }

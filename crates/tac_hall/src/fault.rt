@@ -8,11 +8,11 @@ use std::alloc::{AllocError, AllocFailed};
 use std::error::Error;
 use std::fmt;
 
-/// Why a hall takes no call, or has no seat. Of a call NoSeat is judged first, then Closed, then
-/// LogFull, then Memory.
+/// Why a hall takes no call, has no seat, or isn't rotated. Of a call NoSeat is judged first, then
+/// Closed, then LogFull, then Memory; of a rotation the same, without NoSeat.
 #[derive(Clone, Copy, Debug, PartialEq, Eq)]
 pub enum HallFault {
-    /// The log has as many calls as it may have.
+    /// The log has as many calls as it may have; or, of a rotation, no number is left.
     LogFull,
     /// Memory ran out.
     Memory,

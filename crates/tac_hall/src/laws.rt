@@ -13,21 +13,26 @@ use crate::closing::{Settled, are_theirs, are_there, are_views};
 use crate::entry::Entry;
 use crate::fault::HallFault;
 use crate::seat::Seat;
+use crate::segment::Segment;
 use crate::shared::Shared;
+use basics::Sequence;
 use std::alloc::Global;
 use std::marker::Model;
+use std::mem;
 use tac_desk::{Desk, State};
 
 /// The most seats of a hall.
 pub const MAX_SEATS: u32 = 64;
 
-/// A desk, and all calls that it took. A contract sees what it represented at first, the calls,
-/// what it represents now, and the limits; at all times the calls are a legal history between the
-/// two.
+/// A desk, and all calls that it took since the present segment began. A contract sees the number
+/// of that, what the desk represented then, the calls, what it represents now, and the limits; at
+/// all times the calls are a legal history between the two.
 #[derive(Drop)]
 pub struct Room<D: Desk> {
+    alloc: Global,
     desk: D,
-    base: State,
+    number: u64,
+    base: Shared<State>,
     log: Vec<Entry>,
     limit: usize,
     seats: u32,
@@ -42,11 +47,11 @@ impl<D: Desk> Model for Room<D> {
 
     ghost Value = { Contents };
 
-    ghost view = { λ room.
-        contents room.base room.log.items (D.meaning room.desk) room.limit room.seats };
+    ghost view = { λ room. contents room.number room.base room.log.items (D.meaning room.desk)
+        room.limit room.seats };
 
-    ghost invariant = { λ room.
-        IsLawful (contents room.base room.log.items (D.meaning room.desk) room.limit room.seats)
+    ghost invariant = { λ room. IsLawful (contents room.number room.base room.log.items
+        (D.meaning room.desk) room.limit room.seats)
         × (room.closed ≡ is_closed room.log.items) };
 }
 
@@ -57,6 +62,8 @@ pub enum Step {
     Seat,
     /// The seat of this number makes a call.
     Call(u32, Shared<Call>),
+    /// The log is taken out.
+    Rotate,
 }
 
 /// What a step gives.
@@ -65,11 +72,15 @@ pub enum Done {
     /// The number of the new seat.
     Seated(u32),
     Called(Called),
+    /// The segment that was the present one.
+    Rotated(Segment),
 }
 
-/// A call that was answered: its place in the log, and the answer with two owners more.
+/// A call that was answered: its segment, its place in the log, and the answer with two owners
+/// more.
 #[derive(Drop)]
 pub struct Called {
+    pub segment: u64,
     pub place: usize,
     pub kept: CallAnswer,
     pub given: CallAnswer,
@@ -77,12 +88,14 @@ pub struct Called {
 
 impl<D: Desk> Room<D> {
     /// A desk that no call was made at. The base is what it represents.
-    pub(crate) fn new(alloc: Global, desk: D, base: State, limit: usize) -> Room<D>
+    pub(crate) fn new(alloc: Global, desk: D, base: Shared<State>, limit: usize) -> Room<D>
         requires { base ≡ D.meaning desk }
-        ensures { result ≡ rooms.contents (D.meaning desk) [] (D.meaning desk) limit 0 }
+        ensures { result ≡ rooms.contents 0 (D.meaning desk) [] (D.meaning desk) limit 0 }
     {
         Room {
+            alloc,
             desk,
+            number: 0,
             base,
             log: Vec::new(alloc),
             limit,
@@ -112,55 +125,65 @@ impl<D: Desk> Room<D> {
         Ok(())
     }
 
-    /// Whether a seat of this number was made, and a call stands in the log at each place below
-    /// the next one.
-    pub(crate) fn knows(&self, number: u32, next: usize) -> bool
-        ensures known { IsTrue result ↔ seats.IsKnown self.now number next }
+    /// Whether a seat of this number was made, and each place of this segment below the next one
+    /// was given: each one of an earlier segment than the present one counts as given.
+    pub(crate) fn knows(&self, number: u32, segment: u64, next: usize) -> bool
+        ensures known { IsTrue result ↔ seats.IsKnown self.now number segment next }
         ensures lawful { rooms.IsLawful self.now }
     {
-        number < self.seats && next <= self.log.len()
+        let given = segment < self.number || segment == self.number && next <= self.log.len();
+        number < self.seats && given
     }
 
-    /// Whether the room began at this, takes so many calls, and these are its seats, with what the
-    /// log has of each.
+    /// Whether the first segment began at this, the log takes so many calls, and these are the
+    /// room's seats, with what the log has of each.
     pub(crate) fn settles(&self, opening: &State, limit: usize, seats: &[Seat]) -> bool
-        ensures base { IsTrue result → self.now.base ≡ opening.now }
+        ensures base { IsTrue result → self.now.number ≡ 0 → self.now.base ≡ opening.now }
         ensures limit { IsTrue result → self.now.limit ≡ limit }
-        ensures views { IsTrue result → closing.AreViews self.now.log seats.now }
+        ensures views { IsTrue result → closing.AreViews self.now.number self.now.log seats.now }
         ensures theirs { IsTrue result → closing.are_theirs self.now.log seats.now ≡ true }
         ensures there { IsTrue result → closing.are_there self.now.seats seats.now ≡ true }
         ensures count { IsTrue result → length seats.now ≡ self.now.seats }
     {
         let log = self.log.as_slice();
-        self.base.same(opening)
+        (self.number > 0 || self.base.get().same(opening))
             && self.limit == limit
             && seats.len() == self.seats as usize
             && are_there(self.seats, seats)
             && are_theirs(log, seats)
-            && are_views(log, seats)
+            && are_views(self.number, log, seats)
     }
 
     /// Gives up all that lies in the room.
     pub(crate) fn settled(self) -> Settled<D>
+        ensures number { result.number ≡ self.number }
         ensures base { result.base ≡ self.base }
         ensures legal { history.Legal self.base result.log.items (D.meaning result.desk) }
         ensures within { length result.log.items ≤ self.limit }
         ensures log { result.log.items ≡ self.log }
     {
         let Room {
+            alloc: _,
             desk,
+            number,
             base,
             log,
             limit: _,
             seats: _,
             closed: _,
         } = self;
-        Settled { base, log, desk }
+        Settled {
+            number,
+            base,
+            log,
+            desk,
+        }
     }
 
-    /// Does one thing: a call gets the desk's answer, which stands at the end of the log then. A
-    /// refusal changes nothing; only a call may run out of memory. What the room had until then was
-    /// lawful too.
+    /// Does one thing: a call gets the desk's answer, which stands at the end of the log then; a
+    /// rotation takes the whole log out, and the next segment begins. A refusal changes nothing;
+    /// only a call and a rotation may run out of memory. What the room had until then was lawful
+    /// too.
     pub fn step(&mut self, step: Step) -> Result<Done, HallFault>
         ensures does { rooms.Does self.old step result self.new }
         ensures lawful { rooms.IsLawful self.old }
@@ -174,6 +197,10 @@ impl<D: Desk> Room<D> {
             Step::Call(seat, call) => {
                 let called = self.call(seat, call)?;
                 Ok(Done::Called(called))
+            }
+            Step::Rotate => {
+                let segment = self.rotate()?;
+                Ok(Done::Rotated(segment))
             }
         }
     }
@@ -213,6 +240,32 @@ impl<D: Desk> Room<D> {
             answer: logged,
         };
         self.log.push(entry).unwrap();
-        Ok(Called { place, kept, given })
+        Ok(Called {
+            segment: self.number,
+            place,
+            kept,
+            given,
+        })
+    }
+
+    // Takes the log out. The copy of what the desk represents is made before anything is moved.
+    fn rotate(&mut self) -> Result<Segment, HallFault>
+        ensures rotates { rooms.Rotates self.old result self.new }
+        ensures lawful { rooms.IsLawful self.old }
+        ensures legal { history.Legal self.new.base self.new.log self.new.meaning }
+    {
+        if self.closed {
+            return Err(HallFault::Closed);
+        }
+        let Some(next) = self.number.checked_add(1) else {
+            return Err(HallFault::LogFull);
+        };
+        let state = self.desk.state()?;
+        let end = Shared::new(self.alloc, state)?;
+        let later = end.again()?;
+        let base = mem::replace(&mut self.base, later);
+        let log = mem::replace(&mut self.log, Vec::new(self.alloc));
+        let number = mem::replace(&mut self.number, next);
+        Ok(Segment::new(number, base, Sequence::from(log), end))
     }
 }

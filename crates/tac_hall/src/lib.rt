@@ -9,13 +9,16 @@ mod fault;
 mod hall;
 pub mod laws;
 mod locking;
+mod part;
 mod seat;
+mod segment;
 mod shared;
 
 pub use call::{Call, CallAnswer};
-pub use closing::Settled;
+pub use closing::{Settled, are_theirs};
 pub use entry::{Entry, Made, Receipt};
 pub use fault::HallFault;
 pub use hall::Hall;
 pub use seat::Seat;
+pub use segment::{Parts, Segment, joins};
 pub use shared::Shared;

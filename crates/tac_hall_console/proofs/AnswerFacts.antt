@@ -6,8 +6,8 @@ use Rattle.tac_hall.specs.Seat.{Sitting}
 use Rattle.tac_hall_console.specs.declared.answering.Console.{Console}
 use Rattle.tac_hall_console.specs.declared.fault.OperatorFault.{OperatorFault}
 use Rattle.tac_hall_console.specs.declared.fault.OperatorFault.TheVariants as faults
-use Rattle.tac_hall_console.specs.Operated.{Makes, WritesBeginning}
-use Rattle.tac_hall_console.specs.Operating.{LineComesTo, Tells, IsUntold, Sends, LeavesBatch, EndsAt, Answers}
+use Rattle.tac_hall_console.specs.Operated.{LineComesTo, Makes, WritesBeginning}
+use Rattle.tac_hall_console.specs.Operating.{Tells, IsUntold, Sends, LeavesBatch, EndsAt, Answers}
 use Rattle.tac_hall_console.proofs.GoingFacts.{makes_none, text_one}
 
 -- its answer was written, or a beginning of that

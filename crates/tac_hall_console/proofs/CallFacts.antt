@@ -1,7 +1,13 @@
 -- A call that is made or refused.
-use Rattle.std.proofs.Common.{◌≡◌, ◌-◌, ℕ, List, [], ◌∷◌, ◌++◌, length, Option, Some, Result, Ok, Err, IfOk, OnOk, OnErr, IsErrAnd, refl, sym, ap, subst, ◌∙◌, inr, length-append, arith}
-use Rattle.std.specs.Prelude.{slice_get}
+use Rattle.std.proofs.Common.{◌≡◌, ◌-◌, ℕ, Bool, true, false, List, [], ◌∷◌, ◌++◌, length, Option, Some, Result, Ok, Err, IfOk, OnOk, OnErr, IsErrAnd, refl, sym, ap, subst, ◌∙◌, inr, length-append, arith}
+use Rattle.std.specs.Prelude.{slice_get, MatchBool}
 use Rattle.std.proofs.KnownBytes.{Appends-nil}
+use Rattle.pol_edit.specs.declared.edit.Edit.{Edit}
+use Rattle.tac_chain.specs.declared.chain.Rotated.{Rotated}
+use Rattle.tac_chain.specs.Chain.{Chained, IsChained}
+use Rattle.tac_chain.specs.Keeping.{IsKept}
+use Rattle.tac_console.specs.Batching.{action_of}
+use Rattle.tac_console.specs.ConsoleText.{asked_by}
 use Rattle.tac_console.specs.declared.batching.Action.TheVariants as actions
 use Rattle.tac_console.specs.declared.batching.Notice.{Notice}
 use Rattle.tac_hall.specs.declared.call.Call.{Call}
@@ -13,8 +19,9 @@ use Rattle.tac_hall.specs.declared.fault.HallFault.TheVariants as hall
 use Rattle.tac_hall.specs.Seat.{Sitting, IsMade, made_of}
 use Rattle.tac_hall_console.specs.declared.fault.OperatorFault.{OperatorFault}
 use Rattle.tac_hall_console.specs.declared.fault.OperatorFault.TheVariants as faults
-use Rattle.tac_hall_console.specs.Operated.{Outcome, CallsFor, ComesTo, noticed, made, refused, told, refusal_line, HasFound}
-use Rattle.tac_hall_console.specs.Operating.{Comes, Adds, IsUntold, SendsUnlessMemory, Stops}
+use Rattle.tac_hall_console.specs.Operated.{Outcome, CallsFor, ComesTo, IsRotation, LineComesTo, noticed, made, rotated, refused, told, refusal_line, HasFound}
+use Rattle.tac_hall_console.specs.Commands.{is_rotate}
+use Rattle.tac_hall_console.specs.Operating.{Comes, Tells, Adds, IsUntold, SendsUnlessMemory, Stops}
 use Rattle.tac_hall_console.proofs.GoingFacts.{makes_none}
 
 behind_all : {X : Type 0} (before : List X) (last : X) → slice_get (before ++ last ∷ []) (length before) ≡ Some last
@@ -42,6 +49,50 @@ pub comes_of : (call : Call) (result : Result Receipt HallFault) (was now : Sitt
     → (outcome : Outcome) × Comes (CallsFor call) outcome was now
 comes_of call (Ok receipt) was now m same = (made (made_of call receipt), comes_made call receipt was now m)
 comes_of call (Err fault) was now m same = (refused fault, comes_refused call fault was now same)
+
+-- ---- a rotation
+
+pub comes_rotated : (rotation : Rotated) (was then : Chained) (seat : Sitting) → IsChained was.logs was.ends → IsKept was rotation then → Comes IsRotation (rotated rotation) seat seat
+comes_rotated rotation was then seat chained kept = record { comes = (was, then, chained, kept); makes = makes_none seat }
+
+pub comes_unrotated : (fault : HallFault) (seat : Sitting) → Comes IsRotation (refused fault) seat seat
+comes_unrotated fault seat = record { comes = tt; makes = makes_none seat }
+
+pub rotation_told : {E : Type 0} (outcome : Outcome) (old new : List ℕ) (result : Result (Unit {0}) E) → ((seat : Sitting) → Comes IsRotation outcome seat seat)
+    → OnOk result (new ≡ old ++ told outcome) → OnOk result ((seat : Sitting) → Adds IsRotation seat seat old new)
+rotation_told outcome old new (Ok u) came e = λ seat. (told outcome, e, record { outcome = outcome; came = came seat; is = refl })
+rotation_told outcome old new (Err fault) came e = tt
+
+pub rotation_untold : {E : Type 0} (outcome : Outcome) (result : Result (Unit {0}) E) → ((seat : Sitting) → Comes IsRotation outcome seat seat)
+    → OnErr result ((seat : Sitting) → IsUntold IsRotation seat seat)
+rotation_untold outcome (Ok u) came = tt
+rotation_untold outcome (Err fault) came = λ seat. inr (outcome, came seat)
+
+-- ---- which line it is
+
+-- a text that was empty
+pub tells_added : (may : Outcome → Type 0) (was now : Sitting) (old new : List ℕ) → old ≡ [] → Adds may was now old new → Tells may was now new
+tells_added may was now old new empty a = subst (Tells may was now) (sym (a.1 ∙ ap (λ (o : List ℕ). o ++ a.0) empty)) a.2
+
+module _ (batch : Option (List Edit)) (line : List ℕ) where
+  may_if : Bool → Outcome → Type 0
+  may_if is outcome = MatchBool is (IsRotation outcome) (ComesTo (action_of batch (asked_by line)) outcome)
+
+  pub tells_rotation : (was now : Sitting) (text : List ℕ) → is_rotate line ≡ true → Tells IsRotation was now text → Tells (LineComesTo batch line) was now text
+  unfolding may_if
+  tells_rotation was now text is t = subst (λ (b : Bool). Tells (may_if b) was now text) (sym is) t
+
+  pub tells_asked : (was now : Sitting) (text : List ℕ) → is_rotate line ≡ false → Tells (ComesTo (action_of batch (asked_by line))) was now text → Tells (LineComesTo batch line) was now text
+  unfolding may_if
+  tells_asked was now text is t = subst (λ (b : Bool). Tells (may_if b) was now text) (sym is) t
+
+  pub untold_rotation : (was now : Sitting) → is_rotate line ≡ true → IsUntold IsRotation was now → IsUntold (LineComesTo batch line) was now
+  unfolding may_if
+  untold_rotation was now is t = subst (λ (b : Bool). IsUntold (may_if b) was now) (sym is) t
+
+  pub untold_asked : (was now : Sitting) → is_rotate line ≡ false → IsUntold (ComesTo (action_of batch (asked_by line))) was now → IsUntold (LineComesTo batch line) was now
+  unfolding may_if
+  untold_asked was now is t = subst (λ (b : Bool). IsUntold (may_if b) was now) (sym is) t
 
 some_same : {X : Type 0} (a b : X) → Some a ≡ Some b → a ≡ b
 some_same a b e = cc

@@ -6,28 +6,26 @@ use Rattle.std.proofs.lemmas.Grind.{flat_map-append}
 use Rattle.std.proofs.lemmas.List.Elements.{filter_map-append}
 use Rattle.basics.specs.Lines.{split_at_first, lines_of}
 use Rattle.pol_edit.specs.declared.edit.Edit.{Edit}
-use Rattle.tac_console.specs.Batching.{batch_after}
-use Rattle.tac_console.specs.ConsoleText.{asked_by}
 use Rattle.tac_hall.specs.declared.entry.Made.{Made}
 use Rattle.tac_hall.specs.Seat.{Sitting}
 use Rattle.tac_hall_console.specs.declared.answering.Console.{Console}
 use Rattle.tac_hall_console.specs.declared.fault.OperatorFault.{OperatorFault}
 use Rattle.tac_hall_console.specs.declared.fault.OperatorFault.TheVariants as faults
 use Rattle.tac_hall_console.specs.Commands.{ended_lines, is_quit, commands, quits}
-use Rattle.tac_hall_console.specs.Operated.{Outcome, CameTo, told, entry_of, text_of, entries_of, Makes, WritesBeginning}
+use Rattle.tac_hall_console.specs.Operated.{Outcome, batch_by, CameTo, told, entry_of, text_of, entries_of, Makes, WritesBeginning}
 use Rattle.tac_hall_console.specs.Operating.{batch_left, GoesOn, WritesTo, EndsAt, IsRead, LeavesBatch}
 use Rattle.tac_hall_console.proofs.LineFacts.{split_more, split_shorter, lines_split, ended_split, command_first, quits_later}
 
 pub batch_append : (batch : Option (List Edit)) (lines later : List (List ℕ)) → batch_left batch (lines ++ later) ≡ batch_left (batch_left batch lines) later
 batch_append batch [] later = refl
-batch_append batch (line ∷ lines) later = batch_append (batch_after batch (asked_by line)) lines later
+batch_append batch (line ∷ lines) later = batch_append (batch_by batch line) lines later
 
 pub came_append : (batch : Option (List Edit)) (lines : List (List ℕ)) (outcomes : List Outcome) (later : List (List ℕ)) (others : List Outcome)
     → CameTo batch lines outcomes → CameTo (batch_left batch lines) later others → CameTo batch (lines ++ later) (outcomes ++ others)
 came_append batch [] [] later others a b = b
 came_append batch [] (outcome ∷ outcomes) later others a b = absurd a
 came_append batch (line ∷ lines) [] later others a b = absurd a
-came_append batch (line ∷ lines) (outcome ∷ outcomes) later others a b = (a.0, came_append (batch_after batch (asked_by line)) lines outcomes later others a.1 b)
+came_append batch (line ∷ lines) (outcome ∷ outcomes) later others a b = (a.0, came_append (batch_by batch line) lines outcomes later others a.1 b)
 
 -- the same, where this batch is found behind the first lines
 came_behind : (batch between : Option (List Edit)) (lines : List (List ℕ)) (outcomes : List Outcome) (later : List (List ℕ)) (others : List Outcome)

@@ -6,7 +6,7 @@ use Rattle.tac_hall.specs.Seat.{Sitting}
 use Rattle.tac_hall_console.specs.declared.answering.Console.{Console}
 use Rattle.tac_hall_console.specs.declared.fault.OperatorFault.{OperatorFault}
 use Rattle.tac_hall_console.specs.declared.fault.OperatorFault.TheVariants as faults
-use Rattle.tac_hall_console.specs.Operated.{Outcome, noticed, made, refused, told, text_of, WritesBeginning, Wants, IsOperated}
+use Rattle.tac_hall_console.specs.Operated.{Outcome, noticed, made, rotated, refused, told, text_of, WritesBeginning, Wants, IsOperated}
 use Rattle.tac_hall_console.specs.Operating.{IsRefused, Stops, IsHeard}
 use Rattle.tac_hall_console.proofs.GoingFacts.{makes_then, text_append, text_one, written_then, beginning_then}
 
@@ -14,11 +14,13 @@ use Rattle.tac_hall_console.proofs.GoingFacts.{makes_then, text_append, text_one
 wants_refused : (input : List ℕ) (stop : Outcome) → IsRefused stop → Wants (Err faults.Memory) input stop
 wants_refused input (noticed notice) is = absurd is
 wants_refused input (made entry) is = absurd is
+wants_refused input (rotated rotation) is = absurd is
 wants_refused input (refused fault) is = tt
 
 wants_some : (input : List ℕ) (stop : Outcome) → 0 < length input → Wants (Err faults.Memory) input stop
 wants_some input (noticed notice) some = tt
 wants_some input (made entry) some = some
+wants_some input (rotated rotation) some = tt
 wants_some input (refused fault) some = tt
 
 -- a beginning of less

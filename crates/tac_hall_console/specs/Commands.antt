@@ -16,6 +16,9 @@ ended_lines (byte ∷ bytes) =
 abbrev pub is_quit : List ℕ → Bool
 is_quit line = bytes_eq line (codes "quit")
 
+abbrev pub is_rotate : List ℕ → Bool
+is_rotate line = bytes_eq line (codes "rotate")
+
 -- the lines before the first `quit`
 abbrev pub commands : List (List ℕ) → List (List ℕ)
 commands [] = []

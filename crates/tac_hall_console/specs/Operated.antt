@@ -1,6 +1,8 @@
 -- What was done at the console of a hall (docs/CONSOLE.md, "The console of a hall").
 use Rattle.std.specs.Prelude.{◌≡◌, ◌≢◌, ◌<◌, ◌≤◌, ℕ, List, [], ◌∷◌, ◌++◌, length, codes, false}
-use Rattle.std.specs.Prelude.{Option, Some, None, Result, Ok, Err, flat_map, filter_map}
+use Rattle.std.specs.Prelude.{Option, Some, None, Result, Ok, Err, flat_map, filter_map, MatchBool}
+use Rattle.std.specs.Prelude.{if◌then◌else◌}
+use Rattle.std.specs.Fmt.{decimal}
 use Rattle.std.specs.Io.KnownBytes.{Appends, Consumes, IsAtEnd}
 use Rattle.basics.specs.Lines.{lines_of}
 use Rattle.pol_edit.specs.declared.edit.Edit.{Edit}
@@ -20,22 +22,28 @@ use Rattle.tac_hall.specs.declared.fault.HallFault.TheVariants as hall
 use Rattle.tac_hall.specs.FaultText.{fault_text}
 use Rattle.tac_hall.specs.History.{IsOfKind}
 use Rattle.tac_hall.specs.Seat.{Sitting}
+use Rattle.tac_chain.specs.declared.chain.Rotated.{Rotated}
+use Rattle.tac_chain.specs.Chain.{Chained, IsChained}
+use Rattle.tac_chain.specs.Keeping.{IsKept}
 use Rattle.tac_hall_console.specs.declared.fault.OperatorFault.{OperatorFault}
 use Rattle.tac_hall_console.specs.declared.fault.OperatorFault.TheVariants as faults
-use Rattle.tac_hall_console.specs.Commands.{ended_lines, commands, quits}
+use Rattle.tac_hall_console.specs.Commands.{ended_lines, is_rotate, commands, quits}
 
 -- ---- a line
 
--- what came of a line: a notice without a call, or the hall took its call, or refused it
+-- what came of a line: a notice without a call, or the hall took its call, or its log was taken out
+-- and kept, or it refused the one or the other
 pub data Outcome : Type 0 where
   noticed : Notice → Outcome
   made : Made → Outcome
+  rotated : Rotated → Outcome
   refused : HallFault → Outcome
 
 -- a call that was taken is the one that was asked for, and its answer is of its kind
 abbrev pub CallsFor : Call → Outcome → Type 0
 CallsFor call (noticed notice) = ⊥
 CallsFor call (made entry) = (entry.call ≡ call) × IsOfKind call entry.answer
+CallsFor call (rotated rotation) = ⊥
 CallsFor call (refused fault) = Unit {0}
 
 -- the edits of a batch are one call, and only a notice makes none
@@ -44,6 +52,24 @@ ComesTo (actions.Edit edit) = CallsFor (calls.Edit edit)
 ComesTo (actions.Commit edits) = CallsFor (calls.Batch edits)
 ComesTo (actions.Query query) = CallsFor (calls.Query query)
 ComesTo (actions.Tell notice) = λ outcome. outcome ≡ noticed notice
+
+-- the log that is told of follows those of some chain, and stands after them from then on
+abbrev pub IsRotation : Outcome → Type 0
+IsRotation (noticed notice) = ⊥
+IsRotation (made entry) = ⊥
+IsRotation (rotated rotation) =
+    (was : Chained) × (now : Chained) × IsChained was.logs was.ends × IsKept was rotation now
+IsRotation (refused fault) = Unit {0}
+
+-- what may come of a line at a console with this batch: `rotate` is no line of a desk's console
+abbrev pub LineComesTo : Option (List Edit) → List ℕ → Outcome → Type 0
+LineComesTo batch line outcome =
+    MatchBool (is_rotate line) (IsRotation outcome)
+    (ComesTo (action_of batch (asked_by line)) outcome)
+
+-- the batch that the line leaves
+abbrev pub batch_by : Option (List Edit) → List ℕ → Option (List Edit)
+batch_by batch line = if is_rotate line then batch else batch_after batch (asked_by line)
 
 -- how the answer to a call is printed; of a Stop nothing is
 abbrev pub answer_text : Call → CallAnswer → List ℕ
@@ -55,10 +81,17 @@ answer_text call answer = []
 abbrev pub refusal_line : HallFault → List ℕ
 refusal_line fault = codes "hall " ++ fault_text fault ++ 10 ∷ []
 
+-- the number of the segment, and how many calls its log has
+abbrev pub rotated_line : Rotated → List ℕ
+rotated_line rotation =
+    codes "rotated " ++ decimal rotation.number
+    ++ codes " entries " ++ decimal rotation.entries ++ 10 ∷ []
+
 -- how it is told what came of a line
 abbrev pub told : Outcome → List ℕ
 told (noticed notice) = notice_text notice
 told (made entry) = answer_text entry.call entry.answer
+told (rotated rotation) = rotated_line rotation
 told (refused fault) = refusal_line fault
 
 -- ---- lines, one after another
@@ -69,8 +102,7 @@ CameTo batch [] [] = Unit {0}
 CameTo batch [] (outcome ∷ outcomes) = ⊥
 CameTo batch (line ∷ lines) [] = ⊥
 CameTo batch (line ∷ lines) (outcome ∷ outcomes) =
-    ComesTo (action_of batch (asked_by line)) outcome
-    × CameTo (batch_after batch (asked_by line)) lines outcomes
+    LineComesTo batch line outcome × CameTo (batch_by batch line) lines outcomes
 
 abbrev pub text_of : List Outcome → List ℕ
 text_of outcomes = flat_map told outcomes
@@ -79,6 +111,7 @@ text_of outcomes = flat_map told outcomes
 abbrev pub entry_of : Outcome → Option Made
 entry_of (noticed notice) = None
 entry_of (made entry) = Some entry
+entry_of (rotated rotation) = None
 entry_of (refused fault) = None
 
 abbrev pub entries_of : List Outcome → List Made
@@ -149,11 +182,13 @@ Wants end input stop = Unit {0}
 abbrev pub HasFound : Result (Unit {0}) OperatorFault → Outcome → Type 0
 HasFound (Ok _) (noticed notice) = Unit {0}
 HasFound (Ok _) (made entry) = Unit {0}
+HasFound (Ok _) (rotated rotation) = Unit {0}
 HasFound (Ok _) (refused fault) = fault ≢ hall.Memory
 HasFound (Err fault) stop = Unit {0}
 
 -- the lines of what was read up to the first `quit` were answered, one after another, by calls of
--- this seat, and then it made the Stop; at first no batch is open
+-- this seat, and then it made the Stop; at first no batch is open. Where the log was full at the
+-- Stop, what came of that may be that it couldn't be taken out
 pub record IsOperated (end : Result (Unit {0}) OperatorFault) (was now : Sitting)
     (before after old new : Option (List ℕ)) : Type 0 where
   pub input : List ℕ

@@ -1,11 +1,9 @@
 -- How a console goes on, one line after another.
-use Rattle.std.specs.Prelude.{◌≡◌, ◌≤◌, ◌<◌, ◌⊎◌, ℕ, List, [], ◌∷◌, ◌++◌, length, map, true}
+use Rattle.std.specs.Prelude.{◌≡◌, ◌≤◌, ◌<◌, ◌⊎◌, ℕ, List, [], ◌∷◌, ◌++◌, length, true}
 use Rattle.std.specs.Prelude.{Option, None, Result, Ok, Err}
 use Rattle.std.specs.Io.KnownBytes.{Appends, Consumes}
 use Rattle.basics.specs.Lines.{split_at_first, lines_of}
 use Rattle.pol_edit.specs.declared.edit.Edit.{Edit}
-use Rattle.tac_console.specs.Batching.{action_of, batch_after, batch_behind}
-use Rattle.tac_console.specs.ConsoleText.{asked_by}
 use Rattle.tac_hall.specs.declared.call.Call.TheVariants as calls
 use Rattle.tac_hall.specs.Seat.{Sitting}
 use Rattle.tac_hall_console.specs.declared.answering.Console.{Console}
@@ -14,8 +12,8 @@ use Rattle.tac_hall_console.specs.declared.fault.OperatorFault.TheVariants as fa
 use Rattle.tac_hall_console.specs.declared.operator.Went.{Went}
 use Rattle.tac_hall_console.specs.declared.operator.Went.TheVariants.{On, Quits}
 use Rattle.tac_hall_console.specs.Commands.{ended_lines, commands, quits}
-use Rattle.tac_hall_console.specs.Operated.{Outcome, noticed, made, refused, CallsFor, ComesTo}
-use Rattle.tac_hall_console.specs.Operated.{CameTo, told, text_of}
+use Rattle.tac_hall_console.specs.Operated.{Outcome, noticed, made, rotated, refused, CallsFor}
+use Rattle.tac_hall_console.specs.Operated.{batch_by, CameTo, told, text_of}
 use Rattle.tac_hall_console.specs.Operated.{entries_of, Makes, WritesBeginning, WritesMost}
 use Rattle.tac_hall_console.specs.Operated.{lines_at, Leaves, Finishes, HasFound}
 
@@ -40,10 +38,6 @@ Adds may was now old new = (text : List ℕ) × (new ≡ old ++ text) × Tells m
 abbrev pub IsUntold : (Outcome → Type 0) → Sitting → Sitting → Type 0
 IsUntold may was now = (now ≡ was) ⊎ ((outcome : Outcome) × Comes may outcome was now)
 
--- what may come of a line at a console with this batch
-abbrev pub LineComesTo : Option (List Edit) → List ℕ → Outcome → Type 0
-LineComesTo batch line = ComesTo (action_of batch (asked_by line))
-
 -- a text was written, or a beginning of it
 abbrev pub Sends : Result (Unit {0}) OperatorFault → List ℕ → Option (List ℕ) → Option (List ℕ)
     → Type 0
@@ -61,7 +55,8 @@ SendsUnlessMemory end text old new = Sends end text old new
 
 -- the batch that these lines leave
 abbrev pub batch_left : Option (List Edit) → List (List ℕ) → Option (List Edit)
-batch_left batch lines = batch_behind batch (map asked_by lines)
+batch_left batch [] = batch
+batch_left batch (line ∷ lines) = batch_left (batch_by batch line) lines
 
 -- no line ends in these bytes
 abbrev pub IsOpen : List ℕ → Type 0
@@ -112,7 +107,7 @@ IsRead end = Unit {0}
 
 -- the batch is as the line leaves it, unless it ends there
 abbrev pub LeavesBatch : Result (Unit {0}) OperatorFault → List ℕ → Console → Console → Type 0
-LeavesBatch (Ok _) line was now = now.batch ≡ batch_after was.batch (asked_by line)
+LeavesBatch (Ok _) line was now = now.batch ≡ batch_by was.batch line
 LeavesBatch (Err fault) line was now = Unit {0}
 
 -- a line was answered, or it ends there
@@ -156,6 +151,7 @@ pub record IsHeard (end : Result (Unit {0}) OperatorFault) (was now : Console)
 abbrev pub IsRefused : Outcome → Type 0
 IsRefused (noticed notice) = ⊥
 IsRefused (made entry) = ⊥
+IsRefused (rotated rotation) = ⊥
 IsRefused (refused fault) = Unit {0}
 
 -- after lines that went so the Stop was made, and it ends so: what came of it is told, unless the

@@ -1,9 +1,12 @@
 //! What is told of a line, and of a call.
 
 ghost use Rattle.std.specs.Prelude.{◌≡◌, ◌++◌, Err, IfOk, OnOk, OnErr};
-ghost use Rattle.tac_console.specs.Batching.{batch_after};
+ghost use Rattle.tac_console.specs.Batching.{action_of, batch_after};
 ghost use Rattle.tac_console.specs.ConsoleText.{asked_by};
 ghost use Rattle.tac_hall.specs.History.{IsOfKind};
+ghost use Rattle.tac_hall.specs.Seat.{Sitting};
+ghost use Rattle.tac_hall_console.specs.Commands.{is_rotate as rotate_test};
+ghost use Rattle.tac_hall_console.specs.Operated as operated;
 ghost use Rattle.tac_hall_console.specs.Operated.{CallsFor, ComesTo, answer_text, refusal_line};
 ghost use Rattle.tac_hall_console.specs.Operating as operating;
 
@@ -12,6 +15,7 @@ use basics::send;
 use std::alloc::{AllocError, Global};
 use std::io::Write;
 use std::sync::Wait;
+use tac_chain::{Archive, Rotated};
 use tac_console::{
     Action, Batch, read_console, write_batch_answer, write_edit_answer, write_notice,
     write_query_answer,
@@ -68,6 +72,35 @@ fn write_refusal(out: &mut Vec<u8>, fault: HallFault) -> Result<(), AllocError>
     }
 }
 
+// Adds that the log was taken out of the hall, and kept.
+fn write_rotated(out: &mut Vec<u8>, rotated: Rotated) -> Result<(), AllocError>
+    ensures { OnOk result (out.new.items ≡ out.old.items ++ operated.rotated_line rotated) }
+{
+    let Rotated { number, entries } = rotated;
+    match writeln!(out, "rotated {number} entries {entries}") {
+        Ok(()) => Ok(()),
+        Err(_) => Err(AllocError),
+    }
+}
+
+// Takes the log out of the hall, and adds what came of that. No seat has to do with it.
+fn rotate<H: Wait, D: Desk>(
+    rt: &H,
+    hall: &Hall<D>,
+    archive: &Archive,
+    out: &mut Vec<u8>,
+) -> Result<(), AllocError>
+    ensures ok { OnOk result ((seat : Sitting) → operating.Adds operated.IsRotation seat seat
+        out.old.items out.new.items) }
+    ensures err { OnErr result ((seat : Sitting)
+        → operating.IsUntold operated.IsRotation seat seat) }
+{
+    match archive.rotate(rt, hall) {
+        Ok(rotated) => write_rotated(out, rotated),
+        Err(fault) => write_refusal(out, fault),
+    }
+}
+
 // Makes a call, and adds what came of it.
 fn tell<H: Wait, D: Desk>(
     rt: &H,
@@ -111,28 +144,60 @@ fn act<H: Wait, D: Desk>(
     }
 }
 
-/// How a line is answered, without its LF: by a call, if it asks for one. Where memory ran out the
-/// call may have been made even so, and no line may follow.
-pub(crate) fn answer_line<H: Wait, D: Desk>(
+fn is_rotate(line: &[u8]) -> bool
+    ensures { result ≡ rotate_test line.now }
+{
+    line == b"rotate".as_slice()
+}
+
+// Adds how a line of a desk's console is answered.
+fn answer_asked<H: Wait, D: Desk>(
     rt: &H,
     alloc: Global,
     hall: &Hall<D>,
     console: &mut Console,
     line: &[u8],
-) -> Result<Vec<u8>, AllocError>
-    ensures ok { IfOk result (λ text. operating.Tells
-        (operating.LineComesTo console.old.batch line.now)
-        console.old.seat console.new.seat text.items) }
+    out: &mut Vec<u8>,
+) -> Result<(), AllocError>
+    ensures ok { OnOk result (operating.Adds
+        (ComesTo (action_of console.old.batch (asked_by line.now)))
+        console.old.seat console.new.seat out.old.items out.new.items) }
     ensures batch { OnOk result
         (console.new.batch ≡ batch_after console.old.batch (asked_by line.now)) }
     ensures err { OnErr result (operating.IsUntold
-        (operating.LineComesTo console.old.batch line.now)
+        (ComesTo (action_of console.old.batch (asked_by line.now)))
+        console.old.seat console.new.seat) }
+{
+    let asked = read_console(alloc, line)?;
+    let action = console.batch.take(alloc, asked)?;
+    act(rt, alloc, hall, &mut console.seat, action, out)
+}
+
+/// How a line is answered, without its LF: by a call or a rotation, if it asks for one. Where
+/// memory ran out that may have been done even so, and no line may follow.
+pub(crate) fn answer_line<H: Wait, D: Desk>(
+    rt: &H,
+    alloc: Global,
+    hall: &Hall<D>,
+    archive: &Archive,
+    console: &mut Console,
+    line: &[u8],
+) -> Result<Vec<u8>, AllocError>
+    ensures ok { IfOk result (λ text. operating.Tells
+        (operated.LineComesTo console.old.batch line.now)
+        console.old.seat console.new.seat text.items) }
+    ensures batch { OnOk result
+        (console.new.batch ≡ operated.batch_by console.old.batch line.now) }
+    ensures err { OnErr result (operating.IsUntold
+        (operated.LineComesTo console.old.batch line.now)
         console.old.seat console.new.seat) }
 {
     let mut text = Vec::with_capacity(alloc, LINE)?;
-    let asked = read_console(alloc, line)?;
-    let action = console.batch.take(alloc, asked)?;
-    act(rt, alloc, hall, &mut console.seat, action, &mut text)?;
+    if is_rotate(line) {
+        rotate(rt, hall, archive, &mut text)?;
+        return Ok(text);
+    }
+    answer_asked(rt, alloc, hall, console, line, &mut text)?;
     Ok(text)
 }
 

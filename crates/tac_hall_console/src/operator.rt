@@ -11,6 +11,7 @@ use basics::split_once;
 use std::alloc::Global;
 use std::io::{Read, Write};
 use std::sync::Wait;
+use tac_chain::Archive;
 use tac_desk::Desk;
 use tac_hall::Hall;
 use tac_io::read_piece;
@@ -47,13 +48,14 @@ impl Operator {
         &mut self,
         rt: &H,
         hall: &Hall<D>,
+        archive: &Archive,
         writer: &mut W,
     ) -> Result<(), OperatorFault>
         ensures { operating.Answers result self.old.begun.items self.old.console self.new.console
             (W.contents writer.old) (W.contents writer.new) }
     {
         let line = self.begun.as_slice();
-        let text = answer_line(rt, self.alloc, hall, &mut self.console, line)?;
+        let text = answer_line(rt, self.alloc, hall, archive, &mut self.console, line)?;
         write_text(writer, text.as_slice())
     }
 
@@ -62,6 +64,7 @@ impl Operator {
         &mut self,
         rt: &H,
         hall: &Hall<D>,
+        archive: &Archive,
         writer: &mut W,
         piece: &[u8],
     ) -> Result<Went, OperatorFault>
@@ -75,7 +78,7 @@ impl Operator {
             if is_quit(self.begun.as_slice()) {
                 return Ok(Went::Quits);
             }
-            self.answer(rt, hall, writer)?;
+            self.answer(rt, hall, archive, writer)?;
             self.begun.clear();
             rest = behind;
         }
@@ -88,6 +91,7 @@ impl Operator {
         &mut self,
         rt: &H,
         hall: &Hall<D>,
+        archive: &Archive,
         writer: &mut W,
     ) -> Result<(), OperatorFault>
         requires { operating.IsOpen self.old.begun.items }
@@ -102,7 +106,7 @@ impl Operator {
         if is_quit(self.begun.as_slice()) {
             return Ok(());
         }
-        self.answer(rt, hall, writer)
+        self.answer(rt, hall, archive, writer)
     }
 
     /// Answers the lines that come, up to `quit` or the end of the input. An interrupted read is
@@ -111,6 +115,7 @@ impl Operator {
         &mut self,
         rt: &H,
         hall: &Hall<D>,
+        archive: &Archive,
         reader: &mut R,
         writer: &mut W,
     ) -> Result<(), OperatorFault>
@@ -128,9 +133,9 @@ impl Operator {
                 continue;
             };
             if n == 0 {
-                return self.take_last(rt, hall, writer);
+                return self.take_last(rt, hall, archive, writer);
             }
-            match self.take(rt, hall, writer, &chunk[..n])? {
+            match self.take(rt, hall, archive, writer, &chunk[..n])? {
                 Went::On => {}
                 Went::Quits => return Ok(()),
             }

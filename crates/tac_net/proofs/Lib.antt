@@ -2,6 +2,7 @@ pub mod Crossing
 pub mod ServingFacts
 pub mod SendFacts
 pub mod RunFacts
+pub mod EndingFacts
 pub mod SharedFacts
 pub mod PlacesFacts
 pub mod ClosedFacts

@@ -7,12 +7,13 @@ use Rattle.tac_desk.specs.Meaning.{Meaning}
 use Rattle.tac_desk.specs.Asking.{asked}
 use Rattle.tac_hall.specs.declared.entry.Entry.{Entry}
 use Rattle.tac_hall.specs.declared.entry.Made.{Made}
-use Rattle.tac_hall.specs.Closing.{view_of}
 use Rattle.tac_hall.specs.History.{Answers, Legal, at_first, and_then}
+use Rattle.tac_hall.specs.Shedding.{view_of, view_along}
+use Rattle.tac_chain.specs.Chain.{joined}
 use Rattle.tac_worker.specs.Served.{served, asks, bytes_sent}
 use Rattle.tac_worker.specs.Worked.{Exchange, asks_of, answers_of, in_view}
 use Rattle.tac_net.specs.Shared.{packets_in, answers_by}
-use Rattle.tac_net.specs.Places.{StoodAt, IsSaid, PlacesLaw}
+use Rattle.tac_net.specs.Places.{calls_before, StoodAt, IsSaid, PlacesLaw}
 use Rattle.tac_net.proofs.SharedFacts.{sent_on, sent_stream_law}
 
 -- ---- the calls of a log, one after another
@@ -36,56 +37,94 @@ answered base log last (at_first) = tt
 answered base log last (and_then {log = before} {was = was} {now = now} entry legal goes_on answers) =
     answered_behind base was now entry before [] (answered base before was legal) legal answers
 
+-- those of a log, and those that come after it
+answered_parts : (base : Meaning) (log more first : List Entry) → Answered base first (log ++ more) → Answered base first log × Answered base (first ++ log) more
+answered_parts base [] more first h = (tt, subst (λ (l : List Entry). Answered base l more) (sym (append-nil first)) h)
+answered_parts base (entry ∷ log) more first h =
+    let others = answered_parts base log more (first ++ entry ∷ []) h.1 in ((h.0, others.0), subst (λ (l : List Entry). Answered base l more) (append_assoc first (entry ∷ []) log) others.1)
+
+-- ---- one log after another
+
+pub joined_last : (earlier : List (List Entry)) (log : List Entry) → joined (earlier ++ log ∷ []) ≡ joined earlier ++ log
+joined_last [] log = append-nil log
+joined_last (one ∷ earlier) log = ap (λ (l : List Entry). one ++ l) (joined_last earlier log) ∙ sym (append_assoc one (joined earlier) log)
+
+before_in : (earlier : List (List Entry)) (place : ℕ) (log : List Entry) (logs : List (List Entry)) → calls_before (length earlier) place (earlier ++ log ∷ logs) ≡ joined earlier ++ take place log
+before_in [] place log logs = refl
+before_in (one ∷ earlier) place log logs = ap (λ (l : List Entry). one ++ l) (before_in earlier place log logs) ∙ sym (append_assoc one (joined earlier) (take place log))
+
 -- ---- the calls of a view
 
 -- each was answered by what the desk represented at its place
-abbrev Viewed : Meaning → List Entry → List Made → Type 0
-Viewed base log [] = Unit {0}
-Viewed base log (made ∷ view) =
-    ((was : Meaning) × (now : Meaning) × Legal base (take made.place log) was × Answers was made.call made.answer now) × Viewed base log view
+abbrev Viewed : Meaning → List (List Entry) → List Made → Type 0
+Viewed base logs [] = Unit {0}
+Viewed base logs (made ∷ view) =
+    ((was : Meaning) × (now : Meaning) × Legal base (calls_before made.segment made.place logs) was × Answers was made.call made.answer now) × Viewed base logs view
 
-viewed_next : (base : Meaning) (whole : List Entry) (here : Bool) (made : Made) (view : List Made)
-    → ((was : Meaning) × (now : Meaning) × Legal base (take made.place whole) was × Answers was made.call made.answer now) → Viewed base whole view → Viewed base whole (cond here (made ∷ view) view)
+viewed_next : (base : Meaning) (whole : List (List Entry)) (here : Bool) (made : Made) (view : List Made)
+    → ((was : Meaning) × (now : Meaning) × Legal base (calls_before made.segment made.place whole) was × Answers was made.call made.answer now) → Viewed base whole view
+    → Viewed base whole (cond here (made ∷ view) view)
 viewed_next base whole true made view h k = (h, k)
 viewed_next base whole false made view h k = k
 
-viewed : (base : Meaning) (number : ℕ) (whole log first : List Entry) (place : ℕ) → first ++ log ≡ whole → place ≡ length first → Answered base first log → Viewed base whole (view_of number place log)
-viewed base number whole [] first place parts at h = tt
-viewed base number whole (entry ∷ log) first place parts at h =
-    let one = h.0 in
-    let before : first ≡ take place whole = sym (take-append_seam first (entry ∷ log)) ∙ ap (λ (l : List Entry). take (length first) l) parts ∙ ap (λ (n : ℕ). take n whole) (sym at) in
-    viewed_next base whole (entry.seat == number) (record { place = place; call = entry.call; answer = entry.answer }) (view_of number (suc place) log)
-    (one.0, one.1, subst (λ (l : List Entry). Legal base l one.0) before one.2, one.3)
-    (viewed base number whole log (first ++ entry ∷ []) (suc place) (append_assoc first (entry ∷ []) log ∙ parts) (omega (arith, at, length-append first (entry ∷ []))) h.1)
+viewed_both : (base : Meaning) (whole : List (List Entry)) (one two : List Made) → Viewed base whole one → Viewed base whole two → Viewed base whole (one ++ two)
+viewed_both base whole [] two h k = k
+viewed_both base whole (made ∷ one) two h k = (h.0, viewed_both base whole one two h.1 k)
 
-viewed_behind : (base : Meaning) (log : List Entry) (first view : List Made) → Viewed base log (first ++ view) → Viewed base log view
-viewed_behind base log [] view h = h
-viewed_behind base log (made ∷ first) view h = viewed_behind base log first view h.1
+module _ (base : Meaning) (number : ℕ) (whole : List (List Entry)) where
+  viewed_of : (earlier logs : List (List Entry)) (log : List Entry) → earlier ++ log ∷ logs ≡ whole → (rest first : List Entry) (place : ℕ) → first ++ rest ≡ log → place ≡ length first
+      → Answered base (joined earlier ++ first) rest → Viewed base whole (view_of (length earlier) number place rest)
+  viewed_of earlier logs log parts [] first place own at h = tt
+  viewed_of earlier logs log parts (entry ∷ rest) first place own at h =
+      let one = h.0 in
+      let here : first ≡ take place log = sym (take-append_seam first (entry ∷ rest)) ∙ ap (λ (l : List Entry). take (length first) l) own ∙ ap (λ (n : ℕ). take n log) (sym at) in
+      let before : joined earlier ++ first ≡ calls_before (length earlier) place whole =
+      ap (λ (l : List Entry). joined earlier ++ l) here ∙ sym (before_in earlier place log logs) ∙ ap (λ (ls : List (List Entry)). calls_before (length earlier) place ls) parts in
+      viewed_next base whole (entry.seat == number) (record { segment = length earlier; place = place; call = entry.call; answer = entry.answer }) (view_of (length earlier) number (suc place) rest)
+      (one.0, one.1, subst (λ (l : List Entry). Legal base l one.0) before one.2, one.3)
+      (viewed_of earlier logs log parts rest (first ++ entry ∷ []) (suc place) (append_assoc first (entry ∷ []) rest ∙ own) (omega (arith, at, length-append first (entry ∷ [])))
+      (subst (λ (l : List Entry). Answered base l rest) (append_assoc (joined earlier) first (entry ∷ [])) h.1))
+
+  viewed_along : (logs earlier : List (List Entry)) (segment : ℕ) → earlier ++ logs ≡ whole → segment ≡ length earlier → Answered base (joined earlier) (joined logs)
+      → Viewed base whole (view_along segment number logs)
+  viewed_along [] earlier segment parts is h = tt
+  viewed_along (log ∷ logs) earlier segment parts is h =
+      let both = answered_parts base log (joined logs) (joined earlier) h in
+      viewed_both base whole (view_of segment number 0 log) (view_along (suc segment) number logs)
+      (subst (λ (n : ℕ). Viewed base whole (view_of n number 0 log)) (sym is)
+      (viewed_of earlier logs log parts log [] 0 refl refl (subst (λ (l : List Entry). Answered base l log) (sym (append-nil (joined earlier))) both.0)))
+      (viewed_along logs (earlier ++ log ∷ []) (suc segment) (append_assoc earlier (log ∷ []) logs ∙ parts) (omega (arith, is, length-append earlier (log ∷ [])))
+      (subst (λ (l : List Entry). Answered base l (joined logs)) (sym (joined_last earlier log)) both.1))
+
+viewed_behind : (base : Meaning) (logs : List (List Entry)) (first view : List Made) → Viewed base logs (first ++ view) → Viewed base logs view
+viewed_behind base logs [] view h = h
+viewed_behind base logs (made ∷ first) view h = viewed_behind base logs first view h.1
 
 -- ---- exchanges
 
 -- the meanings at their places, by which they were answered
-record Stood (base : Meaning) (log : List Entry) (made : List Exchange) (left : List Ask) : Type 0 where
+record Stood (base : Meaning) (logs : List (List Entry)) (made : List Exchange) (left : List Ask) : Type 0 where
   meanings : List Meaning
-  stood : StoodAt base log made meanings
+  stood : StoodAt base logs made meanings
   answers : answers_of made ≡ answers_by meanings (asks_of made ++ left)
 
-stood_at : (base : Meaning) (log : List Entry) (after : List Made) (left : List Ask) (made : List Exchange) → Viewed base log (map in_view made ++ after) → Stood base log made left
-stood_at base log after left [] h = record { meanings = []; stood = tt; answers = refl }
-stood_at base log after left (exchange ∷ made) h =
+stood_at : (base : Meaning) (logs : List (List Entry)) (after : List Made) (left : List Ask) (made : List Exchange) → Viewed base logs (map in_view made ++ after) → Stood base logs made left
+stood_at base logs after left [] h = record { meanings = []; stood = tt; answers = refl }
+stood_at base logs after left (exchange ∷ made) h =
     let one = h.0 in
-    let others = stood_at base log after left made h.1 in
+    let others = stood_at base logs after left made h.1 in
     record {
       meanings = one.0 ∷ others.meanings;
       stood = (one.2, others.stood);
       answers = ap (λ (a : Answer). a ∷ answers_of made) one.3.0 ∙ ap (λ (l : List Answer). (asked one.0 exchange.ask).answer ∷ l) others.answers;
     }
 
-said_at : (key bytes : List ℕ) (base last : Meaning) (log : List Entry) (number : ℕ) (before after : List Made) (made : List Exchange) (left : List Ask) → Legal base log last
-    → view_of number 0 log ≡ before ++ (map in_view made ++ after) → asks key bytes ≡ asks_of made ++ left → IsSaid key bytes base log made
-said_at key bytes base last log number before after made left legal view asks_them =
-    let all : Viewed base log (before ++ (map in_view made ++ after)) = subst (λ (l : List Made). Viewed base log l) view (viewed base number log log [] 0 refl refl (answered base log last legal)) in
-    let s = stood_at base log after left made (viewed_behind base log before (map in_view made ++ after) all) in
+said_at : (key bytes : List ℕ) (base last : Meaning) (logs : List (List Entry)) (number : ℕ) (before after : List Made) (made : List Exchange) (left : List Ask) → Legal base (joined logs) last
+    → view_along 0 number logs ≡ before ++ (map in_view made ++ after) → asks key bytes ≡ asks_of made ++ left → IsSaid key bytes base logs made
+said_at key bytes base last logs number before after made left legal view asks_them =
+    let all : Viewed base logs (before ++ (map in_view made ++ after)) =
+    subst (λ (l : List Made). Viewed base logs l) view (viewed_along base number logs logs [] 0 refl refl (answered base (joined logs) last legal)) in
+    let s = stood_at base logs after left made (viewed_behind base logs before (map in_view made ++ after) all) in
     let answers : answers_of made ≡ answers_by s.meanings (asks key bytes) = s.answers ∙ ap (λ (l : List Ask). answers_by s.meanings l) (sym asks_them) in
     record {
       meanings = s.meanings;
@@ -95,7 +134,7 @@ said_at key bytes base last log number before after made left legal view asks_th
     }
 
 pub places_law : PlacesLaw
-places_law end key was now before after old new work base last log later legal view =
+places_law end key was now before after old new work base last logs later legal view =
     let ends = work.ends in
-    said_at key work.input base last log now.seat.number was.seat.view later ends.made ends.left legal
+    said_at key work.input base last logs now.seat.number was.seat.view later ends.made ends.left legal
     (view ∙ ap (λ (l : List Made). l ++ later) ends.makes.view ∙ append_assoc was.seat.view (map in_view ends.made) later) ends.asks

@@ -3,11 +3,13 @@ use Rattle.std.specs.Prelude.{◌≡◌, ◌≤◌, ℕ, List, [], ◌∷◌, �
 use Rattle.std.specs.Prelude.{Result, Ok, Err}
 use Rattle.std.specs.Io.KnownBytes.{Appends}
 use Rattle.tac_desk.specs.Meaning.{Meaning}
-use Rattle.tac_hall.specs.Closing.{AreViews, are_theirs}
+use Rattle.tac_hall.specs.Closing.{are_theirs}
 use Rattle.tac_hall.specs.History.{Legal}
 use Rattle.tac_hall.specs.Opening.{Opening}
 use Rattle.tac_hall.specs.Seat.{Sitting}
 use Rattle.tac_hall.specs.declared.entry.Entry.{Entry}
+use Rattle.tac_chain.specs.Chain.{joined}
+use Rattle.tac_chain.specs.Closing.{HaveShed, AreViewsAlong}
 use Rattle.tac_hall_console.specs.Operated.{WritesBeginning}
 use Rattle.tac_net.specs.declared.fault.ServeFault.{ServeFault}
 use Rattle.tac_net.specs.declared.fault.ServeFault.TheVariants.{WriteFault, Memory, CloseRefused}
@@ -21,15 +23,23 @@ Refuses CloseRefused old new = Appends old new refused_line
 Refuses WriteFault old new = WritesBeginning refused_line old new
 Refuses fault old new = ⊥
 
--- what these seats did is one legal history of a desk that represented this at first, no longer
--- than the hall's log may be: it has of each seat exactly its view, and no other call
+-- what these seats did is one legal history of a desk that represented this at first: the logs that
+-- were taken out of the hall, one after another, and the last, which is no longer than the hall's
+-- log may be. It has of each seat exactly its view, each call at its place of its segment, and no
+-- other call
 pub record IsSettled (hall : Opening) (seats : List Sitting) : Type 0 where
+  pub earlier : List (List Entry)
   pub log : List Entry
   pub last : Meaning
-  pub legal : Legal hall.meaning log last
+  pub legal : Legal hall.meaning (joined (earlier ++ log ∷ [])) last
   pub within : length log ≤ hall.limit
-  pub views : AreViews log seats
-  pub theirs : are_theirs log seats ≡ true
+  pub views : AreViewsAlong (earlier ++ log ∷ []) seats
+  pub theirs : are_theirs (joined (earlier ++ log ∷ [])) seats ≡ true
+
+-- these seats are there too, and have shed all of these logs
+abbrev pub Adds : List (List Entry) → List Sitting → List Sitting → List Sitting → Type 0
+Adds logs added was now =
+    (wholes : List Sitting) → HaveShed logs wholes was → HaveShed logs (wholes ++ added) now
 
 -- the hall was closed with these seats and nothing printed; or it couldn't be, or memory ran out
 abbrev pub Closes : Result (Unit {0}) ServeFault → Opening → List Sitting → Option (List ℕ)

@@ -2,7 +2,7 @@
 use Rattle.std.specs.Prelude.{◌≡◌, ◌≤◌, ◌+◌, ◌⊎◌, ℕ, List, [], ◌∷◌, Bool, true, false, Option}
 use Rattle.tac_hall.specs.declared.entry.Receipt.{Receipt}
 use Rattle.tac_worker.specs.declared.worked.End.{End}
-use Rattle.tac_worker.specs.declared.worked.End.TheVariants.{Finished, Stopped, LogFull, ReadFault}
+use Rattle.tac_worker.specs.declared.worked.End.TheVariants.{Finished, Stopped, ReadFault}
 use Rattle.tac_worker.specs.declared.worked.End.TheVariants.{Held, NoSeat}
 use Rattle.tac_hall.specs.Seat.{Sitting}
 use Rattle.tac_worker.specs.Worked.{IsServed}
@@ -34,7 +34,6 @@ Connects key was end now =
 -- whether a worker takes another connection after one that ended so
 abbrev pub goes_on : End → Bool
 goes_on Stopped = false
-goes_on LogFull = false
 goes_on Held = false
 goes_on NoSeat = false
 goes_on end = true

@@ -10,6 +10,7 @@ use crate::vigil::Vigil;
 use std::io::{Read, Write};
 use std::sync::Wait;
 use std::time::Clock;
+use tac_chain::Archive;
 use tac_desk::Desk;
 use tac_hall::{Hall, Seat};
 use tac_hall_console::{OperatorFault, operate};
@@ -20,6 +21,7 @@ fn open_console<R: Wait + Clock + AllocGlobal, D: Desk, I: Read, O: Write>(
     hall: &Hall<D>,
     settings: &Settings,
     vigil: &Vigil,
+    archive: &Archive,
     console: Seat,
     input: &mut I,
     output: &mut O,
@@ -32,7 +34,7 @@ fn open_console<R: Wait + Clock + AllocGlobal, D: Desk, I: Read, O: Write>(
         return Err(ServeFault::Threads);
     }
     announce(rt.alloc(), output, settings.port)?;
-    Ok(operate(rt, rt.alloc(), hall, console, input, output))
+    Ok(operate(rt, rt.alloc(), hall, archive, console, input, output))
 }
 
 /// The console's part, from its first line to its last. Then all workers are told to end, whatever
@@ -43,6 +45,7 @@ pub(crate) fn attend<R: Wait + Clock + AllocGlobal, D: Desk, I: Read, O: Write>(
     hall: &Hall<D>,
     settings: &Settings,
     vigil: &Vigil,
+    archive: &Archive,
     console: Seat,
     input: &mut I,
     output: &mut O,
@@ -51,7 +54,7 @@ pub(crate) fn attend<R: Wait + Clock + AllocGlobal, D: Desk, I: Read, O: Write>(
         (I.remaining input.old) (I.remaining input.new)
         (O.contents output.old) (O.contents output.new) }
 {
-    let attended = open_console(rt, hall, settings, vigil, console, input, output);
+    let attended = open_console(rt, hall, settings, vigil, archive, console, input, output);
     vigil.stop();
     port.close();
     attended

@@ -1,12 +1,13 @@
 //! The ending of a server: its hall is closed.
 
-ghost use Rattle.std.specs.Prelude.{◌≡◌, [], ◌∷◌, ◌++◌, map, OnOk};
+ghost use Rattle.std.specs.Prelude.{◌≡◌, [], ◌∷◌, map, IsTrue, IfOk};
 ghost use Rattle.tac_net.specs.Ending as ending;
 
 use crate::fault::ServeFault;
 use basics::send;
 use std::alloc::AllocError;
 use std::io::Write;
+use tac_chain::Chain;
 use tac_desk::Desk;
 use tac_hall::{Hall, Seat};
 use tac_worker::End;
@@ -24,19 +25,57 @@ pub(crate) fn refuse<W: Write>(output: &mut W) -> ServeFault
     }
 }
 
-// Adds the seats of those who served.
-fn add_seats(seats: &mut Vec<Seat>, served: Vec<(Seat, End)>) -> Result<(), AllocError>
-    ensures { OnOk result (seats.new.items ≡ seats.old.items ++ map (λ one. one.0) served.items) }
+// Adds a seat, once it has shed the logs that the chain keeps. False where it doesn't have exactly
+// the calls that these have of it.
+fn add_seat(chain: &Chain, seats: &mut Vec<Seat>, seat: Seat) -> Result<bool, AllocError>
+    ensures { IfOk result (λ all. IsTrue all →
+        ending.Adds chain.now.logs (seat ∷ []) seats.old.items seats.new.items) }
 {
-    'workers: for (seat, _) in served {
-        seats.push(seat)?;
-    }
-    Ok(())
+    let mut seat = seat;
+    let is_shed = chain.shed_by(&mut seat);
+    seats.push(seat)?;
+    Ok(is_shed)
 }
 
-/// Closes a hall with the console's seat and those of its workers. The list has room for them.
+// Adds the seats of those who served.
+fn add_seats(
+    chain: &Chain,
+    seats: &mut Vec<Seat>,
+    served: Vec<(Seat, End)>,
+) -> Result<bool, AllocError>
+    ensures { IfOk result (λ all. IsTrue all → ending.Adds chain.now.logs
+        (map (λ one. one.0) served.items) seats.old.items seats.new.items) }
+{
+    'workers: for (seat, _) in served {
+        if !add_seat(chain, seats, seat)? {
+            return Ok(false);
+        }
+    }
+    Ok(true)
+}
+
+// Adds the console's seat, and those of the workers.
+fn add_all(
+    chain: &Chain,
+    seats: &mut Vec<Seat>,
+    console: Seat,
+    served: Vec<(Seat, End)>,
+) -> Result<bool, AllocError>
+    ensures { IfOk result (λ all. IsTrue all → ending.Adds chain.now.logs
+        (console ∷ map (λ one. one.0) served.items) seats.old.items seats.new.items) }
+{
+    if !add_seat(chain, seats, console)? {
+        return Ok(false);
+    }
+    let all = add_seats(chain, seats, served)?;
+    Ok(all)
+}
+
+/// Closes a hall, of which the chain keeps the logs that were taken out, with the console's seat
+/// and those of its workers. The list has room for them.
 pub(crate) fn close<D: Desk, W: Write>(
     hall: Hall<D>,
+    chain: &Chain,
     console: Seat,
     served: Vec<(Seat, End)>,
     room: Vec<Seat>,
@@ -47,9 +86,10 @@ pub(crate) fn close<D: Desk, W: Write>(
         (W.contents output.old) (W.contents output.new) }
 {
     let mut seats = room;
-    seats.push(console)?;
-    add_seats(&mut seats, served)?;
-    match hall.close(seats) {
+    if !add_all(chain, &mut seats, console, served)? {
+        return Err(refuse(output));
+    }
+    match chain.close(hall, seats) {
         Ok(_) => Ok(()),
         Err(_) => Err(refuse(output)),
     }

@@ -9,6 +9,7 @@ mod opening;
 mod pause;
 mod port;
 mod program;
+mod rotating;
 mod serving;
 mod settings;
 mod sharing;

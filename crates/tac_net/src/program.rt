@@ -9,7 +9,7 @@ use crate::ending::{close, refuse};
 use crate::fault::ServeFault;
 use crate::opening::seats_of;
 use crate::port::Port;
-use crate::serving::serve_under;
+use crate::serving::serve_rotating;
 use crate::settings::Settings;
 use crate::vigil::Vigil;
 use std::alloc::AllocError;
@@ -17,10 +17,11 @@ use std::io::{Read, Write};
 use std::sync::Wait;
 use std::thread::{Threads, join_mut};
 use std::time::Clock;
+use tac_chain::Archive;
 use tac_desk::Desk;
 use tac_hall::{Hall, HallFault, Seat};
 use tac_hall_console::OperatorFault;
-use tac_worker::{End, OpenGate};
+use tac_worker::End;
 
 // Workers serve in threads of their own, while this one serves the console. Once that has ended,
 // they end.
@@ -30,6 +31,7 @@ fn serve_both<R, D: Desk + Send, I: Read, O: Write>(
     hall: &Hall<D>,
     settings: &Settings,
     vigil: &Vigil,
+    archive: &Archive,
     seats: Vec<Seat>,
     console: Seat,
     input: &mut I,
@@ -56,16 +58,7 @@ where
             served.items)) }
     {
         match seats.take() {
-            Some(seats) => serve_under(
-                rt,
-                listener,
-                hall,
-                &settings.key,
-                seats,
-                settings.connections,
-                &OpenGate,
-                vigil,
-            ),
+            Some(seats) => serve_rotating(rt, listener, hall, settings, archive, seats, vigil),
             None => unreachable!(),
         }
     };
@@ -76,7 +69,9 @@ where
             (O.contents output.entry.now) (O.contents output.exit.now)) }
     {
         match console.take() {
-            Some(seat) => attend(rt, port, hall, settings, vigil, seat, input, output),
+            Some(seat) => attend(
+                rt, port, hall, settings, vigil, archive, seat, input, output,
+            ),
             None => unreachable!(),
         }
     };
@@ -87,10 +82,12 @@ where
 ///
 /// Once each worker has a thread it prints `listening P`. The workers serve their connections, as
 /// by [`serve_on`](crate::serve_on), while the lines of the input are the console's calls
-/// ([`operate`](tac_hall_console::operate)). `quit` or the input's end stops the hall. Then the port is
-/// closed, and each worker ends within half a second, whatever its device does: as Stopped, where
-/// no connection was accepted any more. At last the hall is closed with all its seats, and where it
-/// can't be, `close refused` is printed.
+/// ([`operate`](tac_hall_console::operate)). Before a log is full it is taken out of the hall, as
+/// the settings say. `quit` or the input's end stops the hall. Then the port is closed, and each
+/// worker ends within half a second, whatever its device does: as Stopped, where no connection was
+/// accepted any more. At last each seat sheds the logs that were taken out, and the hall is closed
+/// with all its seats. Where one doesn't have the calls that these logs have of it, or the hall
+/// can't be closed, `close refused` is printed.
 ///
 /// A connection is given up, as one that can't be read or written, where so many seconds as the
 /// settings say have passed since it was accepted or since its last reply was written, whatever
@@ -122,15 +119,16 @@ where
     };
     let room = Vec::with_capacity(alloc, seats.len() + 1)?;
     let vigil = Vigil::new(settings.idle);
+    let archive = Archive::new(alloc);
     let (served, attended) = serve_both(
-        rt, port, &hall, settings, &vigil, seats, console, input, output,
+        rt, port, &hall, settings, &vigil, &archive, seats, console, input, output,
     );
     let (console, operated) = match attended {
         Ok(ended) => ended,
         Err(fault) => return Err(fault),
     };
     let closed = match served {
-        Ok(served) => close(hall, console, served, room, output),
+        Ok(served) => close(hall, &archive.into_chain(), console, served, room, output),
         Err(_) => Err(ServeFault::Memory),
     };
     operated?;

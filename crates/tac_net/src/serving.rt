@@ -3,6 +3,8 @@
 ghost use Rattle.std.specs.Prelude.{IfOk};
 ghost use Rattle.tac_net.specs.Serving as serving;
 
+use crate::rotating::{Count, Rotating};
+use crate::settings::Settings;
 use crate::vigil::Vigil;
 use crate::worker::serve_all;
 use std::alloc::AllocError;
@@ -10,6 +12,7 @@ use std::net::TcpListener;
 use std::sync::Wait;
 use std::thread::{Threads, map_vec};
 use std::time::Clock;
+use tac_chain::Archive;
 use tac_desk::Desk;
 use tac_hall::{Hall, Seat};
 use tac_wire::Key;
@@ -36,15 +39,65 @@ pub(crate) fn serve_under<R: Threads + Wait + Clock + Sync, D: Desk + Send, G: G
     map_vec(rt, seats, &work)
 }
 
+// The same, each worker under a gate that counts here and has the log taken out of the hall.
+fn serve_counting<R: Threads + Wait + Clock + Sync, D: Desk + Send>(
+    rt: &R,
+    listener: &TcpListener,
+    hall: &Hall<D>,
+    settings: &Settings,
+    archive: &Archive,
+    count: &Count,
+    seats: Vec<Seat>,
+    vigil: &Vigil,
+) -> Result<Vec<(Seat, End)>, AllocError>
+    ensures { IfOk result (λ served. serving.HaveServed settings.now.key
+        settings.now.connections seats.items served.items) }
+{
+    let work = |seat: Seat| -> (Seat, End)
+        ensures { serving.Serves settings.entry.now.key settings.entry.now.connections seat
+            result.1 result.0 }
+    {
+        serve_all(
+            rt,
+            listener,
+            hall,
+            &settings.key,
+            seat,
+            settings.connections,
+            &Rotating::new(rt, hall, archive, count),
+            vigil,
+        )
+    };
+    map_vec(rt, seats, &work)
+}
+
+/// The same, and the log is taken out of the hall as the settings say.
+pub(crate) fn serve_rotating<R: Threads + Wait + Clock + Sync, D: Desk + Send>(
+    rt: &R,
+    listener: &TcpListener,
+    hall: &Hall<D>,
+    settings: &Settings,
+    archive: &Archive,
+    seats: Vec<Seat>,
+    vigil: &Vigil,
+) -> Result<Vec<(Seat, End)>, AllocError>
+    ensures { IfOk result (λ served. serving.HaveServed settings.now.key
+        settings.now.connections seats.items served.items) }
+{
+    let count = Count::new(settings.rotate_at);
+    serve_counting(rt, listener, hall, settings, archive, &count, seats, vigil)
+}
+
 /// Serves a hall on the network: for each seat there is a worker in a thread of its own, which
 /// serves so many connections, one after another.
 ///
 /// The result has the seats in their order, each with the end of its last connection, Finished
-/// where there was none. A worker stops before its last connection at the ends Stopped, LogFull,
-/// Held and NoSeat alone; a connection that can't be accepted counts as one that ended as
-/// ReadFault, and is followed by a pause of 50 milliseconds, of twice as many after the next, and
-/// so on up to a second. The error means that memory ran out for this list or the threads' parts of
-/// it; then the seats are gone.
+/// where there was none. A worker stops before its last connection at the ends Stopped, Held and
+/// NoSeat alone: where the log is full, the ask is left without an answer and the connection
+/// closes, but the worker takes the next one. A connection that can't be accepted counts as one
+/// that ended as ReadFault, and is followed by a pause of 50 milliseconds, of twice as many after
+/// the next, and so on up to a second. The error means that memory ran out for this list or the
+/// threads' parts of it; then the seats are gone.
 ///
 /// It may wait for clients as long as they please.
 pub fn serve_on<R: Threads + Wait + Clock + Sync, D: Desk + Send, G: Gate + Sync>(

@@ -16,4 +16,7 @@ pub struct Settings {
     /// After how many seconds without a reply a connection is given up; never, if that is 0.
     /// Before the first reply ten seconds are enough.
     pub idle: u32,
+    /// Before the call that would be this many-th of its segment the log is taken out of the hall,
+    /// and nothing is printed of it.
+    pub rotate_at: u32,
 }

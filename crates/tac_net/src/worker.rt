@@ -19,7 +19,7 @@ fn goes_on(end: End) -> bool
     ensures { result ≡ serving.goes_on end }
 {
     match end {
-        End::Stopped | End::LogFull | End::Held | End::NoSeat => false,
+        End::Stopped | End::Held | End::NoSeat => false,
         _ => true,
     }
 }
@@ -108,8 +108,8 @@ fn serve_one<R: Wait + Clock, D: Desk, G: Gate>(
     }
 }
 
-/// Serves so many connections, one after another, unless one ends as Stopped, LogFull, Held or
-/// NoSeat before. The result has the seat and the last end, Finished where there was no connection.
+/// Serves so many connections, one after another, unless one ends as Stopped, Held or NoSeat
+/// before. The result has the seat and the last end, Finished where there was no connection.
 pub(crate) fn serve_all<R: Wait + Clock, D: Desk, G: Gate>(
     rt: &R,
     listener: &TcpListener,

@@ -6,7 +6,7 @@ use crate::help::{
     DIFF_AFTER_LONG_HELP, DIFF_LONG_ABOUT, EDITS_HELP, EXIT_CODE_HELP, FILE_HELP, IDLE_HELP,
     KEY_FILE_HELP, KEY_HELP, LINE_HELP, LINT_ABOUT, LINT_AFTER_HELP, LINT_AFTER_LONG_HELP,
     LINT_LONG_ABOUT, LONG_ABOUT, NEW_HELP, OLD_HELP, PORT_HELP, REPLAY_ABOUT, REPLAY_AFTER_HELP,
-    REPLAY_AFTER_LONG_HELP, REPLAY_LONG_ABOUT, SERVE_ABOUT, SERVE_AFTER_HELP,
+    REPLAY_AFTER_LONG_HELP, REPLAY_LONG_ABOUT, ROTATE_AT_HELP, SERVE_ABOUT, SERVE_AFTER_HELP,
     SERVE_AFTER_LONG_HELP, SERVE_LONG_ABOUT, TEST_ABOUT, TEST_AFTER_HELP, TEST_AFTER_LONG_HELP,
     TEST_LONG_ABOUT, USER_HELP, WHY_ABOUT, WHY_AFTER_HELP, WHY_AFTER_LONG_HELP, WHY_LONG_ABOUT,
     WORKERS_HELP,
@@ -69,6 +69,9 @@ pub(crate) const ADDRESS: &str = "address";
 /// After how many seconds without a reply a connection is given up.
 pub(crate) const IDLE: &str = "idle";
 
+/// Before the call that would be which of its segment the log is taken out of the hall.
+pub(crate) const ROTATE_AT: &str = "rotate-at";
+
 // The key, by either of its options.
 const SECRET: &str = "secret";
 
@@ -112,7 +115,8 @@ fn with_options<'a>(alloc: Global, command: Command<'a>) -> Result<Command<'a>, 
         .arg(number(alloc, IDLE, "SECONDS", (0, 86_400), IDLE_HELP).default_value("300"))?
         .arg(number(alloc, CONNECTIONS, "N", connections, CONNECTIONS_HELP).default_value(
             "4294967295",
-        ))
+        ))?
+        .arg(number(alloc, ROTATE_AT, "N", (1, 65_536), ROTATE_AT_HELP).default_value("32768"))
 }
 
 fn serve<'a>(alloc: Global) -> Result<Command<'a>, AllocError> {

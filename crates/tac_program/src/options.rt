@@ -3,7 +3,9 @@
 //! Each fault is said on standard error. The status tells it too, so it doesn't matter whether that
 //! could be written.
 
-use crate::command_line::{ADDRESS, CONNECTIONS, FILE, IDLE, KEY, KEY_FILE, PORT, WORKERS};
+use crate::command_line::{
+    ADDRESS, CONNECTIONS, FILE, IDLE, KEY, KEY_FILE, PORT, ROTATE_AT, WORKERS,
+};
 use crate::opening::open_file;
 use crate::status::Status;
 use basics::split_once;
@@ -116,6 +118,7 @@ fn settings_of(matches: &ArgMatches<'_>, key: Key) -> Option<Settings> {
         workers: matches.get_one::<u32>(WORKERS)?,
         connections: matches.get_one::<u32>(CONNECTIONS)?,
         idle: matches.get_one::<u32>(IDLE)?,
+        rotate_at: matches.get_one::<u32>(ROTATE_AT)?,
     })
 }
 

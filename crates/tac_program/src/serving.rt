@@ -19,7 +19,7 @@ use tac_desks::LiveDesk;
 use tac_hall::Hall;
 use tac_net::{Port, ServeFault, serve};
 
-/// The most calls that a hall takes.
+/// The most calls that a log of a hall takes.
 const MAX_CALLS: usize = 65_536;
 
 // The desk of the policy in a file. The error here and below is the status to end with.

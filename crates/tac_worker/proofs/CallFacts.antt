@@ -10,7 +10,7 @@ use Rattle.tac_worker.specs.Worked.{Calling, Makes}
 
 -- a call that was made, with its receipt kept
 pub makes_one : (was now : Calling) (ask : Ask) (receipt : Receipt) (answer : Answer) → IsMade was.seat (calls.Ask ask) receipt now.seat → receipt.answer ≡ answers.Ask answer
-    → now.receipts ≡ was.receipts ++ receipt ∷ [] → Makes was now (record { ask = ask; place = receipt.place; answer = answer } ∷ [])
+    → now.receipts ≡ was.receipts ++ receipt ∷ [] → Makes was now (record { ask = ask; segment = receipt.segment; place = receipt.place; answer = answer } ∷ [])
 makes_one was now ask receipt answer made told added = record {
   number = made.number;
   view = rw told at made.view;

@@ -331,16 +331,16 @@ module _ (key bytes : List ℕ) (taken : ℕ) where
       by_tail (fault reason) e = cc
 
   -- the desk has answered
-  pub turned_answer : (was now : Calling) (old new : Option (List ℕ)) (stream : Stream) (ask : Ask) (slot : Slot) (place : ℕ) (answer : Answer) (given : List ℕ × Bool) (result : Result Went End)
-      → IsTurn key bytes taken (Asks ask slot) → Makes was now (record { ask = ask; place = place; answer = answer } ∷ []) → given ≡ (sent key (packet_of (reply_in slot (answer_body answer))), not slot.single)
+  pub turned_answer : (was now : Calling) (old new : Option (List ℕ)) (stream : Stream) (ask : Ask) (slot : Slot) (segment place : ℕ) (answer : Answer) (given : List ℕ × Bool) (result : Result Went End)
+      → IsTurn key bytes taken (Asks ask slot) → Makes was now (record { ask = ask; segment = segment; place = place; answer = answer } ∷ []) → given ≡ (sent key (packet_of (reply_in slot (answer_body answer))), not slot.single)
       → Replies result given.0 given.1 old new → closed_of stream ≡ given.1 → pending_of stream ≡ None → Stands key stream bytes (suc taken)
       → Turned result key bytes taken was now old new stream
-  turned_answer was now old new stream ask slot place answer given result (inl f) makes told r closed free stands =
-      let exchange : Exchange = record { ask = ask; place = place; answer = answer } in
+  turned_answer was now old new stream ask slot segment place answer given result (inl f) makes told r closed free stands =
+      let exchange : Exchange = record { ask = ask; segment = segment; place = place; answer = answer } in
       replied f.frame f.more f.left (exchange ∷ []) (carrying slot answer) was now old new stream makes result (not slot.single)
       (said_answer key _ f.frame exchange slot (serves_turn key _ (Asks ask slot) f.is))
       (subst (λ (p : List ℕ × Bool). Replies result p.0 p.1 old new) told r) (closed ∙ ap (λ (p : List ℕ × Bool). p.1) told) free stands
-  turned_answer was now old new stream ask slot place answer given result (inr n) makes told r closed free stands = absurd (by_tail (cut bytes).tail n.is)
+  turned_answer was now old new stream ask slot segment place answer given result (inr n) makes told r closed free stands = absurd (by_tail (cut bytes).tail n.is)
     where
       by_tail : (tail : Tail) → Asks ask slot ≡ turn_by key (packets_of key (take taken (cut bytes).packets)) [] tail → ⊥
       by_tail (open_end rest) e = cc

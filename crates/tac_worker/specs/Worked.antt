@@ -18,9 +18,11 @@ use Rattle.tac_worker.specs.Served.{Sending, served, asks, closes, bytes_sent, c
 
 -- ---- its calls
 
--- an ask that was called, its place in the hall's log, and the answer
+-- an ask that was called, the segment of the hall's history in which it stands, its place in the
+-- log of that, and the answer
 pub record Exchange : Type 0 where
   pub ask : Ask
+  pub segment : ℕ
   pub place : ℕ
   pub answer : Answer
 
@@ -33,6 +35,7 @@ answers_of made = map (λ exchange. exchange.answer) made
 -- how a view has it
 abbrev pub in_view : Exchange → Made
 in_view exchange = record {
+  segment = exchange.segment;
   place = exchange.place;
   call = calls.Ask exchange.ask;
   answer = answers.Ask exchange.answer;
@@ -40,8 +43,12 @@ in_view exchange = record {
 
 -- its receipt, at this seat
 abbrev pub receipt_for : ℕ → Exchange → Receipt
-receipt_for seat exchange =
-    record { seat = seat; place = exchange.place; answer = answers.Ask exchange.answer }
+receipt_for seat exchange = record {
+  seat = seat;
+  segment = exchange.segment;
+  place = exchange.place;
+  answer = answers.Ask exchange.answer;
+}
 
 -- a seat that calls, and the receipts that it got
 pub record Calling : Type 0 where

@@ -57,8 +57,8 @@ impl Caller {
         gate: &G,
         ask: Ask,
     ) -> Result<Answer, End>
-        ensures makes { IfOk result (λ answer. (place : ℕ) × Makes self.old self.new
-            (record { ask = ask; place = place; answer = answer } ∷ [])) }
+        ensures makes { IfOk result (λ answer. (segment place : ℕ) × Makes self.old self.new
+            (record { ask = ask; segment = segment; place = place; answer = answer } ∷ [])) }
         ensures kind { IfOk result (λ answer. kind_of_answer answer ≡ kind_of_ask ask) }
         ensures uncalled { IfErr result IsUncalled }
         ensures err { OnErr result (self.new ≡ self.old) }

@@ -3,4 +3,4 @@ use Rattle.tac_hall.specs.Closing.{AreViews}
 use Rattle.tac_hall.proofs.closing.are_views.Given as goal
 
 abbrev pub invariant-seats : goal.invariant-seats
-invariant-seats l = AreViews l.log (drop l.seat-index l.seats) → AreViews l.log l.seats
+invariant-seats l = AreViews l.segment l.log (drop l.seat-index l.seats) → AreViews l.segment l.log l.seats

@@ -14,11 +14,11 @@ returns-in_err-operated g c =
     elim c.match-served-2.branch [
       | in-Ok-served w ↦ rw (p.1, p.2, w.output-is)
           (ran c.args.settings.now c.args.hall c.in-Ok-seats_of.seats.items c.in-Ok.console ended.0 (Err c.in_err-operated.field-0.0)
-          _ _ _ attended.announced _ attended.announces c.in-Ok-seats_of.ensures.count c.in-Ok-seats_of.ensures.fresh c.in-Ok.ensures.fresh.1 operates
+          _ _ _ attended.announced _ attended.announces c.in-Ok-seats_of.ensures.count c.in-Ok-seats_of.ensures.fresh c.in-Ok.ensures.fresh.2 operates
           w.in-Ok-served.served.items w.close-closed.result _ (rw w.in-Ok-served.is at both.ensures.served) w.close-closed.ensures)
       | in-Err-served w ↦ rw (p.1, p.2, w.output-is)
           (ran_out c.args.settings.now c.args.hall c.in-Ok-seats_of.seats.items c.in-Ok.console ended.0 (Err c.in_err-operated.field-0.0)
-          _ _ _ attended.announced _ attended.announces c.in-Ok-seats_of.ensures.count c.in-Ok-seats_of.ensures.fresh c.in-Ok.ensures.fresh.1 operates)
+          _ _ _ attended.announced _ attended.announces c.in-Ok-seats_of.ensures.count c.in-Ok-seats_of.ensures.fresh c.in-Ok.ensures.fresh.2 operates)
     ]
 
 pub returns : goal.returns
@@ -30,9 +30,9 @@ returns g c =
     elim c.match-served-2.branch [
       | in-Ok-served w ↦ rw (w.closed-is, w.output-is)
           (ran c.args.settings.now c.args.hall c.in-Ok-seats_of.seats.items c.in-Ok.console ended.0 (Ok c.in_ok-operated.field-0)
-          _ _ _ attended.announced _ attended.announces c.in-Ok-seats_of.ensures.count c.in-Ok-seats_of.ensures.fresh c.in-Ok.ensures.fresh.1 operates
+          _ _ _ attended.announced _ attended.announces c.in-Ok-seats_of.ensures.count c.in-Ok-seats_of.ensures.fresh c.in-Ok.ensures.fresh.2 operates
           w.in-Ok-served.served.items w.close-closed.result _ (rw w.in-Ok-served.is at both.ensures.served) w.close-closed.ensures)
       | in-Err-served w ↦ rw (w.closed-is, w.output-is)
           (ran_out c.args.settings.now c.args.hall c.in-Ok-seats_of.seats.items c.in-Ok.console ended.0 (Ok c.in_ok-operated.field-0)
-          _ _ _ attended.announced _ attended.announces c.in-Ok-seats_of.ensures.count c.in-Ok-seats_of.ensures.fresh c.in-Ok.ensures.fresh.1 operates)
+          _ _ _ attended.announced _ attended.announces c.in-Ok-seats_of.ensures.count c.in-Ok-seats_of.ensures.fresh c.in-Ok.ensures.fresh.2 operates)
     ]

@@ -10,6 +10,7 @@ use Rattle.std.specs.contracts.impls.GlobalAllocator.TheImpl.{ghosts}
 use Rattle.tac_hall.specs.contracts.seat.Seat as Seat
 use Rattle.std.proofs.Crossing.{crosses}
 use Rattle.tac_hall.proofs.Crossing.{Seat-send, Hall-sync}
+use Rattle.tac_chain.proofs.Crossing.{Archive-sync}
 use Rattle.tac_net.proofs.Crossing.{Listener-sync, Settings-sync, Vigil-sync}
 use Rattle.tac_worker.proofs.worked.End.TheSendSync as ends
 use Rattle.tac_net.proofs.program.serve_both.Goals as goal
@@ -38,8 +39,11 @@ join_mut-requires-send-F g c κs within =
                 (
                   (tt, Settings-sync.shared d.4.now d.4.ref_ptr.0 d.4.ref_ptr.1 _),
                   (
-                    (tt, Vigil-sync.shared d.5.now d.5.ref_ptr.0 d.5.ref_ptr.1 _),
-                    tt,
+                    (tt, Archive-sync.shared d.5.now d.5.ref_ptr.0 d.5.ref_ptr.1 _),
+                    (
+                      (tt, Vigil-sync.shared d.6.now d.6.ref_ptr.0 d.6.ref_ptr.1 _),
+                      tt,
+                    ),
                   ),
                 ),
               ),

@@ -22,9 +22,9 @@ returns-in_ok-answer-in-Asks g c = λ bytes taken ready s.
     let next = c.in_ok-packet.ensures in
     let made = c.in_ok-answer-in-Asks.ensures.makes in
     let given = c.give-packet.ensures in
-    turned_answer c.args.key.now bytes taken c.args.caller.now c.ask.new.self _ _ c.give-packet.new.self c.in-Asks.ask c.in-Asks.slot made.0 c.in_ok-answer-in-Asks.answer
+    turned_answer c.args.key.now bytes taken c.args.caller.now c.ask.new.self _ _ c.give-packet.new.self c.in-Asks.ask c.in-Asks.slot made.0 made.1 c.in_ok-answer-in-Asks.answer
     c.give-packet.result c.reply-in-Asks.result
-    (rw c.in-Asks.is at (next.found bytes taken ready s)) made.1 given.reply c.reply-in-Asks.ensures
+    (rw c.in-Asks.is at (next.found bytes taken ready s)) made.2 given.reply c.reply-in-Asks.ensures
     (given.closed (rw c.in-Asks.is at next.closed)) given.pending (given.stands bytes _ (rw c.in-Asks.is at (next.stands bytes taken ready s)))
 
 pub returns-in-Silent : goal.returns-in-Silent

@@ -4,4 +4,4 @@ use Rattle.tac_hall.proofs.laws.Room.new.Goals as goal
 
 pub invariant_of-result : goal.invariant_of-result
 invariant_of-result g c =
-    rw (c.requires, c.new.ensures.items) (record { legal = at_first; within = omega arith; seated = omega arith }, refl)
+    rw (c.requires, c.new.ensures.items) (record { legal = at_first; numbered = omega arith; within = omega arith; seated = omega arith }, refl)

@@ -1,0 +1,4 @@
+pub mod JoinedFacts
+pub mod KeptFacts
+pub mod ClosingFacts
+pub mod Crossing

@@ -1,0 +1,28 @@
+-- A rotation whose log is kept.
+use Rattle.std.specs.Prelude.{◌≡◌, length, Result, Ok, Err}
+use Rattle.tac_hall.specs.declared.fault.HallFault.{HallFault}
+use Rattle.tac_hall.specs.Room.{Contents, IsLawful, Rotates}
+use Rattle.tac_hall.specs.Segment.{Stretch}
+use Rattle.tac_chain.specs.declared.chain.Rotated.{Rotated}
+use Rattle.tac_chain.specs.Chain.{Chained, IsFollowedBy, with_segment}
+
+-- one step of some room took this segment out
+pub record IsTaken (segment : Stretch) : Type 0 where
+  pub was : Contents
+  pub then : Contents
+  pub lawful : IsLawful was
+  pub rotates : Rotates was (Ok segment) then
+
+-- a segment was taken out that follows, and it stands after the logs from then on
+pub record IsKept (was : Chained) (rotated : Rotated) (now : Chained) : Type 0 where
+  pub segment : Stretch
+  pub taken : IsTaken segment
+  pub follows : IsFollowedBy was segment.number segment.base
+  pub number : rotated.number ≡ segment.number
+  pub entries : rotated.entries ≡ length segment.log
+  pub kept : now ≡ with_segment was segment
+
+-- else the chain stays as it is
+abbrev pub Keeps : Chained → Result Rotated HallFault → Chained → Type 0
+Keeps was (Ok rotated) now = IsKept was rotated now
+Keeps was (Err fault) now = now ≡ was
