@@ -1,0 +1,2 @@
+mod JsonApart
+pub mod EventsApart

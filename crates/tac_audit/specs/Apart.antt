@@ -1,0 +1,52 @@
+-- The lines of events are told apart, so what they tell is read back from them.
+use Rattle.std.specs.Prelude.{◌≡◌, ◌^◌, ◌<◌, ℕ, List, Bool, true, ◌&&◌, nat_lt, IsTrue, Option}
+use Rattle.std.specs.List.{list_all}
+use Rattle.std.specs.Option.{option_map_or}
+use Rattle.tac_audit.specs.declared.event.Asker.{Asker}
+use Rattle.tac_audit.specs.declared.event.Said.{Said}
+use Rattle.tac_audit.specs.declared.event.Told.{Told}
+use Rattle.tac_audit.specs.declared.event.Told.TheVariants.{Login, Command, Account, Refused}
+use Rattle.tac_audit.specs.declared.event.Event.{Event}
+use Rattle.tac_audit.specs.declared.event.Typed.{Typed}
+use Rattle.tac_audit.specs.Event.{line_of, typed_line}
+
+-- numbers below 256, as all bytes are
+abbrev pub are_bytes : List ℕ → Bool
+are_bytes bytes = list_all (λ byte. nat_lt byte 256) bytes
+
+abbrev pub are_texts : List (List ℕ) → Bool
+are_texts texts = list_all are_bytes texts
+
+abbrev pub is_asker : Asker → Bool
+is_asker asker =
+    are_bytes asker.user && are_bytes asker.port && are_bytes asker.from
+    && nat_lt asker.privilege 256 && nat_lt asker.service 256
+
+abbrev pub is_said : Said → Bool
+is_said said = are_bytes said.text
+
+abbrev pub is_told : Told → Bool
+is_told (Login asker said) = is_asker asker && is_said said
+is_told (Command asker arguments line said) =
+    is_asker asker && are_texts arguments && option_map_or are_bytes line true && is_said said
+is_told (Account asker kind task arguments said) =
+    is_asker asker && are_bytes task && are_texts arguments && is_said said
+is_told (Refused why) = true
+
+-- an event as there can be one: bytes, and 32 bits of session
+abbrev pub is_event : Event → Bool
+is_event event =
+    are_bytes event.time && are_bytes event.device && nat_lt event.session (2 ^ 32)
+    && is_told event.told
+
+abbrev pub is_typed : Typed → Bool
+is_typed typed = are_bytes typed.time && are_bytes typed.console && are_texts typed.answer
+
+-- events with the same line are the same
+abbrev pub AreApart : Event → Event → Type 0
+AreApart a b = IsTrue (is_event a) → IsTrue (is_event b) → line_of a ≡ line_of b → a ≡ b
+
+-- the same of the console's
+abbrev pub AreTypedApart : Typed → Typed → Type 0
+AreTypedApart a b =
+    IsTrue (is_typed a) → IsTrue (is_typed b) → typed_line a ≡ typed_line b → a ≡ b

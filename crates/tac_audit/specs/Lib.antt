@@ -1,0 +1,4 @@
+pub mod Json
+pub mod Event
+pub mod Apart
+pub mod Telling

@@ -1,0 +1,99 @@
+//! What is told of a packet, and of a line at the console. No type here has room for a password, a
+//! challenge or a response.
+
+use basics::{Bytes, Sequence};
+use tac_request::AcctKind;
+
+/// Who asks, and from where: what a request says of itself.
+#[derive(Debug, Drop)]
+pub struct Asker {
+    pub user: Bytes,
+    pub port: Bytes,
+    /// The field rem_addr.
+    pub from: Bytes,
+    /// The field priv_lvl.
+    pub privilege: u8,
+    /// The field authen_service.
+    pub service: u8,
+}
+
+/// The status of a last reply (RFC 8907, sections 5.2, 6.2 and 7.2).
+#[derive(Clone, Copy, Debug, PartialEq, Eq)]
+pub enum Status {
+    Pass,
+    Fail,
+    PassAdd,
+    Success,
+    Error,
+}
+
+/// What a last reply says. The text of a denial names the rule that denied.
+#[derive(Debug, Drop)]
+pub struct Said {
+    pub status: Status,
+    /// The field server_msg.
+    pub text: Bytes,
+}
+
+/// Why a packet is refused as it stands.
+#[derive(Clone, Copy, Debug, PartialEq, Eq)]
+pub enum Why {
+    /// Its body is none of its kind, as under another key.
+    BadBody,
+    /// Its type is none of the three.
+    UnservedType,
+    /// It doesn't come in its turn, and the connection closes without a reply.
+    OutOfTurn,
+    /// The client gave a login up.
+    Aborted,
+}
+
+/// What is told of a packet.
+#[derive(Debug, Drop)]
+pub enum Told {
+    /// The last reply of a login.
+    Login {
+        asker: Asker,
+        said: Said,
+    },
+    /// A command line; none where the arguments make none.
+    Command {
+        asker: Asker,
+        arguments: Sequence<Bytes>,
+        line: Option<Bytes>,
+        said: Said,
+    },
+    /// An accounting record; no kind where the flags are those of none.
+    Account {
+        asker: Asker,
+        kind: Option<AcctKind>,
+        task: Bytes,
+        arguments: Sequence<Bytes>,
+        said: Said,
+    },
+    Refused {
+        why: Why,
+    },
+}
+
+/// What is told of a packet, when it came, and on which session of which device.
+#[derive(Debug, Drop)]
+pub struct Event {
+    /// By RFC 3339.
+    pub time: Bytes,
+    /// The address and the port.
+    pub device: Bytes,
+    pub session: u32,
+    pub told: Told,
+}
+
+/// What was typed at the console, and when.
+#[derive(Debug, Drop)]
+pub struct Typed {
+    /// By RFC 3339.
+    pub time: Bytes,
+    /// The line, without its secrets.
+    pub console: Bytes,
+    /// The lines of its answer, without their secrets.
+    pub answer: Sequence<Bytes>,
+}

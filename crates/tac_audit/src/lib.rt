@@ -1,0 +1,12 @@
+//! What an auditor reads: the line of each request that a device made, and of each that an operator
+//! typed.
+#![tactic(auto)]
+
+mod event;
+mod json;
+mod line;
+mod telling;
+
+pub use event::{Asker, Event, Said, Status, Told, Typed, Why};
+pub use line::{event_line, typed_line};
+pub use telling::{Answered, login_begun, login_named, tell};

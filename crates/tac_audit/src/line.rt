@@ -1,0 +1,270 @@
+//! The lines that are written of events.
+
+ghost use Rattle.std.specs.Prelude.{◌≡◌, ◌++◌, IfOk, OnOk};
+ghost use Rattle.std.specs.Option.{option_map};
+ghost use Rattle.tac_audit.specs.Json as json;
+ghost use Rattle.tac_audit.specs.Event as lines;
+ghost use Rattle.tac_audit.specs.Apart.{AreApart, AreTypedApart};
+ghost use Rattle.tac_audit.specs.declared.event.Told.TheVariants as told;
+ghost use Rattle.tac_audit.specs.declared.event.Event.{Event as EventValue};
+ghost use Rattle.tac_audit.specs.declared.event.Typed.{Typed as TypedValue};
+
+use crate::event::{Asker, Event, Said, Status, Told, Typed, Why};
+use crate::json::{hex_digit, write_list, write_member, write_number, write_optional, write_text};
+use basics::Bytes;
+use std::alloc::{AllocError, Global};
+use std::io;
+use tac_request::AcctKind;
+
+// ---- words
+
+fn status_word(status: Status) -> &'static [u8]
+    ensures { result.now ≡ lines.status_word status }
+{
+    match status {
+        Status::Pass => b"PASS",
+        Status::Fail => b"FAIL",
+        Status::PassAdd => b"PASS_ADD",
+        Status::Success => b"SUCCESS",
+        Status::Error => b"ERROR",
+    }
+}
+
+fn why_word(why: Why) -> &'static [u8]
+    ensures { result.now ≡ lines.why_word why }
+{
+    match why {
+        Why::BadBody => b"bad body",
+        Why::UnservedType => b"unserved type",
+        Why::OutOfTurn => b"out of turn",
+        Why::Aborted => b"aborted",
+    }
+}
+
+fn kind_word(kind: AcctKind) -> &'static [u8]
+    ensures { result.now ≡ lines.kind_word kind }
+{
+    match kind {
+        AcctKind::Begin => b"start",
+        AcctKind::Stop => b"stop",
+        AcctKind::Watch => b"watchdog",
+        AcctKind::Update => b"update",
+    }
+}
+
+#[tactic(auto, unfolding(crate::specs::Event::session_digits))]
+fn session_digits(session: u32) -> [u8; 8]
+    ensures { result ≡ lines.session_digits session }
+{
+    let [a, b, c, d] = session.to_be_bytes();
+    [
+        hex_digit(a / 16),
+        hex_digit(a % 16),
+        hex_digit(b / 16),
+        hex_digit(b % 16),
+        hex_digit(c / 16),
+        hex_digit(c % 16),
+        hex_digit(d / 16),
+        hex_digit(d % 16),
+    ]
+}
+
+// ---- members
+
+#[tactic(auto, unfolding(crate::specs::Event::asker_json))]
+fn write_asker(out: &mut Vec<u8>, asker: &Asker) -> io::Result<()>
+    ensures { OnOk result (out.new.items ≡ out.old.items ++ lines.asker_json asker.now) }
+{
+    write_member(out, b"user", asker.user.as_slice())?;
+    write_member(out, b"port", asker.port.as_slice())?;
+    write_member(out, b"from", asker.from.as_slice())?;
+    write_number(out, b"privilege", asker.privilege)?;
+    write_number(out, b"service", asker.service)
+}
+
+#[tactic(auto, unfolding(crate::specs::Event::said_json))]
+fn write_said(out: &mut Vec<u8>, said: &Said) -> io::Result<()>
+    ensures { OnOk result (out.new.items ≡ out.old.items ++ lines.said_json said.now) }
+{
+    write_member(out, b"status", status_word(said.status))?;
+    write_member(out, b"text", said.text.as_slice())?;
+    Ok(())
+}
+
+// The line of a command, where there is one.
+fn write_command_line(out: &mut Vec<u8>, line: &Option<Bytes>) -> Result<(), AllocError>
+    ensures { OnOk result (out.new.items
+        ≡ out.old.items ++ json.member LINE.now (json.optional_json line.now)) }
+{
+    match line {
+        Some(line) => write_optional(out, LINE, Some(line.as_slice())),
+        None => write_optional(out, LINE, None),
+    }
+}
+
+const LINE: &[u8] = b"line";
+
+// The word of a kind, where there is one.
+fn write_kind(out: &mut Vec<u8>, kind: Option<AcctKind>) -> Result<(), AllocError>
+    ensures { OnOk result (out.new.items
+        ≡ out.old.items ++ json.member KIND.now (json.optional_json (option_map lines.kind_word kind))) }
+{
+    match kind {
+        Some(kind) => write_optional(out, KIND, Some(kind_word(kind))),
+        None => write_optional(out, KIND, None),
+    }
+}
+
+const KIND: &[u8] = b"kind";
+
+// The type, and who asks.
+#[tactic(auto, unfolding(crate::specs::Event::type_json))]
+fn write_request(out: &mut Vec<u8>, word: &[u8], asker: &Asker) -> io::Result<()>
+    ensures { OnOk result (out.new.items
+        ≡ out.old.items ++ (lines.type_json word.now ++ lines.asker_json asker.now)) }
+{
+    write_member(out, b"type", word)?;
+    write_asker(out, asker)
+}
+
+fn write_command(
+    out: &mut Vec<u8>,
+    asker: &Asker,
+    arguments: &[Bytes],
+    line: &Option<Bytes>,
+    said: &Said,
+) -> io::Result<()>
+    ensures { OnOk result (out.new.items ≡ out.old.items
+        ++ lines.told_json (told.Command asker.now arguments.now line.now said.now)) }
+{
+    write_request(out, b"command", asker)?;
+    write_list(out, b"arguments", arguments)?;
+    write_command_line(out, line)?;
+    write_said(out, said)
+}
+
+fn write_account(
+    out: &mut Vec<u8>,
+    asker: &Asker,
+    kind: Option<AcctKind>,
+    task: &[u8],
+    arguments: &[Bytes],
+    said: &Said,
+) -> io::Result<()>
+    ensures { OnOk result (out.new.items ≡ out.old.items
+        ++ lines.told_json (told.Account asker.now kind task.now arguments.now said.now)) }
+{
+    write_request(out, b"account", asker)?;
+    write_kind(out, kind)?;
+    write_member(out, b"task", task)?;
+    write_list(out, b"arguments", arguments)?;
+    write_said(out, said)
+}
+
+#[tactic(auto, unfolding(crate::specs::Event::type_json))]
+fn write_told(out: &mut Vec<u8>, told: &Told) -> io::Result<()>
+    ensures { OnOk result (out.new.items ≡ out.old.items ++ lines.told_json told.now) }
+{
+    match told {
+        Told::Login { asker, said } => {
+            write_request(out, b"login", asker)?;
+            write_said(out, said)
+        }
+        Told::Command {
+            asker,
+            arguments,
+            line,
+            said,
+        } => write_command(out, asker, arguments.as_slice(), line, said),
+        Told::Account {
+            asker,
+            kind,
+            task,
+            arguments,
+            said,
+        } => write_account(
+            out,
+            asker,
+            *kind,
+            task.as_slice(),
+            arguments.as_slice(),
+            said,
+        ),
+        Told::Refused { why } => {
+            write_member(out, b"type", b"refused")?;
+            write_member(out, b"why", why_word(*why))?;
+            Ok(())
+        }
+    }
+}
+
+// ---- lines
+
+#[tactic(auto, unfolding(crate::specs::Event::begun))]
+fn write_begun(out: &mut Vec<u8>, time: &[u8]) -> Result<(), AllocError>
+    ensures { OnOk result (out.new.items ≡ out.old.items ++ lines.begun time.now) }
+{
+    out.extend_from_slice(b"{\"time\":")?;
+    write_text(out, time)
+}
+
+#[tactic(auto, unfolding(crate::specs::Event::ended))]
+fn write_ended(out: &mut Vec<u8>) -> Result<(), AllocError>
+    ensures { OnOk result (out.new.items ≡ out.old.items ++ lines.ended) }
+{
+    out.extend_from_slice(b"}\n")
+}
+
+// When, on which session of which device.
+fn write_head(out: &mut Vec<u8>, event: &Event) -> Result<(), AllocError>
+    ensures { OnOk result (out.new.items ≡ out.old.items ++ (lines.begun event.now.time
+        ++ json.member DEVICE.now (json.text_json event.now.device)
+        ++ json.member SESSION.now (json.text_json (lines.session_digits event.now.session)))) }
+{
+    write_begun(out, event.time.as_slice())?;
+    write_member(out, DEVICE, event.device.as_slice())?;
+    write_member(out, SESSION, &session_digits(event.session))
+}
+
+const DEVICE: &[u8] = b"device";
+
+const SESSION: &[u8] = b"session";
+
+fn write_event(out: &mut Vec<u8>, event: &Event) -> io::Result<()>
+    ensures { OnOk result (out.new.items ≡ out.old.items ++ lines.line_of event.now) }
+{
+    write_head(out, event)?;
+    write_told(out, &event.told)?;
+    write_ended(out)?;
+    Ok(())
+}
+
+/// The line of an event, with its LF: one JSON object (RFC 8259). The error means that memory ran
+/// out. Linear in what is told.
+#[tactic(auto, using(crate::proofs::EventsApart::events_apart))]
+pub fn event_line(alloc: Global, event: &Event) -> Result<Vec<u8>, AllocError>
+    ensures line { IfOk result (λ line. line.items ≡ lines.line_of event.now) }
+    // What is told is read back from the line: events with the same line are the same.
+    ensures apart { (a b : EventValue) → AreApart a b }
+{
+    let mut out = Vec::new(alloc);
+    match write_event(&mut out, event) {
+        Ok(()) => Ok(out),
+        Err(_) => Err(AllocError),
+    }
+}
+
+/// The line of what was typed at the console, with its LF. The error means that memory ran out.
+#[tactic(auto, using(crate::proofs::EventsApart::typed_apart))]
+pub fn typed_line(alloc: Global, typed: &Typed) -> Result<Vec<u8>, AllocError>
+    ensures line { IfOk result (λ line. line.items ≡ lines.typed_line typed.now) }
+    // What was typed is read back from the line.
+    ensures apart { (a b : TypedValue) → AreTypedApart a b }
+{
+    let mut out = Vec::new(alloc);
+    write_begun(&mut out, typed.time.as_slice())?;
+    write_member(&mut out, b"console", typed.console.as_slice())?;
+    write_list(&mut out, b"answer", typed.answer.as_slice())?;
+    write_ended(&mut out)?;
+    Ok(out)
+}
