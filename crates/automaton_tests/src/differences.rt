@@ -136,7 +136,7 @@ fn least_changes(rt: HostRuntime) -> Result<(), Fail> {
         -a: +a.* => +b.*
 
         # The shorter text comes first, then the lower symbol.
-        -~: +.* => -aaa;-~|}};+.*
+        -~: +.* => -aaa;-~|\\}\\};+.*
         -A: +.* => -[a-m].*;-[A-Z].*;+.*
         -  : +.* => -[ -m][^!].*;-[!-Z].;+.*
 
