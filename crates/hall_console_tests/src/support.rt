@@ -135,7 +135,13 @@ fn talks<R: Wait + AllocGlobal>(
     if seen.end.as_str() != "Ok(())" || seen.seat.view().len() != made {
         return Err(fail(rt, "another end or number of calls", &seen));
     }
-    if closes(rt.alloc(), hall, &seen.chain, seen.seat) {
+    let Seen {
+        written: _,
+        end: _,
+        seat,
+        chain,
+    } = seen;
+    if closes(rt.alloc(), hall, &chain, seat) {
         Ok(())
     } else {
         Err(Fail::from("the hall isn't closed with its chain"))
