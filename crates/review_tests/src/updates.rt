@@ -227,11 +227,11 @@ fn too_large_in_between(rt: HostRuntime) -> Result<(), Fail> {
     let alloc = rt.alloc();
     let mut old = String::new(alloc);
     old.push_str(
-        "group q\ndeny .*b.......\ngroup o\ngroup x\ngroup y in x\ngroup z in y\ngroup s in o\nuser t in s\ndeny .*a.......\n",
+        "group q\ndeny .*b........\ngroup o\ngroup x\ngroup y in x\ngroup z in y\ngroup s in o\nuser t in s\ndeny .*a........\n",
     )?;
     let mut new = String::new(alloc);
     new.push_str(
-        "group q\ndeny .*b.......\ngroup o\ngroup x\ngroup y in x\ngroup z in y\ngroup s in q\nuser t in z\ndeny .*a.......\n",
+        "group q\ndeny .*b........\ngroup o\ngroup x\ngroup y in x\ngroup z in y\ngroup s in q\nuser t in z\ndeny .*a........\n",
     )?;
     for user in 0..80_u32 {
         old.push_str(format!(in alloc; "user u{user} in o\n")?.as_str())?;
