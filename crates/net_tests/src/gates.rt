@@ -188,19 +188,25 @@ fn is_after_the_rotation(seat: &Seat, held: u64) -> bool {
     }
 }
 
-// The seats shed what the chain keeps, which is all, and close the hall.
+// A seat that has shed what the chain keeps.
+fn shed(chain: &Chain, seat: Seat) -> Result<Seat, Fail> {
+    let mut seat = seat;
+    if chain.shed_by(&mut seat) {
+        Ok(seat)
+    } else {
+        Err(Fail::from("not shed"))
+    }
+}
+
+// The hall is closed with these seats, which have shed what the chain keeps; and that was all.
 fn closes_all(hall: Hall<PlainDesk>, chain: &Chain, seats: Vec<Seat>) -> Result<(), Fail> {
-    let mut seats = seats;
-    for seat in &mut seats {
-        if !chain.shed_by(seat) {
-            return Err(Fail::from("not shed"));
-        }
+    let Ok(settled) = chain.close(hall, seats) else {
+        return Err(Fail::from("close refused"));
+    };
+    if settled.log.is_empty() {
+        return Ok(());
     }
-    match chain.close(hall, seats) {
-        Ok(settled) if settled.log.is_empty() => Ok(()),
-        Ok(_) => Err(Fail::from("calls were left")),
-        Err(_) => Err(Fail::from("close refused")),
-    }
+    Err(Fail::from("calls were left"))
 }
 
 // Workers over memory, with a rotation after each reply.
@@ -232,14 +238,15 @@ fn both_work_on<R: Threads + Wait + Sync + AllocGlobal + Clock>(rt: &R) -> Resul
     let gate = Holding::new(rt);
     let worked = all_work_on(rt, &hall, &key()?, &archive, waiting, &gate)?;
     let held = gate.held.load(Ordering::SeqCst);
+    let chain = archive.into_chain();
     let mut seats = Vec::new(rt.alloc());
     for (seat, is_served) in worked {
         if !is_served || !is_after_the_rotation(&seat, held) {
             return Err(Fail::from("called in another segment"));
         }
-        seats.push(seat)?;
+        seats.push(shed(&chain, seat)?)?;
     }
-    closes_all(hall, &archive.into_chain(), seats)
+    closes_all(hall, &chain, seats)
 }
 
 #[test]
