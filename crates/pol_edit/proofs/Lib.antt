@@ -2,3 +2,4 @@ mod FieldFacts
 mod Spaces
 mod ReadBack
 mod SpelledSo
+pub mod Missing

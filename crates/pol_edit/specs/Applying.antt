@@ -1,7 +1,7 @@
 -- What an edit makes of a policy: the new policy, or the first refusal.
 use Rattle.std.specs.Prelude.{◌≡◌, ℕ, ◌+◌, ◌-◌, nat_le, List, [], ◌∷◌, ◌++◌, length, Bool, true}
-use Rattle.std.specs.Prelude.{false, not, ◌&&◌, is_some, Option, Some, None, Result, Ok, Err, ok_or}
-use Rattle.std.specs.Prelude.{if◌then◌else◌}
+use Rattle.std.specs.Prelude.{false, not, ◌&&◌, ◌||◌, is_some, Option, Some, None, Result, Ok, Err}
+use Rattle.std.specs.Prelude.{ok_or, if◌then◌else◌}
 use Rattle.std.specs.Option.{option_map_or}
 use Rattle.std.specs.Result.{is_ok}
 use Rattle.basics.specs.Memory.{Except}
@@ -122,6 +122,22 @@ applied policy (InsertRule subject at verdict pattern) =
     inserted_in policy subject at verdict pattern
 applied policy (RemoveRule subject at) = dropped_in policy subject at
 applied policy (MoveRule subject from to) = shifted_in policy subject from to
+
+-- whether the edit is of a subject that isn't there, or names such a group. These are the edits
+-- that are refused as NoSuch
+abbrev pub is_missing : List Subject → Edit → Bool
+is_missing policy (AddGroup name parent) = not (has_group parent policy)
+is_missing policy (AddUser name parent) = not (has_group parent policy)
+is_missing policy (SetParent subject parent) =
+    not (is_some (find_subject subject policy)) || not (has_group parent policy)
+is_missing policy (SetLogin user secret) = not (is_some (find_subject (user_id user) policy))
+is_missing policy (SetEnable user secret) = not (is_some (find_subject (user_id user) policy))
+is_missing policy (Remove subject) = not (is_some (find_subject subject policy))
+is_missing policy (SetPriv subject level) = not (is_some (find_subject subject policy))
+is_missing policy (InsertRule subject at verdict pattern) =
+    not (is_some (find_subject subject policy))
+is_missing policy (RemoveRule subject at) = not (is_some (find_subject subject policy))
+is_missing policy (MoveRule subject from to) = not (is_some (find_subject subject policy))
 
 -- ---- what a function returned, against what was wanted
 

@@ -1,11 +1,11 @@
 -- What edits make of a policy together: the new policy, or the first refusal.
-use Rattle.std.specs.Prelude.{ℕ, suc, List, [], ◌∷◌, Bool, ◌&&◌, Result, Ok, Err}
+use Rattle.std.specs.Prelude.{◌≡◌, ℕ, suc, List, [], ◌∷◌, Bool, ◌&&◌, Result, Ok, Err}
 use Rattle.std.specs.Prelude.{nat_eq}
 use Rattle.pol_text.specs.declared.subject.Subject.{Subject}
 use Rattle.pol_edit.specs.Applying.{applied, is_memory}
 use Rattle.pol_edit.specs.declared.edit.Edit.{Edit}
 use Rattle.pol_edit.specs.declared.fault.EditFault.{EditFault}
-use Rattle.pol_edit.specs.declared.fault.EditFault.TheVariants.{Memory}
+use Rattle.pol_edit.specs.declared.fault.EditFault.TheVariants.{Memory, NoSuch}
 use Rattle.pol_edit.specs.declared.batching.BatchFault.{BatchFault}
 
 -- a refusal of no single edit
@@ -32,6 +32,11 @@ applied_from at (edit ∷ edits) policy =
 -- they are counted from 1
 abbrev pub applied_all : List Subject → List Edit → Result (List Subject) BatchFault
 applied_all policy edits = applied_from 1 edits policy
+
+-- the first of them is refused as NoSuch
+abbrev pub IsFirstMissing : List Subject → List Edit → Type 0
+IsFirstMissing policy [] = ⊥
+IsFirstMissing policy (edit ∷ edits) = applied policy edit ≡ Err NoSuch
 
 -- ---- a lack of memory
 

@@ -7,7 +7,7 @@ ghost use Rattle.basics.specs.Memory.{GivesUnlessMemory};
 ghost use Rattle.pol_pattern.specs.Reading.{pattern_of};
 ghost use Rattle.pol_names.specs.Secret.{is_secret};
 ghost use Rattle.pol_names.specs.SubjectId.{user_id};
-ghost use Rattle.pol_text.specs.Policy.{WellFormed, all_of};
+ghost use Rattle.pol_text.specs.Policy.{WellFormed, all_of, find_subject};
 ghost use Rattle.pol_text.specs.Change.{has_room_below, with_secret, with_priv};
 ghost use Rattle.pol_edit.specs.declared.fault.EditFault.TheVariants.{BadValue, Memory};
 ghost use Rattle.pol_edit.specs.Applying as applying;
@@ -23,9 +23,17 @@ use std::alloc::Global;
 
 // ---- fields
 
+fn has_subject(policy: &Policy, id: &SubjectId) -> bool
+    ensures found { result ≡ is_some (find_subject id.now policy.now) }
+    ensures well_formed { WellFormed policy.now }
+{
+    policy.find(id).is_some()
+}
+
 // Whether the group is there, if one is named.
 fn has_group(policy: &Policy, parent: &Option<Name>) -> bool
-    ensures { result ≡ applying.has_group parent.now policy.now }
+    ensures found { result ≡ applying.has_group parent.now policy.now }
+    ensures well_formed { result ≡ false → WellFormed policy.now }
 {
     match parent {
         Some(name) => policy.find(&SubjectId::group(*name)).is_some(),
@@ -48,6 +56,27 @@ fn is_number(at: u16, count: usize) -> bool
     ensures { result ≡ applying.is_number at count }
 {
     at >= 1 && usize::from(at) <= count
+}
+
+/// Whether the edit is of a subject that isn't there, or names such a group. Takes no memory.
+pub(crate) fn is_missing(policy: &Policy, edit: &Edit) -> bool
+    ensures missing { result ≡ applying.is_missing policy.now edit.now }
+    ensures well_formed { IsTrue result → WellFormed policy.now }
+{
+    match edit {
+        Edit::AddGroup { parent, .. } | Edit::AddUser { parent, .. } => !has_group(policy, parent),
+        Edit::SetParent { subject, parent } => {
+            !has_subject(policy, subject) || !has_group(policy, parent)
+        }
+        Edit::SetLogin { user, .. } | Edit::SetEnable { user, .. } => {
+            !has_subject(policy, &SubjectId::user(*user))
+        }
+        Edit::Remove { subject }
+        | Edit::SetPriv { subject, .. }
+        | Edit::InsertRule { subject, .. }
+        | Edit::RemoveRule { subject, .. }
+        | Edit::MoveRule { subject, .. } => !has_subject(policy, subject),
+    }
 }
 
 fn read_pattern(alloc: Global, text: &[u8]) -> Result<Pattern, EditFault>

@@ -1,14 +1,14 @@
 //! Edits that are made together, all or none.
 
-ghost use Rattle.std.specs.Prelude.{◌≡◌, Some, IfOk, OnErr};
+ghost use Rattle.std.specs.Prelude.{◌≡◌, ◌↔◌, Some, Err, IsTrue, IfOk, OnErr};
 ghost use Rattle.basics.specs.Memory.{GivesUnlessMemory};
 ghost use Rattle.pol_text.specs.Policy.{WellFormed};
-ghost use Rattle.pol_edit.specs.declared.fault.EditFault.TheVariants.{Memory};
+ghost use Rattle.pol_edit.specs.declared.fault.EditFault.TheVariants.{Memory, NoSuch};
 ghost use Rattle.pol_edit.specs.Batches as batches;
-ghost use Rattle.pol_edit.specs.Batches.{of_all, applied_all, ran_out};
+ghost use Rattle.pol_edit.specs.Batches.{of_all, applied_all, ran_out, IsFirstMissing};
 ghost use Rattle.pol_edit.specs.FaultText.{batch_fault_text};
 
-use crate::applying::apply;
+use crate::applying::{apply, is_missing};
 use crate::edit::Edit;
 use crate::fault::EditFault;
 use pol_text::Policy;
@@ -76,14 +76,32 @@ impl<T: Drop> From<AllocFailed<T>> for BatchFault {
     }
 }
 
+// Whether the first edit is refused as NoSuch.
+fn is_first_missing(policy: &Policy, edits: &[Edit]) -> bool
+    ensures missing { IsTrue result ↔ IsFirstMissing policy.now edits.now }
+    ensures well_formed { IsTrue result → WellFormed policy.now }
+{
+    match edits.first() {
+        Some(edit) => is_missing(policy, edit),
+        None => false,
+    }
+}
+
 /// The policy that the edits make, one after another. Each edit is judged on the policy that those
-/// before it make. The first refusal ends it: no later edit is looked at. Copies the policy once.
+/// before it make. The first refusal ends it: no later edit is looked at. Copies the policy once,
+/// if what the first edit names is there.
 pub fn edited(alloc: Global, policy: &Policy, edits: &[Edit]) -> Result<Policy, BatchFault>
     ensures exact { GivesUnlessMemory ran_out (λ edited. edited) result
         (applied_all policy.now edits.now) }
+
+    // A first edit of what isn't there is refused so, and takes no memory.
+    ensures sure { IsFirstMissing policy.now edits.now → result ≡ Err (batches.of_edit 1 NoSuch) }
     ensures well_formed { IfOk result WellFormed }
     ensures before { WellFormed policy.now }
 {
+    if is_first_missing(policy, edits) {
+        return Err(BatchFault::of_edit(1, EditFault::NoSuch));
+    }
     let mut edited = policy.copy(alloc)?;
     'edits: for (done, edit) in edits.iter().enumerate() {
         if let Err(fault) = apply(alloc, &mut edited, edit) {
@@ -99,6 +117,7 @@ pub fn apply_all(alloc: Global, policy: &mut Policy, edits: &[Edit]) -> Result<(
     // Which policy it becomes, or which edit is the first that is refused, and why.
     ensures exact { GivesUnlessMemory ran_out (λ _. policy.new) result
         (applied_all policy.old edits.now) }
+    ensures sure { IsFirstMissing policy.old edits.now → result ≡ Err (batches.of_edit 1 NoSuch) }
 
     // A refusal changes nothing.
     ensures kept { OnErr result (policy.new ≡ policy.old) }

@@ -1,10 +1,9 @@
 //! What an edit asks for.
 
-ghost use Rattle.std.specs.Prelude.{◌≡◌, IfOk};
+ghost use Rattle.std.specs.Prelude.{◌≡◌};
 
 use basics::{Bytes, StructuralEq};
 use pol_names::{Name, SubjectId, Verdict};
-use std::alloc::{AllocError, Global};
 
 /// An edit. Secrets and patterns are kept as they were written, and judged when the edit is
 /// applied; rules are counted from 1.
@@ -68,52 +67,4 @@ impl StructuralEq for Edit {
     ghost use Rattle.std.proofs.Common.{rules};
 
     ghost identical = { Prim.search rules };
-}
-
-fn copy_secret(alloc: Global, secret: &Option<Bytes>) -> Result<Option<Bytes>, AllocError>
-    ensures { IfOk result (λ copy. copy ≡ secret.now) }
-{
-    match secret {
-        Some(secret) => {
-            let copy = secret.copy(alloc)?;
-            Ok(Some(copy))
-        }
-        None => Ok(None),
-    }
-}
-
-impl Edit {
-    /// A copy of the edit.
-    pub fn copy(&self, alloc: Global) -> Result<Edit, AllocError>
-        ensures { IfOk result (λ copy. copy ≡ self.now) }
-    {
-        Ok(match *self {
-            Edit::AddGroup { name, parent } => Edit::AddGroup { name, parent },
-            Edit::AddUser { name, parent } => Edit::AddUser { name, parent },
-            Edit::Remove { subject } => Edit::Remove { subject },
-            Edit::SetParent { subject, parent } => Edit::SetParent { subject, parent },
-            Edit::SetLogin { user, ref secret } => Edit::SetLogin {
-                user,
-                secret: copy_secret(alloc, secret)?,
-            },
-            Edit::SetEnable { user, ref secret } => Edit::SetEnable {
-                user,
-                secret: copy_secret(alloc, secret)?,
-            },
-            Edit::SetPriv { subject, level } => Edit::SetPriv { subject, level },
-            Edit::InsertRule {
-                subject,
-                at,
-                verdict,
-                ref pattern,
-            } => Edit::InsertRule {
-                subject,
-                at,
-                verdict,
-                pattern: pattern.copy(alloc)?,
-            },
-            Edit::RemoveRule { subject, at } => Edit::RemoveRule { subject, at },
-            Edit::MoveRule { subject, from, to } => Edit::MoveRule { subject, from, to },
-        })
-    }
 }
