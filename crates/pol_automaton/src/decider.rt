@@ -68,11 +68,11 @@ impl Decider {
 
         // The meter rises by the states that were made, which is by the number of residuals.
         ensures counted { IfOk result
-            (λ d. meter.new ≡ min (meter.old + count d.table) u128.MAX) }
+            (λ d. meter.new.total ≡ min (meter.old.total + count d.table) u128.MAX) }
         ensures exact { (sources : List (List ℕ)) (residuals : ℕ) → AreEntries entries sources
             → IsResidualCount sources residuals
-            → OnOk result (meter.new ≡ min (meter.old + residuals) u128.MAX) }
-        ensures not_counted { OnErr result (meter.new ≡ meter.old) }
+            → OnOk result (meter.new.total ≡ min (meter.old.total + residuals) u128.MAX) }
+        ensures not_counted { OnErr result (meter.new.total ≡ meter.old.total) }
     {
         let mut entries = entries;
         let count = entries.count();
@@ -100,10 +100,10 @@ impl Decider {
             → HasMoreResiduals patterns.now limit }
         ensures excludes { ExcludesLaw }
         ensures counted { IfOk result
-            (λ d. meter.new ≡ min (meter.old + count d.table) u128.MAX) }
+            (λ d. meter.new.total ≡ min (meter.old.total + count d.table) u128.MAX) }
         ensures exact { (residuals : ℕ) → IsResidualCount patterns.now residuals
-            → OnOk result (meter.new ≡ min (meter.old + residuals) u128.MAX) }
-        ensures not_counted { OnErr result (meter.new ≡ meter.old) }
+            → OnOk result (meter.new.total ≡ min (meter.old.total + residuals) u128.MAX) }
+        ensures not_counted { OnErr result (meter.new.total ≡ meter.old.total) }
     {
         let mut entries = Entries::new(alloc);
         for pattern in patterns {

@@ -70,11 +70,11 @@ impl Decider {
             → HasMoreResiduals (own ++ others) limit }
         ensures excludes { ExcludesLaw }
         ensures counted { IfOk result
-            (λ d. meter.new ≡ min (meter.old + count d.table) u128.MAX) }
+            (λ d. meter.new.total ≡ min (meter.old.total + count d.table) u128.MAX) }
         ensures exact { (own others : List (List ℕ)) (residuals : ℕ) → IsDecider first.now own
             → IsDecider rest.now others → IsResidualCount (own ++ others) residuals
-            → OnOk result (meter.new ≡ min (meter.old + residuals) u128.MAX) }
-        ensures not_counted { OnErr result (meter.new ≡ meter.old) }
+            → OnOk result (meter.new.total ≡ min (meter.old.total + residuals) u128.MAX) }
+        ensures not_counted { OnErr result (meter.new.total ≡ meter.old.total) }
     {
         // More entries than memory has places.
         let Some(entries) = first.entries().checked_add(rest.entries()) else {

@@ -36,9 +36,9 @@ fn fill_subject(
         → IsTrue (is_some (slot parts.new.owns index))) }
     ensures err { IfErr result (λ fault. Except (is_memory fault)
         ((fault ≡ TooManyStates (id_of subject.now)) × IsLarge policy.now subject.now)) }
-    ensures counts { OnOk result (Counts meter.old meter.new
+    ensures counts { OnOk result (Counts meter.old.total meter.new.total
         (states_of policy.now parts.old) (states_of policy.now parts.new)) }
-    ensures kept { OnErr result (NotLowered meter.old meter.new) }
+    ensures kept { OnErr result (NotLowered meter.old.total meter.new.total) }
 {
     match fill(alloc, policy, index, Policy::MAX_CHAIN, parts, meter) {
         Ok(()) => Ok(()),
@@ -62,9 +62,9 @@ pub(crate) fn complete(
     ensures small { OnOk result (IsSmall policy.now) }
     ensures err { IfErr result (λ fault. Except (is_memory fault)
         (IsRefusedFor policy.now fault)) }
-    ensures counts { OnOk result (Counts meter.old meter.new
+    ensures counts { OnOk result (Counts meter.old.total meter.new.total
         (states_of policy.now parts.old) (states_of policy.now parts.new)) }
-    ensures kept { OnErr result (NotLowered meter.old meter.new) }
+    ensures kept { OnErr result (NotLowered meter.old.total meter.new.total) }
 {
     for (index, subject) in policy.subjects().iter().enumerate() {
         fill_subject(alloc, policy, subject, index, parts, meter)?;

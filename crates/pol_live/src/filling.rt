@@ -69,8 +69,9 @@ fn build_own(alloc: Global, subject: &Subject, meter: &mut Meter) -> Result<Shar
     ensures right { IfOk result (λ own. IsFit (own_patterns subject.now) own) }
     ensures too_many { IsErrOf result DeciderFault.TooManyStates
         → HasMoreResiduals (own_patterns subject.now) most_residuals }
-    ensures raised { IfOk result (λ own. Raised meter.old meter.new (count own.table)) }
-    ensures kept { OnErr result (NotLowered meter.old meter.new) }
+    ensures raised { IfOk result (λ own.
+        Raised meter.old.total meter.new.total (count own.table)) }
+    ensures kept { OnErr result (NotLowered meter.old.total meter.new.total) }
 {
     let mut entries = Entries::new(alloc);
     add_patterns(&mut entries, subject)?;
@@ -91,8 +92,9 @@ fn build_joined(
     ensures too_many { (first rest : List (List ℕ)) → IsDecider own.now first
         → IsDecider above.now rest → IsErrOf result DeciderFault.TooManyStates
         → HasMoreResiduals (first ++ rest) most_residuals }
-    ensures raised { IfOk result (λ whole. Raised meter.old meter.new (count whole.table)) }
-    ensures kept { OnErr result (NotLowered meter.old meter.new) }
+    ensures raised { IfOk result (λ whole.
+        Raised meter.old.total meter.new.total (count whole.table)) }
+    ensures kept { OnErr result (NotLowered meter.old.total meter.new.total) }
 {
     let decider = Decider::join(alloc, own, above, MOST_STATES, meter)?;
     let whole = Shared::new(alloc, decider)?;
@@ -119,9 +121,10 @@ fn fill_own(
     ensures too_many { IsErrOf result DeciderFault.TooManyStates
         → HasMoreResiduals (own_patterns subject.now) most_residuals }
     ensures counts { (policy : List SubjectValue) → slice_get policy index ≡ Some subject.now
-        → OnOk result (Counts meter.old meter.new (weight (λ _. true) policy parts.old.owns)
+        → OnOk result (Counts meter.old.total meter.new.total
+        (weight (λ _. true) policy parts.old.owns)
         (weight (λ _. true) policy parts.new.owns)) }
-    ensures kept { OnErr result (NotLowered meter.old meter.new) }
+    ensures kept { OnErr result (NotLowered meter.old.total meter.new.total) }
 {
     if !is_keeper(subject) || lookup(&parts.owns, index).is_some() {
         return Ok(());
@@ -145,9 +148,9 @@ fn combine(
     ensures too_many { (first rest : List (List ℕ)) → IsOf first (option_copied own.entry)
         → IsOf rest (option_copied above.entry) → IsErrOf result DeciderFault.TooManyStates
         → HasMoreResiduals (first ++ rest) most_residuals }
-    ensures raised { IfOk result (λ whole. Raised meter.old meter.new
+    ensures raised { IfOk result (λ whole. Raised meter.old.total meter.new.total
         (if is_some own.entry && is_some above.entry then count whole.table else 0)) }
-    ensures kept { OnErr result (NotLowered meter.old meter.new) }
+    ensures kept { OnErr result (NotLowered meter.old.total meter.new.total) }
 {
     match (own, above) {
         (Some(own), Some(above)) => build_joined(alloc, own.decider(), above.decider(), meter),
@@ -188,10 +191,10 @@ fn fill_whole(
         → HasMoreResiduals (first ++ rest) most_residuals }
     ensures raised { OnOk result ((whole : Automaton)
         × (parts.new.wholes ≡ slice_set parts.old.wholes index (Some whole))
-        × Raised meter.old meter.new (if is_some (slot parts.old.owns index)
+        × Raised meter.old.total meter.new.total (if is_some (slot parts.old.owns index)
         && is_some (option_and_then (slot parts.old.wholes) parent)
         then count whole.table else 0)) }
-    ensures kept { OnErr result (NotLowered meter.old meter.new) }
+    ensures kept { OnErr result (NotLowered meter.old.total meter.new.total) }
 {
     let own = lookup(&parts.owns, index);
     let above = lookup_above(&parts.wholes, parent);
@@ -226,9 +229,9 @@ fn fill_here(
         → IsTrue (is_some (slot parts.new.owns index))) }
     ensures too_many { IsErrOf result DeciderFault.TooManyStates
         → IsLarge policy.now subject.now }
-    ensures counts { OnOk result (Counts meter.old meter.new
+    ensures counts { OnOk result (Counts meter.old.total meter.new.total
         (states_of policy.now parts.old) (states_of policy.now parts.new)) }
-    ensures kept { OnErr result (NotLowered meter.old meter.new) }
+    ensures kept { OnErr result (NotLowered meter.old.total meter.new.total) }
 {
     fill_own(alloc, subject, index, parts, meter)?;
     if lookup(&parts.wholes, index).is_some() {
@@ -259,9 +262,9 @@ pub(crate) fn fill(
     ensures keeper { OnOk result ((subject : SubjectValue)
         → slice_get policy.now index ≡ Some subject → keeps subject ≡ true
         → IsTrue (is_some (slot parts.new.owns index))) }
-    ensures counts { OnOk result (Counts meter.old meter.new
+    ensures counts { OnOk result (Counts meter.old.total meter.new.total
         (states_of policy.now parts.old) (states_of policy.now parts.new)) }
-    ensures kept { OnErr result (NotLowered meter.old meter.new) }
+    ensures kept { OnErr result (NotLowered meter.old.total meter.new.total) }
 {
     let Some(subject) = subject_at(policy, index) else {
         return Ok(());

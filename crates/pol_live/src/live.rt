@@ -57,11 +57,9 @@ impl Model for Live {
 impl Live {
     fn build_anew(alloc: Global, policy: Policy, meter: &mut Meter) -> Result<Live, EditFault>
         ensures found { UnlessMemory is_memory result (Builds policy result) }
-        ensures rises { OnOk result (Rises (IsBuildRise policy) meter.old meter.new) }
-        ensures kept { OnErr result (meter.old ≤ meter.new) }
+        ensures rises { OnOk result (Rises (IsBuildRise policy) meter.old.total meter.new.total) }
+        ensures kept { OnErr result (meter.old.total ≤ meter.new.total) }
     {
-        // the call is for its clause: the meter is a number of its type
-        let _ = meter.total();
         let parents = parents_of(alloc, &policy)?;
         let mut parts = no_parts(alloc, &policy)?;
         complete(alloc, &policy, &mut parts, meter)?;
@@ -83,10 +81,10 @@ impl Live {
     ) -> Result<Live, EditFault>
         requires { IsAlike touched.now self.now policy }
         ensures found { UnlessMemory is_memory result (Builds policy result) }
-        ensures rises { OnOk result (Rises (IsRenewalRise touched.now policy) meter.old meter.new) }
-        ensures kept { OnErr result (meter.old ≤ meter.new) }
+        ensures rises { OnOk result
+            (Rises (IsRenewalRise touched.now policy) meter.old.total meter.new.total) }
+        ensures kept { OnErr result (meter.old.total ≤ meter.new.total) }
     {
-        let _ = meter.total();
         let parents = parents_of(alloc, &policy)?;
         let mut parts = kept_parts(alloc, &self.policy, &self.parts, touched, &policy)?;
         complete(alloc, &policy, &mut parts, meter)?;
@@ -107,9 +105,9 @@ impl Live {
         ensures small { IsSmall policy → IfErr result (λ fault. fault ≡ Memory) }
 
         // The meter rises by the residuals of each automaton that is made.
-        ensures rises { OnOk result (Rises (IsBuildRise policy) meter.old meter.new) }
+        ensures rises { OnOk result (Rises (IsBuildRise policy) meter.old.total meter.new.total) }
         ensures one_rise { IsOne (IsBuildRise policy) }
-        ensures kept { OnErr result (meter.old ≤ meter.new) }
+        ensures kept { OnErr result (meter.old.total ≤ meter.new.total) }
     {
         Live::build_anew(alloc, policy, meter)
     }

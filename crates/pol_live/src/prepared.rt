@@ -62,9 +62,9 @@ impl Live {
 
         // The meter rises by the residuals of each automaton that the edit makes anew.
         ensures rises { IfOk result (λ prepared.
-            Rises (IsEditRise (edit.now ∷ []) prepared.after) meter.old meter.new) }
+            Rises (IsEditRise (edit.now ∷ []) prepared.after) meter.old.total meter.new.total) }
         ensures one_rise { (policy : List SubjectValue) → IsOne (IsEditRise (edit.now ∷ []) policy) }
-        ensures kept { OnErr result (meter.old ≤ meter.new) }
+        ensures kept { OnErr result (meter.old.total ≤ meter.new.total) }
     {
         self.prepare_all(alloc, slice::from_ref(edit), meter)
             .map_err(|fault| fault.fault)
@@ -89,9 +89,9 @@ impl Live {
 
         // The meter rises by the residuals of each automaton that the edits together make anew.
         ensures rises { IfOk result (λ prepared.
-            Rises (IsEditRise edits.now prepared.after) meter.old meter.new) }
+            Rises (IsEditRise edits.now prepared.after) meter.old.total meter.new.total) }
         ensures one_rise { (policy : List SubjectValue) → IsOne (IsEditRise edits.now policy) }
-        ensures kept { OnErr result (meter.old ≤ meter.new) }
+        ensures kept { OnErr result (meter.old.total ≤ meter.new.total) }
     {
         self.prepare_edits(alloc, edits, meter)
     }
@@ -104,8 +104,8 @@ impl Live {
     ) -> Result<Prepared, BatchFault>
         ensures found { UnlessMemory ran_out result (PreparesAll self.now edits.now result) }
         ensures rises { IfOk result (λ prepared.
-            Rises (IsEditRise edits.now prepared.after) meter.old meter.new) }
-        ensures kept { OnErr result (meter.old ≤ meter.new) }
+            Rises (IsEditRise edits.now prepared.after) meter.old.total meter.new.total) }
+        ensures kept { OnErr result (meter.old.total ≤ meter.new.total) }
     {
         let before = self.policy().copy(alloc)?;
         let policy = edited(alloc, &before, edits)?;

@@ -7,3 +7,4 @@ pub mod TallyFacts
 pub mod Unchanged
 pub mod Settling
 pub mod Recalled
+pub mod Rising

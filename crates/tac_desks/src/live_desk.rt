@@ -59,7 +59,7 @@ impl Model for LiveDesk {
 
     ghost view = { λ desk. record {
       meaning = meaning_of desk.live desk.book;
-      meter = desk.meter;
+      meter = desk.meter.total;
     } };
 
     ghost invariant = { λ desk. HasMarksBy desk.live desk.book

@@ -52,11 +52,10 @@ pub(crate) fn change_kept(
     ensures policy { OnErr result (live.new ≡ live.old) }
     ensures book { OnErr result (book.new ≡ book.old) }
     ensures marks { HasMarksBy live.new book.new }
-    ensures rises { OnOk result (Rises (IsEditRise edits.now live.new) meter.old meter.new) }
-    ensures kept { OnErr result (meter.old ≤ meter.new) }
+    ensures rises { OnOk result
+        (Rises (IsEditRise edits.now live.new) meter.old.total meter.new.total) }
+    ensures kept { OnErr result (meter.old.total ≤ meter.new.total) }
 {
-    // the call is for its clause: the meter is a number of its type
-    let _ = meter.total();
     let prepared = live.prepare_all(alloc, edits, meter)?;
     let changes = changes(alloc, live, &prepared)?;
     let thrice = Thrice::new(alloc, changes)?;

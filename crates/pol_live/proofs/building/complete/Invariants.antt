@@ -12,5 +12,5 @@ invariant-loop-index l = record {
   there : (k : ℕ) → k < l.index → IsTrue (is_some (slot l.parts.wholes k));
   keepers : (k : ℕ) (subject : Subject) → k < l.index → slice_get l.policy k ≡ Some subject → is_keeper subject ≡ true → IsTrue (is_some (slot l.parts.owns k));
   small : AreSmall l.policy (take l.index l.policy);
-  counts : Counts l.fn.meter l.meter (states_of l.policy l.fn.parts) (states_of l.policy l.parts);
+  counts : Counts l.fn.meter.total l.meter.total (states_of l.policy l.fn.parts) (states_of l.policy l.parts);
 }

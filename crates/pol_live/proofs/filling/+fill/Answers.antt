@@ -57,6 +57,6 @@ returns-clause-grows t c =
 pub returns-clause-counts : goal.returns-clause-counts
 returns-clause-counts t c =
     let policy = c.args.policy.now in
-    let first : Counts c.args.meter.now c.match-parent.meter (states_of policy c.args.parts.now) (states_of policy c.match-parent.parts) =
-    elim c.match-parent.branch [ in-Some-parent+in_ok-fill w ↦ rw (w.parts-is, w.meter-is) w.in_ok-fill.ensures.counts | in_default-parent w ↦ rw (w.parts-is, w.meter-is) (counts_none c.args.meter.now (states_of policy c.args.parts.now)) ] in
+    let first : Counts c.args.meter.now.total c.match-parent.meter.total (states_of policy c.args.parts.now) (states_of policy c.match-parent.parts) =
+    elim c.match-parent.branch [ in-Some-parent+in_ok-fill w ↦ rw (w.parts-is, w.meter-is) w.in_ok-fill.ensures.counts | in_default-parent w ↦ rw (w.parts-is, w.meter-is) (counts_none c.args.meter.now.total (states_of policy c.args.parts.now)) ] in
     ok_so c.fill_here.result (λ h. counts_on _ _ _ _ _ _ first h) c.fill_here.ensures.counts

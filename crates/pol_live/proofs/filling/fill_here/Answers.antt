@@ -81,6 +81,6 @@ returns-clause-counts c =
     let inside = slice_get_within policy c.args.index subject c.requires.here in
     let within : c.args.index < length c.fill_own.new.parts.wholes = omega arith in
     ok_so2 c.fill_whole.result
-    (λ put owns. whole_counts policy c.args.index subject c.args.parts.now c.fill_own.new.parts c.fill_whole.new.parts c.args.meter.now c.fill_own.new.meter c.fill_whole.new.meter
+    (λ put owns. whole_counts policy c.args.index subject c.args.parts.now c.fill_own.new.parts c.fill_whole.new.parts c.args.meter.now.total c.fill_own.new.meter.total c.fill_whole.new.meter.total
     c.requires.here none within c.in_ok-fill_own.ensures.wholes first _ joins put owns)
     c.fill_whole.ensures.raised c.fill_whole.ensures.owns

@@ -2,6 +2,7 @@ use Rattle.std.proofs.lemmas.Result.{err_from_is_err_and}
 use Rattle.pol_edit.specs.Batches.{ran_out}
 use Rattle.tac_desks.specs.Kept.{meaning_of}
 use Rattle.tac_desks.proofs.Edits.{accepted_only, refused_only, except_so}
+use Rattle.tac_desks.proofs.Rising.{risen}
 use Rattle.tac_desks.proofs.live_editing.change_kept.Goals as goal
 
 pub returns-in_err-prepared-clause-only : goal.returns-in_err-prepared-clause-only
@@ -17,3 +18,7 @@ returns-clause-only c =
     let made = c.in_ok-prepared.ensures in
     rw (c.make.ensures.meaning, c.in_ok-thrice.ensures)
     (accepted_only before c.args.edits.now c.in_ok-prepared.prepared c.in_ok-changes.changes made.found made.only c.in_ok-changes.ensures.only)
+
+pub returns-in_err-recount-clause-kept : goal.returns-in_err-recount-clause-kept
+returns-in_err-recount-clause-kept c =
+    risen c.from_residual-in_err-recount.result _ c.args.meter.now.total c.prepare_all.new.meter.total c.args.meter.now.fits c.in_ok-prepared.ensures.rises

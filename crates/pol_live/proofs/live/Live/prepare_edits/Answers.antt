@@ -18,4 +18,4 @@ pub returns-clause-rises : goal.returns-clause-rises
 returns-clause-rises c =
     let ok = was_ok c.renewed.result c.map_err.result c.in_ok-after.after _ c.in_ok-after.was c.map_err.ensures.variant c.map_err.ensures.cases in
     rises c.args.edits.now c.in_ok-before.before c.in_ok-policy.policy c.in_ok-touched.touched c.in_ok-touched.ensures c.renewed.result c.in_ok-after.after ok c.renewed.ensures.found
-    c.args.meter.now c.renewed.new.meter c.renewed.ensures.rises
+    c.args.meter.now.total c.renewed.new.meter.total c.renewed.ensures.rises

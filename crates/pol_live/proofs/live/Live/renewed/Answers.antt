@@ -1,4 +1,4 @@
-use Rattle.std.proofs.Common.{◌≤◌, arith}
+use Rattle.std.proofs.Common.{◌≤◌}
 use Rattle.pol_live.specs.Renewing.{IsAlike, renews_own, renews_chain}
 use Rattle.pol_live.specs.Rise.{most}
 use Rattle.pol_live.proofs.RenewFacts.{owns_kept, wholes_kept}
@@ -14,8 +14,8 @@ returns-clause-rises c =
     let told = c.in_ok-complete.ensures in
     let kept = c.in_ok-parts.ensures in
     let same : IsAlike touched old new = rw c.self.view_is c.requires in
-    let fits : c.args.meter.now ≤ most = let total = c.total.type_inv in let same = c.total.ensures in omega arith in
+    let fits : c.args.meter.now.total ≤ most = c.args.meter.now.fits in
     rise_made new c.in_ok-parts.parts c.complete.new.parts kept.right told.right told.grows (renews_own touched) (renews_chain touched new)
     (owns_kept touched old new same kept.well_formed parts c.self.invariant.0 c.in_ok-parts.parts.owns c.self.invariant.2 kept.owns)
     (wholes_kept touched old new same kept.well_formed parts c.self.invariant.0 c.in_ok-parts.parts.wholes c.self.invariant.1 kept.wholes)
-    told.all told.keepers c.args.meter.now c.complete.new.meter told.counts fits
+    told.all told.keepers c.args.meter.now.total c.complete.new.meter.total told.counts fits
