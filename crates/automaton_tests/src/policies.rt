@@ -2,8 +2,7 @@
 
 use crate::support::{Judge, build, converses, judges, name, prepare, push_decision, subject};
 use pol_automaton::Meter;
-use pol_edit::EditFault;
-use pol_live::{Live, Prepared};
+use pol_live::{BuildFault, Live, Prepared};
 use pol_names::{Name, SubjectId};
 use pol_text::Policy;
 use std::alloc::Global;
@@ -155,7 +154,7 @@ fn is_too_large(alloc: Global, text: &str, expected: &str) -> Result<bool, Fail>
     let policy = Policy::read(alloc, text.as_bytes())?;
     let mut meter = Meter::new();
     match Live::build(alloc, policy, &mut meter).err() {
-        Some(EditFault::TooManyStates(id)) => Ok(id == subject(expected)?),
+        Some(BuildFault::TooManyStates(id)) => Ok(id == subject(expected)?),
         _ => Ok(false),
     }
 }

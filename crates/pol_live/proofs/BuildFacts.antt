@@ -3,7 +3,11 @@ use Rattle.std.proofs.Common.{◌≡◌, ℕ, zero, suc, ◌<◌, List, [], ◌�
 use Rattle.basics.specs.Memory.{Except}
 use Rattle.pol_text.specs.declared.subject.Subject.{Subject}
 use Rattle.pol_text.specs.Policy.{id_of}
+use Rattle.pol_names.specs.declared.subject_id.SubjectId.{SubjectId}
 use Rattle.pol_meaning.specs.Sizes.{IsLarge, AreSmall, IsFirstLarge}
+use Rattle.pol_live.specs.declared.fault.BuildFault.{BuildFault}
+use Rattle.pol_live.specs.declared.fault.BuildFault.TheVariants.{TooManyStates}
+use Rattle.pol_live.specs.Refusing.{IsRefusedFor}
 
 module _ (policy : List Subject) where
   pub more_small : (subjects : List Subject) (i : ℕ) (subject : Subject) → i < length subjects → get_or subjects i subject ≡ subject
@@ -20,6 +24,9 @@ module _ (policy : List Subject) where
   first_large (s ∷ rest) (suc i) subject lt at small here = inr (small.0, first_large rest i subject (omega arith) at small.1 here)
 
 -- ---- faults
+
+pub refused_for : (policy : List Subject) (fault : BuildFault) (id : SubjectId) → fault ≡ TooManyStates id → IsFirstLarge policy policy id → IsRefusedFor policy fault
+refused_for policy fault id e first = subst (IsRefusedFor policy) (sym e) first
 
 pub except_so : {A B : Type 0} (memory : Bool) → (A → B) → Except memory A → Except memory B
 except_so true so h = tt

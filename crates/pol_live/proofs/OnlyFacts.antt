@@ -3,30 +3,18 @@ use Rattle.std.proofs.Common.{◌≡◌, Bool, true, false, List, [], ◌∷◌,
 use Rattle.basics.specs.Memory.{Except}
 use Rattle.pol_names.specs.declared.subject_id.SubjectId.{SubjectId}
 use Rattle.pol_text.specs.declared.subject.Subject.{Subject}
-use Rattle.pol_edit.specs.Applying.{applied, is_memory}
+use Rattle.pol_edit.specs.Applying.{applied}
 use Rattle.pol_edit.specs.Batches.{of_all, applied_all}
 use Rattle.pol_edit.specs.declared.batching.BatchFault.{BatchFault}
 use Rattle.pol_edit.specs.declared.edit.Edit.{Edit}
 use Rattle.pol_edit.specs.declared.fault.EditFault.{EditFault}
-use Rattle.pol_edit.specs.declared.fault.EditFault.TheVariants.{BadEdit, NoSuch, Exists, InUse, Cycle, TooDeep, BadIndex, BadPattern, BadValue, Limit, TooManyStates, Memory}
+use Rattle.pol_edit.specs.declared.fault.EditFault.TheVariants as edits
 use Rattle.pol_meaning.specs.Sizes.{AreSmall, IsFirstLarge, IsRefusedAs}
+use Rattle.pol_live.specs.declared.fault.BuildFault.{BuildFault}
+use Rattle.pol_live.specs.declared.fault.BuildFault.TheVariants.{TooManyStates, Memory}
+use Rattle.pol_live.specs.Refusing.{is_memory}
 use Rattle.pol_live.specs.Live.{Builds, Step, PreparesTo, Prepares, PreparesAll}
 use Rattle.pol_meaning.specs.Memory.{UnlessMemory}
-
--- a refusal that only a lack of memory allows says that memory ran out
-memory_alone : {X : Type 0} (fault : EditFault) → ¬ X → Except (is_memory fault) X → fault ≡ Memory
-memory_alone Memory never h = refl
-memory_alone BadEdit never h = absurd (never h)
-memory_alone NoSuch never h = absurd (never h)
-memory_alone Exists never h = absurd (never h)
-memory_alone InUse never h = absurd (never h)
-memory_alone Cycle never h = absurd (never h)
-memory_alone TooDeep never h = absurd (never h)
-memory_alone BadIndex never h = absurd (never h)
-memory_alone (BadPattern pattern) never h = absurd (never h)
-memory_alone BadValue never h = absurd (never h)
-memory_alone Limit never h = absurd (never h)
-memory_alone (TooManyStates subject) never h = absurd (never h)
 
 module _ (policy : List Subject) where
   first_unique : (subjects : List Subject) (a b : SubjectId) → IsFirstLarge policy subjects a → IsFirstLarge policy subjects b → a ≡ b
@@ -42,18 +30,22 @@ module _ (policy : List Subject) where
   none_large (s ∷ rest) id small (inr h) = none_large rest id small.1 h.1
 
   refused_unique : {F : Type 0} (as_refusal : EditFault → F) (a b : F) → IsRefusedAs as_refusal policy a → IsRefusedAs as_refusal policy b → a ≡ b
-  refused_unique as_refusal a b h k = h.1 ∙ ap (λ (id : SubjectId). as_refusal (TooManyStates id)) (first_unique policy h.0 k.0 h.2 k.2) ∙ sym k.1
+  refused_unique as_refusal a b h k = h.1 ∙ ap (λ (id : SubjectId). as_refusal (edits.TooManyStates id)) (first_unique policy h.0 k.0 h.2 k.2) ∙ sym k.1
 
   -- a small one is refused only where memory runs out
-  pub small_memory : (r : Result (List Subject) EditFault) → AreSmall policy policy → UnlessMemory is_memory r (Builds policy r) → IfErr r (λ fault. fault ≡ Memory)
+  pub small_memory : (r : Result (List Subject) BuildFault) → AreSmall policy policy → UnlessMemory is_memory r (Builds policy r) → IfErr r (λ fault. fault ≡ Memory)
   small_memory (Ok built) small h = tt
-  small_memory (Err fault) small h = memory_alone fault (λ refused. none_large policy refused.0 small refused.2) h
+  small_memory (Err Memory) small h = refl
+  small_memory (Err (TooManyStates id)) small h = absurd (none_large policy id small h)
 
-  pub only_built : (a b : Result (List Subject) EditFault) → Builds policy a → Builds policy b → a ≡ b
+  pub only_built : (a b : Result (List Subject) BuildFault) → Builds policy a → Builds policy b → a ≡ b
   only_built (Ok a) (Ok b) h k = ap Ok (h.0 ∙ sym k.0)
-  only_built (Ok a) (Err b) h k = absurd (none_large policy k.0 h.1 k.2)
-  only_built (Err a) (Ok b) h k = absurd (none_large policy h.0 k.1 h.2)
-  only_built (Err a) (Err b) h k = ap Err (refused_unique (λ fault. fault) a b h k)
+  only_built (Ok a) (Err Memory) h k = absurd k
+  only_built (Ok a) (Err (TooManyStates id)) h k = absurd (none_large policy id h.1 k)
+  only_built (Err Memory) b h k = absurd h
+  only_built (Err (TooManyStates id)) (Ok b) h k = absurd (none_large policy id k.1 h)
+  only_built (Err (TooManyStates id)) (Err Memory) h k = absurd k
+  only_built (Err (TooManyStates id)) (Err (TooManyStates other)) h k = ap (λ (id : SubjectId). Err (TooManyStates id)) (first_unique policy id other h k)
 
 only_prepared_to : {F : Type 0} (as_refusal : EditFault → F) (before : List Subject) (made : Result (List Subject) F) (a b : Result Step F)
     → PreparesTo as_refusal before made a → PreparesTo as_refusal before made b → a ≡ b

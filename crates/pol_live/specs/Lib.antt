@@ -3,4 +3,5 @@ pub mod Kept
 pub mod Renewing
 pub mod Rise
 pub mod Counting
+pub mod Refusing
 pub mod Live

@@ -8,10 +8,12 @@ use Rattle.pol_edit.specs.declared.fault.EditFault.{EditFault}
 use Rattle.pol_edit.specs.Batches.{applied_all, of_all}
 use Rattle.pol_edit.specs.declared.batching.BatchFault.{BatchFault}
 use Rattle.pol_meaning.specs.Along.{patterns_along}
-use Rattle.pol_meaning.specs.Sizes.{IsSmall, IsRefusedFor, IsRefusedAs}
+use Rattle.pol_meaning.specs.Sizes.{IsSmall, IsRefusedAs}
+use Rattle.pol_live.specs.declared.fault.BuildFault.{BuildFault}
+use Rattle.pol_live.specs.Refusing.{IsRefusedFor}
 
 -- the policy is taken as it is, if it may stand
-abbrev pub Builds : List Subject → Result (List Subject) EditFault → Type 0
+abbrev pub Builds : List Subject → Result (List Subject) BuildFault → Type 0
 Builds policy (Ok built) = (built ≡ policy) × IsSmall policy
 Builds policy (Err fault) = IsRefusedFor policy fault
 
@@ -39,9 +41,9 @@ abbrev pub PreparesAll : List Subject → List Edit → Result Step BatchFault �
 PreparesAll before edits answer = PreparesTo of_all before (applied_all before edits) answer
 
 -- no other answer is right
-abbrev pub IsOnlyBuilt : List Subject → Result (List Subject) EditFault → Type 0
+abbrev pub IsOnlyBuilt : List Subject → Result (List Subject) BuildFault → Type 0
 IsOnlyBuilt policy answer =
-    (other : Result (List Subject) EditFault) → Builds policy other → answer ≡ other
+    (other : Result (List Subject) BuildFault) → Builds policy other → answer ≡ other
 
 abbrev pub IsOnlyPrepared : List Subject → Edit → Result Step EditFault → Type 0
 IsOnlyPrepared before edit answer =

@@ -4,16 +4,16 @@ ghost use Rattle.std.specs.Prelude.{◌≡◌, ◌<◌, ℕ, length, slice_get, 
 ghost use Rattle.std.specs.Prelude.{IfOk, IfErr, OnOk, OnErr, true};
 ghost use Rattle.basics.specs.Memory.{Except};
 ghost use Rattle.pol_text.specs.Policy.{WellFormed, id_of};
-ghost use Rattle.pol_edit.specs.Applying.{is_memory};
-ghost use Rattle.pol_edit.specs.declared.fault.EditFault.TheVariants.{TooManyStates};
-ghost use Rattle.pol_meaning.specs.Sizes.{IsLarge, IsSmall, IsRefusedFor};
+ghost use Rattle.pol_meaning.specs.Sizes.{IsLarge, IsSmall};
 ghost use Rattle.pol_live.specs.Kept.{AreParts, AreAll, HaveKeepers, Grows, is_keeper, slot};
 ghost use Rattle.pol_live.specs.Counting.{Counts, NotLowered, states_of};
+ghost use Rattle.pol_live.specs.Refusing.{IsRefusedFor, is_memory};
+ghost use Rattle.pol_live.specs.declared.fault.BuildFault.TheVariants.{TooManyStates};
 
+use crate::fault::BuildFault;
 use crate::filling::fill;
 use crate::parts::{Parts, blank};
 use pol_automaton::{DeciderFault, Meter};
-use pol_edit::EditFault;
 use pol_text::{Policy, Subject};
 use std::alloc::{AllocError, Global};
 
@@ -25,7 +25,7 @@ fn fill_subject(
     index: usize,
     parts: &mut Parts,
     meter: &mut Meter,
-) -> Result<(), EditFault>
+) -> Result<(), BuildFault>
     requires here { slice_get policy.now index ≡ Some subject.now }
     requires well_formed { WellFormed policy.now }
     requires right { AreParts policy.now parts.old }
@@ -42,8 +42,8 @@ fn fill_subject(
 {
     match fill(alloc, policy, index, Policy::MAX_CHAIN, parts, meter) {
         Ok(()) => Ok(()),
-        Err(DeciderFault::TooManyStates) => Err(EditFault::TooManyStates(subject.id())),
-        Err(DeciderFault::Memory) => Err(EditFault::Memory),
+        Err(DeciderFault::TooManyStates) => Err(BuildFault::TooManyStates(subject.id())),
+        Err(DeciderFault::Memory) => Err(BuildFault::Memory),
     }
 }
 
@@ -53,7 +53,7 @@ pub(crate) fn complete(
     policy: &Policy,
     parts: &mut Parts,
     meter: &mut Meter,
-) -> Result<(), EditFault>
+) -> Result<(), BuildFault>
     requires { AreParts policy.now parts.old }
     ensures right { OnOk result (AreParts policy.now parts.new) }
     ensures grows { OnOk result (Grows parts.old parts.new) }

@@ -4,6 +4,7 @@
 mod along;
 mod building;
 mod deciding;
+mod fault;
 mod filling;
 mod keeping;
 mod live;
@@ -15,6 +16,7 @@ mod shared;
 mod touching;
 
 pub use along::{ChainRule, rules_along};
+pub use fault::BuildFault;
 pub use keeping::keeper;
 pub use live::Live;
 pub use pol_names::{By, Decision, Kind, Name, SubjectId};

@@ -7,24 +7,24 @@ ghost use Rattle.pol_pattern.specs.Matching.{MatchLaw};
 ghost use Rattle.pol_automaton.specs.Automaton.{IsDecider};
 ghost use Rattle.pol_text.specs.declared.subject.Subject.{Subject as SubjectValue};
 ghost use Rattle.pol_text.specs.Policy.{WellFormed, find_subject, decide};
-ghost use Rattle.pol_edit.specs.declared.fault.EditFault.TheVariants.{Memory};
-ghost use Rattle.pol_edit.specs.Applying.{is_memory};
 ghost use Rattle.pol_meaning.specs.Along.{patterns_along as patterns};
 ghost use Rattle.pol_meaning.specs.Deciding.{DecisionLaw};
 ghost use Rattle.pol_meaning.specs.Sizes.{IsSmall};
 ghost use Rattle.pol_live.specs.Renewing.{IsAlike};
 ghost use Rattle.pol_live.specs.Rise.{IsBuildRise, IsOne, IsRenewalRise, Rises};
+ghost use Rattle.pol_live.specs.Refusing.{is_memory};
+ghost use Rattle.pol_live.specs.declared.fault.BuildFault.TheVariants.{Memory};
 ghost use Rattle.pol_live.specs.Live.{Builds, IsOnlyBuilt, IsDeciderFor};
 ghost use Rattle.pol_meaning.specs.Memory.{UnlessMemory};
 
 use crate::building::{complete, no_parts};
 use crate::deciding::decided;
+use crate::fault::BuildFault;
 use crate::parents::{Parents, parents_of};
 use crate::parts::{Parts, lookup};
 use crate::reusing::kept_parts;
 use crate::touching::Touched;
 use pol_automaton::{Decider, Meter};
-use pol_edit::EditFault;
 use pol_names::{Decision, Name, SubjectId};
 use pol_text::Policy;
 use std::alloc::Global;
@@ -55,7 +55,7 @@ impl Model for Live {
 }
 
 impl Live {
-    fn build_anew(alloc: Global, policy: Policy, meter: &mut Meter) -> Result<Live, EditFault>
+    fn build_anew(alloc: Global, policy: Policy, meter: &mut Meter) -> Result<Live, BuildFault>
         ensures found { UnlessMemory is_memory result (Builds policy result) }
         ensures rises { OnOk result (Rises (IsBuildRise policy) meter.old.total meter.new.total) }
         ensures kept { OnErr result (meter.old.total ≤ meter.new.total) }
@@ -78,7 +78,7 @@ impl Live {
         touched: &Touched,
         policy: Policy,
         meter: &mut Meter,
-    ) -> Result<Live, EditFault>
+    ) -> Result<Live, BuildFault>
         requires { IsAlike touched.now self.now policy }
         ensures found { UnlessMemory is_memory result (Builds policy result) }
         ensures rises { OnOk result
@@ -97,7 +97,7 @@ impl Live {
 
     /// The policy with its automata, all built anew. Refused where a subject has too many
     /// residuals, with the first such subject in the policy's order.
-    pub fn build(alloc: Global, policy: Policy, meter: &mut Meter) -> Result<Live, EditFault>
+    pub fn build(alloc: Global, policy: Policy, meter: &mut Meter) -> Result<Live, BuildFault>
         ensures found { UnlessMemory is_memory result (Builds policy result) }
         ensures only { UnlessMemory is_memory result (IsOnlyBuilt policy result) }
 

@@ -110,9 +110,7 @@ impl Live {
         let before = self.policy().copy(alloc)?;
         let policy = edited(alloc, &before, edits)?;
         let touched = touched_by(alloc, edits)?;
-        let after = self
-            .renewed(alloc, &touched, policy, meter)
-            .map_err(BatchFault::of_all)?;
+        let after = self.renewed(alloc, &touched, policy, meter)?;
         Ok(Prepared {
             before,
             after,

@@ -6,6 +6,7 @@ use crate::scene::{
 };
 use basics::Bytes;
 use pol_edit::{BatchFault, Edit, EditFault};
+use pol_live::BuildFault;
 use pol_meaning::Changes;
 use pol_names::{Name, SubjectId};
 use std::alloc::{AllocError, Global};
@@ -37,8 +38,10 @@ fn opened(alloc: Global) -> Result<LiveDesk, Trouble> {
     let policy = policy_of(alloc, POLICY)?;
     let mut desk = match LiveDesk::new(alloc, policy, LIMIT) {
         Ok(desk) => desk,
-        Err(EditFault::Memory) => return Err(Trouble::Memory),
-        Err(_) => return Err(Trouble::Wrong("the policy is too large")),
+        Err(BuildFault::Memory) => return Err(Trouble::Memory),
+        Err(BuildFault::TooManyStates(_)) => {
+            return Err(Trouble::Wrong("the policy is too large"));
+        }
     };
     let ask = Ask::Account(record(alloc, AcctKind::Stop, "7")?);
     must_be_made(store_record(&mut desk, &ask)?)?;

@@ -5,7 +5,7 @@ use crate::scene::{POLICY, edit_of, policy_of};
 use basics::StructuralEq;
 use pol_automaton::Meter;
 use pol_edit::{Edit, EditFault};
-use pol_live::Live;
+use pol_live::{BuildFault, Live};
 use pol_text::Policy;
 use std::alloc::Global;
 
@@ -23,8 +23,8 @@ fn built(alloc: Global, meter: &mut Meter) -> Result<Live, Trouble> {
     let policy = policy_of(alloc, POLICY)?;
     match Live::build(alloc, policy, meter) {
         Ok(live) => Ok(live),
-        Err(EditFault::Memory) => Err(Trouble::Memory),
-        Err(_) => Err(Trouble::Wrong("the policy is too large")),
+        Err(BuildFault::Memory) => Err(Trouble::Memory),
+        Err(BuildFault::TooManyStates(_)) => Err(Trouble::Wrong("the policy is too large")),
     }
 }
 

@@ -3,7 +3,7 @@
 use crate::findings::{Finding, Trouble, must, must_be_made};
 use crate::scene::{AFTER, BATCH, BEFORE, INSERT, INSERT_ANSWER, POLICY, RECORDS, Told, policy_of};
 use hex::FromHexError;
-use pol_edit::EditFault;
+use pol_live::BuildFault;
 use std::alloc::Global;
 use tac_server::{Key, LiveDesk, Server, ServerFault};
 
@@ -51,8 +51,8 @@ fn started(alloc: Global) -> Result<Server<LiveDesk>, Trouble> {
     let policy = policy_of(alloc, POLICY)?;
     match LiveDesk::new(alloc, policy, LIMIT) {
         Ok(desk) => Ok(Server::new(alloc, desk, key)),
-        Err(EditFault::Memory) => Err(Trouble::Memory),
-        Err(_) => Err(Trouble::Wrong("the policy is too large")),
+        Err(BuildFault::Memory) => Err(Trouble::Memory),
+        Err(BuildFault::TooManyStates(_)) => Err(Trouble::Wrong("the policy is too large")),
     }
 }
 

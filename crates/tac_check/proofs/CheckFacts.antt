@@ -1,7 +1,7 @@
 -- A check prints what it should, and nothing else would be right.
 use Rattle.std.proofs.Common.{◌≡◌, ℕ, List, Result, Ok, Err, IfOk, sym, subst, ◌∙◌}
 use Rattle.pol_text.specs.declared.subject.Subject.{Subject}
-use Rattle.pol_edit.specs.declared.fault.EditFault.{EditFault}
+use Rattle.pol_live.specs.declared.fault.BuildFault.{BuildFault}
 use Rattle.pol_live.specs.Live.{Builds, IsOnlyBuilt}
 use Rattle.tac_check.specs.Check.{Reports, PrintsBuilt, IsReported, IsWorkedOutOf}
 use Rattle.tac_check.specs.declared.checking.CheckEnd.{CheckEnd}
@@ -18,7 +18,7 @@ sound policy live builds only output end reported = record {
   only = λ other last h. by h.built (only h.built h.builds) other last h.prints;
 }
   where
-    by : (built : Result (List Subject) EditFault) → Ok live ≡ built → (other : List ℕ) (last : CheckEnd) → PrintsBuilt built other last → (other ≡ output) × (last ≡ end)
+    by : (built : Result (List Subject) BuildFault) → Ok live ≡ built → (other : List ℕ) (last : CheckEnd) → PrintsBuilt built other last → (other ≡ output) × (last ≡ end)
     by (Ok built) same other last prints =
         let e : built ≡ live = cc in
         (reported.only other (subst (λ policy. Reports policy other) e prints.0), prints.1 ∙ sym reported.ends)

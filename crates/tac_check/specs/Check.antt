@@ -6,11 +6,12 @@ use Rattle.pol_text.specs.Text.{policy_of}
 use Rattle.pol_text.specs.declared.subject.Subject.{Subject}
 use Rattle.pol_text.specs.declared.fault.PolicyFault.{PolicyFault}
 use Rattle.pol_text.specs.declared.fault.PolicyFault.TheVariants as policies
-use Rattle.pol_edit.specs.declared.fault.EditFault.{EditFault}
+use Rattle.pol_live.specs.declared.fault.BuildFault.{BuildFault}
+use Rattle.pol_live.specs.declared.fault.BuildFault.TheVariants as builds
 use Rattle.pol_live.specs.Live.{Builds}
 use Rattle.pol_meaning.specs.Reach.{Shadows}
 use Rattle.pol_meaning.specs.declared.Shadowed.{Shadowed}
-use Rattle.tac_console.specs.Faults.{policy_fault, build_fault}
+use Rattle.tac_console.specs.Faults.{policy_fault, size_fault}
 use Rattle.tac_console.specs.Reports.{shadows_text}
 use Rattle.tac_check.specs.declared.checking.CheckEnd.{CheckEnd}
 use Rattle.tac_check.specs.declared.checking.CheckEnd.TheVariants.{Sound, Refused}
@@ -32,12 +33,14 @@ Reports policy output =
 
 -- a policy that may stand is reported on; else it is refused, with its first subject that is too
 -- large
-abbrev pub PrintsBuilt : Result (List Subject) EditFault → List ℕ → CheckEnd → Type 0
+abbrev pub PrintsBuilt : Result (List Subject) BuildFault → List ℕ → CheckEnd → Type 0
 PrintsBuilt (Ok policy) output end = Reports policy output × (end ≡ Sound)
-PrintsBuilt (Err fault) output end = (output ≡ build_fault fault) × (end ≡ Refused)
+PrintsBuilt (Err (builds.TooManyStates subject)) output end =
+    (output ≡ size_fault subject) × (end ≡ Refused)
+PrintsBuilt (Err builds.Memory) output end = ⊥
 
 pub record IsBuilt (policy : List Subject) (output : List ℕ) (end : CheckEnd) : Type 0 where
-  pub built : Result (List Subject) EditFault
+  pub built : Result (List Subject) BuildFault
   pub builds : Builds policy built
   pub prints : PrintsBuilt built output end
 

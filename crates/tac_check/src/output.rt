@@ -1,19 +1,19 @@
 //! What the check of a text prints.
 
-ghost use Rattle.std.specs.Prelude.{◌≡◌, ◌++◌, Ok, Err, IsTrue, IfOk, OnOk};
-ghost use Rattle.tac_console.specs.Faults.{policy_fault, is_build_fault};
+ghost use Rattle.std.specs.Prelude.{◌≡◌, ◌++◌, Ok, Err, IfOk, OnOk};
+ghost use Rattle.pol_live.specs.declared.fault.BuildFault.TheVariants.{TooManyStates};
+ghost use Rattle.tac_console.specs.Faults.{policy_fault};
 ghost use Rattle.tac_check.specs.Check.{count_rules as rules_in, ok_line, PrintsBuilt};
 ghost use Rattle.tac_check.specs.Check.{IsReported, IsWorkedOutOf, IsWorkedOut};
 
 use crate::checking::CheckEnd;
 use pol_automaton::Meter;
-use pol_edit::EditFault;
-use pol_live::Live;
+use pol_live::{BuildFault, Live, SubjectId};
 use pol_report::shadows;
 use pol_text::{Policy, PolicyFault};
 use std::alloc::{AllocError, Global};
 use std::io::Write;
-use tac_console::{write_build_fault, write_policy_fault, write_shadows};
+use tac_console::{write_policy_fault, write_shadows, write_size_fault};
 
 // The rules of all subjects.
 fn count_rules(policy: &Policy) -> usize
@@ -50,12 +50,12 @@ fn report(alloc: Global, live: &Live) -> Result<(Vec<u8>, CheckEnd), AllocError>
 }
 
 // What is printed of a policy that may not stand.
-fn too_large(alloc: Global, fault: EditFault) -> Result<(Vec<u8>, CheckEnd), AllocError>
-    requires { IsTrue (is_build_fault fault) }
-    ensures { IfOk result (λ output. PrintsBuilt (Err fault) output.0.items output.1) }
+fn too_large(alloc: Global, subject: SubjectId) -> Result<(Vec<u8>, CheckEnd), AllocError>
+    ensures { IfOk result (λ output.
+        PrintsBuilt (Err (TooManyStates subject)) output.0.items output.1) }
 {
     let mut text = Vec::new(alloc);
-    write_build_fault(alloc, &mut text, fault)?;
+    write_size_fault(alloc, &mut text, subject)?;
     Ok((text, CheckEnd::Refused))
 }
 
@@ -66,8 +66,8 @@ fn output_of_policy(alloc: Global, policy: Policy) -> Result<(Vec<u8>, CheckEnd)
     let mut meter = Meter::new();
     match Live::build(alloc, policy, &mut meter) {
         Ok(live) => report(alloc, &live),
-        Err(EditFault::Memory) => Err(AllocError),
-        Err(fault) => too_large(alloc, fault),
+        Err(BuildFault::TooManyStates(subject)) => too_large(alloc, subject),
+        Err(BuildFault::Memory) => Err(AllocError),
     }
 }
 

@@ -1,10 +1,10 @@
 //! What is printed of a policy that can't stand.
 
-ghost use Rattle.std.specs.Prelude.{◌≡◌, ◌++◌, IsTrue, IfOk, OnOk, OnErr};
+ghost use Rattle.std.specs.Prelude.{◌≡◌, ◌++◌, IfOk, OnOk, OnErr};
 ghost use Rattle.tac_console.specs.Faults as faults;
 
 use crate::adding::add;
-use pol_edit::EditFault;
+use pol_names::SubjectId;
 use pol_text::PolicyFault;
 use std::alloc::{AllocError, Global};
 use std::io;
@@ -21,16 +21,11 @@ fn policy_fault(alloc: Global, fault: PolicyFault) -> io::Result<Vec<u8>>
     Ok(text)
 }
 
-fn build_fault(alloc: Global, fault: EditFault) -> io::Result<Vec<u8>>
-    requires { IsTrue (faults.is_build_fault fault) }
-    ensures { IfOk result (λ text. text.items ≡ faults.build_fault fault) }
+fn size_fault(alloc: Global, subject: SubjectId) -> io::Result<Vec<u8>>
+    ensures { IfOk result (λ text. text.items ≡ faults.size_fault subject) }
 {
     let mut text = Vec::new(alloc);
-    match fault {
-        EditFault::TooManyStates(subject) => writeln!(text, "fault TooManyStates {subject}")?,
-        EditFault::Memory => writeln!(text, "fault Memory")?,
-        _ => unreachable!(),
-    }
+    writeln!(text, "fault TooManyStates {subject}")?;
     Ok(text)
 }
 
@@ -47,17 +42,15 @@ pub fn write_policy_fault(
     add(out, policy_fault(alloc, fault))
 }
 
-/// Adds the line that says why a policy isn't built: `fault TooManyStates SUBJECT`. The error means
-/// that memory ran out; nothing is added then.
-pub fn write_build_fault(
+/// Adds the line that says which subject of a policy is too large: `fault TooManyStates SUBJECT`.
+/// The error means that memory ran out; nothing is added then.
+pub fn write_size_fault(
     alloc: Global,
     out: &mut Vec<u8>,
-    fault: EditFault,
+    subject: SubjectId,
 ) -> Result<(), AllocError>
-    // The fault is one of a build: too many states, or a lack of memory.
-    requires { IsTrue (faults.is_build_fault fault) }
-    ensures ok { OnOk result (out.new.items ≡ out.old.items ++ faults.build_fault fault) }
+    ensures ok { OnOk result (out.new.items ≡ out.old.items ++ faults.size_fault subject) }
     ensures err { OnErr result (out.new.items ≡ out.old.items) }
 {
-    add(out, build_fault(alloc, fault))
+    add(out, size_fault(alloc, subject))
 }

@@ -1,7 +1,7 @@
 -- What a desk that is made of a policy represents.
 use Rattle.std.proofs.Common.{◌≡◌, ℕ, List, Ok, Err, refl, sym, ap}
 use Rattle.pol_text.specs.declared.subject.Subject.{Subject}
-use Rattle.pol_edit.specs.declared.fault.EditFault.{EditFault}
+use Rattle.pol_live.specs.declared.fault.BuildFault.{BuildFault}
 use Rattle.pol_live.specs.Live.{Builds, IsOnlyBuilt}
 use Rattle.tac_desk.specs.Meaning.{Meaning, opening}
 use Rattle.tac_desks.specs.Opening.{IsOnlyOpened}
@@ -11,8 +11,8 @@ module _ (policy : List Subject) (limit : ℕ) where
   opened_only built h only (Ok meaning) k = ap (λ (m : Meaning). Ok m) (sym k.0)
   opened_only built h only (Err fault) k = let e : Ok built ≡ Err fault = only (Err fault) k in absurd cc
 
-  pub refused_only : (fault : EditFault) → IsOnlyBuilt policy (Err fault) → IsOnlyOpened policy limit (Err fault)
+  pub refused_only : (fault : BuildFault) → IsOnlyBuilt policy (Err fault) → IsOnlyOpened policy limit (Err fault)
   refused_only fault only (Ok meaning) k = let e : Err fault ≡ Ok policy = only (Ok policy) (refl, k.1) in absurd cc
   refused_only fault only (Err other) k =
       let e : Err fault ≡ Err other = only (Err other) k in
-      let same : fault ≡ other = cc in ap (λ (f : EditFault). Err f) same
+      let same : fault ≡ other = cc in ap (λ (f : BuildFault). Err f) same

@@ -2,8 +2,8 @@
 -- and what holds of the marks.
 use Rattle.std.specs.Prelude.{◌≡◌, ℕ, List, map, Result, Ok, Err}
 use Rattle.pol_text.specs.declared.subject.Subject.{Subject}
-use Rattle.pol_edit.specs.declared.fault.EditFault.{EditFault}
 use Rattle.pol_meaning.specs.declared.Changed.{Changed}
+use Rattle.pol_live.specs.declared.fault.BuildFault.{BuildFault}
 use Rattle.tac_tally.specs.Book.{Contents}
 use Rattle.tac_desk.specs.Meaning.{Meaning}
 use Rattle.tac_desks.specs.Kept.{entries_by}
@@ -14,7 +14,7 @@ pub record Metered : Type 0 where
   pub meter : ℕ
 
 -- a desk that was made, or a refusal, without what the meter shows
-abbrev pub unmetered : Result Metered EditFault → Result Meaning EditFault
+abbrev pub unmetered : Result Metered BuildFault → Result Meaning BuildFault
 unmetered (Ok desk) = Ok desk.meaning
 unmetered (Err fault) = Err fault
 

@@ -17,6 +17,7 @@ mod tallies;
 
 pub use live_desk::LiveDesk;
 pub use plain::PlainDesk;
+pub use pol_live::BuildFault;
 
 /// The most records that the program's desk accepts.
 pub const MAX_RECORDS: usize = 1_000_000;

@@ -2,9 +2,10 @@
 
 ghost use Rattle.std.specs.Prelude.{◌≡◌, ◌≤◌, ◌↔◌, [], ◌∷◌, true, false, Ok, Err, IsOk, IsTrue};
 ghost use Rattle.std.specs.Prelude.{IfOk, OnOk, OnErr};
-ghost use Rattle.pol_edit.specs.Applying.{is_memory};
+ghost use Rattle.pol_edit.specs.Applying as applying;
 ghost use Rattle.pol_edit.specs.Batches.{ran_out};
 ghost use Rattle.pol_meaning.specs.Memory.{UnlessMemory};
+ghost use Rattle.pol_live.specs.Refusing.{is_memory};
 ghost use Rattle.pol_live.specs.Rise.{IsBuildRise, IsEditRise, Rises};
 ghost use Rattle.tac_conn.specs.Ask.{kind_of_ask, kind_of_answer};
 ghost use Rattle.tac_conn.specs.declared.ask.Answer.TheVariants as answers;
@@ -24,7 +25,7 @@ use crate::plain::copy_records;
 use crate::remembering::Remembered;
 use pol_automaton::Meter;
 use pol_edit::{BatchFault, Edit, EditFault};
-use pol_live::Live;
+use pol_live::{BuildFault, Live};
 use pol_meaning::Changes;
 use pol_text::Policy;
 use std::alloc::{AllocError, Global};
@@ -70,7 +71,7 @@ impl LiveDesk {
     /// A desk of this policy, without records, that accepts at most so many. Refused where a
     /// subject is too large, with the first such subject in the policy's order. Builds all automata
     /// once.
-    pub fn new(alloc: Global, policy: Policy, record_limit: usize) -> Result<LiveDesk, EditFault>
+    pub fn new(alloc: Global, policy: Policy, record_limit: usize) -> Result<LiveDesk, BuildFault>
         ensures found { UnlessMemory is_memory result
             (Opens policy record_limit (unmetered result)) }
         ensures only { UnlessMemory is_memory result
@@ -184,9 +185,9 @@ impl Desk for LiveDesk {
     }
 
     fn edit(&mut self, edit: &Edit) -> Result<Thrice<Changes>, EditFault>
-        ensures found { UnlessMemory is_memory result
+        ensures found { UnlessMemory applying.is_memory result
             (editing.Edits self.old.meaning edit.now result self.new.meaning) }
-        ensures only { UnlessMemory is_memory result
+        ensures only { UnlessMemory applying.is_memory result
             (editing.IsOnly self.old.meaning edit.now result self.new.meaning) }
         ensures err { OnErr result (self.new.meaning ≡ self.old.meaning) }
 

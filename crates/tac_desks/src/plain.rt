@@ -1,8 +1,8 @@
 //! The desk that searches and counts each time.
 
 ghost use Rattle.std.specs.Prelude.{◌≡◌, true, Err, IsOk, IfOk, OnOk, OnErr};
-ghost use Rattle.pol_edit.specs.Applying.{is_memory};
 ghost use Rattle.pol_meaning.specs.Memory.{UnlessMemory};
+ghost use Rattle.pol_live.specs.Refusing.{is_memory};
 ghost use Rattle.tac_desks.specs.Opening.{Opens, IsOnlyOpened};
 ghost use Rattle.tac_desk.specs.Asking as asking;
 ghost use Rattle.tac_desk.specs.Reporting as reporting;
@@ -16,7 +16,7 @@ use crate::tallies::tally;
 use basics::Sequence;
 use pol_automaton::Meter;
 use pol_edit::{BatchFault, Edit, EditFault};
-use pol_live::Live;
+use pol_live::{BuildFault, Live};
 use pol_meaning::Changes;
 use pol_text::Policy;
 use std::alloc::{AllocError, Global};
@@ -69,7 +69,7 @@ impl PlainDesk {
     /// A desk of this policy, without records, that accepts at most so many. Refused where a
     /// subject is too large, with the first such subject in the policy's order. Builds all automata
     /// once.
-    pub fn new(alloc: Global, policy: Policy, record_limit: usize) -> Result<PlainDesk, EditFault>
+    pub fn new(alloc: Global, policy: Policy, record_limit: usize) -> Result<PlainDesk, BuildFault>
         ensures found { UnlessMemory is_memory result (Opens policy record_limit result) }
         ensures only { UnlessMemory is_memory result (IsOnlyOpened policy record_limit result) }
     {

@@ -10,8 +10,7 @@ ghost use Rattle.tac_desk.specs.declared.query.QueryFault.TheVariants.{NoSuch};
 
 use crate::live_reports::{reach_report_of, shadow_report_of};
 use pol_automaton::Meter;
-use pol_edit::EditFault;
-use pol_live::Live;
+use pol_live::{BuildFault, Live};
 use pol_names::SubjectId;
 use pol_text::Policy;
 use std::alloc::{AllocError, Global};
@@ -26,8 +25,9 @@ pub(crate) fn live_policy(alloc: Global, policy: &Policy) -> Result<Live, AllocE
     let mut meter = Meter::new();
     match Live::build(alloc, copy, &mut meter) {
         Ok(live) => Ok(live),
-        Err(EditFault::Memory) => Err(AllocError),
-        Err(_) => unreachable!(),
+        Err(BuildFault::Memory) => Err(AllocError),
+        // no subject of the policy is too large
+        Err(BuildFault::TooManyStates(_)) => unreachable!(),
     }
 }
 

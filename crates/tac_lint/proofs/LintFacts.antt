@@ -1,7 +1,7 @@
 -- One output alone is right.
 use Rattle.std.proofs.Common.{◌≡◌, ℕ, List, Result, Ok, Err, IfOk, sym, ap, subst, ◌∙◌}
 use Rattle.pol_text.specs.declared.subject.Subject.{Subject}
-use Rattle.pol_edit.specs.declared.fault.EditFault.{EditFault}
+use Rattle.pol_live.specs.declared.fault.BuildFault.{BuildFault}
 use Rattle.pol_live.specs.Live.{Builds, IsOnlyBuilt}
 use Rattle.pol_meaning.specs.Reach.{Shadows}
 use Rattle.pol_meaning.specs.declared.Shadowed.{Shadowed}
@@ -26,9 +26,9 @@ remarks_only text policy rows output end are one p q = record {
 }
 
 -- a policy is built in one way
-pub built_only : (text : List ℕ) (policy : List Subject) (built : Result (List Subject) EditFault) (output : List ℕ) (end : LintEnd) → Builds policy built → IsOnlyBuilt policy built
+pub built_only : (text : List ℕ) (policy : List Subject) (built : Result (List Subject) BuildFault) (output : List ℕ) (end : LintEnd) → Builds policy built → IsOnlyBuilt policy built
     → IsOnly (TellsBuilt text built) output end → IsOnly (IsLintOf text (Ok policy)) output end
 built_only text policy built output end builds one only = record {
   wanted = record { built = built; builds = builds; tells = only.wanted };
-  only = λ other last w. only.only other last (subst (λ (found : Result (List Subject) EditFault). TellsBuilt text found other last) (sym (one w.built w.builds)) w.tells);
+  only = λ other last w. only.only other last (subst (λ (found : Result (List Subject) BuildFault). TellsBuilt text found other last) (sym (one w.built w.builds)) w.tells);
 }

@@ -6,8 +6,8 @@ use Rattle.pol_text.specs.Text.{policy_of}
 use Rattle.pol_text.specs.declared.subject.Subject.{Subject}
 use Rattle.pol_text.specs.declared.fault.PolicyFault.{PolicyFault}
 use Rattle.pol_text.specs.declared.fault.PolicyFault.TheVariants as policies
-use Rattle.pol_edit.specs.declared.fault.EditFault.{EditFault}
-use Rattle.pol_edit.specs.declared.fault.EditFault.TheVariants.{TooManyStates}
+use Rattle.pol_live.specs.declared.fault.BuildFault.{BuildFault}
+use Rattle.pol_live.specs.declared.fault.BuildFault.TheVariants as builds
 use Rattle.pol_live.specs.Live.{Builds}
 use Rattle.pol_meaning.specs.Reach.{Shadows}
 use Rattle.pol_meaning.specs.declared.Shadowed.{Shadowed}
@@ -39,15 +39,15 @@ Remarks text policy output end =
     × (end ≡ end_of (policy_remarks text policy rows))
 
 -- a policy that may stand is told of; else the subject that is too large
-abbrev pub TellsBuilt : List ℕ → Result (List Subject) EditFault → List ℕ → LintEnd → Type 0
+abbrev pub TellsBuilt : List ℕ → Result (List Subject) BuildFault → List ℕ → LintEnd → Type 0
 TellsBuilt text (Ok policy) output end = Remarks text policy output end
-TellsBuilt text (Err (TooManyStates subject)) output end =
+TellsBuilt text (Err (builds.TooManyStates subject)) output end =
     (output ≡ remarks_text (size_faults text subject)) × (end ≡ Refused)
-TellsBuilt text (Err fault) output end = ⊥
+TellsBuilt text (Err builds.Memory) output end = ⊥
 
 pub record IsBuilt (text : List ℕ) (policy : List Subject) (output : List ℕ) (end : LintEnd)
     : Type 0 where
-  pub built : Result (List Subject) EditFault
+  pub built : Result (List Subject) BuildFault
   pub builds : Builds policy built
   pub tells : TellsBuilt text built output end
 

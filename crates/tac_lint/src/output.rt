@@ -6,9 +6,8 @@ ghost use Rattle.tac_lint.specs.Lint as lints;
 use crate::linting::LintEnd;
 use basics::Sequence;
 use pol_automaton::Meter;
-use pol_edit::EditFault;
 use pol_lint::{Remark, policy_remarks, size_faults, text_faults};
-use pol_live::Live;
+use pol_live::{BuildFault, Live};
 use pol_report::shadows;
 use pol_text::{Policy, PolicyFault};
 use std::alloc::{AllocError, Global};
@@ -89,11 +88,11 @@ fn output_of_policy(
     let mut meter = Meter::new();
     match Live::build(alloc, policy, &mut meter) {
         Ok(live) => told(alloc, text, &live),
-        Err(EditFault::TooManyStates(subject)) => {
+        Err(BuildFault::TooManyStates(subject)) => {
             let remarks = size_faults(alloc, text, &subject)?;
             refused(alloc, &remarks)
         }
-        Err(_) => Err(AllocError),
+        Err(BuildFault::Memory) => Err(AllocError),
     }
 }
 

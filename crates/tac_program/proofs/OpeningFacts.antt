@@ -1,16 +1,13 @@
 -- A desk that isn't made, against what is printed of its policy.
-use Rattle.std.proofs.Common.{◌≡◌, ℕ, List, Bool, false, refl, Ok, Err, None, subst}
-use Rattle.basics.specs.Memory.{Except}
-use Rattle.pol_edit.specs.declared.fault.EditFault.{EditFault}
+use Rattle.std.proofs.Common.{◌≡◌, ℕ, List, refl, Ok, Err, None}
+use Rattle.pol_names.specs.declared.subject_id.SubjectId.{SubjectId}
 use Rattle.pol_text.specs.declared.subject.Subject.{Subject}
-use Rattle.tac_console.specs.Faults.{build_fault}
+use Rattle.pol_live.specs.declared.fault.BuildFault.TheVariants.{TooManyStates}
+use Rattle.tac_console.specs.Faults.{size_fault}
 use Rattle.tac_desks.specs.Opening.{Opens}
 use Rattle.tac_program.specs.Opening.{IsDeskOf}
 
-pub unless : {P : Type 0} (is_memory : Bool) → Except is_memory P → is_memory ≡ false → P
-unless {P} is_memory h e = subst (λ b. Except b P) e h
-
-pub refused : (policy : List Subject) (fault : EditFault) (printed : List ℕ)
-    → Opens policy 1000000 (Err fault) → printed ≡ build_fault fault
+pub refused : (policy : List Subject) (subject : SubjectId) (printed : List ℕ)
+    → Opens policy 1000000 (Err (TooManyStates subject)) → printed ≡ size_fault subject
     → IsDeskOf (Ok policy) printed None
-refused policy fault printed h e = record { built = Err fault; builds = h; prints = (e, refl) }
+refused policy subject printed h e = record { built = Err (TooManyStates subject); builds = h; prints = (e, refl) }

@@ -1,20 +1,19 @@
 //! The policy's file, and the desk of the policy.
 
-ghost use Rattle.std.specs.Prelude.{◌≡◌, Ok, false, IsTrue, IfOk, OnOk};
+ghost use Rattle.std.specs.Prelude.{◌≡◌, Ok, IfOk, OnOk};
 ghost use Rattle.std.specs.Io.KnownBytes.{IsAtEnd};
-ghost use Rattle.pol_edit.specs.Applying.{is_memory};
-ghost use Rattle.tac_console.specs.Faults.{build_fault, is_build_fault};
+ghost use Rattle.tac_console.specs.Faults.{size_fault};
 ghost use Rattle.tac_io.specs.Answering.{IsAnswered, IsWorked};
 ghost use Rattle.tac_program.specs.Opening.{IsDeskOf, IsDeskOfText};
 
 use crate::status::Status;
-use pol_edit::EditFault;
+use pol_live::{BuildFault, SubjectId};
 use pol_text::{Policy, PolicyFault};
 use std::alloc::{AllocError, Global};
 use std::fs;
 use std::io::{Read, Write};
 use std::rt::Files;
-use tac_console::{write_build_fault, write_policy_fault};
+use tac_console::{write_policy_fault, write_size_fault};
 use tac_desks::{LiveDesk, MAX_RECORDS};
 use tac_io::{AnswerFault, InputFault, MAX_INPUT, read_whole, write_answer};
 
@@ -42,20 +41,13 @@ pub(crate) fn open_file<R: Files + Eprint>(rt: &R, path: &str) -> Result<R::File
     }
 }
 
-// What is printed where there is no desk, unless memory ran out.
-fn refusal(alloc: Global, fault: EditFault) -> Result<Vec<u8>, AllocError>
-    requires { IsTrue (is_build_fault fault) }
-    ensures told { IfOk result (λ printed. printed.items ≡ build_fault fault) }
-    ensures judged { OnOk result (is_memory fault ≡ false) }
+// What is printed of a policy that may not stand.
+fn too_large(alloc: Global, subject: SubjectId) -> Result<Vec<u8>, AllocError>
+    ensures { IfOk result (λ printed. printed.items ≡ size_fault subject) }
 {
-    match fault {
-        EditFault::Memory => Err(AllocError),
-        fault => {
-            let mut printed = Vec::new(alloc);
-            write_build_fault(alloc, &mut printed, fault)?;
-            Ok(printed)
-        }
-    }
+    let mut printed = Vec::new(alloc);
+    write_size_fault(alloc, &mut printed, subject)?;
+    Ok(printed)
 }
 
 // The desk of a policy, and nothing to print; or no desk, and what is printed instead.
@@ -64,10 +56,11 @@ fn desk_of_policy(alloc: Global, policy: Policy) -> Result<(Vec<u8>, Option<Live
 {
     match LiveDesk::new(alloc, policy, MAX_RECORDS) {
         Ok(desk) => Ok((Vec::new(alloc), Some(desk))),
-        Err(fault) => {
-            let printed = refusal(alloc, fault)?;
+        Err(BuildFault::TooManyStates(subject)) => {
+            let printed = too_large(alloc, subject)?;
             Ok((printed, None))
         }
+        Err(BuildFault::Memory) => Err(AllocError),
     }
 }
 

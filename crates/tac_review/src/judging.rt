@@ -1,24 +1,22 @@
 //! The policy of a text, or why it is refused.
 
-ghost use Rattle.std.specs.Prelude.{◌≡◌, Ok, Err, IsTrue, IfOk};
-ghost use Rattle.tac_console.specs.Faults.{policy_fault, build_fault, is_build_fault};
+ghost use Rattle.std.specs.Prelude.{◌≡◌, Ok, Err, IfOk};
+ghost use Rattle.tac_console.specs.Faults.{policy_fault, size_fault};
 ghost use Rattle.tac_review.specs.Judged.{IsJudgedOf, IsJudged};
 
 use basics::Bytes;
 use pol_automaton::Meter;
-use pol_edit::EditFault;
-use pol_live::Live;
+use pol_live::{BuildFault, Live, SubjectId};
 use pol_text::{Policy, PolicyFault};
 use std::alloc::{AllocError, Global};
-use tac_console::{write_build_fault, write_policy_fault};
+use tac_console::{write_policy_fault, write_size_fault};
 
 // What is printed of a policy that may not stand.
-fn too_large(alloc: Global, fault: EditFault) -> Result<Bytes, AllocError>
-    requires { IsTrue (is_build_fault fault) }
-    ensures { IfOk result (λ line. line ≡ build_fault fault) }
+fn too_large(alloc: Global, subject: SubjectId) -> Result<Bytes, AllocError>
+    ensures { IfOk result (λ line. line ≡ size_fault subject) }
 {
     let mut line = Vec::new(alloc);
-    write_build_fault(alloc, &mut line, fault)?;
+    write_size_fault(alloc, &mut line, subject)?;
     Ok(Bytes::from(line))
 }
 
@@ -38,11 +36,11 @@ fn build(alloc: Global, policy: Policy) -> Result<Result<Live, Bytes>, AllocErro
     let mut meter = Meter::new();
     match Live::build(alloc, policy, &mut meter) {
         Ok(live) => Ok(Ok(live)),
-        Err(EditFault::Memory) => Err(AllocError),
-        Err(fault) => {
-            let line = too_large(alloc, fault)?;
+        Err(BuildFault::TooManyStates(subject)) => {
+            let line = too_large(alloc, subject)?;
             Ok(Err(line))
         }
+        Err(BuildFault::Memory) => Err(AllocError),
     }
 }
 

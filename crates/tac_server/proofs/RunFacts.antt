@@ -3,9 +3,9 @@ use Rattle.std.proofs.Common.{◌≡◌, ℕ, ◌+◌, List, [], ◌∷◌, ◌+
 use Rattle.std.specs.Prelude.{is_some, IsTrue, if◌then◌else◌}
 use Rattle.std.specs.List.{list_any}
 use Rattle.pol_names.specs.declared.subject_id.SubjectId.{SubjectId}
-use Rattle.pol_edit.specs.declared.fault.EditFault.{EditFault}
-use Rattle.pol_edit.specs.declared.fault.EditFault.TheVariants as edits
-use Rattle.pol_meaning.specs.Sizes.{IsSmall, IsFirstLarge, IsRefusedFor}
+use Rattle.pol_meaning.specs.Sizes.{IsSmall, IsFirstLarge}
+use Rattle.pol_live.specs.declared.fault.BuildFault.{BuildFault}
+use Rattle.pol_live.specs.declared.fault.BuildFault.TheVariants as builds
 use Rattle.std.proofs.lemmas.List.{append_cancel_left}
 use Rattle.pol_text.specs.declared.subject.Subject.{Subject}
 use Rattle.pol_text.specs.Text.{policy_of, text_of_lines}
@@ -238,7 +238,7 @@ module _ (key : List ℕ) (policy : List Subject) (number : ℕ) (events : List 
   unfolding DeskRuns
   small_back meaning only run (inl small) = small.1
   small_back meaning only run (inr large) =
-      let e : ◌≡◌ {A = Result Meaning EditFault} (Ok meaning) (Err (edits.TooManyStates large.0)) = only (Err (edits.TooManyStates large.0)) (large.0, refl, large.1) in absurd cc
+      let e : ◌≡◌ {A = Result Meaning BuildFault} (Ok meaning) (Err (builds.TooManyStates large.0)) = only (Err (builds.TooManyStates large.0)) large.1 in absurd cc
 
   module _ (meaning : Meaning) (is : meaning ≡ desk_of policy) (small : IsSmall policy) (only : IsOnlyOpened policy 1000000 (Ok meaning)) where
     ends_at_desk : (fault : Option Located) → Ends old new fault (Runs (opening key (desk_of policy)) number events) → Ends old new fault (DeskRuns key policy number events)
@@ -261,26 +261,23 @@ module _ (key : List ℕ) (policy : List Subject) (number : ℕ) (events : List 
         runs_so result (subst (λ (m : Meaning). Prints old new result (Runs (opening key m) number events)) is (prints_course (opening key meaning) number events old new result h))
 
   -- a policy that may not stand
-  module _ (subject : SubjectId) (first : IsRefusedFor policy (edits.TooManyStates subject)) (only : IsOnlyOpened policy 1000000 (Err (edits.TooManyStates subject))) where
+  module _ (subject : SubjectId) (first : IsFirstLarge policy policy subject) (only : IsOnlyOpened policy 1000000 (Err (builds.TooManyStates subject))) where
     large : SubjectId → Located
     large id = record { line = None; fault = TooManyStates id }
 
     large_back : (run : Run) → DeskRuns key policy number events run → run ≡ stopped_by (large subject)
     unfolding DeskRuns large
     large_back run (inl small) =
-        let e : ◌≡◌ {A = Result Meaning EditFault} (Err (edits.TooManyStates subject)) (Ok (desk_of policy)) = only (Ok (desk_of policy)) (refl, small.0) in absurd cc
+        let e : ◌≡◌ {A = Result Meaning BuildFault} (Err (builds.TooManyStates subject)) (Ok (desk_of policy)) = only (Ok (desk_of policy)) (refl, small.0) in absurd cc
     large_back run (inr other) =
-        let e : ◌≡◌ {A = Result Meaning EditFault} (Err (edits.TooManyStates subject)) (Err (edits.TooManyStates other.0)) = only (Err (edits.TooManyStates other.0)) (other.0, refl, other.1) in
+        let e : ◌≡◌ {A = Result Meaning BuildFault} (Err (builds.TooManyStates subject)) (Err (builds.TooManyStates other.0)) = only (Err (builds.TooManyStates other.0)) other.1 in
         let same : subject ≡ other.0 = cc in
         other.2 ∙ ap (λ (id : SubjectId). stopped_by (record { line = None; fault = TooManyStates id })) (sym same)
 
     pub stops_at_desk : Ends old old (Some (record { line = None; fault = TooManyStates subject })) (DeskRuns key policy number events)
     unfolding DeskRuns large
     stops_at_desk =
-        let e : edits.TooManyStates subject ≡ edits.TooManyStates first.0 = first.1 in
-        let same : subject ≡ first.0 = cc in
-        stops_at old (large subject) (DeskRuns key policy number events)
-        (inr (subject, subst (IsFirstLarge policy policy) (sym same) first.2, refl)) large_back
+        stops_at old (large subject) (DeskRuns key policy number events) (inr (subject, first, refl)) large_back
 
 -- the policy is refused
 pub body_refused : (text : List ℕ) (key : List ℕ) (lines : List (List ℕ)) (stop : Stop) → list_any is_run lines ≡ true

@@ -14,8 +14,8 @@ mod turning;
 pub use replaying::{ReplayEnd, ReplayFault, replay};
 pub use server::{Server, ServerFault};
 pub use tac_console::{
-    Asked, read_console, write_build_fault, write_edit_answer, write_policy_fault,
-    write_query_answer,
+    Asked, read_console, write_edit_answer, write_policy_fault, write_query_answer,
+    write_size_fault,
 };
 pub use tac_desk::Desk;
 pub use tac_desks::{LiveDesk, PlainDesk};

@@ -12,11 +12,10 @@ use crate::events::run_events;
 use crate::script_fault::{Located, ScriptFault, Stop};
 use crate::server::Server;
 use basics::{Lines, split_once};
-use pol_edit::EditFault;
 use pol_names::SubjectId;
 use pol_text::{Policy, PolicyFault};
 use std::alloc::Global;
-use tac_desks::{LiveDesk, MAX_RECORDS};
+use tac_desks::{BuildFault, LiveDesk, MAX_RECORDS};
 use tac_wire::Key;
 
 fn is_run(line: &[u8]) -> bool
@@ -98,10 +97,8 @@ fn run_policy(
 {
     match LiveDesk::new(alloc, policy, MAX_RECORDS) {
         Ok(desk) => run_events(alloc, Server::new(alloc, desk, key), lines, out),
-        Err(EditFault::TooManyStates(subject)) => Err(too_large(subject)),
-        Err(EditFault::Memory) => Err(Stop::Memory),
-        // a policy is refused for nothing else
-        Err(_) => unreachable!(),
+        Err(BuildFault::TooManyStates(subject)) => Err(too_large(subject)),
+        Err(BuildFault::Memory) => Err(Stop::Memory),
     }
 }
 

@@ -12,7 +12,7 @@ use std::sync::Wait;
 use std::test::Fail;
 use tac_conn::{Answer, Ask};
 use tac_desk::{Desk, Query, QueryFault, Report, State, Thrice};
-use tac_desks::PlainDesk;
+use tac_desks::{BuildFault, PlainDesk};
 use tac_hall::{Hall, Seat};
 
 // Never has a record, though its limit is nine. A contract sees the desk inside.
@@ -33,7 +33,7 @@ impl Model for Starved {
 }
 
 impl Starved {
-    fn new(alloc: Global, policy: Policy) -> Result<Starved, EditFault> {
+    fn new(alloc: Global, policy: Policy) -> Result<Starved, BuildFault> {
         let inner = PlainDesk::new(alloc, policy, 9)?;
         Ok(Starved { inner })
     }

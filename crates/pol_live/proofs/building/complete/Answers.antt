@@ -2,8 +2,8 @@ use Rattle.std.proofs.Common.{◌≡◌, ◌<◌, Some, length, get_or, sym, ref
 use Rattle.std.proofs.lemmas.Option.{slice_get_read}
 use Rattle.std.proofs.lemmas.Result.{err_from_is_err_and}
 use Rattle.pol_text.specs.Policy.{id_of}
-use Rattle.pol_edit.specs.Applying.{is_memory}
-use Rattle.pol_live.proofs.BuildFacts.{first_large, more_small, except_so}
+use Rattle.pol_live.specs.Refusing.{is_memory}
+use Rattle.pol_live.proofs.BuildFacts.{first_large, more_small, except_so, refused_for}
 use Rattle.pol_live.proofs.FillFacts.{small_there}
 use Rattle.pol_live.proofs.SlotFacts.{grows_on, more_there, more_keepers}
 use Rattle.pol_live.proofs.MeterFacts.{counts_on}
@@ -17,7 +17,7 @@ returns-in_err-fill_subject-clause-err c =
     let lt : c.loop-index.index < length policy = rw (← c.subjects-subject-items.ensures.subjects) c.loop-index-test.true in
     let at : get_or policy c.loop-index.index subject ≡ subject = rw (← c.subjects-subject-items.ensures.subjects) (sym c.subject-item.is) in
     rw (p.1, p.2) (except_so (is_memory c.in_err-fill_subject.field-0.0)
-    (λ h. (id_of subject, h.0, first_large policy policy c.loop-index.index subject lt at c.loop-index.invariant.small h.1))
+    (λ h. refused_for policy _ (id_of subject) h.0 (first_large policy policy c.loop-index.index subject lt at c.loop-index.invariant.small h.1))
     c.in_err-fill_subject.ensures.err)
 
 pub loop-index-preserved : goal.loop-index-preserved

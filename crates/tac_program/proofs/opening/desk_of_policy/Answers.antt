@@ -1,8 +1,8 @@
-use Rattle.pol_edit.specs.Applying.{is_memory}
-use Rattle.tac_program.proofs.OpeningFacts.{refused, unless}
+use Rattle.tac_program.proofs.OpeningFacts.{refused}
 use Rattle.tac_program.proofs.opening.desk_of_policy.Goals as goal
 
-pub returns-in_ok-printed-in-Err : goal.returns-in_ok-printed-in-Err
-returns-in_ok-printed-in-Err c =
-    let found = unless (is_memory c.in-Err.fault) c.in-Err.ensures.found c.in_ok-printed-in-Err.ensures.judged in
-    refused c.args.policy c.in-Err.fault c.in_ok-printed-in-Err.printed.items found c.in_ok-printed-in-Err.ensures.told
+pub returns-in_ok-printed-in-Err-TooManyStates : goal.returns-in_ok-printed-in-Err-TooManyStates
+returns-in_ok-printed-in-Err-TooManyStates c =
+    let at = c.in-Err-TooManyStates in
+    refused c.args.policy at.subject c.in_ok-printed-in-Err-TooManyStates.printed.items (rw at.field-0-is at at.ensures.found)
+    c.in_ok-printed-in-Err-TooManyStates.ensures

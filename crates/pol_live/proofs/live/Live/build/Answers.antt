@@ -1,4 +1,4 @@
-use Rattle.pol_edit.specs.Applying.{is_memory}
+use Rattle.pol_live.specs.Refusing.{is_memory}
 use Rattle.pol_live.proofs.OnlyFacts.{only_built, small_memory, unless_so}
 use Rattle.pol_live.proofs.RiseFacts.{one_rise}
 use Rattle.pol_live.proofs.live.Live.build.Goals as goal

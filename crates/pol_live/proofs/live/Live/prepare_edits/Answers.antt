@@ -1,5 +1,5 @@
 use Rattle.std.proofs.Common.{◌≡◌, ◌∙◌}
-use Rattle.pol_live.proofs.PreparedFacts.{was_ok, alike_all, leaves, rises}
+use Rattle.pol_live.proofs.PreparedFacts.{alike_all, leaves, rises}
 use Rattle.pol_live.proofs.live.Live.prepare_edits.Goals as goal
 
 pub renewed-requires : goal.renewed-requires
@@ -10,12 +10,10 @@ renewed-requires c =
 
 pub invariant_of-result : goal.invariant_of-result
 invariant_of-result c =
-    let ok = was_ok c.renewed.result c.map_err.result c.in_ok-after.after _ c.in_ok-after.was c.map_err.ensures.variant c.map_err.ensures.cases in
-    leaves c.args.edits.now c.in_ok-before.before c.in_ok-policy.policy c.in_ok-touched.touched c.in_ok-touched.ensures c.renewed.result c.in_ok-after.after ok c.renewed.ensures.found
+    leaves c.args.edits.now c.in_ok-before.before c.in_ok-policy.policy c.in_ok-touched.touched c.in_ok-touched.ensures c.in_ok-after.after c.in_ok-after.ensures.found.0
     c.in_ok-policy.ensures.well_formed.parents c.in_ok-policy.ensures.exact
 
 pub returns-clause-rises : goal.returns-clause-rises
 returns-clause-rises c =
-    let ok = was_ok c.renewed.result c.map_err.result c.in_ok-after.after _ c.in_ok-after.was c.map_err.ensures.variant c.map_err.ensures.cases in
-    rises c.args.edits.now c.in_ok-before.before c.in_ok-policy.policy c.in_ok-touched.touched c.in_ok-touched.ensures c.renewed.result c.in_ok-after.after ok c.renewed.ensures.found
-    c.args.meter.now.total c.renewed.new.meter.total c.renewed.ensures.rises
+    rises c.args.edits.now c.in_ok-before.before c.in_ok-policy.policy c.in_ok-touched.touched c.in_ok-touched.ensures c.in_ok-after.after c.in_ok-after.ensures.found.0
+    c.args.meter.now.total c.renewed.new.meter.total c.in_ok-after.ensures.rises

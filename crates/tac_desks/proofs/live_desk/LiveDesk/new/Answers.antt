@@ -1,5 +1,5 @@
 use Rattle.std.proofs.lemmas.Result.{err_from_is_err_and}
-use Rattle.pol_edit.specs.Applying.{is_memory}
+use Rattle.pol_live.specs.Refusing.{is_memory}
 use Rattle.tac_desks.proofs.Edits.{except_so}
 use Rattle.tac_desks.proofs.Opened.{opened_only, refused_only}
 use Rattle.tac_desks.proofs.live_desk.LiveDesk.new.Goals as goal
