@@ -7,9 +7,9 @@ use Rattle.tac_wire.specs.Stream.{Parts, Tail, open_end, fault, cut, continued}
 use Rattle.tac_conn.specs.declared.packet.Packet.{Packet}
 use Rattle.tac_conn.specs.Packet.{clear}
 use Rattle.tac_conn.specs.History.{outcome}
-use Rattle.tac_stream.specs.Turns.{packets_of}
+use Rattle.tac_stream.specs.Turns.{packets_of, closed_by}
 use Rattle.tac_desk.specs.Meaning.{Meaning}
-use Rattle.tac_desk.specs.Serving.{Said, says, behind, unless_closed, closed_by, said_to, said_on}
+use Rattle.tac_desk.specs.Serving.{Said, says, behind, unless_closed, said_to, said_on}
 
 drop_front : (front rest : List Frame) → drop (length front) (front ++ rest) ≡ rest
 drop_front [] rest = refl

@@ -3,7 +3,7 @@ use Rattle.std.specs.Prelude.{ℕ, List, [], ◌∷◌, ◌++◌, length, take, 
 use Rattle.std.specs.Prelude.{if◌then◌else◌}
 use Rattle.std.specs.List.{flat_map}
 use Rattle.tac_wire.specs.declared.frame.Frame.{Frame}
-use Rattle.tac_wire.specs.Stream.{Tail, open_end, fault, cut}
+use Rattle.tac_wire.specs.Stream.{Tail, open_end, cut}
 use Rattle.tac_conn.specs.declared.packet.Packet.{Packet}
 use Rattle.tac_conn.specs.declared.outcome.Outcome.{Outcome}
 use Rattle.tac_conn.specs.declared.outcome.Outcome.TheVariants.{Question, Reply, Asks, Silent}
@@ -13,7 +13,7 @@ use Rattle.tac_conn.specs.Packet.{clear, sent}
 use Rattle.tac_conn.specs.Reply.{packet_of, answer_body}
 use Rattle.tac_conn.specs.Judging.{reply_in}
 use Rattle.tac_conn.specs.History.{outcome}
-use Rattle.tac_stream.specs.Turns.{packets_of}
+use Rattle.tac_stream.specs.Turns.{packets_of, closed_by}
 use Rattle.tac_desk.specs.Meaning.{Meaning}
 use Rattle.tac_desk.specs.Asking.{Answered, asked}
 
@@ -53,11 +53,6 @@ behind sent said = record said { sent = sent ++ said.sent }
 -- a connection that is closed says no more
 abbrev pub unless_closed : Said → (Meaning → Said) → Said
 unless_closed said go_on = if said.closes then said else behind said.sent (go_on said.meaning)
-
--- a header that is refused closes the connection
-abbrev pub closed_by : Tail → Bool
-closed_by (open_end bytes) = false
-closed_by (fault reason) = true
 
 -- what is said to these packets, one after another, on a connection on which others came earlier,
 -- the latest first: to each by what the desk represents after the one before, until the connection

@@ -1,7 +1,7 @@
 -- Where a connection is closed.
 use Rattle.std.proofs.Common.{◌≡◌, ◌≤◌, ℕ, List, [], ◌∷◌, ◌++◌, length, Bool, true, false, not, ◌||◌, cond, refl, sym, ap, ◌∙◌, append-nil, arith}
 use Rattle.tac_wire.specs.declared.frame.Frame.{Frame}
-use Rattle.tac_wire.specs.Stream.{Tail, open_end, fault, cut}
+use Rattle.tac_wire.specs.Stream.{Tail, cut}
 use Rattle.tac_conn.specs.declared.ask.Ask.{Ask}
 use Rattle.tac_conn.specs.declared.outcome.Outcome.{Outcome}
 use Rattle.tac_conn.specs.declared.outcome.Outcome.TheVariants.{Question, Reply, Asks, Silent, Close}
@@ -9,10 +9,10 @@ use Rattle.tac_conn.specs.declared.packet.Packet.{Packet}
 use Rattle.tac_conn.specs.Packet.{clear}
 use Rattle.tac_conn.specs.Judging.{closes as outcome_closes}
 use Rattle.tac_conn.specs.History.{outcome, is_closed}
-use Rattle.tac_stream.specs.Turns.{packets_of}
+use Rattle.tac_stream.specs.Turns.{packets_of, closed_by}
 use Rattle.tac_desk.specs.Meaning.{Meaning}
-use Rattle.tac_worker.specs.Served.{asked_by, asks_in, is_refused}
-use Rattle.tac_desk.specs.Serving.{Said, says, closed_by, unless_closed}
+use Rattle.tac_worker.specs.Served.{asked_by, asks_in}
+use Rattle.tac_desk.specs.Serving.{Said, says, unless_closed}
 use Rattle.tac_net.specs.Shared.{says_shared, said_shared, CloseLaw}
 use Rattle.tac_net.proofs.SharedFacts.{history}
 
@@ -30,10 +30,6 @@ closed_more (packet ∷ more) earlier e = rw (closed_more more earlier e) refl
 closed_none : is_closed [] ≡ false
 unfolding is_closed
 closed_none = refl
-
-by_tail : (tail : Tail) → closed_by tail ≡ is_refused tail
-by_tail (open_end bytes) = refl
-by_tail (fault reason) = refl
 
 absorbed : (first all : Bool) → (first ≡ true → all ≡ true) → (first || all) ≡ all
 absorbed true all h = sym (h refl)
@@ -64,21 +60,21 @@ module _ (asks : List Ask) (say : Meaning → List Meaning → Said) (later : Bo
 
 module _ (key : List ℕ) (tail : Tail) where
   closes_to : (frames : List Frame) (now : Meaning) (earlier : List Packet) (meanings : List Meaning) → is_closed earlier ≡ false → length (asks_in key earlier frames) ≤ length meanings
-      → (said_shared key now earlier frames tail meanings).closes ≡ (is_closed (packets_of key frames ++ earlier) || is_refused tail)
+      → (said_shared key now earlier frames tail meanings).closes ≡ (is_closed (packets_of key frames ++ earlier) || closed_by tail)
   unfolding said_shared asks_in
-  closes_to [] now earlier meanings still enough = by_tail tail ∙ ap (λ (b : Bool). b || is_refused tail) (sym still)
+  closes_to [] now earlier meanings still enough = ap (λ (b : Bool). b || closed_by tail) (sym still)
   closes_to (frame ∷ frames) now earlier meanings still enough =
       let packet = clear key frame in
       let comes = outcome earlier packet in
       let next : is_closed (packet ∷ earlier) ≡ outcome_closes comes = next_closed earlier packet still in
-      let later = is_closed (packets_of key frames ++ (packet ∷ earlier)) || is_refused tail in
+      let later = is_closed (packets_of key frames ++ (packet ∷ earlier)) || closed_by tail in
       close_for (asks_in key (packet ∷ earlier) frames) (λ then others. said_shared key then (packet ∷ earlier) frames tail others) later now comes meanings
       (λ goes_on then others some. closes_to frames then (packet ∷ earlier) others (next ∙ goes_on) some) enough
-      ∙ absorbed (outcome_closes comes) later (λ shut. ap (λ (b : Bool). b || is_refused tail) (closed_more (packets_of key frames) (packet ∷ earlier) (next ∙ shut)))
-      ∙ ap (λ (l : List Packet). is_closed l || is_refused tail) (history key frame frames earlier)
+      ∙ absorbed (outcome_closes comes) later (λ shut. ap (λ (b : Bool). b || closed_by tail) (closed_more (packets_of key frames) (packet ∷ earlier) (next ∙ shut)))
+      ∙ ap (λ (l : List Packet). is_closed l || closed_by tail) (history key frame frames earlier)
 
 pub close_law : CloseLaw
 close_law key now bytes meanings enough =
     let parts = cut bytes in
-    ap (λ (l : List Packet). is_closed l || is_refused parts.tail) (sym (append-nil (packets_of key parts.packets)))
+    ap (λ (l : List Packet). is_closed l || closed_by parts.tail) (sym (append-nil (packets_of key parts.packets)))
     ∙ sym (closes_to key parts.tail parts.packets now [] meanings closed_none enough)

@@ -10,11 +10,11 @@ use Rattle.tac_conn.specs.declared.outcome.Outcome.TheVariants.{Asks}
 use Rattle.tac_conn.specs.declared.packet.Packet.{Packet}
 use Rattle.tac_conn.specs.Packet.{clear}
 use Rattle.tac_conn.specs.History.{outcome}
-use Rattle.tac_stream.specs.Turns.{packets_of}
+use Rattle.tac_stream.specs.Turns.{packets_of, closed_by}
 use Rattle.tac_desk.specs.Meaning.{Meaning}
 use Rattle.tac_desk.specs.Asking.{asked}
 use Rattle.tac_worker.specs.Served.{Sending, served_to, asks_in, served, asks, closes, bytes_sent}
-use Rattle.tac_desk.specs.Serving.{Said, says, unless_closed, closed_by, said_to, said_on}
+use Rattle.tac_desk.specs.Serving.{Said, says, unless_closed, said_to, said_on}
 use Rattle.tac_desk.specs.Serving.{sent_bytes}
 
 -- ---- a server whose desk others use too

@@ -19,11 +19,11 @@ use Rattle.tac_conn.specs.Standing.{step_of}
 use Rattle.tac_stream.specs.declared.stream.Stream.{Stream}
 use Rattle.tac_stream.specs.declared.turn.Turn.{Turn}
 use Rattle.tac_stream.specs.declared.turn.Turn.TheVariants.{Reply, Asks, Silent, Need, Close}
-use Rattle.tac_stream.specs.Turns.{packets_of, turn_of, turn_by, next_turn}
+use Rattle.tac_stream.specs.Turns.{packets_of, closed_by, turn_of, turn_by, next_turn}
 use Rattle.tac_stream.specs.Kept.{IsReady, Stands, closed_of, pending_of}
 use Rattle.tac_desk.specs.Meaning.{Meaning}
 use Rattle.tac_desk.specs.Asking.{asked}
-use Rattle.tac_desk.specs.Serving.{Said, says, answered, behind, unless_closed, closed_by, said_to, said_from, said_part, whole_packets}
+use Rattle.tac_desk.specs.Serving.{Said, says, answered, behind, unless_closed, said_to, said_from, said_part, whole_packets}
 use Rattle.tac_server.specs.Kept.{Sends}
 use Rattle.tac_server.specs.declared.turning.Went.TheVariants as went
 use Rattle.tac_server.specs.Turning.{went_by, Goes, GoesOn, IsAtRest, ClosesWith, SaysAll, SaysSome, SaysPiece}

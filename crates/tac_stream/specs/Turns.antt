@@ -1,6 +1,6 @@
 -- What is to be done next on a connection, by all bytes that came on it (RFC 8907, section 4).
 use Rattle.std.specs.Prelude.{◌≡◌, ◌⊎◌, ℕ, List, [], ◌∷◌, map, reverse, take, drop, Bool, true}
-use Rattle.std.specs.Prelude.{false, Option, Some, None}
+use Rattle.std.specs.Prelude.{false, Option, Some, None, if◌then◌else◌}
 use Rattle.tac_wire.specs.declared.frame.Frame.{Frame}
 use Rattle.tac_wire.specs.Stream.{Tail, open_end, fault, cut}
 use Rattle.tac_conn.specs.declared.packet.Packet.{Packet}
@@ -25,13 +25,17 @@ turn_of (steps.Asks ask slot) = Asks ask slot
 turn_of steps.Silent = Silent
 turn_of steps.Close = Close
 
--- what is done for the first of these packets, where others came earlier, the latest first. The
--- tail follows the packets; a header that is refused closes the connection
+-- a header that is refused closes the connection
+abbrev pub closed_by : Tail → Bool
+closed_by (open_end bytes) = false
+closed_by (fault reason) = true
+
+-- what is done for the first of these packets, where others came earlier, the latest first; the
+-- tail follows the packets
 abbrev pub turn_by : List ℕ → List Packet → List Frame → Tail → Turn
 turn_by key earlier (frame ∷ frames) tail =
     turn_of (step_of key (outcome earlier (clear key frame)))
-turn_by key earlier [] (open_end bytes) = Need
-turn_by key earlier [] (fault reason) = Close
+turn_by key earlier [] tail = if closed_by tail then Close else Need
 
 -- what is to be done where so many of the packets in these bytes were taken
 unfoldable pub next_turn : List ℕ → List ℕ → ℕ → Turn

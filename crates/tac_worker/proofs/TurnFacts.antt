@@ -20,13 +20,13 @@ use Rattle.tac_conn.specs.Standing.{step_of}
 use Rattle.tac_stream.specs.declared.stream.Stream.{Stream}
 use Rattle.tac_stream.specs.declared.turn.Turn.{Turn}
 use Rattle.tac_stream.specs.declared.turn.Turn.TheVariants.{Reply, Asks, Silent, Need, Close}
-use Rattle.tac_stream.specs.Turns.{packets_of, turn_of, turn_by, IsTurn}
+use Rattle.tac_stream.specs.Turns.{packets_of, closed_by, turn_of, turn_by, IsTurn}
 use Rattle.tac_stream.specs.Kept.{Stands, closed_of, pending_of}
 use Rattle.tac_worker.specs.declared.worked.End.{End}
 use Rattle.tac_worker.specs.declared.worked.End.TheVariants.{Finished, ByProtocol, Stopped, LogFull, Memory, ReadFault, WriteFault, Held, NoSeat}
 use Rattle.tac_worker.specs.declared.serving.Went.{Went}
 use Rattle.tac_worker.specs.declared.serving.Went.TheVariants.{On, Rests}
-use Rattle.tac_worker.specs.Served.{Sending, plain, carrying, served_for, asked_by, served_to, asks_in, is_refused, closes, bytes_sent, carried}
+use Rattle.tac_worker.specs.Served.{Sending, plain, carrying, served_for, asked_by, served_to, asks_in, closes, bytes_sent, carried}
 use Rattle.tac_worker.specs.Worked.{Exchange, asks_of, answers_of, Calling, Makes, Leaves, Closes, Writes, Ends}
 use Rattle.tac_worker.specs.Working.{Handled, GoesOn, IsUncalled, Replies, taken_of, left_of, Turned}
 use Rattle.tac_worker.proofs.ServedFacts.{packets_of-append, makes_none}
@@ -56,9 +56,9 @@ serves_turn key came turn is = subst (λ (t : Turn). ServesBy t key came) (sym i
 
 -- ---- what closes a connection
 
-closed_by : (closed : Bool) (came : Outcome) → outcome_closes (if closed then comes_to.Close else came) ≡ true → (closed || outcome_closes came) ≡ true
-closed_by true came e = refl
-closed_by false came e = e
+closed_or : (closed : Bool) (came : Outcome) → outcome_closes (if closed then comes_to.Close else came) ≡ true → (closed || outcome_closes came) ≡ true
+closed_or true came e = refl
+closed_or false came e = e
 
 open_by : (closed : Bool) (came : Outcome) → closed ≡ false → outcome_closes (if closed then comes_to.Close else came) ≡ false → (closed || outcome_closes came) ≡ false
 open_by true came still e = absurd cc
@@ -66,7 +66,7 @@ open_by false came still e = e
 
 closed_next : (earlier : List Packet) (packet : Packet) → outcome_closes (outcome earlier packet) ≡ true → is_closed (packet ∷ earlier) ≡ true
 unfolding outcome is_closed
-closed_next earlier packet e = closed_by (is_closed earlier) (judged_after earlier packet) e
+closed_next earlier packet e = closed_or (is_closed earlier) (judged_after earlier packet) e
 
 stays_open : (earlier : List Packet) (packet : Packet) → outcome_closes (outcome earlier packet) ≡ false → is_closed earlier ≡ false → is_closed (packet ∷ earlier) ≡ false
 unfolding outcome is_closed
@@ -99,8 +99,8 @@ closes_at key bytes taken frame more left e =
     let history : packets_of key (cut bytes).packets ≡ packets_of key more ++ clear key frame ∷ packets_of key front =
     ap (packets_of key) parts ∙ packets_of-append key front (frame ∷ more) ∙ ap (λ (l : List Packet). l ++ packets_of key front) (packets_of-append key (frame ∷ []) more)
     ∙ append_assoc (packets_of key more) (clear key frame ∷ []) (packets_of key front) in
-    ap (λ (l : List Packet). is_closed l || is_refused (cut bytes).tail) history
-    ∙ ap (λ (b : Bool). b || is_refused (cut bytes).tail) (closed_more (packets_of key more) (clear key frame ∷ packets_of key front) e)
+    ap (λ (l : List Packet). is_closed l || closed_by (cut bytes).tail) history
+    ∙ ap (λ (b : Bool). b || closed_by (cut bytes).tail) (closed_more (packets_of key more) (clear key frame ∷ packets_of key front) e)
 
 -- ---- one packet
 
@@ -406,7 +406,7 @@ module _ (key bytes : List ℕ) (taken : ℕ) where
     stands = stands;
   }
     where
-      by_tail : (tail : Tail) → Need ≡ turn_by key (packets_of key (take taken (cut bytes).packets)) [] tail → is_refused tail ≡ false
+      by_tail : (tail : Tail) → Need ≡ turn_by key (packets_of key (take taken (cut bytes).packets)) [] tail → closed_by tail ≡ false
       by_tail (open_end rest) e = refl
       by_tail (fault reason) e = cc
 
@@ -428,7 +428,7 @@ module _ (key bytes : List ℕ) (taken : ℕ) where
     ends = ends_none ByProtocol key _ _ was old old (rw n.left (asks_at_end key _)) (rw n.left (served_at_end key _ [])) (Appends-nil old) refl (λ w. w);
   }
     where
-      by_tail : (tail : Tail) → Close ≡ turn_by key (packets_of key (take taken (cut bytes).packets)) [] tail → is_refused tail ≡ true
+      by_tail : (tail : Tail) → Close ≡ turn_by key (packets_of key (take taken (cut bytes).packets)) [] tail → closed_by tail ≡ true
       by_tail (open_end rest) e = cc
       by_tail (fault reason) e = refl
 

@@ -8,11 +8,11 @@ use Rattle.tac_wire.specs.Stream.{cut}
 use Rattle.tac_conn.specs.declared.packet.Packet.{Packet}
 use Rattle.tac_conn.specs.History.{is_closed}
 use Rattle.tac_stream.specs.declared.stream.Stream.{Stream}
-use Rattle.tac_stream.specs.Turns.{packets_of}
+use Rattle.tac_stream.specs.Turns.{packets_of, closed_by}
 use Rattle.tac_stream.specs.Kept.{IsReady, Stands}
 use Rattle.tac_worker.specs.declared.worked.End.{End}
 use Rattle.tac_worker.specs.declared.worked.End.TheVariants.{Finished, ByProtocol, Stopped, LogFull, Memory, ReadFault, WriteFault, Held, NoSeat}
-use Rattle.tac_worker.specs.Served.{served_to, asks_in, is_refused, closes}
+use Rattle.tac_worker.specs.Served.{served_to, asks_in, closes}
 use Rattle.tac_worker.specs.Worked.{Calling, Leaves, Closes, Writes, Ends, IsServed}
 use Rattle.tac_worker.specs.Working.{GoesOn, TakesOne, IsAtRest, EndsAt, HearsMore, Heard, Serving}
 use Rattle.tac_worker.proofs.ServedFacts.{packets_of-append, goes_none, goes-then, ends-behind}
@@ -104,7 +104,7 @@ module _ (key : List ℕ) (was now : Calling) (before after old mid : Option (Li
 
     all_open : closes key s.input ≡ false
     all_open =
-        ap (λ (fs : List Frame). is_closed (packets_of key fs) || is_refused (cut s.input).tail) all_taken ∙ ap (λ (b : Bool). b || is_refused (cut s.input).tail) s.stays ∙ r.tail
+        ap (λ (fs : List Frame). is_closed (packets_of key fs) || closed_by (cut s.input).tail) all_taken ∙ ap (λ (b : Bool). b || closed_by (cut s.input).tail) s.stays ∙ r.tail
 
     -- nothing was left to do
     served_whole : (end : End) (left : Option (List ℕ)) → Consumes after left [] → (end ≡ Finished → IsAtEnd left) → (end ≡ Memory → ⊥) → Closes end false → Leaves end [] → (Appends new new [] → Writes end key [] [] new new)

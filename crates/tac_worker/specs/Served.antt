@@ -1,9 +1,9 @@
 -- What is sent on a connection, by the bytes that came on it and a list of answers to what they
 -- ask (RFC 8907, section 4). No desk stands here: the answers are taken as they are.
-use Rattle.std.specs.Prelude.{ℕ, List, [], ◌∷◌, flat_map, filter_map, Bool, true, false, ◌||◌}
+use Rattle.std.specs.Prelude.{ℕ, List, [], ◌∷◌, flat_map, filter_map, Bool, ◌||◌}
 use Rattle.std.specs.Prelude.{Option, Some, None, if◌then◌else◌}
 use Rattle.tac_wire.specs.declared.frame.Frame.{Frame}
-use Rattle.tac_wire.specs.Stream.{Tail, open_end, fault, cut}
+use Rattle.tac_wire.specs.Stream.{cut}
 use Rattle.tac_conn.specs.declared.ask.Answer.{Answer}
 use Rattle.tac_conn.specs.declared.ask.Ask.{Ask}
 use Rattle.tac_conn.specs.declared.ask.Slot.{Slot}
@@ -16,7 +16,7 @@ use Rattle.tac_conn.specs.Packet.{clear, sent}
 use Rattle.tac_conn.specs.Reply.{packet_of, answer_body}
 use Rattle.tac_conn.specs.Judging.{reply_in}
 use Rattle.tac_conn.specs.History.{outcome, is_closed}
-use Rattle.tac_stream.specs.Turns.{packets_of}
+use Rattle.tac_stream.specs.Turns.{packets_of, closed_by}
 
 -- a packet that is sent, with the answer that it carries, if it carries one
 pub record Sending : Type 0 where
@@ -79,15 +79,10 @@ served key bytes answers = served_to key [] (cut bytes).packets answers
 abbrev pub asks : List ℕ → List ℕ → List Ask
 asks key bytes = asks_in key [] (cut bytes).packets
 
--- a header that is refused closes the connection
-abbrev pub is_refused : Tail → Bool
-is_refused (open_end bytes) = false
-is_refused (fault reason) = true
-
 -- whether these bytes close the connection
 abbrev pub closes : List ℕ → List ℕ → Bool
 closes key bytes =
-    let parts = cut bytes in is_closed (packets_of key parts.packets) || is_refused parts.tail
+    let parts = cut bytes in is_closed (packets_of key parts.packets) || closed_by parts.tail
 
 -- the bytes that are sent, under this key
 abbrev pub bytes_sent : List ℕ → List Sending → List ℕ

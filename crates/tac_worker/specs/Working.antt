@@ -9,14 +9,14 @@ use Rattle.tac_conn.specs.History.{is_closed}
 use Rattle.tac_conn.specs.declared.ask.Answer.{Answer}
 use Rattle.tac_conn.specs.declared.packet.Packet.{Packet}
 use Rattle.tac_stream.specs.declared.stream.Stream.{Stream}
-use Rattle.tac_stream.specs.Turns.{packets_of}
+use Rattle.tac_stream.specs.Turns.{packets_of, closed_by}
 use Rattle.tac_stream.specs.Kept.{IsReady, Stands, closed_of, pending_of}
 use Rattle.tac_worker.specs.declared.worked.End.{End}
 use Rattle.tac_worker.specs.declared.worked.End.TheVariants.{Finished, ByProtocol, Memory}
 use Rattle.tac_worker.specs.declared.worked.End.TheVariants.{ReadFault, WriteFault}
 use Rattle.tac_worker.specs.declared.serving.Went.{Went}
 use Rattle.tac_worker.specs.declared.serving.Went.TheVariants.{On, Rests}
-use Rattle.tac_worker.specs.Served.{Sending, served_to, asks_in, is_refused, closes}
+use Rattle.tac_worker.specs.Served.{Sending, served_to, asks_in, closes}
 use Rattle.tac_worker.specs.Served.{bytes_sent, carried}
 use Rattle.tac_worker.specs.Worked.{Exchange, asks_of, answers_of, Calling, Makes, Closes, Ends}
 
@@ -87,7 +87,7 @@ pub record TakesOne (key : List ℕ) (bytes : List ℕ) (taken : ℕ) (was now :
 pub record IsAtRest (key : List ℕ) (bytes : List ℕ) (taken : ℕ) (was now : Calling)
     (old new : Option (List ℕ)) (stream : Stream) : Type 0 where
   pub left : left_of bytes taken ≡ []
-  pub tail : is_refused (cut bytes).tail ≡ false
+  pub tail : closed_by (cut bytes).tail ≡ false
   pub same : now ≡ was
   pub nothing : Appends old new []
   pub ready : IsReady stream
