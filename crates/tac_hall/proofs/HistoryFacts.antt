@@ -50,7 +50,7 @@ closed_joined : (one two : List Entry) → is_closed one ≡ false → is_closed
 closed_joined [] two h k = k
 closed_joined (entry ∷ one) two h k = behind (is_stop entry.call) (is_closed one) (is_closed (one ++ two)) false h (λ rest. closed_joined one two rest k)
 
-legal_joined : {base : Meaning} (one : List Entry) {middle end : Meaning} {two : List Entry} → Legal base one middle → is_closed one ≡ false → Legal middle two end → Legal base (one ++ two) end
+pub legal_joined : {base : Meaning} (one : List Entry) {middle end : Meaning} {two : List Entry} → Legal base one middle → is_closed one ≡ false → Legal middle two end → Legal base (one ++ two) end
 legal_joined one first h at_first = rw append-nil first
 legal_joined one first h (and_then {log} entry rest goes_on answers) =
     rw (← append_assoc one log (entry ∷ [])) (and_then entry (legal_joined one first h rest) (closed_joined one log h goes_on) answers)

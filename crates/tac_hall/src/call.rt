@@ -35,7 +35,7 @@ impl Call {
         matches!(self, Call::Stop)
     }
 
-    /// Whether the two are the same.
+    /// Whether the two are the same. Linear in what they hold.
     pub fn same(&self, other: &Call) -> bool
         ensures { IsTrue result ↔ (self.now ≡ other.now) }
     {
@@ -66,7 +66,7 @@ pub enum CallAnswer {
 impl CallAnswer {
     ghost use Rattle.std.specs.Prelude.{◌≡◌, ◌↔◌, IsTrue};
 
-    /// Whether the two are the same.
+    /// Whether the two are the same. Linear in what they hold.
     pub fn same(&self, other: &CallAnswer) -> bool
         ensures { IsTrue result ↔ (self.now ≡ other.now) }
     {

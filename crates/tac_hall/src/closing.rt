@@ -55,7 +55,7 @@ fn is_there(number: u32, seats: &[Seat]) -> bool
     false
 }
 
-/// Whether each call of the log was made by one of the seats.
+/// Whether each call of the log was made by one of the seats. Linear in the log, for each seat.
 pub fn are_theirs(log: &[Entry], seats: &[Seat]) -> bool
     ensures { result ≡ closing.are_theirs log.now seats.now }
 {

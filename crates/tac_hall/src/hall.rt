@@ -44,7 +44,7 @@ impl<D: Desk> Model for Hall<D> {
 
 impl<D: Desk> Hall<D> {
     /// A hall round this desk, without seats, whose log takes so many calls. The error means that
-    /// memory ran out for a copy of what the desk represents.
+    /// memory ran out for a copy of what the desk represents. Linear in the policy and the records.
     pub fn new<R: AllocGlobal>(rt: &R, desk: D, log_limit: usize) -> Result<Hall<D>, AllocError>
         ensures { IfOk result (λ hall.
             hall ≡ record { meaning = D.meaning desk; limit = log_limit }) }
@@ -77,7 +77,8 @@ impl<D: Desk> Hall<D> {
     }
 
     /// A new seat, which made no call, under the next number. The only refusal is NoSeat, after 64
-    /// of them; a seat may be asked for after a Stop too. Takes no memory.
+    /// of them; a seat may be asked for after a Stop too. Takes constant time once it has the lock,
+    /// and no memory.
     pub fn seat<R: Wait>(&self, rt: &R) -> Result<Seat, HallFault>
         ensures fresh { IfOk result (λ seat.
             (seat.segment ≡ 0) × (seat.next ≡ 0) × (seat.view ≡ [])) }
@@ -92,7 +93,8 @@ impl<D: Desk> Hall<D> {
     }
 
     /// Makes a call. It stands in the log after all that the seat made before, and in the seat's
-    /// view; the receipt says where, and has the answer. A refused call is made nowhere.
+    /// view; the receipt says where, and has the answer. A refused call is made nowhere. Takes
+    /// amortised constant time, but for what the desk takes to answer.
     pub fn call<R: Wait>(&self, rt: &R, seat: &mut Seat, call: Call) -> Result<Receipt, HallFault>
         ensures made { IfOk result (λ receipt. sitting.IsMade seat.old call receipt seat.new) }
         ensures err { OnErr result (seat.new ≡ seat.old) }
@@ -106,8 +108,9 @@ impl<D: Desk> Hall<D> {
 
     /// Takes the whole log out, and the next segment begins, with an empty log. Refused as Closed
     /// after a Stop, then as LogFull where the present segment has the greatest number (a full log
-    /// is no reason), then as Memory; nothing has changed then. Copies what the desk represents,
-    /// and all calls wait meanwhile. It is no call, and stands in no log.
+    /// is no reason), then as Memory; nothing has changed then. It is no call, and stands in no
+    /// log. Copies what the desk represents, and all calls wait meanwhile: linear in the policy and
+    /// the records, however long the log is.
     pub fn rotate_log<R: Wait>(&self, rt: &R) -> Result<Segment, HallFault>
         // One step of some room has this result; `close` tells that the room was this hall's.
         ensures { (was : Contents) × (then : Contents) × IsLawful was × Rotates was result then }
@@ -115,7 +118,8 @@ impl<D: Desk> Hall<D> {
         rotate_in(&mut take(rt, &self.room))
     }
 
-    /// The same, for whoever has a seat, of any hall; the seat stays as it is.
+    /// The same, for whoever has a seat, of any hall; the seat stays as it is. Costs as much as
+    /// [`Hall::rotate_log`].
     pub fn rotate<R: Wait>(&self, rt: &R, seat: &mut Seat) -> Result<Segment, HallFault>
         ensures seat { seat.new ≡ seat.old }
         ensures room { (was : Contents) × (then : Contents) × IsLawful was
@@ -133,7 +137,7 @@ impl<D: Desk> Hall<D> {
     ///
     /// Refused where one of the hall's seats is missing, or one is handed in that isn't the hall's
     /// or has calls of an earlier segment; then the hall and the seats come back. Linear in the
-    /// log, for each seat.
+    /// log, for each seat; in the first segment in the policy and the records too.
     pub fn close(self, seats: Vec<Seat>) -> Result<Settled<D>, (Hall<D>, Vec<Seat>)>
         ensures base { IfOk result (λ settled.
             settled.number ≡ 0 → settled.base ≡ self.meaning) }

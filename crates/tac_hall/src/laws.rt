@@ -184,6 +184,9 @@ impl<D: Desk> Room<D> {
     /// rotation takes the whole log out, and the next segment begins. A refusal changes nothing;
     /// only a call and a rotation may run out of memory. What the room had until then was lawful
     /// too.
+    ///
+    /// A seat takes constant time. So does a call, amortised, but for what the desk takes to
+    /// answer. A rotation is linear in the policy and the records.
     pub fn step(&mut self, step: Step) -> Result<Done, HallFault>
         ensures does { rooms.Does self.old step result self.new }
         ensures lawful { rooms.IsLawful self.old }

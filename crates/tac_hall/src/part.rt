@@ -66,10 +66,7 @@ fn end_of_parts(view: &[Made], number: u32, logs: &[Sequence<Entry>]) -> Option<
 {
     let mut end = 0;
     'logs: for (segment, log) in logs.iter().enumerate() {
-        let Some(next) = end_of_part(view, end, segment as u64, number, log.as_slice()) else {
-            return None;
-        };
-        end = next;
+        end = end_of_part(view, end, segment as u64, number, log.as_slice())?;
     }
     Some(end)
 }
@@ -96,9 +93,7 @@ pub(crate) fn end_of_logs(view: &[Made], number: u32, logs: &[Sequence<Entry>]) 
         view.now ≡ view_along 0 number logs.now ++ rest →
         AreFrom (length logs.now) rest → ⊥) }
 {
-    let Some(end) = end_of_parts(view, number, logs) else {
-        return None;
-    };
+    let end = end_of_parts(view, number, logs)?;
     let Some(last) = logs.len().checked_sub(1) else {
         return Some(end);
     };

@@ -97,7 +97,7 @@ impl Segment {
         self.end.get()
     }
 
-    /// All that is in it. Takes no memory.
+    /// All that is in it. Takes constant time and no memory: nothing is copied.
     pub fn into_parts(self) -> Parts
         ensures parts { (result.number ≡ self.number) × (result.base ≡ self.base)
             × (result.log ≡ self.log) × (result.end ≡ self.end) }
