@@ -12,7 +12,8 @@ use Rattle.tac_net.specs.Ending.{Refuses, Closes}
 use Rattle.tac_net.specs.Serving.{HaveServed}
 use Rattle.tac_net.specs.declared.settings.Settings.{Settings}
 use Rattle.tac_net.specs.declared.fault.ServeFault.{ServeFault}
-use Rattle.tac_net.specs.declared.fault.ServeFault.TheVariants.{ReadFault, WriteFault, Memory, Threads}
+use Rattle.tac_net.specs.declared.fault.ServeFault.TheVariants.{ReadFault, WriteFault, Memory}
+use Rattle.tac_net.specs.declared.fault.ServeFault.TheVariants.{Threads}
 
 -- what the end of the console ends the server as
 abbrev pub fault_by : OperatorFault → ServeFault
