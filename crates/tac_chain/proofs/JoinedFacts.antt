@@ -1,32 +1,12 @@
 -- Logs that are joined.
-use Rattle.std.proofs.Common.{◌≡◌, ℕ, List, [], ◌∷◌, ◌++◌, Bool, true, false, ◌||◌, Option, Some, None, refl, sym, ap, subst, ◌∙◌, append-nil, append_assoc, length}
+use Rattle.std.proofs.Common.{◌≡◌, ℕ, List, [], ◌∷◌, ◌++◌, Option, Some, None, refl, sym, ap, subst, ◌∙◌, append-nil, append_assoc, length}
 use Rattle.tac_desk.specs.Meaning.{Meaning}
 use Rattle.tac_hall.specs.declared.entry.Entry.{Entry}
-use Rattle.tac_hall.specs.History.{is_stop, is_closed, Legal, at_first, and_then}
+use Rattle.tac_hall.specs.History.{Legal}
 use Rattle.tac_hall.specs.Segment.{Stretch, IsStretch}
 use Rattle.tac_chain.specs.declared.ends.Ends.{Ends}
-use Rattle.tac_hall.proofs.HistoryFacts.{stretch_joined}
+use Rattle.tac_hall.proofs.HistoryFacts.{legal_joined, stretch_joined}
 use Rattle.tac_chain.specs.Chain.{joined, whole, IsChained, BeginsWith, EndsWith, first_with}
-
-or_assoc : (a b c : Bool) → (a || (b || c)) ≡ ((a || b) || c)
-or_assoc true b c = refl
-or_assoc false b c = refl
-
--- a Stop is in one of them
-closed-append : (first second : List Entry) → is_closed (first ++ second) ≡ (is_closed first || is_closed second)
-closed-append [] second = refl
-closed-append (entry ∷ first) second =
-    ap (λ (b : Bool). is_stop entry.call || b) (closed-append first second) ∙ or_assoc (is_stop entry.call) (is_closed first) (is_closed second)
-
-open_both : (first second : List Entry) → is_closed first ≡ false → is_closed second ≡ false → is_closed (first ++ second) ≡ false
-open_both first second a b = rw (closed-append first second, a, b) refl
-
--- a history without a Stop, and one that begins where it ends
-legal-append : (base middle last : Meaning) (first second : List Entry) → Legal base first middle → is_closed first ≡ false → Legal middle second last → Legal base (first ++ second) last
-legal-append base middle last first second a goes (at_first) = subst (λ (l : List Entry). Legal base l middle) (sym (append-nil first)) a
-legal-append base middle last first second a goes (and_then {log = log} {was = was} {now = now} entry legal goes_on answers) =
-    subst (λ (l : List Entry). Legal base l now) (append_assoc first log (entry ∷ []))
-    (and_then entry (legal-append base middle was first log a goes legal) (open_both first log goes goes_on) answers)
 
 -- one log more
 joined-append : (logs : List (List Entry)) (log : List Entry) → joined (logs ++ log ∷ []) ≡ joined logs ++ log
@@ -60,4 +40,4 @@ legal_whole (one ∷ logs) None opening base last number log c begins at ends fi
 legal_whole [] (Some around) opening base last number log c begins at ends first legal = subst (λ (m : Meaning). Legal m log last) (first at) legal
 legal_whole (one ∷ logs) (Some around) opening base last number log c begins at ends first legal =
     subst (λ (m : Meaning). Legal m (joined (one ∷ logs) ++ log) last) begins
-    (legal-append around.first around.last last (joined (one ∷ logs)) log c.legal c.goes_on (subst (λ (m : Meaning). Legal m log last) (sym ends) legal))
+    (legal_joined (joined (one ∷ logs)) c.legal c.goes_on (subst (λ (m : Meaning). Legal m log last) (sym ends) legal))

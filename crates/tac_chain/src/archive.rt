@@ -17,7 +17,7 @@ pub struct Archive {
 }
 
 impl Archive {
-    /// An archive without logs.
+    /// An archive without logs. Takes no memory.
     pub fn new(alloc: Global) -> Archive {
         Archive {
             chain: Mutex::new(Chain::new(alloc)),
@@ -25,7 +25,7 @@ impl Archive {
     }
 
     /// Rotates the log of a hall, and keeps what is taken out ([`Chain::rotate`]). It may wait for
-    /// the two locks.
+    /// the two locks, and then costs as much as that.
     pub fn rotate<R: Wait, D: Desk>(&self, rt: &R, hall: &Hall<D>) -> Result<Rotated, HallFault>
         // One rotation with some chain has this result; `Chain::close` tells that it was this one.
         ensures { (was : Chained) × (then : Chained) × IsChained was.logs was.ends
@@ -34,7 +34,7 @@ impl Archive {
         self.chain.lock(rt).rotate(rt, hall)
     }
 
-    /// The logs that were kept.
+    /// The logs that were kept. Takes constant time and no memory.
     pub fn into_chain(self) -> Chain {
         self.chain.into_inner()
     }

@@ -71,6 +71,8 @@ impl Chain {
     }
 
     /// Rotates the log of a hall, and keeps what is taken out. The place for it is made first.
+    /// Linear in the policy and the records, however long the log is, and amortised constant in
+    /// the logs that are kept.
     ///
     /// Where there is no memory for the place, or the hall refuses the rotation, nothing has
     /// changed. A segment that doesn't follow the chain is given up, as NoSeat: then the chain
