@@ -1,13 +1,29 @@
 -- What logs have of seats, one log after another.
-use Rattle.std.proofs.Common.{◌≡◌, ℕ, suc, ◌+◌, ◌<◌, drop, get_or, List, [], ◌∷◌, ◌++◌, Bool, true, false, ◌&&◌, length, refl, sym, ap, ◌∙◌, append-nil, append_assoc, arith}
+use Rattle.std.proofs.Common.{◌≡◌, ℕ, suc, ◌+◌, ◌<◌, ◌≤◌, nat_le, inl, inr, ◌⊎◌, drop, get_or, List, [], ◌∷◌, ◌++◌, Bool, true, false, ◌&&◌, length, refl, sym, ap, ◌∙◌, append-nil, append_assoc, arith}
 use Rattle.std.proofs.lemmas.List.{drop_more}
+use Rattle.std.proofs.lemmas.List.Elements.{All-push}
+use Rattle.std.proofs.lemmas.List.Sums.{AllPass-from_list_all}
+use Rattle.std.proofs.lemmas.Bool.Decides.{leb_tells}
 use Rattle.tac_hall.specs.declared.entry.Entry.{Entry}
 use Rattle.tac_hall.specs.declared.entry.Made.{Made}
 use Rattle.tac_hall.specs.Closing.{AreViews, is_there, are_theirs}
 use Rattle.tac_hall.specs.Seat.{Sitting}
 use Rattle.tac_hall.specs.Shedding.{view_of, view_along}
-use Rattle.tac_chain.specs.Chain.{joined}
+use Rattle.tac_chain.specs.Chain.{AreWithin, is_within, are_within, joined}
 use Rattle.tac_chain.specs.Closing.{HaveShed, AreViewsAlong}
+
+-- ---- how long they are
+
+short : (calls limit : ℕ) → nat_le calls limit ≡ true → calls ≤ limit
+short calls limit e = by (leb_tells calls limit)
+  where
+    by : ((nat_le calls limit ≡ true) × (calls ≤ limit)) ⊎ ((nat_le calls limit ≡ false) × (limit < calls)) → calls ≤ limit
+    by (inl told) = told.1
+    by (inr told) = absurd (let no = sym told.0 ∙ e in cc)
+
+pub all_within : (limit : ℕ) (logs : List (List Entry)) (log : List Entry) → are_within limit logs ≡ true → length log ≤ limit → AreWithin limit (logs ++ log ∷ [])
+all_within limit logs log e last =
+    All-push (λ (l : List Entry). length l ≤ limit) logs log (λ k d lt. short (length (get_or logs k d)) limit (AllPass-from_list_all (is_within limit) logs e k d lt)) last
 
 -- ---- theirs
 

@@ -1,5 +1,7 @@
 -- The logs that were taken out of a hall, one after another.
-use Rattle.std.specs.Prelude.{◌≡◌, ℕ, List, [], ◌∷◌, ◌++◌, length, Option, Some, None}
+use Rattle.std.specs.Prelude.{◌≡◌, ◌≤◌, ℕ, List, [], ◌∷◌, ◌++◌, length, All, Bool, nat_le}
+use Rattle.std.specs.Prelude.{Option, Some, None}
+use Rattle.std.specs.List.{list_all}
 use Rattle.tac_desk.specs.Meaning.{Meaning}
 use Rattle.tac_hall.specs.declared.entry.Entry.{Entry}
 use Rattle.tac_hall.specs.Segment.{Stretch, IsStretch}
@@ -26,6 +28,19 @@ abbrev pub IsChained : List (List Entry) → Option Ends → Type 0
 IsChained [] None = Unit {0}
 IsChained (log ∷ logs) None = ⊥
 IsChained logs (Some ends) = IsStretch (whole logs ends)
+
+-- ---- how long the logs are
+
+-- no log has more calls than this
+abbrev pub AreWithin : ℕ → List (List Entry) → Type 0
+AreWithin limit logs = All (λ log. length log ≤ limit) logs
+
+-- the same as a test
+abbrev pub is_within : ℕ → List Entry → Bool
+is_within limit log = nat_le (length log) limit
+
+abbrev pub are_within : ℕ → List (List Entry) → Bool
+are_within limit logs = list_all (is_within limit) logs
 
 -- ---- what comes before and after
 

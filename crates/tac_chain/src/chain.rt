@@ -116,6 +116,13 @@ impl Chain {
         begin_with(&self.ends, state)
     }
 
+    // Whether no log has more calls than this.
+    pub(crate) fn is_within(&self, limit: usize) -> bool
+        ensures { result ≡ chains.are_within limit self.now.logs }
+    {
+        self.logs.as_slice().iter().all(|log| log.len() <= limit)
+    }
+
     // Whether each call was made by one of these seats.
     pub(crate) fn is_theirs(&self, seats: &[Seat]) -> bool
         ensures { result ≡ closing.are_theirs (chains.joined self.now.logs) seats.now }

@@ -1,5 +1,5 @@
 -- Seats that have shed the logs that were taken out of their hall.
-use Rattle.std.proofs.Common.{◌≡◌, ℕ, List, [], ◌∷◌, ◌++◌, Bool, true, false, ◌||◌, ◌&&◌, ◌==◌, length, ◌≤◌, IsTrue, refl, sym, ap, subst, ◌∙◌, append_assoc, append-nil}
+use Rattle.std.proofs.Common.{◌≡◌, ℕ, List, [], ◌∷◌, ◌++◌, Bool, true, false, ◌||◌, ◌&&◌, ◌==◌, IsTrue, refl, sym, ap, subst, ◌∙◌, append_assoc, append-nil}
 use Rattle.tac_desk.specs.Meaning.{Meaning}
 use Rattle.tac_hall.specs.declared.entry.Entry.{Entry}
 use Rattle.tac_hall.specs.Closing.{is_there, are_theirs}
@@ -7,7 +7,7 @@ use Rattle.tac_hall.specs.History.{Legal}
 use Rattle.tac_hall.specs.Opening.{Opening}
 use Rattle.tac_hall.specs.Seat.{Sitting}
 use Rattle.tac_hall.specs.Shedding.{ShedsAll, ShedAll}
-use Rattle.tac_chain.specs.Chain.{joined}
+use Rattle.tac_chain.specs.Chain.{AreWithin, joined}
 use Rattle.tac_chain.specs.Closing.{HaveShed, AreViewsAlong}
 use Rattle.tac_net.specs.Ending.{IsSettled, Adds}
 use Rattle.tac_net.proofs.PlacesFacts.{joined_last}
@@ -46,7 +46,7 @@ theirs_same logs wholes seats h (entry ∷ log) =
 
 -- the hall was closed with seats that have shed all logs
 pub settled : (hall : Opening) (logs : List (List Entry)) (log : List Entry) (last : Meaning) (wholes seats : List Sitting) → HaveShed logs wholes seats → Legal hall.meaning (joined logs ++ log) last
-    → length log ≤ hall.limit → AreViewsAlong (logs ++ log ∷ []) wholes → are_theirs (joined logs ++ log) seats ≡ true → IsSettled hall wholes
+    → AreWithin hall.limit (logs ++ log ∷ []) → AreViewsAlong (logs ++ log ∷ []) wholes → are_theirs (joined logs ++ log) seats ≡ true → IsSettled hall wholes
 settled hall logs log last wholes seats shed legal within views theirs =
     let all = sym (joined_last logs log) in
     record {

@@ -1,5 +1,5 @@
 -- How a server leaves its hall.
-use Rattle.std.specs.Prelude.{◌≡◌, ◌≤◌, ℕ, List, [], ◌∷◌, ◌++◌, codes, length, true, Option}
+use Rattle.std.specs.Prelude.{◌≡◌, ℕ, List, [], ◌∷◌, ◌++◌, codes, true, Option}
 use Rattle.std.specs.Prelude.{Result, Ok, Err}
 use Rattle.std.specs.Io.KnownBytes.{Appends}
 use Rattle.tac_desk.specs.Meaning.{Meaning}
@@ -8,7 +8,7 @@ use Rattle.tac_hall.specs.History.{Legal}
 use Rattle.tac_hall.specs.Opening.{Opening}
 use Rattle.tac_hall.specs.Seat.{Sitting}
 use Rattle.tac_hall.specs.declared.entry.Entry.{Entry}
-use Rattle.tac_chain.specs.Chain.{joined}
+use Rattle.tac_chain.specs.Chain.{AreWithin, joined}
 use Rattle.tac_chain.specs.Closing.{HaveShed, AreViewsAlong}
 use Rattle.tac_hall_console.specs.Operated.{WritesBeginning}
 use Rattle.tac_net.specs.declared.fault.ServeFault.{ServeFault}
@@ -24,15 +24,15 @@ Refuses WriteFault old new = WritesBeginning refused_line old new
 Refuses fault old new = ⊥
 
 -- what these seats did is one legal history of a desk that represented this at first: the logs that
--- were taken out of the hall, one after another, and the last, which is no longer than the hall's
--- log may be. It has of each seat exactly its view, each call at its place of its segment, and no
--- other call
+-- were taken out of the hall, one after another, and the last, none of which is longer than the
+-- hall's log may be. It has of each seat exactly its view, each call at its place of its segment,
+-- and no other call
 pub record IsSettled (hall : Opening) (seats : List Sitting) : Type 0 where
   pub earlier : List (List Entry)
   pub log : List Entry
   pub last : Meaning
   pub legal : Legal hall.meaning (joined (earlier ++ log ∷ [])) last
-  pub within : length log ≤ hall.limit
+  pub within : AreWithin hall.limit (earlier ++ log ∷ [])
   pub views : AreViewsAlong (earlier ++ log ∷ []) seats
   pub theirs : are_theirs (joined (earlier ++ log ∷ [])) seats ≡ true
 
