@@ -1,12 +1,13 @@
 //! Changes of a policy that are ready to be made.
 
-ghost use Rattle.std.specs.Prelude.{◌≡◌, ◌≤◌, ◌↔◌, List, ◌∷◌, [], IsTrue, IfOk, OnErr};
+ghost use Rattle.std.specs.Prelude.{◌≡◌, ◌≤◌, ◌↔◌, List, ◌∷◌, [], Err, IsTrue, IfOk, OnErr};
 ghost use Rattle.std.specs.Option.{option_copied, option_map};
 ghost use Rattle.pol_pattern.specs.Matching.{MatchLaw};
 ghost use Rattle.pol_text.specs.Policy.{find_subject, decide, entries};
 ghost use Rattle.pol_text.specs.declared.subject.Subject.{Subject as SubjectValue};
-ghost use Rattle.pol_edit.specs.Applying.{is_memory};
-ghost use Rattle.pol_edit.specs.Batches.{ran_out};
+ghost use Rattle.pol_edit.specs.declared.fault.EditFault.TheVariants.{NoSuch};
+ghost use Rattle.pol_edit.specs.Applying.{applied, is_memory};
+ghost use Rattle.pol_edit.specs.Batches.{ran_out, of_edit, IsFirstMissing};
 ghost use Rattle.pol_meaning.specs.Sizes.{IsSmall};
 ghost use Rattle.pol_live.specs.Rise.{IsEditRise, IsOne, Rises};
 ghost use Rattle.pol_live.specs.Live.{Prepares, IsOnlyPrepared, IsDeciderFor};
@@ -60,6 +61,9 @@ impl Live {
         ensures found { UnlessMemory is_memory result (Prepares self.now edit.now result) }
         ensures only { UnlessMemory is_memory result (IsOnlyPrepared self.now edit.now result) }
 
+        // An edit of what isn't there is refused so, and takes no memory.
+        ensures sure { applied self.now edit.now ≡ Err NoSuch → result ≡ Err NoSuch }
+
         // The meter rises by the residuals of each automaton that the edit makes anew.
         ensures rises { IfOk result (λ prepared.
             Rises (IsEditRise (edit.now ∷ []) prepared.after) meter.old.total meter.new.total) }
@@ -87,6 +91,9 @@ impl Live {
         ensures found { UnlessMemory ran_out result (PreparesAll self.now edits.now result) }
         ensures only { UnlessMemory ran_out result (IsOnlyPreparedAll self.now edits.now result) }
 
+        // A first edit of what isn't there is refused so, and takes no memory.
+        ensures sure { IsFirstMissing self.now edits.now → result ≡ Err (of_edit 1 NoSuch) }
+
         // The meter rises by the residuals of each automaton that the edits together make anew.
         ensures rises { IfOk result (λ prepared.
             Rises (IsEditRise edits.now prepared.after) meter.old.total meter.new.total) }
@@ -103,12 +110,13 @@ impl Live {
         meter: &mut Meter,
     ) -> Result<Prepared, BatchFault>
         ensures found { UnlessMemory ran_out result (PreparesAll self.now edits.now result) }
+        ensures sure { IsFirstMissing self.now edits.now → result ≡ Err (of_edit 1 NoSuch) }
         ensures rises { IfOk result (λ prepared.
             Rises (IsEditRise edits.now prepared.after) meter.old.total meter.new.total) }
         ensures kept { OnErr result (meter.old.total ≤ meter.new.total) }
     {
+        let policy = edited(alloc, self.policy(), edits)?;
         let before = self.policy().copy(alloc)?;
-        let policy = edited(alloc, &before, edits)?;
         let touched = touched_by(alloc, edits)?;
         let after = self.renewed(alloc, &touched, policy, meter)?;
         Ok(Prepared {
