@@ -21,9 +21,9 @@ impl Chain {
     ///
     /// Refused where the hall refuses to be closed with these seats, where the chain has calls of
     /// other seats or a longer log, or where it doesn't begin with what the hall was opened with;
-    /// then the hall and the seats come back. Where the hall was closed, and its last log doesn't follow the chain,
-    /// they are gone. The chain stays as it is. Linear in the logs, for each seat, and in the policy
-    /// and the records.
+    /// then the hall and the seats come back. Where the hall was closed, and its last log doesn't
+    /// follow the chain, they are gone. The chain stays as it is. Linear in the logs, for each seat,
+    /// and in the policy and the records.
     pub fn close<D: Desk>(
         &self,
         hall: Hall<D>,
