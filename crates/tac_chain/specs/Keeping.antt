@@ -1,5 +1,7 @@
 -- A rotation whose log is kept.
-use Rattle.std.specs.Prelude.{◌≡◌, length, Result, Ok, Err}
+use Rattle.std.specs.Prelude.{◌≡◌, ◌≤◌, ℕ, suc, List, [], ◌∷◌, length, map, slice_get}
+use Rattle.std.specs.Prelude.{Some, Result, Ok, Err}
+use Rattle.tac_hall.specs.declared.entry.Entry.{Entry}
 use Rattle.tac_hall.specs.declared.fault.HallFault.{HallFault}
 use Rattle.tac_hall.specs.Room.{Contents, IsLawful, Rotates}
 use Rattle.tac_hall.specs.Segment.{Stretch}
@@ -21,6 +23,16 @@ pub record IsKept (was : Chained) (rotated : Rotated) (now : Chained) : Type 0 w
   pub number : rotated.number ≡ segment.number
   pub entries : rotated.entries ≡ length segment.log
   pub kept : now ≡ with_segment was segment
+
+-- the log of the segment of this number is one of these, and has so many calls
+abbrev pub IsOf : List (List Entry) → Rotated → Type 0
+IsOf logs rotated = slice_get (map length logs) rotated.number ≡ Some rotated.entries
+
+-- each of these is, and their numbers rise, from this one on
+abbrev pub AreOf : List (List Entry) → ℕ → List Rotated → Type 0
+AreOf logs least [] = Unit {0}
+AreOf logs least (rotated ∷ later) =
+    (least ≤ rotated.number) × IsOf logs rotated × AreOf logs (suc rotated.number) later
 
 -- else the chain stays as it is
 abbrev pub Keeps : Chained → Result Rotated HallFault → Chained → Type 0

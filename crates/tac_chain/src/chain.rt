@@ -1,6 +1,6 @@
 //! The logs that were taken out of a hall.
 
-ghost use Rattle.std.specs.Prelude.{◌≡◌, ◌↔◌, [], None, IsTrue};
+ghost use Rattle.std.specs.Prelude.{◌≡◌, ◌↔◌, [], suc, None, IsTrue, IfSome, IfNone};
 ghost use Rattle.tac_chain.specs.Chain as chains;
 ghost use Rattle.tac_chain.specs.Keeping as keeping;
 ghost use Rattle.tac_hall.specs.Closing as closing;
@@ -97,6 +97,37 @@ impl Chain {
         let first = first_of(self.ends.take(), base);
         self.ends = Some(Ends { first, last: end });
         Ok(Rotated { number, entries })
+    }
+
+    // The number after that of a rotation, if the log of the segment of this number was kept, and
+    // has so many calls.
+    fn next_after(&self, rotated: &Rotated) -> Option<u64>
+        ensures found { IfSome result (λ next.
+            (next ≡ suc rotated.now.number) × keeping.IsOf self.now.logs rotated.now) }
+        ensures only { IfNone result (keeping.IsOf self.now.logs rotated.now → ⊥) }
+    {
+        match self.logs.get(rotated.number as usize) {
+            Some(log) if log.len() == rotated.entries => Some(rotated.number + 1),
+            _ => None,
+        }
+    }
+
+    /// Whether these rotations were kept, each with its number and how many calls its log has, one
+    /// after another. Linear in the rotations.
+    pub fn has_all(&self, rotations: &[Rotated]) -> bool
+        ensures { IsTrue result ↔ keeping.AreOf self.now.logs 0 rotations.now }
+    {
+        let mut least = 0;
+        'rotations: for rotated in rotations {
+            let Some(next) = self.next_after(rotated) else {
+                return false;
+            };
+            if rotated.number < least {
+                return false;
+            }
+            least = next;
+        }
+        true
     }
 
     /// Has a seat shed all logs: exactly where the view begins with what they have of it, one after
