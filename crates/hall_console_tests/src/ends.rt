@@ -138,7 +138,7 @@ fn behind_a_stop(rt: HostRuntime) -> Result<(), Fail> {
         99,
     )?;
     let written = seen.written.as_slice() == BEHIND_A_STOP.as_bytes();
-    if written && seen.end.as_str() == "Ok(())" && seen.seat.view().is_empty() {
+    if written && seen.end.as_str() == "Ok(())" && seen.seat.seat.view().is_empty() {
         Ok(())
     } else {
         Err(Fail::from(seen.end))

@@ -7,8 +7,8 @@ use std::sync::Wait;
 use std::test::Fail;
 use tac_chain::{Archive, Chain};
 use tac_desks::PlainDesk;
-use tac_hall::{Call, Hall, HallFault, Seat};
-use tac_hall_console::operate;
+use tac_hall::{Call, Hall, HallFault};
+use tac_hall_console::{ConsoleSeat, operate};
 
 /// The whole input at once.
 pub(crate) const WHOLE: Manner = Manner {
@@ -29,7 +29,7 @@ pub(crate) fn hall_of<R: AllocGlobal>(rt: &R, limit: usize) -> Result<Hall<Plain
 pub(crate) struct Seen {
     pub(crate) written: Vec<u8>,
     pub(crate) end: String,
-    pub(crate) seat: Seat,
+    pub(crate) seat: ConsoleSeat,
     pub(crate) chain: Chain,
 }
 
@@ -105,10 +105,14 @@ fn fail<R: AllocGlobal>(rt: &R, what: &str, seen: &Seen) -> Fail {
     }
 }
 
-// Whether the hall is closed with all that was taken out of its log, once the seat has shed that.
-fn closes(alloc: Global, hall: Hall<PlainDesk>, chain: &Chain, seat: Seat) -> bool {
-    let mut seat = seat;
-    if !chain.shed_by(&mut seat) {
+// Whether the hall is closed with all that was taken out of its log, once the seat has shed that;
+// and what the console remembers of it is so.
+fn closes(alloc: Global, hall: Hall<PlainDesk>, chain: &Chain, console: ConsoleSeat) -> bool {
+    let ConsoleSeat {
+        mut seat,
+        rotations,
+    } = console;
+    if !chain.has_all(rotations.as_slice()) || !chain.shed_by(&mut seat) {
         return false;
     }
     let mut seats = Vec::new(alloc);
@@ -132,7 +136,7 @@ fn talks<R: Wait + AllocGlobal>(
     if seen.written.as_slice() != printed.as_slice() {
         return Err(fail(rt, "written", &seen));
     }
-    if seen.end.as_str() != "Ok(())" || seen.seat.view().len() != made {
+    if seen.end.as_str() != "Ok(())" || seen.seat.seat.view().len() != made {
         return Err(fail(rt, "another end or number of calls", &seen));
     }
     let Seen {
@@ -183,7 +187,7 @@ pub(crate) fn ends<R: Wait + AllocGlobal>(
     if seen.written.as_slice() != written.as_bytes() || seen.end.as_str() != end {
         return Err(fail(rt, "written", &seen));
     }
-    if seen.seat.view().len() != made {
+    if seen.seat.seat.view().len() != made {
         return Err(fail(rt, "another number of calls", &seen));
     }
     let mut other = hall.seat(rt)?;

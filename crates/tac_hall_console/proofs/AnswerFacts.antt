@@ -2,8 +2,8 @@
 use Rattle.std.proofs.Common.{◌≡◌, ℕ, List, [], ◌∷◌, Option, Result, Ok, Err, IsErrAnd, sym, subst, ◌∙◌, inl, inr, refl, arith}
 use Rattle.std.specs.Io.KnownBytes.{Appends}
 use Rattle.std.proofs.KnownBytes.{Appends-nil}
-use Rattle.tac_hall.specs.Seat.{Sitting}
 use Rattle.tac_hall_console.specs.declared.answering.Console.{Console}
+use Rattle.tac_hall_console.specs.declared.answering.ConsoleSeat.{ConsoleSeat}
 use Rattle.tac_hall_console.specs.declared.fault.OperatorFault.{OperatorFault}
 use Rattle.tac_hall_console.specs.declared.fault.OperatorFault.TheVariants as faults
 use Rattle.tac_hall_console.specs.Operated.{LineComesTo, Makes, WritesBeginning}
@@ -44,7 +44,7 @@ answers_sent (Err faults.WriteFault) line text was now old new t leaves sent = (
 )
 answers_sent (Err faults.Memory) line text was now old new t leaves sent = absurd sent
 
-none_made : (was now : Sitting) → now ≡ was → Makes was now []
+none_made : (was now : ConsoleSeat) → now ≡ was → Makes was now [] []
 none_made was now same = rw same (makes_none was)
 
 untold : (line : List ℕ) (was now : Console) (old : Option (List ℕ)) → IsUntold (LineComesTo was.batch line) was.seat now.seat → EndsAt (Err faults.Memory) (line ∷ []) was now old old

@@ -1,5 +1,5 @@
 -- A call that is made or refused.
-use Rattle.std.proofs.Common.{◌≡◌, ◌-◌, ℕ, Bool, true, false, List, [], ◌∷◌, ◌++◌, length, Option, Some, Result, Ok, Err, IfOk, OnOk, OnErr, IsErrAnd, refl, sym, ap, subst, ◌∙◌, inr, length-append, arith}
+use Rattle.std.proofs.Common.{◌≡◌, ◌-◌, ℕ, Bool, true, false, List, [], ◌∷◌, ◌++◌, length, Option, Some, Result, Ok, Err, IfOk, OnOk, OnErr, IsErrAnd, refl, sym, ap, subst, ◌∙◌, inr, append-nil, length-append, arith}
 use Rattle.std.specs.Prelude.{slice_get, MatchBool}
 use Rattle.std.proofs.KnownBytes.{Appends-nil}
 use Rattle.pol_edit.specs.declared.edit.Edit.{Edit}
@@ -17,6 +17,7 @@ use Rattle.tac_hall.specs.declared.entry.Receipt.{Receipt}
 use Rattle.tac_hall.specs.declared.fault.HallFault.{HallFault}
 use Rattle.tac_hall.specs.declared.fault.HallFault.TheVariants as hall
 use Rattle.tac_hall.specs.Seat.{Sitting, IsMade, made_of}
+use Rattle.tac_hall_console.specs.declared.answering.ConsoleSeat.{ConsoleSeat}
 use Rattle.tac_hall_console.specs.declared.fault.OperatorFault.{OperatorFault}
 use Rattle.tac_hall_console.specs.declared.fault.OperatorFault.TheVariants as faults
 use Rattle.tac_hall_console.specs.Operated.{Outcome, CallsFor, ComesTo, IsRotation, LineComesTo, noticed, made, rotated, refused, told, refusal_line, HasFound}
@@ -36,61 +37,63 @@ last_of before last =
 
 -- ---- what came of it
 
-pub comes_made : (call : Call) (receipt : Receipt) (was now : Sitting) → IsMade was call receipt now → Comes (CallsFor call) (made (made_of call receipt)) was now
-comes_made call receipt was now m = record { comes = (refl, m.kind); makes = record { number = m.number; view = m.view } }
+pub comes_made : (call : Call) (receipt : Receipt) (was now : ConsoleSeat) → IsMade was.seat call receipt now.seat → now.rotations ≡ was.rotations
+    → Comes (CallsFor call) (made (made_of call receipt)) was now
+comes_made call receipt was now m kept = record { comes = (refl, m.kind); makes = record { number = m.number; view = m.view; rotations = kept ∙ sym (append-nil was.rotations) } }
 
-pub comes_refused : (call : Call) (fault : HallFault) (was now : Sitting) → now ≡ was → Comes (CallsFor call) (refused fault) was now
-comes_refused call fault was now same = rw same (record { comes = tt; makes = makes_none was })
+pub comes_refused : (call : Call) (fault : HallFault) (was now : ConsoleSeat) → now.seat ≡ was.seat → now.rotations ≡ was.rotations → Comes (CallsFor call) (refused fault) was now
+comes_refused call fault was now same kept = record {
+  comes = tt;
+  makes = record {
+    number = ap (λ (s : Sitting). s.number) same;
+    view = ap (λ (s : Sitting). s.view) same ∙ sym (append-nil was.seat.view);
+    rotations = kept ∙ sym (append-nil was.rotations);
+  };
+}
 
-pub comes_noticed : (notice : Notice) (was : Sitting) → Comes (ComesTo (actions.Tell notice)) (noticed notice) was was
+pub comes_noticed : (notice : Notice) (was : ConsoleSeat) → Comes (ComesTo (actions.Tell notice)) (noticed notice) was was
 comes_noticed notice was = record { comes = refl; makes = makes_none was }
 
-pub comes_of : (call : Call) (result : Result Receipt HallFault) (was now : Sitting) → IfOk result (λ receipt. IsMade was call receipt now) → OnErr result (now ≡ was)
-    → (outcome : Outcome) × Comes (CallsFor call) outcome was now
-comes_of call (Ok receipt) was now m same = (made (made_of call receipt), comes_made call receipt was now m)
-comes_of call (Err fault) was now m same = (refused fault, comes_refused call fault was now same)
+pub comes_of : (call : Call) (result : Result Receipt HallFault) (was now : ConsoleSeat) → IfOk result (λ receipt. IsMade was.seat call receipt now.seat) → OnErr result (now.seat ≡ was.seat)
+    → now.rotations ≡ was.rotations → (outcome : Outcome) × Comes (CallsFor call) outcome was now
+comes_of call (Ok receipt) was now m same kept = (made (made_of call receipt), comes_made call receipt was now m kept)
+comes_of call (Err fault) was now m same kept = (refused fault, comes_refused call fault was now same kept)
 
 -- ---- a rotation
 
-pub comes_rotated : (rotation : Rotated) (was then : Chained) (seat : Sitting) → IsChained was.logs was.ends → IsKept was rotation then → Comes IsRotation (rotated rotation) seat seat
-comes_rotated rotation was then seat chained kept = record { comes = (was, then, chained, kept); makes = makes_none seat }
+pub comes_rotated : (rotation : Rotated) (before then : Chained) (was now : ConsoleSeat) → IsChained before.logs before.ends → IsKept before rotation then → now.seat ≡ was.seat
+    → now.rotations ≡ was.rotations ++ rotation ∷ [] → Comes IsRotation (rotated rotation) was now
+comes_rotated rotation before then was now chained kept same more = record {
+  comes = (before, then, chained, kept);
+  makes = record { number = ap (λ (s : Sitting). s.number) same; view = ap (λ (s : Sitting). s.view) same ∙ sym (append-nil was.seat.view); rotations = more };
+}
 
-pub comes_unrotated : (fault : HallFault) (seat : Sitting) → Comes IsRotation (refused fault) seat seat
-comes_unrotated fault seat = record { comes = tt; makes = makes_none seat }
-
-pub rotation_told : {E : Type 0} (outcome : Outcome) (old new : List ℕ) (result : Result (Unit {0}) E) → ((seat : Sitting) → Comes IsRotation outcome seat seat)
-    → OnOk result (new ≡ old ++ told outcome) → OnOk result ((seat : Sitting) → Adds IsRotation seat seat old new)
-rotation_told outcome old new (Ok u) came e = λ seat. (told outcome, e, record { outcome = outcome; came = came seat; is = refl })
-rotation_told outcome old new (Err fault) came e = tt
-
-pub rotation_untold : {E : Type 0} (outcome : Outcome) (result : Result (Unit {0}) E) → ((seat : Sitting) → Comes IsRotation outcome seat seat)
-    → OnErr result ((seat : Sitting) → IsUntold IsRotation seat seat)
-rotation_untold outcome (Ok u) came = tt
-rotation_untold outcome (Err fault) came = λ seat. inr (outcome, came seat)
+pub comes_unrotated : (fault : HallFault) (was : ConsoleSeat) → Comes IsRotation (refused fault) was was
+comes_unrotated fault was = record { comes = tt; makes = makes_none was }
 
 -- ---- which line it is
 
 -- a text that was empty
-pub tells_added : (may : Outcome → Type 0) (was now : Sitting) (old new : List ℕ) → old ≡ [] → Adds may was now old new → Tells may was now new
+pub tells_added : (may : Outcome → Type 0) (was now : ConsoleSeat) (old new : List ℕ) → old ≡ [] → Adds may was now old new → Tells may was now new
 tells_added may was now old new empty a = subst (Tells may was now) (sym (a.1 ∙ ap (λ (o : List ℕ). o ++ a.0) empty)) a.2
 
 module _ (batch : Option (List Edit)) (line : List ℕ) where
   may_if : Bool → Outcome → Type 0
   may_if is outcome = MatchBool is (IsRotation outcome) (ComesTo (action_of batch (asked_by line)) outcome)
 
-  pub tells_rotation : (was now : Sitting) (text : List ℕ) → is_rotate line ≡ true → Tells IsRotation was now text → Tells (LineComesTo batch line) was now text
+  pub tells_rotation : (was now : ConsoleSeat) (text : List ℕ) → is_rotate line ≡ true → Tells IsRotation was now text → Tells (LineComesTo batch line) was now text
   unfolding may_if
   tells_rotation was now text is t = subst (λ (b : Bool). Tells (may_if b) was now text) (sym is) t
 
-  pub tells_asked : (was now : Sitting) (text : List ℕ) → is_rotate line ≡ false → Tells (ComesTo (action_of batch (asked_by line))) was now text → Tells (LineComesTo batch line) was now text
+  pub tells_asked : (was now : ConsoleSeat) (text : List ℕ) → is_rotate line ≡ false → Tells (ComesTo (action_of batch (asked_by line))) was now text → Tells (LineComesTo batch line) was now text
   unfolding may_if
   tells_asked was now text is t = subst (λ (b : Bool). Tells (may_if b) was now text) (sym is) t
 
-  pub untold_rotation : (was now : Sitting) → is_rotate line ≡ true → IsUntold IsRotation was now → IsUntold (LineComesTo batch line) was now
+  pub untold_rotation : (was now : ConsoleSeat) → is_rotate line ≡ true → IsUntold IsRotation was now → IsUntold (LineComesTo batch line) was now
   unfolding may_if
   untold_rotation was now is t = subst (λ (b : Bool). IsUntold (may_if b) was now) (sym is) t
 
-  pub untold_asked : (was now : Sitting) → is_rotate line ≡ false → IsUntold (ComesTo (action_of batch (asked_by line))) was now → IsUntold (LineComesTo batch line) was now
+  pub untold_asked : (was now : ConsoleSeat) → is_rotate line ≡ false → IsUntold (ComesTo (action_of batch (asked_by line))) was now → IsUntold (LineComesTo batch line) was now
   unfolding may_if
   untold_asked was now is t = subst (λ (b : Bool). IsUntold (may_if b) was now) (sym is) t
 
@@ -98,44 +101,44 @@ some_same : {X : Type 0} (a b : X) → Some a ≡ Some b → a ≡ b
 some_same a b e = cc
 
 -- the last of the view is what was made
-pub comes_last : (call : Call) (receipt : Receipt) (was now : Sitting) (entry : Made) (view : List Made) → IsMade was call receipt now → view ≡ now.view
+pub comes_last : (call : Call) (receipt : Receipt) (was now : ConsoleSeat) (entry : Made) (view : List Made) → IsMade was.seat call receipt now.seat → now.rotations ≡ was.rotations → view ≡ now.seat.view
     → Some entry ≡ slice_get view (length view - 1) → Comes (CallsFor call) (made entry) was now
-comes_last call receipt was now entry view m is found =
+comes_last call receipt was now entry view m kept is found =
     let last : entry ≡ made_of call receipt =
-    some_same entry (made_of call receipt) (found ∙ ap (λ (v : List Made). slice_get v (length v - 1)) (is ∙ m.view) ∙ last_of was.view (made_of call receipt)) in
-    subst (λ (e : Made). Comes (CallsFor call) (made e) was now) (sym last) (comes_made call receipt was now m)
+    some_same entry (made_of call receipt) (found ∙ ap (λ (v : List Made). slice_get v (length v - 1)) (is ∙ m.view) ∙ last_of was.seat.view (made_of call receipt)) in
+    subst (λ (e : Made). Comes (CallsFor call) (made e) was now) (sym last) (comes_made call receipt was now m kept)
 
 -- ---- what is told of it
 
-pub tells_ok : {E : Type 0} (may : Outcome → Type 0) (outcome : Outcome) (was now : Sitting) (old new : List ℕ) (result : Result (Unit {0}) E) → Comes may outcome was now
+pub tells_ok : {E : Type 0} (may : Outcome → Type 0) (outcome : Outcome) (was now : ConsoleSeat) (old new : List ℕ) (result : Result (Unit {0}) E) → Comes may outcome was now
     → OnOk result (new ≡ old ++ told outcome) → OnOk result (Adds may was now old new)
 tells_ok may outcome was now old new (Ok u) came e = (told outcome, e, record { outcome = outcome; came = came; is = refl })
 tells_ok may outcome was now old new (Err fault) came e = tt
 
-pub tells_err : {E : Type 0} (may : Outcome → Type 0) (outcome : Outcome) (was now : Sitting) (result : Result (Unit {0}) E) → Comes may outcome was now → OnErr result (IsUntold may was now)
+pub tells_err : {E : Type 0} (may : Outcome → Type 0) (outcome : Outcome) (was now : ConsoleSeat) (result : Result (Unit {0}) E) → Comes may outcome was now → OnErr result (IsUntold may was now)
 tells_err may outcome was now (Ok u) came = tt
 tells_err may outcome was now (Err fault) came = inr (outcome, came)
 
 -- ---- the Stop
 
 -- the console has failed, and nothing is told
-pub stops_untold : (heard end : Result (Unit {0}) OperatorFault) (fault : OperatorFault) (was now : Sitting) (old : Option (List ℕ)) → heard ≡ Err fault → IsErrAnd end (λ e. e ≡ fault)
+pub stops_untold : (heard end : Result (Unit {0}) OperatorFault) (fault : OperatorFault) (was now : ConsoleSeat) (old : Option (List ℕ)) → heard ≡ Err fault → IsErrAnd end (λ e. e ≡ fault)
     → (outcome : Outcome) × Comes (CallsFor calls.Stop) outcome was now → Stops heard end was now old old
 stops_untold heard (Ok u) fault was now old e is c = absurd is
 stops_untold heard (Err same) fault was now old e is c = rw e (record { stop = c.0; came = c.1; ends = (ap Err is, refl) })
 
 -- it was made
-pub stops_made : (heard : Result (Unit {0}) OperatorFault) (u : Unit {0}) (receipt : Receipt) (was now : Sitting) (old : Option (List ℕ)) → heard ≡ Ok u → IsMade was calls.Stop receipt now
+pub stops_made : (heard : Result (Unit {0}) OperatorFault) (u : Unit {0}) (receipt : Receipt) (was now : ConsoleSeat) (old : Option (List ℕ)) → heard ≡ Ok u → IsMade was.seat calls.Stop receipt now.seat → now.rotations ≡ was.rotations
     → Stops heard (Ok tt) was now old old
-stops_made heard u receipt was now old e m =
-    rw e (record { stop = made (made_of calls.Stop receipt); came = comes_made calls.Stop receipt was now m; ends = (Appends-nil old, (λ no. absurd cc), tt) })
+stops_made heard u receipt was now old e m kept =
+    rw e (record { stop = made (made_of calls.Stop receipt); came = comes_made calls.Stop receipt was now m kept; ends = (Appends-nil old, (λ no. absurd cc), tt) })
 
 found_refused : (end : Result (Unit {0}) OperatorFault) (fault : HallFault) → (fault ≡ hall.Memory → end ≡ Err faults.Memory) → HasFound end (refused fault)
 found_refused (Ok u) fault memory = λ is. absurd (let no = memory is in cc)
 found_refused (Err e) fault memory = tt
 
 -- it was refused
-pub stops_refused : (heard end : Result (Unit {0}) OperatorFault) (u : Unit {0}) (fault : HallFault) (was now : Sitting) (old new : Option (List ℕ)) → heard ≡ Ok u → now ≡ was
+pub stops_refused : (heard end : Result (Unit {0}) OperatorFault) (u : Unit {0}) (fault : HallFault) (was now : ConsoleSeat) (old new : Option (List ℕ)) → heard ≡ Ok u → now.seat ≡ was.seat → now.rotations ≡ was.rotations
     → SendsUnlessMemory end (refusal_line fault) old new → (fault ≡ hall.Memory → end ≡ Err faults.Memory) → Stops heard end was now old new
-stops_refused heard end u fault was now old new e same sent memory =
-    rw e (record { stop = refused fault; came = comes_refused calls.Stop fault was now same; ends = (sent, (λ is. tt), found_refused end fault memory) })
+stops_refused heard end u fault was now old new e same kept sent memory =
+    rw e (record { stop = refused fault; came = comes_refused calls.Stop fault was now same kept; ends = (sent, (λ is. tt), found_refused end fault memory) })

@@ -7,12 +7,13 @@ use Rattle.std.proofs.lemmas.List.Elements.{filter_map-append}
 use Rattle.basics.specs.Lines.{split_at_first, lines_of}
 use Rattle.pol_edit.specs.declared.edit.Edit.{Edit}
 use Rattle.tac_hall.specs.declared.entry.Made.{Made}
-use Rattle.tac_hall.specs.Seat.{Sitting}
+use Rattle.tac_chain.specs.declared.chain.Rotated.{Rotated}
 use Rattle.tac_hall_console.specs.declared.answering.Console.{Console}
+use Rattle.tac_hall_console.specs.declared.answering.ConsoleSeat.{ConsoleSeat}
 use Rattle.tac_hall_console.specs.declared.fault.OperatorFault.{OperatorFault}
 use Rattle.tac_hall_console.specs.declared.fault.OperatorFault.TheVariants as faults
 use Rattle.tac_hall_console.specs.Commands.{ended_lines, is_quit, commands, quits}
-use Rattle.tac_hall_console.specs.Operated.{Outcome, batch_by, CameTo, told, entry_of, text_of, entries_of, Makes, WritesBeginning}
+use Rattle.tac_hall_console.specs.Operated.{Outcome, batch_by, CameTo, told, entry_of, rotation_of, text_of, entries_of, rotations_of, Makes, WritesBeginning}
 use Rattle.tac_hall_console.specs.Operating.{batch_left, GoesOn, WritesTo, EndsAt, IsRead, LeavesBatch}
 use Rattle.tac_hall_console.proofs.LineFacts.{split_more, split_shorter, lines_split, ended_split, command_first, quits_later}
 
@@ -32,16 +33,20 @@ came_behind : (batch between : Option (List Edit)) (lines : List (List ℕ)) (ou
     → CameTo batch lines outcomes → between ≡ batch_left batch lines → CameTo between later others → CameTo batch (lines ++ later) (outcomes ++ others)
 came_behind batch between lines outcomes later others a is b = came_append batch lines outcomes later others a (rw is at b)
 
-pub makes_none : (was : Sitting) → Makes was was []
-makes_none was = record { number = refl; view = sym (append-nil was.view) }
+pub makes_none : (was : ConsoleSeat) → Makes was was [] []
+makes_none was = record { number = refl; view = sym (append-nil was.seat.view); rotations = sym (append-nil was.rotations) }
 
 -- some calls, and then others
-pub makes_then : (was mid now : Sitting) (outcomes others : List Outcome) → Makes was mid (entries_of outcomes) → Makes mid now (entries_of others) → Makes was now (entries_of (outcomes ++ others))
+pub makes_then : (was mid now : ConsoleSeat) (outcomes others : List Outcome) → Makes was mid (entries_of outcomes) (rotations_of outcomes) → Makes mid now (entries_of others) (rotations_of others)
+    → Makes was now (entries_of (outcomes ++ others)) (rotations_of (outcomes ++ others))
 makes_then was mid now outcomes others a b = record {
   number = b.number ∙ a.number;
   view =
-      b.view ∙ ap (λ (v : List Made). v ++ entries_of others) a.view ∙ append_assoc was.view (entries_of outcomes) (entries_of others)
-      ∙ ap (λ (v : List Made). was.view ++ v) (sym (filter_map-append entry_of outcomes others));
+      b.view ∙ ap (λ (v : List Made). v ++ entries_of others) a.view ∙ append_assoc was.seat.view (entries_of outcomes) (entries_of others)
+      ∙ ap (λ (v : List Made). was.seat.view ++ v) (sym (filter_map-append entry_of outcomes others));
+  rotations =
+      b.rotations ∙ ap (λ (l : List Rotated). l ++ rotations_of others) a.rotations ∙ append_assoc was.rotations (rotations_of outcomes) (rotations_of others)
+      ∙ ap (λ (l : List Rotated). was.rotations ++ l) (sym (filter_map-append rotation_of outcomes others));
 }
 
 pub text_append : (outcomes others : List Outcome) → text_of (outcomes ++ others) ≡ text_of outcomes ++ text_of others
@@ -225,7 +230,7 @@ writes_behind (Err faults.Memory) outcomes others old mid new a b = record {
 }
 
 ends_after : (end : Result (Unit {0}) OperatorFault) (answered lines : List (List ℕ)) (outcomes : List Outcome) (was mid now : Console) (old between new : Option (List ℕ))
-    → CameTo was.batch answered outcomes → mid.batch ≡ batch_left was.batch answered → Makes was.seat mid.seat (entries_of outcomes) → Appends old between (text_of outcomes)
+    → CameTo was.batch answered outcomes → mid.batch ≡ batch_left was.batch answered → Makes was.seat mid.seat (entries_of outcomes) (rotations_of outcomes) → Appends old between (text_of outcomes)
     → EndsAt end lines mid now between new → EndsAt end (answered ++ lines) was now old new
 ends_after end answered lines outcomes was mid now old between new came batch makes written e = record {
   answered = answered ++ e.answered;

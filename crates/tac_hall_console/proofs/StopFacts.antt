@@ -4,9 +4,10 @@ use Rattle.std.specs.Io.KnownBytes.{Appends}
 use Rattle.std.proofs.KnownBytes.{Appends-trans}
 use Rattle.tac_hall.specs.Seat.{Sitting}
 use Rattle.tac_hall_console.specs.declared.answering.Console.{Console}
+use Rattle.tac_hall_console.specs.declared.answering.ConsoleSeat.{ConsoleSeat}
 use Rattle.tac_hall_console.specs.declared.fault.OperatorFault.{OperatorFault}
 use Rattle.tac_hall_console.specs.declared.fault.OperatorFault.TheVariants as faults
-use Rattle.tac_hall_console.specs.Operated.{Outcome, noticed, made, rotated, refused, told, text_of, WritesBeginning, Wants, IsOperated}
+use Rattle.tac_hall_console.specs.Operated.{Outcome, noticed, made, rotated, refused, told, text_of, WritesBeginning, Wants, begins, IsOperated}
 use Rattle.tac_hall_console.specs.Operating.{IsRefused, Stops, IsHeard}
 use Rattle.tac_hall_console.proofs.GoingFacts.{makes_then, text_append, text_one, written_then, beginning_then}
 
@@ -33,9 +34,9 @@ beginning_of_more outcomes stop old new b = record {
   written = b.written;
 }
 
-module _ (was mid : Console) (now : Sitting) (before after old between new : Option (List ℕ)) (closed : was.batch ≡ None) where
+module _ (seat : Sitting) (was mid : Console) (now : ConsoleSeat) (before after old between new : Option (List ℕ)) (first : was.seat ≡ begins seat) (closed : was.batch ≡ None) where
   -- the lines were answered, and what came of the Stop is told
-  told_stop : (end : Result (Unit {0}) OperatorFault) → IsHeard (Ok tt) was mid before after old between → Stops (Ok tt) end mid.seat now between new → IsOperated end was.seat now before after old new
+  told_stop : (end : Result (Unit {0}) OperatorFault) → IsHeard (Ok tt) was mid before after old between → Stops (Ok tt) end mid.seat now between new → IsOperated end seat now before after old new
   told_stop (Ok u) h s = record {
     input = h.input;
     read = h.read;
@@ -50,7 +51,7 @@ module _ (was mid : Console) (now : Sitting) (before after old between new : Opt
     stops = s.came.comes;
     wants = tt;
     found = s.ends.2;
-    makes = makes_then was.seat mid.seat now h.ends.outcomes (s.stop ∷ []) h.ends.makes s.came.makes;
+    makes = makes_then (begins seat) mid.seat now h.ends.outcomes (s.stop ∷ []) (rw first at h.ends.makes) s.came.makes;
     writes = written_then h.ends.outcomes (s.stop ∷ []) old between new h.ends.writes (subst (Appends between new) (sym (text_one s.stop)) s.ends.0);
   }
   told_stop (Err faults.ReadFault) h s = absurd s.ends.0
@@ -68,7 +69,7 @@ module _ (was mid : Console) (now : Sitting) (before after old between new : Opt
     stops = s.came.comes;
     wants = tt;
     found = tt;
-    makes = makes_then was.seat mid.seat now h.ends.outcomes (s.stop ∷ []) h.ends.makes s.came.makes;
+    makes = makes_then (begins seat) mid.seat now h.ends.outcomes (s.stop ∷ []) (rw first at h.ends.makes) s.came.makes;
     writes = subst (λ (t : List ℕ). WritesBeginning t old new)
         (ap (λ (t : List ℕ). text_of h.ends.outcomes ++ t) (sym (text_one s.stop)) ∙ sym (text_append h.ends.outcomes (s.stop ∷ [])))
         (beginning_then h.ends.outcomes (told s.stop) old between new h.ends.writes s.ends.0);
@@ -87,7 +88,7 @@ module _ (was mid : Console) (now : Sitting) (before after old between new : Opt
     stops = s.came.comes;
     wants = wants_refused h.input s.stop (s.ends.1 refl);
     found = tt;
-    makes = makes_then was.seat mid.seat now h.ends.outcomes (s.stop ∷ []) h.ends.makes s.came.makes;
+    makes = makes_then (begins seat) mid.seat now h.ends.outcomes (s.stop ∷ []) (rw first at h.ends.makes) s.came.makes;
     writes = record {
       first = h.ends.outcomes;
       untold = [];
@@ -98,7 +99,7 @@ module _ (was mid : Console) (now : Sitting) (before after old between new : Opt
   }
 
   -- the console failed before
-  untold_stop : (fault : OperatorFault) → IsHeard (Err fault) was mid before after old between → Stops (Err fault) (Err fault) mid.seat now between between → IsOperated (Err fault) was.seat now before after old between
+  untold_stop : (fault : OperatorFault) → IsHeard (Err fault) was mid before after old between → Stops (Err fault) (Err fault) mid.seat now between between → IsOperated (Err fault) seat now before after old between
   untold_stop faults.ReadFault h s = record {
     input = h.input;
     read = h.read;
@@ -113,7 +114,7 @@ module _ (was mid : Console) (now : Sitting) (before after old between new : Opt
     stops = s.came.comes;
     wants = tt;
     found = tt;
-    makes = makes_then was.seat mid.seat now h.ends.outcomes (s.stop ∷ []) h.ends.makes s.came.makes;
+    makes = makes_then (begins seat) mid.seat now h.ends.outcomes (s.stop ∷ []) (rw first at h.ends.makes) s.came.makes;
     writes = h.ends.writes;
   }
   untold_stop faults.WriteFault h s = record {
@@ -130,7 +131,7 @@ module _ (was mid : Console) (now : Sitting) (before after old between new : Opt
     stops = s.came.comes;
     wants = tt;
     found = tt;
-    makes = makes_then was.seat mid.seat now h.ends.outcomes (s.stop ∷ []) h.ends.makes s.came.makes;
+    makes = makes_then (begins seat) mid.seat now h.ends.outcomes (s.stop ∷ []) (rw first at h.ends.makes) s.came.makes;
     writes = beginning_of_more h.ends.outcomes s.stop old between h.ends.writes;
   }
   untold_stop faults.Memory h s = record {
@@ -147,11 +148,11 @@ module _ (was mid : Console) (now : Sitting) (before after old between new : Opt
     stops = s.came.comes;
     wants = wants_some h.input s.stop (h.wants refl);
     found = tt;
-    makes = makes_then was.seat mid.seat now h.ends.outcomes (s.stop ∷ []) h.ends.makes s.came.makes;
+    makes = makes_then (begins seat) mid.seat now h.ends.outcomes (s.stop ∷ []) (rw first at h.ends.makes) s.came.makes;
     writes = h.ends.writes;
   }
 
   -- the whole console
-  pub operated : (heard end : Result (Unit {0}) OperatorFault) → IsHeard heard was mid before after old between → Stops heard end mid.seat now between new → IsOperated end was.seat now before after old new
+  pub operated : (heard end : Result (Unit {0}) OperatorFault) → IsHeard heard was mid before after old between → Stops heard end mid.seat now between new → IsOperated end seat now before after old new
   operated (Ok u) end h s = told_stop end h s
   operated (Err fault) end h s = rw (s.ends.0, s.ends.1) (untold_stop fault h (rw (s.ends.0, s.ends.1) at s))

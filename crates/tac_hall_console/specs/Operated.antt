@@ -25,6 +25,7 @@ use Rattle.tac_hall.specs.Seat.{Sitting}
 use Rattle.tac_chain.specs.declared.chain.Rotated.{Rotated}
 use Rattle.tac_chain.specs.Chain.{Chained, IsChained}
 use Rattle.tac_chain.specs.Keeping.{IsKept}
+use Rattle.tac_hall_console.specs.declared.answering.ConsoleSeat.{ConsoleSeat}
 use Rattle.tac_hall_console.specs.declared.fault.OperatorFault.{OperatorFault}
 use Rattle.tac_hall_console.specs.declared.fault.OperatorFault.TheVariants as faults
 use Rattle.tac_hall_console.specs.Commands.{ended_lines, is_rotate, commands, quits}
@@ -117,10 +118,25 @@ entry_of (refused fault) = None
 abbrev pub entries_of : List Outcome → List Made
 entries_of outcomes = filter_map entry_of outcomes
 
--- these calls were made, one after another, and no others
-pub record Makes (was now : Sitting) (entries : List Made) : Type 0 where
-  pub number : now.number ≡ was.number
-  pub view : now.view ≡ was.view ++ entries
+-- what was rotated
+abbrev pub rotation_of : Outcome → Option Rotated
+rotation_of (noticed notice) = None
+rotation_of (made entry) = None
+rotation_of (rotated rotation) = Some rotation
+rotation_of (refused fault) = None
+
+abbrev pub rotations_of : List Outcome → List Rotated
+rotations_of outcomes = filter_map rotation_of outcomes
+
+-- these calls were made, one after another, and no others; and these rotations are remembered
+pub record Makes (was now : ConsoleSeat) (entries : List Made) (kept : List Rotated) : Type 0 where
+  pub number : now.seat.number ≡ was.seat.number
+  pub view : now.seat.view ≡ was.seat.view ++ entries
+  pub rotations : now.rotations ≡ was.rotations ++ kept
+
+-- a seat of which no rotation is remembered yet
+abbrev pub begins : Sitting → ConsoleSeat
+begins seat = record { seat = seat; rotations = [] }
 
 -- ---- what was written
 
@@ -189,7 +205,7 @@ HasFound (Err fault) stop = Unit {0}
 -- the lines of what was read up to the first `quit` were answered, one after another, by calls of
 -- this seat, and then it made the Stop; at first no batch is open. Where the log was full at the
 -- Stop, what came of that may be that it couldn't be taken out
-pub record IsOperated (end : Result (Unit {0}) OperatorFault) (was now : Sitting)
+pub record IsOperated (end : Result (Unit {0}) OperatorFault) (was : Sitting) (now : ConsoleSeat)
     (before after old new : Option (List ℕ)) : Type 0 where
   pub input : List ℕ
   pub read : Consumes before after input
@@ -204,5 +220,6 @@ pub record IsOperated (end : Result (Unit {0}) OperatorFault) (was now : Sitting
   pub stops : CallsFor calls.Stop stop
   pub wants : Wants end input stop
   pub found : HasFound end stop
-  pub makes : Makes was now (entries_of (outcomes ++ stop ∷ []))
+  pub makes : Makes (begins was) now
+      (entries_of (outcomes ++ stop ∷ [])) (rotations_of (outcomes ++ stop ∷ []))
   pub writes : Writes end outcomes stop old new

@@ -5,8 +5,8 @@ use Rattle.std.specs.Io.KnownBytes.{Appends, Consumes}
 use Rattle.basics.specs.Lines.{split_at_first, lines_of}
 use Rattle.pol_edit.specs.declared.edit.Edit.{Edit}
 use Rattle.tac_hall.specs.declared.call.Call.TheVariants as calls
-use Rattle.tac_hall.specs.Seat.{Sitting}
 use Rattle.tac_hall_console.specs.declared.answering.Console.{Console}
+use Rattle.tac_hall_console.specs.declared.answering.ConsoleSeat.{ConsoleSeat}
 use Rattle.tac_hall_console.specs.declared.fault.OperatorFault.{OperatorFault}
 use Rattle.tac_hall_console.specs.declared.fault.OperatorFault.TheVariants as faults
 use Rattle.tac_hall_console.specs.declared.operator.Went.{Went}
@@ -14,28 +14,29 @@ use Rattle.tac_hall_console.specs.declared.operator.Went.TheVariants.{On, Quits}
 use Rattle.tac_hall_console.specs.Commands.{ended_lines, commands, quits}
 use Rattle.tac_hall_console.specs.Operated.{Outcome, noticed, made, rotated, refused, CallsFor}
 use Rattle.tac_hall_console.specs.Operated.{batch_by, CameTo, told, text_of}
-use Rattle.tac_hall_console.specs.Operated.{entries_of, Makes, WritesBeginning, WritesMost}
+use Rattle.tac_hall_console.specs.Operated.{entries_of, rotations_of, Makes}
+use Rattle.tac_hall_console.specs.Operated.{WritesBeginning, WritesMost}
 use Rattle.tac_hall_console.specs.Operated.{lines_at, Leaves, Finishes, HasFound}
 
 -- ---- one line
 
 -- of what may come of a line or a call this came, and the seat made its call, if it has one
-pub record Comes (may : Outcome → Type 0) (outcome : Outcome) (was now : Sitting) : Type 0 where
+pub record Comes (may : Outcome → Type 0) (outcome : Outcome) (was now : ConsoleSeat) : Type 0 where
   pub comes : may outcome
-  pub makes : Makes was now (entries_of (outcome ∷ []))
+  pub makes : Makes was now (entries_of (outcome ∷ [])) (rotations_of (outcome ∷ []))
 
 -- it had a result, which this text tells
-pub record Tells (may : Outcome → Type 0) (was now : Sitting) (text : List ℕ) : Type 0 where
+pub record Tells (may : Outcome → Type 0) (was now : ConsoleSeat) (text : List ℕ) : Type 0 where
   pub outcome : Outcome
   pub came : Comes may outcome was now
   pub is : text ≡ told outcome
 
 -- the same, where the text is added to another
-abbrev pub Adds : (Outcome → Type 0) → Sitting → Sitting → List ℕ → List ℕ → Type 0
+abbrev pub Adds : (Outcome → Type 0) → ConsoleSeat → ConsoleSeat → List ℕ → List ℕ → Type 0
 Adds may was now old new = (text : List ℕ) × (new ≡ old ++ text) × Tells may was now text
 
 -- memory ran out: it had no result, or the result isn't told
-abbrev pub IsUntold : (Outcome → Type 0) → Sitting → Sitting → Type 0
+abbrev pub IsUntold : (Outcome → Type 0) → ConsoleSeat → ConsoleSeat → Type 0
 IsUntold may was now = (now ≡ was) ⊎ ((outcome : Outcome) × Comes may outcome was now)
 
 -- a text was written, or a beginning of it
@@ -77,7 +78,7 @@ pub record GoesOn (bytes left : List ℕ) (was now : Console) (old new : Option 
     pub outcomes : List Outcome
     pub came : CameTo was.batch answered outcomes
     pub batch : now.batch ≡ batch_left was.batch answered
-    pub makes : Makes was.seat now.seat (entries_of outcomes)
+    pub makes : Makes was.seat now.seat (entries_of outcomes) (rotations_of outcomes)
     pub written : Appends old new (text_of outcomes)
 
 -- what came of the lines so far was written, or as much of it as a fault allows
@@ -97,7 +98,7 @@ pub record EndsAt (end : Result (Unit {0}) OperatorFault) (lines : List (List �
   pub leaves : Leaves end left
   pub outcomes : List Outcome
   pub came : CameTo was.batch answered outcomes
-  pub makes : Makes was.seat now.seat (entries_of outcomes)
+  pub makes : Makes was.seat now.seat (entries_of outcomes) (rotations_of outcomes)
   pub writes : WritesTo end outcomes old new
 
 -- reading isn't what failed
@@ -163,7 +164,7 @@ StopEnds (Ok _) end stop old new =
     × HasFound end stop
 StopEnds (Err fault) end stop old new = (end ≡ Err fault) × (new ≡ old)
 
-pub record Stops (heard end : Result (Unit {0}) OperatorFault) (was now : Sitting)
+pub record Stops (heard end : Result (Unit {0}) OperatorFault) (was now : ConsoleSeat)
     (old new : Option (List ℕ)) : Type 0 where
   pub stop : Outcome
   pub came : Comes (CallsFor calls.Stop) stop was now

@@ -4,14 +4,13 @@ ghost use Rattle.std.specs.Prelude.{◌≡◌, ◌++◌, Err, IfOk, OnOk, OnErr}
 ghost use Rattle.tac_console.specs.Batching.{action_of, batch_after};
 ghost use Rattle.tac_console.specs.ConsoleText.{asked_by};
 ghost use Rattle.tac_hall.specs.History.{IsOfKind};
-ghost use Rattle.tac_hall.specs.Seat.{Sitting};
 ghost use Rattle.tac_hall_console.specs.Commands.{is_rotate as rotate_test};
 ghost use Rattle.tac_hall_console.specs.Operated as operated;
 ghost use Rattle.tac_hall_console.specs.Operated.{CallsFor, ComesTo, answer_text, refusal_line};
 ghost use Rattle.tac_hall_console.specs.Operating as operating;
 
 use crate::fault::OperatorFault;
-use basics::send;
+use basics::{Sequence, send};
 use std::alloc::{AllocError, Global};
 use std::io::Write;
 use std::sync::Wait;
@@ -26,10 +25,18 @@ use tac_hall::{Call, CallAnswer, Hall, HallFault, Made, Seat};
 // The room that a line takes, which most answers are.
 const LINE: usize = 64;
 
-/// The seat that calls for a console, and the batch of its lines.
+/// The seat that calls for a console, and the rotations that its lines asked for and that were
+/// made, in order.
+#[derive(Drop)]
+pub struct ConsoleSeat {
+    pub seat: Seat,
+    pub rotations: Sequence<Rotated>,
+}
+
+/// The seat of a console, and the batch of its lines.
 #[derive(Drop)]
 pub(crate) struct Console {
-    pub(crate) seat: Seat,
+    pub(crate) seat: ConsoleSeat,
     pub(crate) batch: Batch,
 }
 
@@ -83,20 +90,23 @@ fn write_rotated(out: &mut Vec<u8>, rotated: Rotated) -> Result<(), AllocError>
     }
 }
 
-// Takes the log out of the hall, and adds what came of that. No seat has to do with it.
+// Takes the log out of the hall, remembers that, and adds what came of it. The seat makes no call.
 fn rotate<H: Wait, D: Desk>(
     rt: &H,
     hall: &Hall<D>,
     archive: &Archive,
+    seat: &mut ConsoleSeat,
     out: &mut Vec<u8>,
 ) -> Result<(), AllocError>
-    ensures ok { OnOk result ((seat : Sitting) → operating.Adds operated.IsRotation seat seat
+    ensures ok { OnOk result (operating.Adds operated.IsRotation seat.old seat.new
         out.old.items out.new.items) }
-    ensures err { OnErr result ((seat : Sitting)
-        → operating.IsUntold operated.IsRotation seat seat) }
+    ensures err { OnErr result (operating.IsUntold operated.IsRotation seat.old seat.new) }
 {
     match archive.rotate(rt, hall) {
-        Ok(rotated) => write_rotated(out, rotated),
+        Ok(rotated) => {
+            seat.rotations.push(rotated)?;
+            write_rotated(out, rotated)
+        }
         Err(fault) => write_refusal(out, fault),
     }
 }
@@ -106,7 +116,7 @@ fn tell<H: Wait, D: Desk>(
     rt: &H,
     alloc: Global,
     hall: &Hall<D>,
-    seat: &mut Seat,
+    seat: &mut ConsoleSeat,
     call: Call,
     out: &mut Vec<u8>,
 ) -> Result<(), AllocError>
@@ -114,10 +124,10 @@ fn tell<H: Wait, D: Desk>(
         out.old.items out.new.items) }
     ensures err { OnErr result (operating.IsUntold (CallsFor call) seat.old seat.new) }
 {
-    if let Err(fault) = hall.call(rt, seat, call) {
+    if let Err(fault) = hall.call(rt, &mut seat.seat, call) {
         return write_refusal(out, fault);
     }
-    match seat.view().last() {
+    match seat.seat.view().last() {
         Some(entry) => write_answer(alloc, out, entry),
         None => unreachable!(),
     }
@@ -128,7 +138,7 @@ fn act<H: Wait, D: Desk>(
     rt: &H,
     alloc: Global,
     hall: &Hall<D>,
-    seat: &mut Seat,
+    seat: &mut ConsoleSeat,
     action: Action,
     out: &mut Vec<u8>,
 ) -> Result<(), AllocError>
@@ -194,7 +204,7 @@ pub(crate) fn answer_line<H: Wait, D: Desk>(
 {
     let mut text = Vec::with_capacity(alloc, LINE)?;
     if is_rotate(line) {
-        rotate(rt, hall, archive, &mut text)?;
+        rotate(rt, hall, archive, &mut console.seat, &mut text)?;
         return Ok(text);
     }
     answer_asked(rt, alloc, hall, console, line, &mut text)?;

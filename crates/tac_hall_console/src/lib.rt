@@ -6,5 +6,6 @@ mod fault;
 mod operating;
 mod operator;
 
+pub use answering::ConsoleSeat;
 pub use fault::OperatorFault;
 pub use operating::operate;

@@ -6,9 +6,10 @@ ghost use Rattle.tac_hall.specs.declared.call.Call.TheVariants as calls;
 ghost use Rattle.tac_hall_console.specs.Operated.{IsOperated};
 ghost use Rattle.tac_hall_console.specs.Operating as operating;
 
-use crate::answering::{Console, write_refused};
+use crate::answering::{Console, ConsoleSeat, write_refused};
 use crate::fault::OperatorFault;
 use crate::operator::Operator;
+use basics::Sequence;
 use std::alloc::Global;
 use std::io::{Read, Write};
 use std::sync::Wait;
@@ -48,14 +49,14 @@ fn stop<H: Wait, D: Desk, W: Write>(
     alloc: Global,
     hall: &Hall<D>,
     archive: &Archive,
-    seat: &mut Seat,
+    seat: &mut ConsoleSeat,
     writer: &mut W,
     heard: Result<(), OperatorFault>,
 ) -> Result<(), OperatorFault>
     ensures { operating.Stops heard result seat.old seat.new
         (W.contents writer.old) (W.contents writer.new) }
 {
-    let stopped = call_stop(rt, hall, archive, seat);
+    let stopped = call_stop(rt, hall, archive, &mut seat.seat);
     heard?;
     if let Err(fault) = stopped {
         return write_refused(alloc, writer, fault);
@@ -72,7 +73,8 @@ fn stop<H: Wait, D: Desk, W: Write>(
 ///
 /// A line `quit`, or the end of the input, makes the Stop call; so does a fault. Where the log is
 /// full then, it is taken out and kept first, of which nothing is told. Edits that are kept then
-/// are never made. A line ends in LF, which the last may lack. The seat comes back.
+/// are never made. A line ends in LF, which the last may lack. The seat comes back, with the
+/// rotations that the lines made.
 ///
 /// At ReadFault the lines that had ended are answered whole. At WriteFault a beginning of the
 /// answers was written. At Memory the answers so far were written whole; the last call may have
@@ -89,7 +91,7 @@ pub fn operate<H: Wait, D: Desk, R: Read, W: Write>(
     seat: Seat,
     reader: &mut R,
     writer: &mut W,
-) -> (Seat, Result<(), OperatorFault>)
+) -> (ConsoleSeat, Result<(), OperatorFault>)
     ensures { IsOperated result.1 seat result.0
         (R.remaining reader.old) (R.remaining reader.new)
         (W.contents writer.old) (W.contents writer.new) }
@@ -97,7 +99,10 @@ pub fn operate<H: Wait, D: Desk, R: Read, W: Write>(
     let mut operator = Operator {
         alloc,
         console: Console {
-            seat,
+            seat: ConsoleSeat {
+                seat,
+                rotations: Sequence::new(alloc),
+            },
             batch: Batch::closed(),
         },
         begun: Vec::new(alloc),

@@ -9,6 +9,8 @@ use Rattle.tac_hall.specs.Seat.{Sitting}
 use Rattle.tac_hall.specs.Shedding.{ShedsAll, ShedAll}
 use Rattle.tac_chain.specs.Chain.{AreWithin, joined}
 use Rattle.tac_chain.specs.Closing.{HaveShed, AreViewsAlong}
+use Rattle.tac_chain.specs.Keeping.{AreOf}
+use Rattle.tac_chain.specs.declared.chain.Rotated.{Rotated}
 use Rattle.tac_net.specs.Ending.{IsSettled, Adds}
 use Rattle.tac_net.proofs.PlacesFacts.{joined_last}
 
@@ -45,9 +47,9 @@ theirs_same logs wholes seats h (entry ∷ log) =
     ap (λ (b : Bool). b && are_theirs log seats) (there_same logs entry.seat wholes seats h) ∙ ap (λ (b : Bool). is_there entry.seat wholes && b) (theirs_same logs wholes seats h log)
 
 -- the hall was closed with seats that have shed all logs
-pub settled : (hall : Opening) (logs : List (List Entry)) (log : List Entry) (last : Meaning) (wholes seats : List Sitting) → HaveShed logs wholes seats → Legal hall.meaning (joined logs ++ log) last
-    → AreWithin hall.limit (logs ++ log ∷ []) → AreViewsAlong (logs ++ log ∷ []) wholes → are_theirs (joined logs ++ log) seats ≡ true → IsSettled hall wholes
-settled hall logs log last wholes seats shed legal within views theirs =
+pub settled : (hall : Opening) (rotations : List Rotated) (logs : List (List Entry)) (log : List Entry) (last : Meaning) (wholes seats : List Sitting) → AreOf logs 0 rotations → HaveShed logs wholes seats → Legal hall.meaning (joined logs ++ log) last
+    → AreWithin hall.limit (logs ++ log ∷ []) → AreViewsAlong (logs ++ log ∷ []) wholes → are_theirs (joined logs ++ log) seats ≡ true → IsSettled hall rotations wholes
+settled hall rotations logs log last wholes seats rotated shed legal within views theirs =
     let all = sym (joined_last logs log) in
     record {
       earlier = logs;
@@ -56,5 +58,6 @@ settled hall logs log last wholes seats shed legal within views theirs =
       legal = subst (λ (l : List Entry). Legal hall.meaning l last) all legal;
       within = within;
       views = views;
+      rotated = rotated;
       theirs = ap (λ (l : List Entry). are_theirs l wholes) (sym all) ∙ sym (theirs_same logs wholes seats shed (joined logs ++ log)) ∙ theirs;
     }

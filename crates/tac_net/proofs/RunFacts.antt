@@ -6,6 +6,7 @@ use Rattle.tac_hall.specs.Opening.{Opening}
 use Rattle.tac_hall.specs.Seat.{Sitting}
 use Rattle.tac_worker.specs.declared.worked.End.{End}
 use Rattle.tac_hall_console.specs.Operated.{IsOperated}
+use Rattle.tac_hall_console.specs.declared.answering.ConsoleSeat.{ConsoleSeat}
 use Rattle.tac_hall_console.specs.declared.fault.OperatorFault.{OperatorFault}
 use Rattle.tac_net.specs.Opening.{listening_line, IsFresh}
 use Rattle.tac_net.specs.Ending.{Closes}
@@ -15,11 +16,11 @@ use Rattle.tac_net.specs.declared.settings.Settings.{Settings}
 use Rattle.tac_net.specs.declared.fault.ServeFault.{ServeFault}
 use Rattle.tac_net.specs.declared.fault.ServeFault.TheVariants.{Memory}
 
-module _ (settings : Settings) (hall : Opening) (seats : List Sitting) (seat last : Sitting) (operated : Result (Unit {0}) OperatorFault) (before after old announced told : Option (List ℕ))
+module _ (settings : Settings) (hall : Opening) (seats : List Sitting) (seat : Sitting) (last : ConsoleSeat) (operated : Result (Unit {0}) OperatorFault) (before after old announced told : Option (List ℕ))
     (announces : Appends old announced (listening_line settings.port)) (count : length seats ≡ settings.workers) (fresh : All IsFresh seats) (new : IsFresh seat) (operates : IsOperated operated seat last before after announced told) where
   -- the workers served, and the hall was closed or not
   pub ran : (served : List (Sitting × End)) (closed : Result (Unit {0}) ServeFault) (end : Option (List ℕ)) → HaveServed settings.key settings.connections seats served
-      → Closes closed hall (last ∷ map (λ one. one.0) served) told end → Runs (end_by operated closed) settings hall before after old end
+      → Closes closed hall last.rotations (last.seat ∷ map (λ one. one.0) served) told end → Runs (end_by operated closed) settings hall before after old end
   ran served closed end have closes = inr (record {
     announced = announced;
     announces = announces;

@@ -10,6 +10,8 @@ use Rattle.tac_hall.specs.Seat.{Sitting}
 use Rattle.tac_hall.specs.declared.entry.Entry.{Entry}
 use Rattle.tac_chain.specs.Chain.{AreWithin, joined}
 use Rattle.tac_chain.specs.Closing.{HaveShed, AreViewsAlong}
+use Rattle.tac_chain.specs.Keeping.{AreOf}
+use Rattle.tac_chain.specs.declared.chain.Rotated.{Rotated}
 use Rattle.tac_hall_console.specs.Operated.{WritesBeginning}
 use Rattle.tac_net.specs.declared.fault.ServeFault.{ServeFault}
 use Rattle.tac_net.specs.declared.fault.ServeFault.TheVariants.{WriteFault, Memory, CloseRefused}
@@ -26,24 +28,27 @@ Refuses fault old new = ⊥
 -- what these seats did is one legal history of a desk that represented this at first: the logs that
 -- were taken out of the hall, one after another, and the last, none of which is longer than the
 -- hall's log may be. It has of each seat exactly its view, each call at its place of its segment,
--- and no other call
-pub record IsSettled (hall : Opening) (seats : List Sitting) : Type 0 where
-  pub earlier : List (List Entry)
-  pub log : List Entry
-  pub last : Meaning
-  pub legal : Legal hall.meaning (joined (earlier ++ log ∷ [])) last
-  pub within : AreWithin hall.limit (earlier ++ log ∷ [])
-  pub views : AreViewsAlong (earlier ++ log ∷ []) seats
-  pub theirs : are_theirs (joined (earlier ++ log ∷ [])) seats ≡ true
+-- and no other call. What was told of rotations is so
+pub record IsSettled (hall : Opening) (rotations : List Rotated) (seats : List Sitting) : Type 0
+  where
+    pub earlier : List (List Entry)
+    pub log : List Entry
+    pub last : Meaning
+    pub legal : Legal hall.meaning (joined (earlier ++ log ∷ [])) last
+    pub within : AreWithin hall.limit (earlier ++ log ∷ [])
+    pub views : AreViewsAlong (earlier ++ log ∷ []) seats
+    pub theirs : are_theirs (joined (earlier ++ log ∷ [])) seats ≡ true
+    pub rotated : AreOf earlier 0 rotations
 
 -- these seats are there too, and have shed all of these logs
 abbrev pub Adds : List (List Entry) → List Sitting → List Sitting → List Sitting → Type 0
 Adds logs added was now =
     (wholes : List Sitting) → HaveShed logs wholes was → HaveShed logs (wholes ++ added) now
 
--- the hall was closed with these seats and nothing printed; or it couldn't be, or memory ran out
-abbrev pub Closes : Result (Unit {0}) ServeFault → Opening → List Sitting → Option (List ℕ)
-    → Option (List ℕ) → Type 0
-Closes (Ok _) hall seats old new = IsSettled hall seats × (new ≡ old)
-Closes (Err Memory) hall seats old new = new ≡ old
-Closes (Err fault) hall seats old new = Refuses fault old new
+-- the hall was closed with these seats, after these rotations were told, and nothing printed; or it
+-- couldn't be, or memory ran out
+abbrev pub Closes : Result (Unit {0}) ServeFault → Opening → List Rotated → List Sitting
+    → Option (List ℕ) → Option (List ℕ) → Type 0
+Closes (Ok _) hall rotations seats old new = IsSettled hall rotations seats × (new ≡ old)
+Closes (Err Memory) hall rotations seats old new = new ≡ old
+Closes (Err fault) hall rotations seats old new = Refuses fault old new

@@ -5,6 +5,7 @@ use Rattle.tac_hall.specs.Opening.{Opening}
 use Rattle.tac_hall.specs.Seat.{Sitting}
 use Rattle.tac_worker.specs.declared.worked.End.{End}
 use Rattle.tac_hall_console.specs.Operated.{IsOperated}
+use Rattle.tac_hall_console.specs.declared.answering.ConsoleSeat.{ConsoleSeat}
 use Rattle.tac_hall_console.specs.declared.fault.OperatorFault.{OperatorFault}
 use Rattle.tac_hall_console.specs.declared.fault.OperatorFault.TheVariants as operator
 use Rattle.tac_net.specs.Opening.{listening_line, Announces, IsFresh}
@@ -35,14 +36,14 @@ Fails (Err Threads) port old new = new ≡ old
 Fails (Err fault) port old new = Refuses fault old new ⊎ Announces (Err fault) port old new
 
 -- `listening P` was printed, and then the console was operated by this seat
-pub record HasAttended (ended : Sitting × Result (Unit {0}) OperatorFault) (port : ℕ)
+pub record HasAttended (ended : ConsoleSeat × Result (Unit {0}) OperatorFault) (port : ℕ)
     (was : Sitting) (before after old new : Option (List ℕ)) : Type 0 where
   pub announced : Option (List ℕ)
   pub announces : Appends old announced (listening_line port)
   pub operates : IsOperated ended.1 was ended.0 before after announced new
 
 -- the console's part: that, or nothing was read
-abbrev pub Attends : Result (Sitting × Result (Unit {0}) OperatorFault) ServeFault → Settings
+abbrev pub Attends : Result (ConsoleSeat × Result (Unit {0}) OperatorFault) ServeFault → Settings
     → Sitting → Option (List ℕ) → Option (List ℕ) → Option (List ℕ) → Option (List ℕ) → Type 0
 Attends (Ok ended) settings was before after old new =
     HasAttended ended settings.port was before after old new
@@ -50,15 +51,16 @@ Attends (Err fault) settings was before after old new =
     (after ≡ before) × Fails (Err fault) settings.port old new
 
 -- so many workers, who had made no call, served so many connections each, and their hall was closed
--- with the console's seat and theirs; or memory ran out
+-- with the console's seat and theirs, after the rotations that it told; or memory ran out
 pub record HasWorked (closed : Result (Unit {0}) ServeFault) (settings : Settings) (hall : Opening)
-    (console : Sitting) (old new : Option (List ℕ)) : Type 0 where
+    (console : ConsoleSeat) (old new : Option (List ℕ)) : Type 0 where
   pub seats : List Sitting
   pub count : length seats ≡ settings.workers
   pub fresh : All IsFresh seats
   pub served : List (Sitting × End)
   pub have : HaveServed settings.key settings.connections seats served
-  pub closes : Closes closed hall (console ∷ map (λ one. one.0) served) old new
+  pub closes : Closes closed hall console.rotations
+      (console.seat ∷ map (λ one. one.0) served) old new
 
 -- `listening P` was printed, then the console was operated by a seat that had made no call, while
 -- workers served, and then the hall was closed
@@ -68,7 +70,7 @@ pub record HasRun (end : Result (Unit {0}) ServeFault) (settings : Settings) (ha
   pub announces : Appends old announced (listening_line settings.port)
   pub seat : Sitting
   pub fresh : IsFresh seat
-  pub last : Sitting
+  pub last : ConsoleSeat
   pub operated : Result (Unit {0}) OperatorFault
   pub told : Option (List ℕ)
   pub operates : IsOperated operated seat last before after announced told

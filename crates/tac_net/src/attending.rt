@@ -13,7 +13,7 @@ use std::time::Clock;
 use tac_chain::Archive;
 use tac_desk::Desk;
 use tac_hall::{Hall, Seat};
-use tac_hall_console::{OperatorFault, operate};
+use tac_hall_console::{ConsoleSeat, OperatorFault, operate};
 
 // Once each worker has a thread, the first line is printed, and then the console is operated.
 fn open_console<R: Wait + Clock + AllocGlobal, D: Desk, I: Read, O: Write>(
@@ -25,7 +25,7 @@ fn open_console<R: Wait + Clock + AllocGlobal, D: Desk, I: Read, O: Write>(
     console: Seat,
     input: &mut I,
     output: &mut O,
-) -> Result<(Seat, Result<(), OperatorFault>), ServeFault>
+) -> Result<(ConsoleSeat, Result<(), OperatorFault>), ServeFault>
     ensures { program.Attends result settings.now console
         (I.remaining input.old) (I.remaining input.new)
         (O.contents output.old) (O.contents output.new) }
@@ -49,7 +49,7 @@ pub(crate) fn attend<R: Wait + Clock + AllocGlobal, D: Desk, I: Read, O: Write>(
     console: Seat,
     input: &mut I,
     output: &mut O,
-) -> Result<(Seat, Result<(), OperatorFault>), ServeFault>
+) -> Result<(ConsoleSeat, Result<(), OperatorFault>), ServeFault>
     ensures { program.Attends result settings.now console
         (I.remaining input.old) (I.remaining input.new)
         (O.contents output.old) (O.contents output.new) }

@@ -10,6 +10,7 @@ use std::io::Write;
 use tac_chain::Chain;
 use tac_desk::Desk;
 use tac_hall::{Hall, Seat};
+use tac_hall_console::ConsoleSeat;
 use tac_worker::End;
 
 const REFUSED: &[u8] = b"close refused\n";
@@ -72,21 +73,27 @@ fn add_all(
 }
 
 /// Closes a hall, of which the chain keeps the logs that were taken out, with the console's seat
-/// and those of its workers. The list has room for them.
+/// and those of its workers. Refused where the console told of a rotation that the chain doesn't
+/// have. The list has room for the seats.
 pub(crate) fn close<D: Desk, W: Write>(
     hall: Hall<D>,
     chain: &Chain,
-    console: Seat,
+    console: ConsoleSeat,
     served: Vec<(Seat, End)>,
     room: Vec<Seat>,
     output: &mut W,
 ) -> Result<(), ServeFault>
     requires { room.items ≡ [] }
-    ensures { ending.Closes result hall (console ∷ map (λ one. one.0) served.items)
+    ensures { ending.Closes result hall console.rotations
+        (console.seat ∷ map (λ one. one.0) served.items)
         (W.contents output.old) (W.contents output.new) }
 {
+    let ConsoleSeat { seat, rotations } = console;
+    if !chain.has_all(rotations.as_slice()) {
+        return Err(refuse(output));
+    }
     let mut seats = room;
-    if !add_all(chain, &mut seats, console, served)? {
+    if !add_all(chain, &mut seats, seat, served)? {
         return Err(refuse(output));
     }
     match chain.close(hall, seats) {

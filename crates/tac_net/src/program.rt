@@ -20,7 +20,7 @@ use std::time::Clock;
 use tac_chain::Archive;
 use tac_desk::Desk;
 use tac_hall::{Hall, HallFault, Seat};
-use tac_hall_console::OperatorFault;
+use tac_hall_console::{ConsoleSeat, OperatorFault};
 use tac_worker::End;
 
 // Workers serve in threads of their own, while this one serves the console. Once that has ended,
@@ -38,7 +38,7 @@ fn serve_both<R, D: Desk + Send, I: Read, O: Write>(
     output: &mut O,
 ) -> (
     Result<Vec<(Seat, End)>, AllocError>,
-    Result<(Seat, Result<(), OperatorFault>), ServeFault>,
+    Result<(ConsoleSeat, Result<(), OperatorFault>), ServeFault>,
 )
 where
     R: Threads + Wait + Clock + Sync + AllocGlobal,
@@ -62,7 +62,7 @@ where
             None => unreachable!(),
         }
     };
-    let mut attending = || -> Result<(Seat, Result<(), OperatorFault>), ServeFault>
+    let mut attending = || -> Result<(ConsoleSeat, Result<(), OperatorFault>), ServeFault>
         requires { IsSome console }
         ensures { IfSome console.entry (λ seat. program.Attends result settings.entry.now seat
             (I.remaining input.entry.now) (I.remaining input.exit.now)
@@ -86,8 +86,9 @@ where
 /// the settings say. `quit` or the input's end stops the hall. Then the port is closed, and each
 /// worker ends within half a second, whatever its device does: as Stopped, where no connection was
 /// accepted any more. At last each seat sheds the logs that were taken out, and the hall is closed
-/// with all its seats. Where one doesn't have the calls that these logs have of it, or the hall
-/// can't be closed, `close refused` is printed.
+/// with all its seats. Where one doesn't have the calls that these logs have of it, where the
+/// console told of a rotation that isn't one of these logs, or where the hall can't be closed,
+/// `close refused` is printed.
 ///
 /// A connection is given up, as one that can't be read or written, where so many seconds as the
 /// settings say have passed since it was accepted or since its last reply was written, whatever
