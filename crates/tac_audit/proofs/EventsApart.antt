@@ -59,6 +59,7 @@ why_bytes reasons.BadBody = refl
 why_bytes reasons.UnservedType = refl
 why_bytes reasons.OutOfTurn = refl
 why_bytes reasons.Aborted = refl
+why_bytes reasons.BadHeader = refl
 
 -- which it is that has this word
 why_at : List ℕ → Why
@@ -66,6 +67,7 @@ why_at word =
     if eqb (length word) 8 then reasons.BadBody
     else if eqb (length word) 13 then reasons.UnservedType
     else if eqb (length word) 11 then reasons.OutOfTurn
+    else if eqb (length word) 10 then reasons.BadHeader
     else reasons.Aborted
 
 why_read : (a : Why) → why_at (why_word a) ≡ a
@@ -74,6 +76,7 @@ why_read reasons.BadBody = refl
 why_read reasons.UnservedType = refl
 why_read reasons.OutOfTurn = refl
 why_read reasons.Aborted = refl
+why_read reasons.BadHeader = refl
 
 why_same : (a b : Why) → why_word a ≡ why_word b → a ≡ b
 why_same a b e = sym (why_read a) ∙ ap why_at e ∙ why_read b

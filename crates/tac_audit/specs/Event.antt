@@ -33,6 +33,7 @@ why_word reasons.BadBody = codes "bad body"
 why_word reasons.UnservedType = codes "unserved type"
 why_word reasons.OutOfTurn = codes "out of turn"
 why_word reasons.Aborted = codes "aborted"
+why_word reasons.BadHeader = codes "bad header"
 
 abbrev pub kind_word : AcctKind → List ℕ
 kind_word Begin = codes "start"

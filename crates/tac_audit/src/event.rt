@@ -46,6 +46,8 @@ pub enum Why {
     OutOfTurn,
     /// The client gave a login up.
     Aborted,
+    /// Its header is refused, and nothing is read after it.
+    BadHeader,
 }
 
 /// What is told of a packet.

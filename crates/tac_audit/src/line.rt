@@ -38,6 +38,7 @@ fn why_word(why: Why) -> &'static [u8]
         Why::UnservedType => b"unserved type",
         Why::OutOfTurn => b"out of turn",
         Why::Aborted => b"aborted",
+        Why::BadHeader => b"bad header",
     }
 }
 
