@@ -1,2 +1,3 @@
 mod JsonApart
 pub mod EventsApart
+pub mod MaskingFacts

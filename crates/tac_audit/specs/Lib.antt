@@ -2,3 +2,4 @@ pub mod Json
 pub mod Event
 pub mod Apart
 pub mod Telling
+pub mod Masking
