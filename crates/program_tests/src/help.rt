@@ -10,9 +10,7 @@ The key is 1 to 128 printable ASCII characters. Give it by --key-file: a key on 
 be seen by everyone with a login on this machine, by 'ps' for one.";
 
 pub(crate) const SERVE_AFTER_LONG_HELP: &str =
-    "'tacd replay --help' describes the lines of a policy.
-
-A worker serves one connection at a time, until the device hangs up, or has had no reply for so many
+    "A worker serves one connection at a time, until the device hangs up, or has had no reply for so many
 seconds as --idle says (at most 10 before the first reply); other devices wait. Standard output has
 'listening PORT' first, and then what the console's lines are answered.
 
@@ -43,6 +41,27 @@ line that is now permitted, and the shortest that is now denied; or by 'refused'
 changed nothing.
 A call that the server doesn't take is answered by 'hall' and why. A log takes 65536 calls. It is
 put away before it is full, as --rotate-at says, and nothing is printed then.
+
+Lines of a policy:
+  policy 2             the first line, if it is there: patterns may count, as '{1,3}'
+  any number of these:
+    group NAME           begins a group; with ' in GROUP', one that has that group's rules too
+    user NAME            begins a user; with ' in GROUP', one that has that group's rules too
+    login TEXT           what the user above it logs in with, 1 to 128 characters
+    enable TEXT          what the user above it enables with
+    priv N               the level, 0 to 15, of the shells of the user or group above it
+    permit PATTERN       the next rule of the user or group above it
+    deny PATTERN         the next rule of the user or group above it
+
+In the policy, empty lines, lines that begin with '#' and leading spaces are passed over. A NAME is
+1 to 32 of the characters A-Z a-z 0-9 _ - . @. A PATTERN, up to 400 characters long, is to fit a
+whole command line: '.' fits any character, '[a-z]' and '[^a-z]' one of a class or one that isn't in
+it, 'A|B' what A or B fits; after a character, a class or a part in parentheses, '*' means any
+number of it, '+' at least one, '?' at most one, '{3}' three and '{1,3}' one to three, where no
+number is over 32; a '\\' takes the next character as it is. Without the line 'policy 2' a PATTERN
+of the policy has at most 200 characters, and '{' and '}' fit themselves; in edits they always
+count. The first rule that fits decides, a user's own before the group's, and a group's own before
+those of its group; where none fits, the command is denied.
 
 Where the server stops, the port is closed, and all connections are closed within half a second.
 
@@ -78,7 +97,26 @@ that is wrong is refused, and the first line that is no line of a policy is name
 it is the line of a subject whose group isn't there, whose groups run in a circle or are too many.";
 
 pub(crate) const CHECK_AFTER_LONG_HELP: &str =
-    "'tacd replay --help' describes the lines of a policy.
+    "Lines of a policy:
+  policy 2             the first line, if it is there: patterns may count, as '{1,3}'
+  any number of these:
+    group NAME           begins a group; with ' in GROUP', one that has that group's rules too
+    user NAME            begins a user; with ' in GROUP', one that has that group's rules too
+    login TEXT           what the user above it logs in with, 1 to 128 characters
+    enable TEXT          what the user above it enables with
+    priv N               the level, 0 to 15, of the shells of the user or group above it
+    permit PATTERN       the next rule of the user or group above it
+    deny PATTERN         the next rule of the user or group above it
+
+In the policy, empty lines, lines that begin with '#' and leading spaces are passed over. A NAME is
+1 to 32 of the characters A-Z a-z 0-9 _ - . @. A PATTERN, up to 400 characters long, is to fit a
+whole command line: '.' fits any character, '[a-z]' and '[^a-z]' one of a class or one that isn't in
+it, 'A|B' what A or B fits; after a character, a class or a part in parentheses, '*' means any
+number of it, '+' at least one, '?' at most one, '{3}' three and '{1,3}' one to three, where no
+number is over 32; a '\\' takes the next character as it is. Without the line 'policy 2' a PATTERN
+of the policy has at most 200 characters, and '{' and '}' fit themselves; in edits they always
+count. The first rule that fits decides, a user's own before the group's, and a group's own before
+those of its group; where none fits, the command is denied.
 
 What is printed of a policy that may stand, with the last line where no rule is shadowed:
   policy ok: S subjects, R rules

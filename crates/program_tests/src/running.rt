@@ -537,7 +537,7 @@ Options:
 Example:
   tacd serve --port 49 --key-file tacd.key campus.policy
 
-'tacd serve --help' describes the console; 'tacd replay --help' the lines of a policy.
+'tacd serve --help' describes the console and the lines of a policy.
 ";
 
 const SERVE_OPTIONS: &str = "
@@ -601,7 +601,7 @@ Options:
 Example:
   tacd check campus.policy
 
-'tacd check --help' describes what is printed; 'tacd replay --help' the lines of a policy.
+'tacd check --help' describes what is printed and the lines of a policy.
 ";
 
 const CHECK_OPTIONS: &str = "

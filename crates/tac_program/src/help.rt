@@ -1,5 +1,37 @@
 //! The texts of the program's help.
 
+// A text with the lines of subjects, their settings and their rules, and with how the lines of a
+// policy are read and what they mean.
+macro_rules! with_policy_lines {
+    ($before:literal, $between:literal, $after:literal) => {
+        concat!(
+            $before,
+            "
+    group NAME           begins a group; with ' in GROUP', one that has that group's rules too
+    user NAME            begins a user; with ' in GROUP', one that has that group's rules too
+    login TEXT           what the user above it logs in with, 1 to 128 characters
+    enable TEXT          what the user above it enables with
+    priv N               the level, 0 to 15, of the shells of the user or group above it
+    permit PATTERN       the next rule of the user or group above it
+    deny PATTERN         the next rule of the user or group above it
+",
+            $between,
+            "\
+In the policy, empty lines, lines that begin with '#' and leading spaces are passed over. A NAME is
+1 to 32 of the characters A-Z a-z 0-9 _ - . @. A PATTERN, up to 400 characters long, is to fit a
+whole command line: '.' fits any character, '[a-z]' and '[^a-z]' one of a class or one that isn't in
+it, 'A|B' what A or B fits; after a character, a class or a part in parentheses, '*' means any
+number of it, '+' at least one, '?' at most one, '{3}' three and '{1,3}' one to three, where no
+number is over 32; a '\\' takes the next character as it is. Without the line 'policy 2' a PATTERN
+of the policy has at most 200 characters, and '{' and '}' fit themselves; in edits they always
+count. The first rule that fits decides, a user's own before the group's, and a group's own before
+those of its group; where none fits, the command is denied.
+",
+            $after
+        )
+    };
+}
+
 pub(crate) const ABOUT: &str =
     "Serves TACACS+ by a policy of users and command lines, checks and compares policies, plays scripts";
 
@@ -50,12 +82,11 @@ pub(crate) const ROTATE_AT_HELP: &str =
 pub(crate) const SERVE_AFTER_HELP: &str = "Example:
   tacd serve --port 49 --key-file tacd.key campus.policy
 
-'tacd serve --help' describes the console; 'tacd replay --help' the lines of a policy.";
+'tacd serve --help' describes the console and the lines of a policy.";
 
 /// What `tacd serve --help` ends with.
-pub(crate) const SERVE_AFTER_LONG_HELP: &str =
-    "'tacd replay --help' describes the lines of a policy.
-
+pub(crate) const SERVE_AFTER_LONG_HELP: &str = with_policy_lines!(
+    "\
 A worker serves one connection at a time, until the device hangs up, or has had no reply for so many
 seconds as --idle says (at most 10 before the first reply); other devices wait. Standard output has
 'listening PORT' first, and then what the console's lines are answered.
@@ -88,6 +119,11 @@ changed nothing.
 A call that the server doesn't take is answered by 'hall' and why. A log takes 65536 calls. It is
 put away before it is full, as --rotate-at says, and nothing is printed then.
 
+Lines of a policy:
+  policy 2             the first line, if it is there: patterns may count, as '{1,3}'
+  any number of these:",
+    "\n",
+    "
 Where the server stops, the port is closed, and all connections are closed within half a second.
 
 Example:
@@ -111,7 +147,8 @@ Exit status:
   3  memory ran out, or a thread could not be made
   4  a file could not be read, the port could not be had, the console could not be read, or the
      output could not be written, or 'close refused' was printed: the calls of all workers could
-     not be put together";
+     not be put together"
+);
 
 pub(crate) const CHECK_ABOUT: &str = "Reads a policy, and prints which of its rules decide nothing";
 
@@ -129,12 +166,15 @@ pub(crate) const FILE_HELP: &str = "The policy's text, at most 268435456 bytes";
 pub(crate) const CHECK_AFTER_HELP: &str = "Example:
   tacd check campus.policy
 
-'tacd check --help' describes what is printed; 'tacd replay --help' the lines of a policy.";
+'tacd check --help' describes what is printed and the lines of a policy.";
 
 /// What `tacd check --help` ends with.
-pub(crate) const CHECK_AFTER_LONG_HELP: &str =
-    "'tacd replay --help' describes the lines of a policy.
-
+pub(crate) const CHECK_AFTER_LONG_HELP: &str = with_policy_lines!(
+    "Lines of a policy:
+  policy 2             the first line, if it is there: patterns may count, as '{1,3}'
+  any number of these:",
+    "\n",
+    "
 What is printed of a policy that may stand, with the last line where no rule is shadowed:
   policy ok: S subjects, R rules
   shadowed in SUBJECT: OWNER rule N
@@ -162,7 +202,8 @@ Exit status:
   1  the policy is refused, and why was printed
   2  the command line is wrong
   3  memory ran out
-  4  the file could not be read, or the output could not be written";
+  4  the file could not be read, or the output could not be written"
+);
 
 pub(crate) const LINT_ABOUT: &str = "Prints what a policy says and probably doesn't mean";
 
@@ -395,19 +436,13 @@ pub(crate) const REPLAY_AFTER_HELP: &str = "Example:
 'tacd replay --help' describes the lines of a script.";
 
 /// What `tacd replay --help` ends with.
-pub(crate) const REPLAY_AFTER_LONG_HELP: &str = "Lines of a script, in this order:
+pub(crate) const REPLAY_AFTER_LONG_HELP: &str = with_policy_lines!(
+    "Lines of a script, in this order:
   key TEXT             line 1: the key, 1 to 128 printable ASCII characters
   policy 2             line 2, or the first of a file that has a policy alone: its patterns may
                        count, as '{1,3}'; it may be left out
-  the policy, any number of these:
-    group NAME           begins a group; with ' in GROUP', one that has that group's rules too
-    user NAME            begins a user; with ' in GROUP', one that has that group's rules too
-    login TEXT           what the user above it logs in with, 1 to 128 characters
-    enable TEXT          what the user above it enables with
-    priv N               the level, 0 to 15, of the shells of the user or group above it
-    permit PATTERN       the next rule of the user or group above it
-    deny PATTERN         the next rule of the user or group above it
-  run                  ends the policy
+  the policy, any number of these:",
+    "  run                  ends the policy
   events, any number of these:
     open N               a device opens connection N, 0 to 65535
     packet N HEX ..      it sends packets: 12 bytes of header, then the body, in the clear
@@ -416,16 +451,8 @@ pub(crate) const REPLAY_AFTER_LONG_HELP: &str = "Lines of a script, in this orde
     lost N               connection N is lost
     console LINE         an operator types LINE: an edit or a question, as at 'tacd serve'
 
-In the policy, empty lines, lines that begin with '#' and leading spaces are passed over. A NAME is
-1 to 32 of the characters A-Z a-z 0-9 _ - . @. A PATTERN, up to 400 characters long, is to fit a
-whole command line: '.' fits any character, '[a-z]' and '[^a-z]' one of a class or one that isn't in
-it, 'A|B' what A or B fits; after a character, a class or a part in parentheses, '*' means any
-number of it, '+' at least one, '?' at most one, '{3}' three and '{1,3}' one to three, where no
-number is over 32; a '\\' takes the next character as it is. Without the line 'policy 2' a PATTERN
-of the policy has at most 200 characters, and '{' and '}' fit themselves; in edits they always
-count. The first rule that fits decides, a user's own before the group's, and a group's own before
-those of its group; where none fits, the command is denied.
-
+",
+    "
 What is printed:
   reply N HEX          the server sends a packet on connection N, here with its body in the clear
   closed N             the server closes connection N; the number may be opened again
@@ -453,7 +480,8 @@ Exit status:
   1  the script has a fault, which was printed
   2  the command line is wrong
   3  memory ran out
-  4  the script could not be read, or the output could not be written";
+  4  the script could not be read, or the output could not be written"
+);
 
 pub(crate) const AFTER_LONG_HELP: &str = "Examples:
   tacd check campus.policy
