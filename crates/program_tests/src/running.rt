@@ -227,7 +227,10 @@ fn serves_a_console(rt: HostRuntime) -> Result<(), Fail> {
     let answers =
         "permitted by group ops rule 1\nok\nuser bob now denies: show run\nrefused 1 BadEdit\n";
     let unwritten = "tacd: the output could not be written\n";
-    serves(&rt, "", true, 0, "", "")?;
+    let ended = "tacd: the console's input ended at once, so the server stops\n";
+    serves(&rt, "", true, 0, "", ended)?;
+    serves(&rt, "quit", true, 0, "", "")?;
+    serves(&rt, "\n", true, 0, "refused 1 BadEdit\n", "")?;
     serves(&rt, lines, true, 0, answers, "")?;
     serves(&rt, lines, false, 4, "", unwritten)
 }

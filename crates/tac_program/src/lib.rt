@@ -4,6 +4,7 @@
 
 mod command_line;
 mod complaint;
+mod console;
 mod help;
 mod opening;
 mod options;

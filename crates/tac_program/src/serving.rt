@@ -6,6 +6,7 @@
 ghost use Rattle.std.specs.Prelude.{◌≡◌, ◌⊎◌, IfOk, IfErr};
 
 use crate::complaint::complain;
+use crate::console::ConsoleInput;
 use crate::opening::{open_desk, open_file};
 use crate::options::Options;
 use crate::status::Status;
@@ -82,7 +83,7 @@ where
         &port,
         hall,
         &options.settings,
-        &mut rt.reader(),
+        &mut ConsoleInput::new(rt, rt.reader()),
         &mut io::writer(rt),
     );
     match outcome {
