@@ -2,12 +2,13 @@
 
 use crate::findings::{Finding, Trouble};
 use crate::scene::{INSERT, INSERTED};
-use crate::{book, desk, live, server};
+use crate::{book, desk, live, server, update};
 use std::alloc::Global;
 
 /// One call, with what it is made on and what judges it.
 #[derive(Clone, Copy, Debug, PartialEq, Eq)]
 pub(crate) enum Case {
+    Update,
     PrepareInsert,
     PrepareAdd,
     PrepareLogin,
@@ -36,7 +37,8 @@ pub(crate) enum Case {
 
 impl Case {
     /// All cases, the lowest library first.
-    pub(crate) const ALL: [Case; 24] = [
+    pub(crate) const ALL: [Case; 25] = [
+        Case::Update,
         Case::PrepareInsert,
         Case::PrepareAdd,
         Case::PrepareLogin,
@@ -66,6 +68,7 @@ impl Case {
     /// How a command line names it.
     pub(crate) fn name(self) -> &'static str {
         match self {
+            Case::Update => "update",
             Case::PrepareInsert => "prepare-insert",
             Case::PrepareAdd => "prepare-add",
             Case::PrepareLogin => "prepare-login",
@@ -101,6 +104,7 @@ impl Case {
     /// Makes its call, and judges what stands after it.
     pub(crate) fn play(self, alloc: Global) -> Result<Finding, Trouble> {
         match self {
+            Case::Update => update::update(alloc),
             Case::PrepareInsert => live::prepare(alloc, INSERT, INSERTED),
             Case::PrepareAdd => live::prepare(alloc, "add user eve in ops", live::ADDED),
             Case::PrepareLogin => live::prepare(alloc, "login bob other", live::CHANGED),

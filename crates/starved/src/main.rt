@@ -17,6 +17,7 @@ mod live;
 mod running;
 mod scene;
 mod server;
+mod update;
 
 use std::process::ExitCode;
 
