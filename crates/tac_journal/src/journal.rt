@@ -1,0 +1,50 @@
+//! A file that several threads append lines to.
+
+use crate::book::{Book, Place};
+use crate::log::{Log, Refused};
+use crate::opening::LogFiles;
+use std::io;
+use std::sync::{Mutex, Wait};
+use std::time::Clock;
+
+/// A file that several threads append lines to, one after another.
+///
+/// Twice a second at most it is opened again by its path. So where it was renamed, lines go to a
+/// new file within a second.
+#[derive(Drop)]
+pub struct Journal<'a> {
+    place: Place<'a>,
+    book: Mutex<Book>,
+}
+
+impl<'a> Journal<'a> {
+    /// Opens the file at a path, and makes it where there is none. Lines count once the file took
+    /// them; or once they are on the disk, where it syncs.
+    pub fn open<H>(host: &H, path: &'a str, syncs: bool) -> io::Result<Journal<'a>>
+    where
+        H: Clock + LogFiles,
+    {
+        let place = Place { path, syncs };
+        let book = place.open(host)?;
+        Ok(Journal {
+            place,
+            book: Mutex::new(book),
+        })
+    }
+}
+
+impl Log for Journal<'_> {
+    fn is_kept(&self) -> bool {
+        true
+    }
+
+    fn append<H>(&self, host: &H, lines: &[u8]) -> Result<(), Refused>
+    where
+        H: Wait + Clock + Eprint + LogFiles,
+    {
+        if lines.is_empty() {
+            return Ok(());
+        }
+        self.place.append(host, &mut self.book.lock(host), lines)
+    }
+}

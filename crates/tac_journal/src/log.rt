@@ -1,0 +1,71 @@
+//! What takes the lines of an auditor.
+
+use crate::opening::LogFiles;
+use std::alloc::{AllocError, AllocFailed};
+use std::sync::Wait;
+use std::time::Clock;
+
+/// The log didn't take the lines whole. Of whom the lines tell is to hear nothing.
+#[derive(Clone, Copy, Debug, PartialEq, Eq)]
+pub struct Refused;
+
+impl From<AllocError> for Refused {
+    fn from(_error: AllocError) -> Refused {
+        Refused
+    }
+}
+
+impl<T: Drop> From<AllocFailed<T>> for Refused {
+    fn from(_error: AllocFailed<T>) -> Refused {
+        Refused
+    }
+}
+
+/// A log that several threads append to, or none.
+pub trait Log {
+    /// Whether lines are kept. Where they aren't, none need be made.
+    fn is_kept(&self) -> bool;
+
+    /// Appends these lines, each with its LF, at once: no line of another stands between them. It
+    /// may wait for those who append meanwhile. The file, the clock and standard error are the
+    /// host's.
+    fn append<H>(&self, host: &H, lines: &[u8]) -> Result<(), Refused>
+    where
+        H: Wait + Clock + Eprint + LogFiles;
+}
+
+/// No log: it takes all lines, and keeps none.
+#[derive(Clone, Copy, Debug)]
+pub struct Nowhere;
+
+impl Log for Nowhere {
+    fn is_kept(&self) -> bool {
+        false
+    }
+
+    fn append<H>(&self, _host: &H, _lines: &[u8]) -> Result<(), Refused>
+    where
+        H: Wait + Clock + Eprint + LogFiles,
+    {
+        Ok(())
+    }
+}
+
+impl<L: Log> Log for Option<L> {
+    fn is_kept(&self) -> bool {
+        match self {
+            Some(log) => log.is_kept(),
+            None => false,
+        }
+    }
+
+    fn append<H>(&self, host: &H, lines: &[u8]) -> Result<(), Refused>
+    where
+        H: Wait + Clock + Eprint + LogFiles,
+    {
+        match self {
+            Some(log) => log.append(host, lines),
+            None => Ok(()),
+        }
+    }
+}
