@@ -10,6 +10,7 @@ use std::thread::Threads;
 use std::time::Clock;
 use tac_desks::PlainDesk;
 use tac_hall::{Hall, Seat};
+use tac_journal::LogFiles;
 use tac_net::serve_on;
 use tac_wire::{Header, Key, PacketType, pad_in_place};
 use tac_worker::{End, Gate};
@@ -127,7 +128,7 @@ pub(crate) fn two_asked<R, G: Gate + Sync>(
     gate: &G,
 ) -> Result<Vec<(Seat, End)>, Fail>
 where
-    R: Threads + Wait + Clock + Sync + AllocGlobal,
+    R: Threads + Wait + Clock + Sync + AllocGlobal + Eprint + LogFiles,
     R: Net<Listener = TcpListener, Stream = TcpStream>,
 {
     let key = key()?;

@@ -5,11 +5,13 @@ use std::alloc::{AllocError, Global};
 use std::io::{self, ErrorKind, Read, Write};
 use std::net::{Ipv4Addr, Net, SocketAddr, TcpListener, TcpStream};
 use std::sync::Wait;
+use std::sync::atomic::{AtomicU64, Ordering};
 use std::test::Fail;
 use std::thread::Threads;
 use std::time::Clock;
 use tac_desks::PlainDesk;
 use tac_hall::Hall;
+use tac_journal::{Log, LogFiles, Refused};
 use tac_net::{Port, ServeFault, Settings, serve};
 
 /// What an operator does, and how many workers his server has.
@@ -33,6 +35,8 @@ struct Course {
     fails: bool,
     /// His output takes so many bytes after the first line.
     room: usize,
+    /// His server has a log, which takes the lines of all appends but this one, counted from 0.
+    refused: Option<u64>,
 }
 
 const QUITS: Course = Course {
@@ -45,7 +49,36 @@ const QUITS: Course = Course {
     types: "quit\n",
     fails: false,
     room: 0,
+    refused: None,
 };
+
+/// A log that takes all lines, but not those of one append. Each append of some has to end with a
+/// line.
+#[derive(Drop)]
+struct Refusing {
+    refused: Option<u64>,
+    appends: AtomicU64,
+}
+
+impl Log for Refusing {
+    fn is_kept(&self) -> bool {
+        self.refused.is_some()
+    }
+
+    fn append<H>(&self, _host: &H, lines: &[u8]) -> Result<(), Refused>
+    where
+        H: Wait + Clock + Eprint + LogFiles,
+    {
+        if lines.is_empty() {
+            return Ok(());
+        }
+        let before = self.appends.fetch_add(1, Ordering::SeqCst);
+        if self.refused == Some(before) || !lines.ends_with(b"}\n") {
+            return Err(Refused);
+        }
+        Ok(())
+    }
+}
 
 /// The input of an operator who does so.
 #[derive(Drop)]
@@ -142,13 +175,17 @@ fn serves<R>(
     printed: &str,
 ) -> Result<(Result<(), ServeFault>, bool), AllocError>
 where
-    R: Threads + Wait + Clock + Sync + AllocGlobal,
+    R: Threads + Wait + Clock + Sync + AllocGlobal + Eprint + LogFiles,
     R: Net<Listener = TcpListener, Stream = TcpStream>,
 {
     let first = format!(in rt.alloc(); "listening {}\n", settings.port)?;
     let wanted = format!(in rt.alloc(); "{first}{printed}")?;
     let mut screen = Screen::new(rt.alloc(), first.len().saturating_add(operator.course.room));
-    let ended = serve(rt, port, hall, settings, operator, &mut screen);
+    let log = Refusing {
+        refused: operator.course.refused,
+        appends: AtomicU64::new(0),
+    };
+    let ended = serve(rt, port, hall, settings, &log, operator, &mut screen);
     Ok((ended, screen.taken.as_slice() == wanted.as_bytes()))
 }
 
@@ -161,7 +198,7 @@ fn ends<R>(
     wanted: Result<(), ServeFault>,
 ) -> Result<(), Fail>
 where
-    R: Threads + Wait + Clock + Sync + AllocGlobal,
+    R: Threads + Wait + Clock + Sync + AllocGlobal + Eprint + LogFiles,
     R: Net<Listener = TcpListener, Stream = TcpStream>,
 {
     let port = Port::bind(rt, SocketAddr::from((Ipv4Addr::LOCALHOST, 0)))?;
@@ -255,6 +292,21 @@ fn a_log_that_is_taken_out_by_itself(rt: HostRuntime) -> Result<(), Fail> {
         ..by_itself
     };
     ends(&rt, too_late, "rotated 1 entries 1\n", Ok(()))
+}
+
+// Where the log doesn't take the line of a reply, the device has none, and the one worker serves
+// the next.
+#[test]
+fn a_log_that_refuses(rt: HostRuntime) -> Result<(), Fail> {
+    let the_second = Course {
+        workers: 1,
+        asks: "pxp",
+        types: "shadow\nquit\n",
+        room: 99,
+        refused: Some(1),
+        ..QUITS
+    };
+    ends(&rt, the_second, "none\n", Ok(()))
 }
 
 // Workers end too, one with a silent device and some that wait for one, after a console that can't

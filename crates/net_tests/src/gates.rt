@@ -12,6 +12,7 @@ use std::time::{Clock, Duration};
 use tac_chain::{Archive, Chain};
 use tac_desks::PlainDesk;
 use tac_hall::{Entry, Hall, Seat};
+use tac_journal::LogFiles;
 use tac_wire::Key;
 use tac_worker::{End, Gate, Worked, work};
 
@@ -257,7 +258,7 @@ fn over_a_rotation(rt: HostRuntime) -> Result<(), Fail> {
 // Two workers on the network, with a client each that asked before.
 fn both_serve<R>(rt: &R) -> Result<(), Fail>
 where
-    R: Threads + Wait + Sync + AllocGlobal + Clock,
+    R: Threads + Wait + Clock + Sync + AllocGlobal + Eprint + LogFiles,
     R: Net<Listener = TcpListener, Stream = TcpStream>,
 {
     let hall = hall_of(rt, 9)?;

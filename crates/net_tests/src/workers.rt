@@ -7,6 +7,7 @@ use std::test::Fail;
 use std::thread::Threads;
 use std::time::Clock;
 use tac_hall::Seat;
+use tac_journal::LogFiles;
 use tac_worker::{End, OpenGate};
 
 // Whether the seats are in order, each with this end.
@@ -17,7 +18,7 @@ fn all_ended(served: &[(Seat, End)], end: End) -> bool {
 // Two workers serve a connection each, on which a client has asked.
 fn two_served<R>(rt: &R) -> Result<(), Fail>
 where
-    R: Threads + Wait + Clock + Sync + AllocGlobal,
+    R: Threads + Wait + Clock + Sync + AllocGlobal + Eprint + LogFiles,
     R: Net<Listener = TcpListener, Stream = TcpStream>,
 {
     let hall = hall_of(rt, 9)?;

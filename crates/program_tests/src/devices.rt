@@ -3,6 +3,7 @@
 
 use crate::fake::Fake;
 use std::alloc::Global;
+use std::fs;
 use std::io::{self, ErrorKind, Read, Write};
 use std::net::{Ipv4Addr, Net, SocketAddr, TcpListener, TcpStream};
 use std::process::ExitCode;
@@ -11,6 +12,7 @@ use std::sync::atomic::{AtomicBool, Ordering};
 use std::test::Fail;
 use std::thread::{Threads, join, sleep};
 use std::time::{Clock, Duration};
+use tac_journal::LogFiles;
 use tac_program::run;
 
 // Bob asks for `show version`, on a connection of its own.
@@ -181,7 +183,7 @@ fn visit_it<R>(
     visit: Visit,
 ) -> (bool, ExitCode)
 where
-    R: Threads + Wait + Clock + Sync + AllocGlobal,
+    R: Threads + Wait + Clock + Sync + AllocGlobal + LogFiles + Eprint,
     R: Net<Listener = TcpListener, Stream = TcpStream>,
 {
     join(
@@ -198,7 +200,7 @@ where
 // Whether all went as it is to go at the server that these words start.
 fn serves<R>(rt: &R, words: &str, address: SocketAddr, visit: Visit) -> bool
 where
-    R: Threads + Wait + Clock + Sync + AllocGlobal,
+    R: Threads + Wait + Clock + Sync + AllocGlobal + LogFiles + Eprint,
     R: Net<Listener = TcpListener, Stream = TcpStream>,
 {
     let is_over = AtomicBool::new(false);
@@ -211,7 +213,7 @@ where
 // The program serves, devices visit it at this address, and then its operator quits.
 fn visited<R>(rt: &R, options: &str, host: [u8; 4], visit: Visit) -> Result<(), Fail>
 where
-    R: Threads + Wait + Clock + Sync + AllocGlobal,
+    R: Threads + Wait + Clock + Sync + AllocGlobal + LogFiles + Eprint,
     R: Net<Listener = TcpListener, Stream = TcpStream>,
 {
     let port = free_port(rt)?;
@@ -242,6 +244,25 @@ fn at_an_address(rt: HostRuntime) -> Result<(), Fail> {
     )?;
     let options = "--address 127.0.0.2 --workers 1";
     visited(&rt, options, [127, 0, 0, 2], Visit::TenTimes)
+}
+
+// Each request has a line in the file, and so has what is typed.
+#[test]
+fn lines_in_a_log(rt: HostRuntime) -> Result<(), Fail> {
+    let path = "tacd-lines.log";
+    let options = "--sync --log tacd-lines.log --workers 1";
+    visited(&rt, options, HERE, Visit::TenTimes)?;
+    let text = fs::read_to_string(&rt, path)?;
+    fs::remove_file(&rt, path)?;
+    let permitted = "\"line\":\"show version\",\"status\":\"PASS_ADD\",\"text\":\"\"}";
+    let told = text
+        .lines()
+        .filter(|line| line.ends_with(permitted))
+        .count();
+    assert_eq!(rt; told, 10);
+    assert_eq!(rt; text.lines().count(), 11);
+    assert!(rt; text.ends_with(",\"console\":\"quit\",\"answer\":[]}\n"));
+    Ok(())
 }
 
 #[test]

@@ -4,7 +4,9 @@ pub(crate) const SERVE_LONG_ABOUT: &str =
     "Serves devices that run TACACS+ (RFC 8907) on a port, with a console on standard input.
 
 The policy is read from a file once. It is edited at the console, and an edit counts from the next
-packet on. Edits and accounting records are kept in memory alone, and are gone when the server ends.
+packet on. Edits and accounting records are kept in memory, and are gone when the server ends; but
+where --log names a file, that keeps a line of JSON for each request and for each line of the
+console. A request is answered only once its line is in the file.
 
 The key is 1 to 128 printable ASCII characters. Give it by --key-file: a key on the command line can
 be seen by everyone with a login on this machine, by 'ps' for one.";
@@ -84,9 +86,9 @@ Exit status:
   1  the policy is refused, and why was printed, as by 'tacd check'
   2  the command line or the key is wrong
   3  memory ran out, or a thread could not be made
-  4  a file could not be read, the port could not be had, the console could not be read, or the
-     output could not be written, or 'close refused' was printed: the calls of all workers could
-     not be put together";
+  4  a file could not be read, that of --log could not be opened, the port could not be had, the
+     console could not be read, or the output could not be written, or 'close refused' was printed:
+     the calls of all workers could not be put together";
 
 pub(crate) const CHECK_LONG_ABOUT: &str =
     "Reads a policy, and prints how much it has and which of its rules decide nothing.
@@ -96,8 +98,7 @@ before it, by one of them alone or by several together. Such a rule is mostly a 
 that is wrong is refused, and the first line that is no line of a policy is named. Where each is one,
 it is the line of a subject whose group isn't there, whose groups run in a circle or are too many.";
 
-pub(crate) const CHECK_AFTER_LONG_HELP: &str =
-    "Lines of a policy:
+pub(crate) const CHECK_AFTER_LONG_HELP: &str = "Lines of a policy:
   policy 2             the first line, if it is there: patterns may count, as '{1,3}'
   any number of these:
     group NAME           begins a group; with ' in GROUP', one that has that group's rules too

@@ -12,6 +12,7 @@ use std::sync::Wait;
 use std::test::Fail;
 use std::thread::Threads;
 use std::time::Clock;
+use tac_journal::LogFiles;
 
 const POLICY: &str = "group ops
 permit show .*
@@ -35,6 +36,8 @@ where
         + Clock
         + Sync
         + AllocGlobal
+        + LogFiles
+        + Eprint
         + Net<Listener = TcpListener, Stream = TcpStream>,
 {
     let fake = Fake::new(rt.alloc(), words, policy, input, true);
@@ -50,6 +53,8 @@ where
         + Clock
         + Sync
         + AllocGlobal
+        + LogFiles
+        + Eprint
         + Net<Listener = TcpListener, Stream = TcpStream>,
 {
     ends(rt, words, POLICY, "", status, printed, "");
@@ -64,6 +69,8 @@ where
         + Clock
         + Sync
         + AllocGlobal
+        + LogFiles
+        + Eprint
         + Net<Listener = TcpListener, Stream = TcpStream>,
 {
     ends(rt, words, POLICY, "", status, "", complained);

@@ -12,6 +12,7 @@ use std::sync::Wait;
 use std::test::Fail;
 use std::thread::Threads;
 use std::time::Clock;
+use tac_journal::LogFiles;
 use tac_program::run;
 
 /// Runs the program, and compares its status and what stands on both streams.
@@ -23,6 +24,8 @@ where
         + Clock
         + Sync
         + AllocGlobal
+        + LogFiles
+        + Eprint
         + Net<Listener = TcpListener, Stream = TcpStream>,
 {
     let words = fake.words;
@@ -51,6 +54,8 @@ where
         + Clock
         + Sync
         + AllocGlobal
+        + LogFiles
+        + Eprint
         + Net<Listener = TcpListener, Stream = TcpStream>,
 {
     let fake = Fake::new(rt.alloc(), words, input, input, takes_output);
@@ -66,6 +71,8 @@ where
         + Clock
         + Sync
         + AllocGlobal
+        + LogFiles
+        + Eprint
         + Net<Listener = TcpListener, Stream = TcpStream>,
 {
     ends(rt, "tacd check policy", policy, true, 0, printed, "");
@@ -80,6 +87,8 @@ where
         + Clock
         + Sync
         + AllocGlobal
+        + LogFiles
+        + Eprint
         + Net<Listener = TcpListener, Stream = TcpStream>,
 {
     ends(rt, "tacd check policy", policy, true, 1, printed, "");
@@ -192,6 +201,8 @@ where
         + Clock
         + Sync
         + AllocGlobal
+        + LogFiles
+        + Eprint
         + Net<Listener = TcpListener, Stream = TcpStream>,
 {
     let port = free_port(rt)?;
@@ -247,6 +258,27 @@ fn serves_on_no_port(rt: HostRuntime) -> Result<(), Fail> {
     // A refused policy comes before the port.
     let fault = "fault line 1 1 BadLine\n";
     ends(&rt, words.as_str(), "x", true, 1, fault, "");
+    Ok(())
+}
+
+// What is wrong with the file of `--log` is said after what is wrong with the policy, and before what
+// is wrong with the port.
+#[test]
+fn serves_with_no_log(rt: HostRuntime) -> Result<(), Fail> {
+    let listener = TcpListener::bind(&rt, "0.0.0.0:0")?;
+    let port = listener.local_addr()?.port();
+    let cases = [
+        ("/nowhere/log", "No such file or directory (os error 2)"),
+        ("/", "Is a directory (os error 21)"),
+        ("/dev/null", "it is no regular file"),
+    ];
+    for (path, why) in cases {
+        let words = format!(in rt.alloc(); "tacd serve --port {port} --key k --log {path} policy")?;
+        let complained = format!(in rt.alloc(); "tacd: {path}: {why}\n")?;
+        ends(&rt, words.as_str(), "", true, 4, "", complained.as_str());
+        let fault = "fault line 1 1 BadLine\n";
+        ends(&rt, words.as_str(), "x", true, 1, fault, "");
+    }
     Ok(())
 }
 
@@ -379,6 +411,8 @@ where
         + Clock
         + Sync
         + AllocGlobal
+        + LogFiles
+        + Eprint
         + Net<Listener = TcpListener, Stream = TcpStream>,
 {
     let words = format!(in rt.alloc(); "tacd serve --key k {option} policy")?;
@@ -429,6 +463,21 @@ fn bad_options(rt: HostRuntime) -> Result<(), Fail> {
         address,
         "invalid IP address syntax",
     )
+}
+
+const NO_LOG: &str = "error: the following required arguments were not provided:
+  --log <PATH>
+
+Usage: tacd serve --port <P> --log <PATH> --sync <--key <K>|--key-file <PATH>> <FILE>
+
+For more information, try '--help'.
+";
+
+// Without a log there is nothing to sync.
+#[test]
+fn syncs_a_log(rt: HostRuntime) {
+    let words = "tacd serve --port 1 --sync --key k policy";
+    ends(&rt, words, "", true, 2, "", NO_LOG);
 }
 
 // A key's file is judged after the command line, and before the policy's file.
@@ -535,6 +584,8 @@ Options:
       --idle <SECONDS>   After how many seconds without a reply a connection is closed, 0 to 86400; 0 is never [default: 300]
       --connections <N>  How many connections each worker serves before it ends, at least 1 [default: 4294967295]
       --rotate-at <N>    Put a log away, and begin the next, before its Nth call, 1 to 65536 [default: 32768]
+      --log <PATH>       The file that takes a line of JSON for each request, before the device hears of it
+      --sync             Answer a device only once its line is on the disk
   -h, --help             Print help (see more with '--help')
 
 Example:
@@ -585,6 +636,12 @@ Options:
           Put a log away, and begin the next, before its Nth call, 1 to 65536
           
           [default: 32768]
+
+      --log <PATH>
+          The file that takes a line of JSON for each request, before the device hears of it
+
+      --sync
+          Answer a device only once its line is on the disk
 
   -h, --help
           Print help (see a summary with '-h')

@@ -21,17 +21,19 @@ use tac_chain::Archive;
 use tac_desk::Desk;
 use tac_hall::{Hall, HallFault, Seat};
 use tac_hall_console::{ConsoleSeat, OperatorFault};
+use tac_journal::{Log, LogFiles};
 use tac_worker::End;
 
 // Workers serve in threads of their own, while this one serves the console. Once that has ended,
 // they end.
-fn serve_both<R, D: Desk + Send, I: Read, O: Write>(
+fn serve_both<R, D: Desk + Send, L: Log + Sync, I: Read, O: Write>(
     rt: &R,
     port: &Port,
     hall: &Hall<D>,
     settings: &Settings,
     vigil: &Vigil,
     archive: &Archive,
+    log: &L,
     seats: Vec<Seat>,
     console: Seat,
     input: &mut I,
@@ -41,7 +43,7 @@ fn serve_both<R, D: Desk + Send, I: Read, O: Write>(
     Result<(ConsoleSeat, Result<(), OperatorFault>), ServeFault>,
 )
 where
-    R: Threads + Wait + Clock + Sync + AllocGlobal,
+    R: Threads + Wait + Clock + Sync + AllocGlobal + Eprint + LogFiles,
     ensures served { IfOk result.0 (λ served. HaveServed settings.now.key
         settings.now.connections seats.items served.items) }
     ensures attended { program.Attends result.1 settings.now console
@@ -58,7 +60,7 @@ where
             served.items)) }
     {
         match seats.take() {
-            Some(seats) => serve_rotating(rt, listener, hall, settings, archive, seats, vigil),
+            Some(seats) => serve_rotating(rt, listener, hall, settings, archive, seats, vigil, log),
             None => unreachable!(),
         }
     };
@@ -93,18 +95,20 @@ where
 /// A connection is given up, as one that can't be read or written, where so many seconds as the
 /// settings say have passed since it was accepted or since its last reply was written, whatever
 /// comes meanwhile; before its first reply after ten seconds; and where a reply isn't taken for so
-/// long. Of several faults the console's comes first. The hall has to have room for the seats, of
-/// which there is one more than workers.
-pub fn serve<R, D: Desk + Send, I: Read, O: Write>(
+/// long. Where there is a log, each reply is written only once that has its line
+/// ([`Audited`](tac_journal::Audited)). Of several faults the console's comes first. The hall has
+/// to have room for the seats, of which there is one more than workers.
+pub fn serve<R, D: Desk + Send, L: Log + Sync, I: Read, O: Write>(
     rt: &R,
     port: &Port,
     hall: Hall<D>,
     settings: &Settings,
+    log: &L,
     input: &mut I,
     output: &mut O,
 ) -> Result<(), ServeFault>
 where
-    R: Threads + Wait + Clock + Sync + AllocGlobal,
+    R: Threads + Wait + Clock + Sync + AllocGlobal + Eprint + LogFiles,
     ensures { program.Runs result settings.now hall
         (I.remaining input.old) (I.remaining input.new)
         (O.contents output.old) (O.contents output.new) }
@@ -122,7 +126,7 @@ where
     let vigil = Vigil::new(settings.idle);
     let archive = Archive::new(alloc);
     let (served, attended) = serve_both(
-        rt, port, &hall, settings, &vigil, &archive, seats, console, input, output,
+        rt, port, &hall, settings, &vigil, &archive, log, seats, console, input, output,
     );
     let (console, operated) = match attended {
         Ok(ended) => ended,

@@ -15,12 +15,13 @@ use std::time::Clock;
 use tac_chain::Archive;
 use tac_desk::Desk;
 use tac_hall::{Hall, Seat};
+use tac_journal::{Log, LogFiles, Nowhere};
 use tac_wire::Key;
 use tac_worker::{End, Gate};
 
 /// The same as [`serve_on`], but a connection is given up, and a worker ends as Stopped, where the
 /// vigil says so.
-pub(crate) fn serve_under<R: Threads + Wait + Clock + Sync, D: Desk + Send, G: Gate + Sync>(
+pub(crate) fn serve_under<R, D: Desk + Send, G: Gate + Sync>(
     rt: &R,
     listener: &TcpListener,
     hall: &Hall<D>,
@@ -30,17 +31,31 @@ pub(crate) fn serve_under<R: Threads + Wait + Clock + Sync, D: Desk + Send, G: G
     gate: &G,
     vigil: &Vigil,
 ) -> Result<Vec<(Seat, End)>, AllocError>
+where
+    R: Threads + Wait + Clock + Sync + AllocGlobal + Eprint + LogFiles,
     ensures { IfOk result (λ served. serving.HaveServed key.now connections seats.items
         served.items) }
 {
     let work = |seat: Seat| -> (Seat, End)
         ensures { serving.Serves key.entry.now connections seat result.1 result.0 }
-    { serve_all(rt, listener, hall, key, seat, connections, gate, vigil) };
+    {
+        serve_all(
+            rt,
+            listener,
+            hall,
+            key,
+            seat,
+            connections,
+            gate,
+            vigil,
+            &Nowhere,
+        )
+    };
     map_vec(rt, seats, &work)
 }
 
 // The same, each worker under a gate that counts here and has the log taken out of the hall.
-fn serve_counting<R: Threads + Wait + Clock + Sync, D: Desk + Send>(
+fn serve_counting<R, D: Desk + Send, L: Log + Sync>(
     rt: &R,
     listener: &TcpListener,
     hall: &Hall<D>,
@@ -49,7 +64,10 @@ fn serve_counting<R: Threads + Wait + Clock + Sync, D: Desk + Send>(
     count: &Count,
     seats: Vec<Seat>,
     vigil: &Vigil,
+    log: &L,
 ) -> Result<Vec<(Seat, End)>, AllocError>
+where
+    R: Threads + Wait + Clock + Sync + AllocGlobal + Eprint + LogFiles,
     ensures { IfOk result (λ served. serving.HaveServed settings.now.key
         settings.now.connections seats.items served.items) }
 {
@@ -66,13 +84,15 @@ fn serve_counting<R: Threads + Wait + Clock + Sync, D: Desk + Send>(
             settings.connections,
             &Rotating::new(rt, hall, archive, count),
             vigil,
+            log,
         )
     };
     map_vec(rt, seats, &work)
 }
 
-/// The same, and the log is taken out of the hall as the settings say.
-pub(crate) fn serve_rotating<R: Threads + Wait + Clock + Sync, D: Desk + Send>(
+/// The same, and the log is taken out of the hall as the settings say. Each reply is written only
+/// once the auditor's log has its line, where there is one.
+pub(crate) fn serve_rotating<R, D: Desk + Send, L: Log + Sync>(
     rt: &R,
     listener: &TcpListener,
     hall: &Hall<D>,
@@ -80,12 +100,17 @@ pub(crate) fn serve_rotating<R: Threads + Wait + Clock + Sync, D: Desk + Send>(
     archive: &Archive,
     seats: Vec<Seat>,
     vigil: &Vigil,
+    log: &L,
 ) -> Result<Vec<(Seat, End)>, AllocError>
+where
+    R: Threads + Wait + Clock + Sync + AllocGlobal + Eprint + LogFiles,
     ensures { IfOk result (λ served. serving.HaveServed settings.now.key
         settings.now.connections seats.items served.items) }
 {
     let count = Count::new(settings.rotate_at);
-    serve_counting(rt, listener, hall, settings, archive, &count, seats, vigil)
+    serve_counting(
+        rt, listener, hall, settings, archive, &count, seats, vigil, log,
+    )
 }
 
 /// Serves a hall on the network: for each seat there is a worker in a thread of its own, which
@@ -100,7 +125,7 @@ pub(crate) fn serve_rotating<R: Threads + Wait + Clock + Sync, D: Desk + Send>(
 /// threads' parts of it; then the seats are gone.
 ///
 /// It may wait for clients as long as they please.
-pub fn serve_on<R: Threads + Wait + Clock + Sync, D: Desk + Send, G: Gate + Sync>(
+pub fn serve_on<R, D: Desk + Send, G: Gate + Sync>(
     rt: &R,
     listener: &TcpListener,
     hall: &Hall<D>,
@@ -109,6 +134,8 @@ pub fn serve_on<R: Threads + Wait + Clock + Sync, D: Desk + Send, G: Gate + Sync
     connections: u32,
     gate: &G,
 ) -> Result<Vec<(Seat, End)>, AllocError>
+where
+    R: Threads + Wait + Clock + Sync + AllocGlobal + Eprint + LogFiles,
     ensures { IfOk result (λ served. serving.HaveServed key.now connections seats.items
         served.items) }
 {

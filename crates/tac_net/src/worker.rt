@@ -6,11 +6,14 @@ ghost use Rattle.tac_net.specs.Serving as serving;
 use crate::line::Line;
 use crate::pause::Pause;
 use crate::vigil::Vigil;
-use std::net::{TcpListener, TcpStream};
+use basics::Bytes;
+use std::alloc::{AllocError, Global};
+use std::net::{SocketAddr, TcpListener, TcpStream};
 use std::sync::Wait;
 use std::time::Clock;
 use tac_desk::Desk;
 use tac_hall::{Hall, Seat};
+use tac_journal::{Audited, Log, LogFiles};
 use tac_wire::Key;
 use tac_worker::{End, Gate, Worked, work};
 
@@ -31,16 +34,16 @@ fn accept<C: Clock>(
     listener: &TcpListener,
     vigil: &Vigil,
     pause: &mut Pause,
-) -> Result<TcpStream, End>
+) -> Result<(TcpStream, SocketAddr), End>
     ensures { IfErr result serving.IsUnaccepted }
 {
     if vigil.is_stopping() {
         return Err(End::Stopped);
     }
     match listener.accept() {
-        Ok((stream, _)) => {
+        Ok(accepted) => {
             pause.end();
-            Ok(stream)
+            Ok(accepted)
         }
         Err(_) if vigil.is_stopping() => Err(End::Stopped),
         Err(_) => {
@@ -48,6 +51,12 @@ fn accept<C: Clock>(
             Err(End::ReadFault)
         }
     }
+}
+
+// How a device is named in a log: by its address and its port.
+fn device_of(alloc: Global, address: SocketAddr) -> Result<Bytes, AllocError> {
+    let text = format!(in alloc; "{address}")?;
+    Bytes::from_slice(alloc, text.as_bytes())
 }
 
 // Serves a connection with an end to patience.
@@ -71,26 +80,62 @@ fn serve_line<'a, R: Wait + Clock, D: Desk, G: Gate>(
     (seat, end)
 }
 
-// Serves a connection.
-fn serve_stream<'a, R: Wait + Clock, D: Desk, G: Gate>(
-    rt: &'a R,
+// The same, and each reply is written only once the log has its line.
+fn serve_audited<'a, R, D: Desk, G: Gate, L: Log>(
+    rt: &R,
     hall: &Hall<D>,
     key: &Key,
     seat: Seat,
     gate: &G,
-    vigil: &'a Vigil,
-    stream: &'a TcpStream,
+    audited: &Audited<'a, &'a Line<'a, R>, R, L>,
 ) -> (Seat, End)
+where
+    R: Wait + Clock + AllocGlobal + Eprint + LogFiles,
+    ensures { serving.Connects key.now seat result.1 result.0 }
+{
+    let mut reader = audited;
+    let mut writer = audited;
+    let Worked {
+        seat,
+        receipts: _,
+        end,
+    } = work(rt, hall, key, seat, &mut reader, &mut writer, gate);
+    // that these lines aren't in the log was said
+    let _ = audited.end();
+    (seat, end)
+}
+
+// Serves a connection, with a log or without one.
+fn serve_stream<'a, R, D: Desk, G: Gate, L: Log>(
+    rt: &'a R,
+    hall: &Hall<D>,
+    key: &'a Key,
+    seat: Seat,
+    gate: &G,
+    vigil: &'a Vigil,
+    log: &'a L,
+    stream: &'a TcpStream,
+    address: SocketAddr,
+) -> (Seat, End)
+where
+    R: Wait + Clock + AllocGlobal + Eprint + LogFiles,
     ensures { serving.Connects key.now seat result.1 result.0 }
 {
     let Ok(line) = Line::new(stream, rt, vigil) else {
         return (seat, End::ReadFault);
     };
-    serve_line(rt, hall, key, seat, gate, &line)
+    if !log.is_kept() {
+        return serve_line(rt, hall, key, seat, gate, &line);
+    }
+    let Ok(device) = device_of(rt.alloc(), address) else {
+        return (seat, End::ReadFault);
+    };
+    let audited = Audited::new(rt, log, key, device, &line);
+    serve_audited(rt, hall, key, seat, gate, &audited)
 }
 
 // Waits for a connection and serves it.
-fn serve_one<R: Wait + Clock, D: Desk, G: Gate>(
+fn serve_one<R, D: Desk, G: Gate, L: Log>(
     rt: &R,
     listener: &TcpListener,
     hall: &Hall<D>,
@@ -98,19 +143,25 @@ fn serve_one<R: Wait + Clock, D: Desk, G: Gate>(
     seat: Seat,
     gate: &G,
     vigil: &Vigil,
+    log: &L,
     pause: &mut Pause,
 ) -> (Seat, End)
+where
+    R: Wait + Clock + AllocGlobal + Eprint + LogFiles,
     ensures { serving.Connects key.now seat result.1 result.0 }
 {
     match accept(rt, listener, vigil, pause) {
-        Ok(stream) => serve_stream(rt, hall, key, seat, gate, vigil, &stream),
+        Ok((stream, address)) => serve_stream(
+            rt, hall, key, seat, gate, vigil, log, &stream, address,
+        ),
         Err(end) => (seat, end),
     }
 }
 
 /// Serves so many connections, one after another, unless one ends as Stopped, Held or NoSeat
-/// before. The result has the seat and the last end, Finished where there was no connection.
-pub(crate) fn serve_all<R: Wait + Clock, D: Desk, G: Gate>(
+/// before. The result has the seat and the last end, Finished where there was no connection. With
+/// a log, each reply is written only once that has its line.
+pub(crate) fn serve_all<R, D: Desk, G: Gate, L: Log>(
     rt: &R,
     listener: &TcpListener,
     hall: &Hall<D>,
@@ -119,7 +170,10 @@ pub(crate) fn serve_all<R: Wait + Clock, D: Desk, G: Gate>(
     connections: u32,
     gate: &G,
     vigil: &Vigil,
+    log: &L,
 ) -> (Seat, End)
+where
+    R: Wait + Clock + AllocGlobal + Eprint + LogFiles,
     ensures { serving.Serves key.now connections seat result.1 result.0 }
 {
     vigil.begin();
@@ -127,7 +181,7 @@ pub(crate) fn serve_all<R: Wait + Clock, D: Desk, G: Gate>(
     let mut end = End::Finished;
     let mut pause = Pause::new();
     'connections: for _ in 0..connections {
-        let (next, last) = serve_one(rt, listener, hall, key, seat, gate, vigil, &mut pause);
+        let (next, last) = serve_one(rt, listener, hall, key, seat, gate, vigil, log, &mut pause);
         seat = next;
         end = last;
         if !goes_on(end) {

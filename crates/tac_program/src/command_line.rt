@@ -5,11 +5,11 @@ use crate::help::{
     CHECK_AFTER_LONG_HELP, CHECK_LONG_ABOUT, CONNECTIONS_HELP, DIFF_ABOUT, DIFF_AFTER_HELP,
     DIFF_AFTER_LONG_HELP, DIFF_LONG_ABOUT, EDITS_HELP, EXIT_CODE_HELP, FILE_HELP, IDLE_HELP,
     KEY_FILE_HELP, KEY_HELP, LINE_HELP, LINT_ABOUT, LINT_AFTER_HELP, LINT_AFTER_LONG_HELP,
-    LINT_LONG_ABOUT, LONG_ABOUT, NEW_HELP, OLD_HELP, PORT_HELP, REPLAY_ABOUT, REPLAY_AFTER_HELP,
-    REPLAY_AFTER_LONG_HELP, REPLAY_LONG_ABOUT, ROTATE_AT_HELP, SERVE_ABOUT, SERVE_AFTER_HELP,
-    SERVE_AFTER_LONG_HELP, SERVE_LONG_ABOUT, TEST_ABOUT, TEST_AFTER_HELP, TEST_AFTER_LONG_HELP,
-    TEST_LONG_ABOUT, USER_HELP, WHY_ABOUT, WHY_AFTER_HELP, WHY_AFTER_LONG_HELP, WHY_LONG_ABOUT,
-    WORKERS_HELP,
+    LINT_LONG_ABOUT, LOG_HELP, LONG_ABOUT, NEW_HELP, OLD_HELP, PORT_HELP, REPLAY_ABOUT,
+    REPLAY_AFTER_HELP, REPLAY_AFTER_LONG_HELP, REPLAY_LONG_ABOUT, ROTATE_AT_HELP, SERVE_ABOUT,
+    SERVE_AFTER_HELP, SERVE_AFTER_LONG_HELP, SERVE_LONG_ABOUT, SYNC_HELP, TEST_ABOUT,
+    TEST_AFTER_HELP, TEST_AFTER_LONG_HELP, TEST_LONG_ABOUT, USER_HELP, WHY_ABOUT, WHY_AFTER_HELP,
+    WHY_AFTER_LONG_HELP, WHY_LONG_ABOUT, WORKERS_HELP,
 };
 use clap::{Arg, ArgAction, ArgGroup, Command, value_parser};
 use std::alloc::{AllocError, Global};
@@ -72,6 +72,12 @@ pub(crate) const IDLE: &str = "idle";
 /// Before the call that would be which of its segment the log is taken out of the hall.
 pub(crate) const ROTATE_AT: &str = "rotate-at";
 
+/// The file that takes the lines of an auditor.
+pub(crate) const LOG: &str = "log";
+
+/// Whether such a line counts only once it is on the disk.
+pub(crate) const SYNC: &str = "sync";
+
 // The key, by either of its options.
 const SECRET: &str = "secret";
 
@@ -102,6 +108,14 @@ fn text<'a>(alloc: Global, id: &'a str, shown: &'a str, help: &'a str) -> Arg<'a
     Arg::new(alloc, id).long(id).value_name(shown).help(help)
 }
 
+// An option of `serve` that is given or not.
+fn flag<'a>(alloc: Global, id: &'a str, help: &'a str) -> Arg<'a> {
+    Arg::new(alloc, id)
+        .long(id)
+        .action(ArgAction::SetTrue)
+        .help(help)
+}
+
 // The options of a server, in the order of its help.
 fn with_options<'a>(alloc: Global, command: Command<'a>) -> Result<Command<'a>, AllocError> {
     let connections = (1, 4_294_967_295);
@@ -116,7 +130,9 @@ fn with_options<'a>(alloc: Global, command: Command<'a>) -> Result<Command<'a>, 
         .arg(number(alloc, CONNECTIONS, "N", connections, CONNECTIONS_HELP).default_value(
             "4294967295",
         ))?
-        .arg(number(alloc, ROTATE_AT, "N", (1, 65_536), ROTATE_AT_HELP).default_value("32768"))
+        .arg(number(alloc, ROTATE_AT, "N", (1, 65_536), ROTATE_AT_HELP).default_value("32768"))?
+        .arg(text(alloc, LOG, "PATH", LOG_HELP))?
+        .arg(flag(alloc, SYNC, SYNC_HELP).requires_arg(LOG)?)
 }
 
 fn serve<'a>(alloc: Global) -> Result<Command<'a>, AllocError> {

@@ -53,7 +53,9 @@ pub(crate) const SERVE_LONG_ABOUT: &str =
     "Serves devices that run TACACS+ (RFC 8907) on a port, with a console on standard input.
 
 The policy is read from a file once. It is edited at the console, and an edit counts from the next
-packet on. Edits and accounting records are kept in memory alone, and are gone when the server ends.
+packet on. Edits and accounting records are kept in memory, and are gone when the server ends; but
+where --log names a file, that keeps a line of JSON for each request and for each line of the
+console. A request is answered only once its line is in the file.
 
 The key is 1 to 128 printable ASCII characters. Give it by --key-file: a key on the command line can
 be seen by everyone with a login on this machine, by 'ps' for one.";
@@ -78,6 +80,11 @@ pub(crate) const CONNECTIONS_HELP: &str =
 
 pub(crate) const ROTATE_AT_HELP: &str =
     "Put a log away, and begin the next, before its Nth call, 1 to 65536";
+
+pub(crate) const LOG_HELP: &str =
+    "The file that takes a line of JSON for each request, before the device hears of it";
+
+pub(crate) const SYNC_HELP: &str = "Answer a device only once its line is on the disk";
 
 pub(crate) const SERVE_AFTER_HELP: &str = "Example:
   tacd serve --port 49 --key-file tacd.key campus.policy
@@ -145,9 +152,9 @@ Exit status:
   1  the policy is refused, and why was printed, as by 'tacd check'
   2  the command line or the key is wrong
   3  memory ran out, or a thread could not be made
-  4  a file could not be read, the port could not be had, the console could not be read, or the
-     output could not be written, or 'close refused' was printed: the calls of all workers could
-     not be put together"
+  4  a file could not be read, that of --log could not be opened, the port could not be had, the
+     console could not be read, or the output could not be written, or 'close refused' was printed:
+     the calls of all workers could not be put together"
 );
 
 pub(crate) const CHECK_ABOUT: &str = "Reads a policy, and prints which of its rules decide nothing";

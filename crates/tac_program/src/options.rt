@@ -4,7 +4,7 @@
 //! could be written.
 
 use crate::command_line::{
-    ADDRESS, CONNECTIONS, FILE, IDLE, KEY, KEY_FILE, PORT, ROTATE_AT, WORKERS,
+    ADDRESS, CONNECTIONS, FILE, IDLE, KEY, KEY_FILE, LOG, PORT, ROTATE_AT, SYNC, WORKERS,
 };
 use crate::opening::open_file;
 use crate::status::Status;
@@ -32,6 +32,10 @@ pub(crate) struct Options<'a> {
     pub(crate) address: SocketAddr,
     /// The policy's file.
     pub(crate) path: &'a str,
+    /// The file that takes the lines of an auditor, if there is one.
+    pub(crate) log: Option<&'a str>,
+    /// Whether a line counts only once it is on the disk.
+    pub(crate) syncs: bool,
 }
 
 // The key of a word of the command line. What is said of it doesn't show it.
@@ -136,6 +140,8 @@ impl<'a> Options<'a> {
                 address: SocketAddr::from((address, settings.port)),
                 settings,
                 path,
+                log: matches.get_str(LOG),
+                syncs: matches.get_flag(SYNC),
             }),
             _ => Err(Status::BadCommandLine),
         }

@@ -21,6 +21,7 @@ use std::thread::Threads;
 use std::time::Clock;
 use std::{env, io};
 use tac_check::check;
+use tac_journal::LogFiles;
 use tac_lint::lint;
 use tac_server::replay;
 
@@ -86,7 +87,7 @@ fn parse<'a>(alloc: Global, words: &'a [String]) -> Result<ArgMatches<'a>, Error
 fn serve_clients<R, H>(rt: &R, host: &H, matches: &ArgMatches<'_>) -> Status
 where
     R: Files + Input + Print + Eprint + AllocGlobal,
-    H: Threads + Wait + Clock + Sync + AllocGlobal,
+    H: Threads + Wait + Clock + Sync + AllocGlobal + Eprint + LogFiles,
     H: Net<Listener = TcpListener, Stream = TcpStream>,
 {
     let outcome = match Options::read(rt, matches) {
@@ -125,7 +126,7 @@ where
 fn carry_out<R, H>(rt: &R, host: &H, matches: &ArgMatches<'_>) -> Status
 where
     R: Files + Input + Print + Eprint + AllocGlobal,
-    H: Threads + Wait + Clock + Sync + AllocGlobal,
+    H: Threads + Wait + Clock + Sync + AllocGlobal + Eprint + LogFiles,
     H: Net<Listener = TcpListener, Stream = TcpStream>,
 {
     if let Some(options) = matches.subcommand_matches(SERVE) {
@@ -140,7 +141,7 @@ where
 fn obey<R, H>(rt: &R, host: &H, words: &[String]) -> Status
 where
     R: Files + Input + Print + Eprint + AllocGlobal,
-    H: Threads + Wait + Clock + Sync + AllocGlobal,
+    H: Threads + Wait + Clock + Sync + AllocGlobal + Eprint + LogFiles,
     H: Net<Listener = TcpListener, Stream = TcpStream>,
 {
     match parse(rt.alloc(), words) {
@@ -154,11 +155,11 @@ fn words_of<R: Env + AllocGlobal>(rt: &R) -> io::Result<Vec<String>> {
 }
 
 /// Does what the command line asks for. The result is the status to end with. Words, files and
-/// streams are the runtime's, threads and sockets the host's.
+/// streams are the runtime's, threads, sockets and the log of an auditor the host's.
 pub fn run<R, H>(rt: &R, host: &H) -> ExitCode
 where
     R: Env + Files + Input + Print + Eprint + AllocGlobal,
-    H: Threads + Wait + Clock + Sync + AllocGlobal,
+    H: Threads + Wait + Clock + Sync + AllocGlobal + Eprint + LogFiles,
     H: Net<Listener = TcpListener, Stream = TcpStream>,
 {
     let status = match words_of(rt) {

@@ -18,6 +18,7 @@ use std::thread::Threads;
 use std::time::Clock;
 use tac_desks::LiveDesk;
 use tac_hall::Hall;
+use tac_journal::{AuditedConsole, AuditedInput, AuditedOutput, Journal, LogFiles};
 use tac_net::{Port, ServeFault, serve};
 
 /// The most calls that a log of a hall takes.
@@ -52,6 +53,45 @@ fn hall_of<R: Eprint + AllocGlobal>(rt: &R, desk: LiveDesk) -> Result<Hall<LiveD
     }
 }
 
+// The file that takes the lines of an auditor.
+fn journal_at<'a, R: Eprint, H>(
+    rt: &R,
+    host: &H,
+    path: &'a str,
+    syncs: bool,
+) -> Result<Journal<'a>, Status>
+where
+    H: Clock + LogFiles,
+    ensures { IfErr result (λ status. (status ≡ Status.OutOfMemory) ⊎ (status ≡ Status.Failed)) }
+{
+    match Journal::open(host, path, syncs) {
+        Ok(journal) => Ok(journal),
+        Err(error) => {
+            let _ = eprintln!(rt; "tacd: {path}: {error}");
+            Err(Status::of_unopened(error.kind()))
+        }
+    }
+}
+
+// The same, where one is asked for.
+fn journal_of<'a, R: Eprint, H>(
+    rt: &R,
+    host: &H,
+    options: &Options<'a>,
+) -> Result<Option<Journal<'a>>, Status>
+where
+    H: Clock + LogFiles,
+    ensures { IfErr result (λ status. (status ≡ Status.OutOfMemory) ⊎ (status ≡ Status.Failed)) }
+{
+    match options.log {
+        Some(path) => match journal_at(rt, host, path, options.syncs) {
+            Ok(journal) => Ok(Some(journal)),
+            Err(status) => Err(status),
+        },
+        None => Ok(None),
+    }
+}
+
 // Where devices call.
 fn port_at<R: Eprint, H>(rt: &R, host: &H, address: SocketAddr) -> Result<Port, Status>
 where
@@ -68,24 +108,34 @@ where
 }
 
 /// Serves as the options say, with the runtime's input and output as the console, until that ends
-/// it. Threads and sockets are the host's.
+/// it. Threads, sockets and the log are the host's.
 pub(crate) fn serve_by<R, H>(rt: &R, host: &H, options: &Options<'_>) -> Result<(), Status>
 where
     R: Files + Input + Print + Eprint + AllocGlobal,
-    H: Threads + Wait + Clock + Sync + AllocGlobal,
+    H: Threads + Wait + Clock + Sync + AllocGlobal + Eprint + LogFiles,
     H: Net<Listener = TcpListener, Stream = TcpStream>,
 {
     let desk = desk_of_file(rt, options.path)?;
     let hall = hall_of(rt, desk)?;
+    let journal = journal_of(rt, host, options)?;
     let port = port_at(rt, host, options.address)?;
+    let console = AuditedConsole::new(host, &journal);
     let outcome = serve(
         host,
         &port,
         hall,
         &options.settings,
-        &mut ConsoleInput::new(rt, rt.reader()),
-        &mut io::writer(rt),
+        &journal,
+        &mut AuditedInput {
+            console: &console,
+            input: ConsoleInput::new(rt, rt.reader()),
+        },
+        &mut AuditedOutput {
+            console: &console,
+            output: io::writer(rt),
+        },
     );
+    console.end();
     match outcome {
         Ok(()) => Ok(()),
         Err(fault) => {

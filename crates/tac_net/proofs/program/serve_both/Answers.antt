@@ -25,6 +25,7 @@ pub join_mut-requires-send-F : goal.join_mut-requires-send-F
 join_mut-requires-send-F g c κs within =
     let runtime = c.type_bounds.sync-R in
     let hall = Hall-sync (param 1 g.row.D) g.D.Desk c.type_bounds.send-D in
+    let log = c.type_bounds.sync-L in
     record {
       owned = λ d vs vss. (
         tt,
@@ -42,7 +43,10 @@ join_mut-requires-send-F g c κs within =
                     (tt, Archive-sync.shared d.5.now d.5.ref_ptr.0 d.5.ref_ptr.1 _),
                     (
                       (tt, Vigil-sync.shared d.6.now d.6.ref_ptr.0 d.6.ref_ptr.1 _),
-                      tt,
+                      (
+                        (tt, log.shared d.7.now d.7.ref_ptr.0 d.7.ref_ptr.1 _),
+                        tt,
+                      ),
                     ),
                   ),
                 ),

@@ -20,6 +20,7 @@ pub map_vec-requires-sync-F : goal.map_vec-requires-sync-F
 map_vec-requires-sync-F g c κs within =
     let runtime = c.type_bounds.sync-R in
     let hall = Hall-sync (param 1 g.row.D) g.D.Desk c.type_bounds.send-D in
+    let log = c.type_bounds.sync-L in
     record {
       shared = λ d b o κ. (
         (
@@ -36,7 +37,10 @@ map_vec-requires-sync-F g c κs within =
                     (λ q. tt, Count-sync.shared d.5.now d.5.ref_ptr.0 d.5.ref_ptr.1 _),
                     (
                       (λ q. tt, Vigil-sync.shared d.6.now d.6.ref_ptr.0 d.6.ref_ptr.1 _),
-                      tt,
+                      (
+                        (λ q. tt, log.shared d.7.now d.7.ref_ptr.0 d.7.ref_ptr.1 _),
+                        tt,
+                      ),
                     ),
                   ),
                 ),
