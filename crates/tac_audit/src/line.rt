@@ -108,7 +108,8 @@ const LINE: &[u8] = b"line";
 // The word of a kind, where there is one.
 fn write_kind(out: &mut Vec<u8>, kind: Option<AcctKind>) -> Result<(), AllocError>
     ensures { OnOk result (out.new.items
-        ≡ out.old.items ++ json.member KIND.now (json.optional_json (option_map lines.kind_word kind))) }
+        ≡ out.old.items ++ json.member KIND.now
+        (json.optional_json (option_map lines.kind_word kind))) }
 {
     match kind {
         Some(kind) => write_optional(out, KIND, Some(kind_word(kind))),
