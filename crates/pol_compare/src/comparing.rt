@@ -1,61 +1,22 @@
 //! What users may do by one policy and not by another.
 
-ghost use Rattle.std.specs.Prelude.{◌≡◌, ◌++◌, ℕ, List, [], ◌∷◌, filter, IfOk, OnOk};
-ghost use Rattle.std.specs.Option.{option_map};
+ghost use Rattle.std.specs.Prelude.{◌≡◌, ◌++◌, ℕ, List, [], IfOk, OnOk};
 ghost use Rattle.pol_names.specs.SubjectId.{same_kind};
 ghost use Rattle.pol_names.specs.declared.subject_id.Kind.TheVariants.{User};
 ghost use Rattle.pol_automaton.specs.Automaton.{IsDecider};
 ghost use Rattle.pol_meaning.specs.Changes.{ChangesOf, AreChanges, users_of, users_alone};
-ghost use Rattle.pol_meaning.specs.Changes.{is_change as change_test, is_alone as alone_test};
-ghost use Rattle.pol_report.specs.Sharing.{IsListed};
+ghost use Rattle.pol_meaning.specs.Changes.{is_alone as alone_test};
+ghost use Rattle.pol_report.specs.Sharing.{AreKnown, IsListed};
 ghost use Rattle.pol_meaning.specs.declared.Changed.{Changed as ChangedValue};
-ghost use Rattle.pol_compare.specs.Comparing.{AreKnown};
 
-use crate::differing::{Difference, difference_for};
-use crate::known::Differences;
-use basics::{Bytes, Sequence};
+use crate::differing::{difference_for, no_rules};
+use basics::Sequence;
+use pol_automaton::Decider;
 use pol_live::{Live, keeper};
-use pol_meaning::{Changed, Changes};
 use pol_names::{Kind, Name, SubjectId};
+use pol_report::{Changes, Differences};
 use pol_text::{Policy, Subject};
 use std::alloc::{AllocError, Global};
-
-// A copy of the line, if there is one.
-fn copied(alloc: Global, line: &Option<Bytes>) -> Result<Option<Bytes>, AllocError>
-    ensures { IfOk result (λ copy. copy ≡ line.now) }
-{
-    match line {
-        Some(line) => {
-            let copy = line.copy(alloc)?;
-            Ok(Some(copy))
-        }
-        None => Ok(None),
-    }
-}
-
-// Lists what changes for a user, if anything does.
-fn list_change(
-    alloc: Global,
-    changes: &mut Changes,
-    user: Name,
-    difference: &Difference,
-) -> Result<(), AllocError>
-    ensures { OnOk result (changes.new ≡ changes.old ++ filter change_test (record
-        { user = user; permits = difference.now.permits; denies = difference.now.denies } ∷ [])) }
-{
-    if difference.permits.is_some() || difference.denies.is_some() {
-        let permits = copied(alloc, &difference.permits)?;
-        let denies = copied(alloc, &difference.denies)?;
-        changes
-            .push(Changed {
-                user,
-                permits,
-                denies,
-            })
-            .map_err(|_| AllocError)?;
-    }
-    Ok(())
-}
 
 // Lists what changes for a user. Searches once for all whose lines were decided by one keeper, and
 // are by another.
@@ -65,22 +26,22 @@ fn list_user(
     known: &mut Differences,
     old: &Live,
     new: &Live,
+    nobody: &Decider,
     user: &Name,
 ) -> Result<(), AllocError>
-    requires nobody { IsDecider known.old.nobody [] }
-    requires known { AreKnown old.now new.now known.old.found }
-    ensures nobody { IsDecider known.new.nobody [] }
-    ensures known { OnOk result (AreKnown old.now new.now known.new.found) }
+    requires nobody { IsDecider nobody.now [] }
+    requires known { AreKnown old.now new.now known.old.by_keepers }
+    ensures known { OnOk result (AreKnown old.now new.now known.new.by_keepers) }
     ensures listed { OnOk result (IsListed old.now new.now user.now changes.old changes.new) }
 {
     let id = SubjectId::user(*user);
     let before = keeper(old.policy(), &id);
     let after = keeper(new.policy(), &id);
     if let Some(difference) = known.find(before, after) {
-        return list_change(alloc, changes, *user, difference);
+        return difference.list_for(alloc, changes, *user);
     }
-    let difference = difference_for(alloc, old, new, &known.nobody, &id)?;
-    list_change(alloc, changes, *user, &difference)?;
+    let difference = difference_for(alloc, old, new, nobody, &id)?;
+    difference.list_for(alloc, changes, *user)?;
     known.remember(before, after, difference)
 }
 
@@ -104,17 +65,17 @@ fn list_present(
     known: &mut Differences,
     old: &Live,
     new: &Live,
+    nobody: &Decider,
 ) -> Result<(), AllocError>
-    requires nobody { IsDecider known.old.nobody [] }
-    requires known { AreKnown old.now new.now known.old.found }
-    ensures nobody { IsDecider known.new.nobody [] }
-    ensures known { OnOk result (AreKnown old.now new.now known.new.found) }
+    requires nobody { IsDecider nobody.now [] }
+    requires known { AreKnown old.now new.now known.old.by_keepers }
+    ensures known { OnOk result (AreKnown old.now new.now known.new.by_keepers) }
     ensures listed { (users : List (List ℕ)) → ChangesOf old.now new.now users changes.old
         → OnOk result (ChangesOf old.now new.now (users ++ users_of new.now) changes.new) }
 {
     for subject in new.policy().subjects() {
         if is_user(subject) {
-            list_user(alloc, changes, known, old, new, &subject.name)?;
+            list_user(alloc, changes, known, old, new, nobody, &subject.name)?;
         }
     }
     Ok(())
@@ -127,16 +88,17 @@ fn list_gone(
     known: &mut Differences,
     old: &Live,
     new: &Live,
+    nobody: &Decider,
 ) -> Result<(), AllocError>
-    requires nobody { IsDecider known.old.nobody [] }
-    requires known { AreKnown old.now new.now known.old.found }
+    requires nobody { IsDecider nobody.now [] }
+    requires known { AreKnown old.now new.now known.old.by_keepers }
     ensures { (users : List (List ℕ)) → ChangesOf old.now new.now users changes.old
         → OnOk result (ChangesOf old.now new.now
         (users ++ users_alone new.now old.now) changes.new) }
 {
     for subject in old.policy().subjects() {
         if is_alone(new.policy(), subject) {
-            list_user(alloc, changes, known, old, new, &subject.name)?;
+            list_user(alloc, changes, known, old, new, nobody, &subject.name)?;
         }
     }
     Ok(())
@@ -157,8 +119,9 @@ pub fn compare(alloc: Global, old: &Live, new: &Live) -> Result<Changes, AllocEr
         → AreChanges old.now new.now other → changes ≡ other) }
 {
     let mut changes = Sequence::new(alloc);
-    let mut known = Differences::new(alloc)?;
-    list_present(alloc, &mut changes, &mut known, old, new)?;
-    list_gone(alloc, &mut changes, &mut known, old, new)?;
+    let mut known = Differences::new(alloc);
+    let nobody = no_rules(alloc)?;
+    list_present(alloc, &mut changes, &mut known, old, new, &nobody)?;
+    list_gone(alloc, &mut changes, &mut known, old, new, &nobody)?;
     Ok(changes)
 }

@@ -4,6 +4,5 @@
 
 mod comparing;
 mod differing;
-mod known;
 
 pub use comparing::compare;

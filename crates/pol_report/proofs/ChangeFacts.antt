@@ -21,7 +21,7 @@ use Rattle.pol_live.specs.Live.{IsDeciderFor}
 use Rattle.pol_meaning.specs.Reach.{IsLeastIfAny}
 use Rattle.pol_meaning.specs.Changes.{is_permit, permits, IsGained, IsChangeOf, is_change}
 use Rattle.pol_report.specs.Sharing.{along, along_at, permits_along, IsGainedAlong, IsDifference, IsListed}
-use Rattle.pol_report.specs.declared.differing.Difference.{Difference}
+use Rattle.pol_report.specs.declared.difference.Difference.{Difference}
 use Rattle.pol_meaning.specs.declared.Changed.{Changed}
 use Rattle.pol_report.proofs.Leasts.{if_any_same}
 use Rattle.pol_report.proofs.ReachFacts.{not_matched, not_held}

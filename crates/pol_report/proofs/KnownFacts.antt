@@ -1,5 +1,5 @@
 -- What is kept under places, and under two of them.
-use Rattle.std.specs.Option.{option_copied}
+use Rattle.std.specs.Option.{option_copied, option_cmp}
 use Rattle.std.proofs.Common.{◌≡◌, ℕ, Bool, true, false, cond, Bor, Option, None, Some, Result, Ok, Err, IfSome, OnOk, refl, sym, ap, subst, ◌∙◌, arith}
 use Rattle.std.specs.BTreeMap.{BTreeMap, get, is_at, Updates}
 use Rattle.std.specs.Ordering.{nat_cmp, is_eq, ordering_then}
@@ -17,15 +17,18 @@ both_equal Less b e = absurd cc
 both_equal Equal b e = (refl, e)
 both_equal Greater b e = absurd cc
 
-pub same_places : (k q : Option ℕ × ℕ) → is_at (by_places k) q ≡ true → k ≡ q
-same_places (None, k) (None, q) at = ap (λ (n : ℕ). (None, n)) (same_place k q at)
-same_places (None, k) (Some y, q) at = absurd cc
-same_places (Some x, k) (None, q) at = absurd cc
-same_places (Some x, k) (Some y, q) at =
-    let both = both_equal (nat_cmp x y) (nat_cmp k q) at in
-    let first = same_place x y both.0 in
-    let second = same_place k q both.1 in
-    λ i. (Some (first i), second i)
+same_option : (k q : Option ℕ) → is_eq (option_cmp nat_cmp k q) ≡ true → k ≡ q
+same_option None None at = refl
+same_option None (Some y) at = absurd cc
+same_option (Some x) None at = absurd cc
+same_option (Some x) (Some y) at = ap Some (same_place x y at)
+
+pub same_places : (k q : Option ℕ × Option ℕ) → is_at (by_places k) q ≡ true → k ≡ q
+same_places (a, b) (c, d) at =
+    let both = both_equal (option_cmp nat_cmp a c) (option_cmp nat_cmp b d) at in
+    let first = same_option a c both.0 in
+    let second = same_option b d both.1 in
+    λ i. (first i, second i)
 
 -- what is so of each key, and of one that is written
 module _ {K V : Type 0} (order : K → K → Ordering) (same : (k q : K) → is_at (order k) q ≡ true → k ≡ q) where

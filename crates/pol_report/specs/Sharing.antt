@@ -13,7 +13,7 @@ use Rattle.pol_meaning.specs.Changes.{is_permit, is_change, IsChangeOf}
 use Rattle.pol_meaning.specs.declared.Changed.{Changed}
 use Rattle.pol_meaning.specs.declared.Reached.{Reached}
 use Rattle.pol_meaning.specs.declared.Shadowed.{Shadowed}
-use Rattle.pol_report.specs.declared.differing.Difference.{Difference}
+use Rattle.pol_report.specs.declared.difference.Difference.{Difference}
 
 -- the rules along the chain of a subject, or of the one at a place, if it is there
 abbrev pub along : List Subject → SubjectId → Option (List Entry)
@@ -40,16 +40,17 @@ pub record IsDifference (before after : Option (List Entry)) (difference : Diffe
   pub permits_is : IsLeastIfAny (IsGainedAlong before after) difference.permits
   pub denies_is : IsLeastIfAny (IsGainedAlong after before) difference.denies
 
--- the order of two pairs of places: one in the old policy, if any, and one in the new policy
-abbrev pub by_places : Option ℕ × ℕ → Option ℕ × ℕ → Ordering
-by_places a b = ordering_then (option_cmp nat_cmp a.0 b.0) (nat_cmp a.1 b.1)
+-- the order of two pairs of places: one in the old policy, if any, and one in the new one, if any
+abbrev pub by_places : Option ℕ × Option ℕ → Option ℕ × Option ℕ → Ordering
+by_places a b = ordering_then (option_cmp nat_cmp a.0 b.0) (option_cmp nat_cmp a.1 b.1)
 
 -- what is remembered under two places differs for those who had their rules by the subject at the
 -- first and have them by the one at the second
-abbrev pub AreKnown : List Subject → List Subject → BTreeMap (Option ℕ × ℕ) Difference → Type 0
-AreKnown before after known = (places : Option ℕ × ℕ) (found : Difference)
+abbrev pub AreKnown : List Subject → List Subject → BTreeMap (Option ℕ × Option ℕ) Difference
+    → Type 0
+AreKnown before after known = (places : Option ℕ × Option ℕ) (found : Difference)
     → get by_places known places ≡ Some found
-    → IsDifference (along_at before places.0) (along_at after (Some places.1)) found
+    → IsDifference (along_at before places.0) (along_at after places.1) found
 
 -- what changes for the user is listed after the others, if anything does
 pub record IsListed (before after : List Subject) (user : List ℕ) (old new : List Changed)

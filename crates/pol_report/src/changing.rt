@@ -1,47 +1,21 @@
 //! What a change of the policy changes for its users.
 
-ghost use Rattle.std.specs.Prelude.{◌≡◌, ◌++◌, ℕ, List, [], ◌∷◌, filter, IfOk, OnOk};
+ghost use Rattle.std.specs.Prelude.{◌≡◌, ◌++◌, ℕ, List, IfOk, OnOk};
 ghost use Rattle.pol_names.specs.SubjectId.{same_kind};
 ghost use Rattle.pol_names.specs.declared.subject_id.Kind.TheVariants.{User};
-ghost use Rattle.pol_meaning.specs.Changes.{IsChangeOf, ChangesOf, AreChanges, users_of};
-ghost use Rattle.pol_meaning.specs.Changes.{is_change as change_test, is_alone as alone_test};
-ghost use Rattle.pol_meaning.specs.Changes.{users_alone};
+ghost use Rattle.pol_meaning.specs.Changes.{ChangesOf, AreChanges, users_of, users_alone};
+ghost use Rattle.pol_meaning.specs.Changes.{is_alone as alone_test};
 ghost use Rattle.pol_report.specs.Sharing.{AreKnown, IsListed};
 ghost use Rattle.pol_meaning.specs.declared.Changed.{Changed as ChangedValue};
 
-use crate::differing::{Difference, difference_for};
+use crate::Changes;
+use crate::differing::difference_for;
 use crate::known::Differences;
-use crate::line::copied;
-use crate::{Changed, Changes};
 use basics::Sequence;
 use pol_live::{Live, Prepared, keeper};
 use pol_names::{Kind, Name, SubjectId};
 use pol_text::{Policy, Subject};
 use std::alloc::{AllocError, Global};
-
-// Lists what changes for a user, if anything does.
-fn list_change(
-    alloc: Global,
-    changes: &mut Changes,
-    user: Name,
-    difference: &Difference,
-) -> Result<(), AllocError>
-    ensures { OnOk result (changes.new ≡ changes.old ++ filter change_test (record
-        { user = user; permits = difference.now.permits; denies = difference.now.denies } ∷ [])) }
-{
-    if difference.permits.is_some() || difference.denies.is_some() {
-        let permits = copied(alloc, &difference.permits)?;
-        let denies = copied(alloc, &difference.denies)?;
-        changes
-            .push(Changed {
-                user,
-                permits,
-                denies,
-            })
-            .map_err(|_| AllocError)?;
-    }
-    Ok(())
-}
 
 // Lists what changes for a user, searched for.
 fn list_searched(
@@ -55,7 +29,7 @@ fn list_searched(
     ensures { OnOk result (IsListed live.now prepared.now.after user.now changes.old changes.new) }
 {
     let difference = difference_for(alloc, live, prepared, &SubjectId::user(*user))?;
-    list_change(alloc, changes, *user, &difference)
+    difference.list_for(alloc, changes, *user)
 }
 
 // Lists what changes for a user whose rules the edits may have changed. Searches once for all who
@@ -76,14 +50,12 @@ fn list_touched(
 {
     let id = SubjectId::user(*user);
     let before = keeper(live.policy(), &id);
-    let Some(after) = keeper(prepared.policy(), &id) else {
-        return list_searched(alloc, changes, live, prepared, user);
-    };
+    let after = keeper(prepared.policy(), &id);
     if let Some(difference) = known.find(before, after) {
-        return list_change(alloc, changes, *user, difference);
+        return difference.list_for(alloc, changes, *user);
     }
     let difference = difference_for(alloc, live, prepared, &id)?;
-    list_change(alloc, changes, *user, &difference)?;
+    difference.list_for(alloc, changes, *user)?;
     known.remember(before, after, difference)
 }
 

@@ -1,28 +1,13 @@
 //! What differs between the rules along two chains.
 
-ghost use Rattle.std.specs.Prelude.{◌≡◌, ◌∷◌, [], map, IfOk};
+ghost use Rattle.std.specs.Prelude.{◌≡◌, map, IfOk};
 ghost use Rattle.pol_names.specs.declared.decision.Verdict.TheVariants.{Deny};
-ghost use Rattle.pol_automaton.specs.Automaton.{IsDecider};
-ghost use Rattle.pol_automaton.specs.Decision.{Ruling, IsChanged};
-ghost use Rattle.pol_automaton.specs.declared.way.Way.TheVariants.{NowPermitted, NowDenied};
-ghost use Rattle.pol_meaning.specs.Reach.{IsLeastIfAny};
 ghost use Rattle.pol_report.specs.Sharing.{IsDifference, along};
 
-use crate::line::line_of;
-use basics::Bytes;
-use pol_automaton::{Decider, Way};
+use crate::difference::Difference;
 use pol_live::{ChainRule, Live, Prepared, rules_along};
 use pol_names::{SubjectId, Verdict};
 use std::alloc::{AllocError, Global};
-
-/// What differs for those who had the rules along one chain, and have those along another.
-#[derive(Drop)]
-pub(crate) struct Difference {
-    /// The least line that is permitted now and was denied before, if there is one.
-    pub(crate) permits: Option<Bytes>,
-    /// The least line that is denied now and was permitted before, if there is one.
-    pub(crate) denies: Option<Bytes>,
-}
 
 // What each of the rules says.
 fn verdicts(alloc: Global, rules: &[ChainRule]) -> Result<Vec<Verdict>, AllocError>
@@ -36,38 +21,6 @@ fn denials(alloc: Global, rules: &[ChainRule]) -> Result<Vec<Verdict>, AllocErro
     ensures { IfOk result (λ verdicts. verdicts.items ≡ map (λ rule. Deny) rules.now) }
 {
     rules.iter().map(|_| Verdict::Deny).collect(alloc)
-}
-
-// What differs between the old rules' automaton and verdicts and the new ones'.
-fn compare(
-    alloc: Global,
-    old: &Decider,
-    old_verdicts: &[Verdict],
-    new: &Decider,
-    new_verdicts: &[Verdict],
-) -> Result<Difference, AllocError>
-    ensures permits { (before after : Ruling) → IsDecider old.now before.entries
-        → IsDecider new.now after.entries → before.verdicts ≡ old_verdicts.now
-        → after.verdicts ≡ new_verdicts.now → IfOk result (λ difference.
-        IsLeastIfAny (IsChanged before after NowPermitted) difference.permits) }
-    ensures denies { (before after : Ruling) → IsDecider old.now before.entries
-        → IsDecider new.now after.entries → before.verdicts ≡ old_verdicts.now
-        → after.verdicts ≡ new_verdicts.now → IfOk result (λ difference.
-        IsLeastIfAny (IsChanged before after NowDenied) difference.denies) }
-{
-    let permits = Decider::differ(
-        alloc,
-        old,
-        old_verdicts,
-        new,
-        new_verdicts,
-        Way::NowPermitted,
-    )?;
-    let denies = Decider::differ(alloc, old, old_verdicts, new, new_verdicts, Way::NowDenied)?;
-    Ok(Difference {
-        permits: line_of(permits),
-        denies: line_of(denies),
-    })
 }
 
 /// What differs for a subject. Who isn't in a policy may do nothing there: as if all rules that the
@@ -88,17 +41,17 @@ pub(crate) fn difference_for(
         (Some(old), Some(new)) => {
             let before = verdicts(alloc, &old_rules)?;
             let after = verdicts(alloc, &new_rules)?;
-            compare(alloc, old, &before, new, &after)
+            Difference::between(alloc, old, &before, new, &after)
         }
         (Some(old), None) => {
             let before = verdicts(alloc, &old_rules)?;
             let after = denials(alloc, &old_rules)?;
-            compare(alloc, old, &before, old, &after)
+            Difference::between(alloc, old, &before, old, &after)
         }
         (None, Some(new)) => {
             let before = denials(alloc, &new_rules)?;
             let after = verdicts(alloc, &new_rules)?;
-            compare(alloc, new, &before, new, &after)
+            Difference::between(alloc, new, &before, new, &after)
         }
         (None, None) => Ok(Difference {
             permits: None,

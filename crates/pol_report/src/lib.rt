@@ -3,6 +3,7 @@
 #![tactic(auto)]
 
 mod changing;
+mod difference;
 mod differing;
 mod known;
 mod line;
@@ -10,6 +11,8 @@ mod reaching;
 mod shadowing;
 
 pub use changing::changes;
+pub use difference::Difference;
+pub use known::Differences;
 pub use pol_meaning::{Changed, Changes, Reached, Shadowed};
 pub use reaching::reach;
 pub use shadowing::shadows;

@@ -4,7 +4,7 @@ use Rattle.pol_report.proofs.ListFacts.{no_changes, only_changes}
 use Rattle.pol_compare.proofs.comparing.compare.Goals as goal
 
 pub list_present-requires-clause-known : goal.list_present-requires-clause-known
-list_present-requires-clause-known c = c.in_ok-known.ensures.found c.args.old.now c.args.new.now
+list_present-requires-clause-known c = c.new-known.ensures c.args.old.now c.args.new.now
 
 pub returns-clause-found : goal.returns-clause-found
 returns-clause-found c =

@@ -19,10 +19,6 @@ loop-subject-preserved c =
         | else-is_alone w ↦ step_passed c.args.old.now c.args.new.now (is_alone c.args.new.now) subjects i subject users c.loop-subject.changes c.if-is_alone.changes lt at
             (sym alone ∙ w.if-is_alone.false) w.changes-is (c.loop-subject.invariant.so_far users h)
       ];
-      nobody = elim c.if-is_alone.branch [
-        | then-is_alone+in_ok-list_user w ↦ rw w.known-is w.in_ok-list_user.ensures.nobody
-        | else-is_alone w ↦ rw w.known-is c.loop-subject.invariant.nobody
-      ];
       known = elim c.if-is_alone.branch [
         | then-is_alone+in_ok-list_user w ↦ rw w.known-is w.in_ok-list_user.ensures.known
         | else-is_alone w ↦ rw w.known-is c.loop-subject.invariant.known

@@ -1,7 +1,6 @@
-use Rattle.std.proofs.Common.{◌≡◌, ◌++◌, [], ℕ, List, map, filter, take}
-use Rattle.pol_automaton.specs.Automaton.{IsDecider}
+use Rattle.std.proofs.Common.{◌≡◌, ◌++◌, ℕ, List, map, filter, take}
 use Rattle.pol_meaning.specs.Changes.{ChangesOf, is_alone}
-use Rattle.pol_compare.specs.Comparing.{AreKnown}
+use Rattle.pol_report.specs.Sharing.{AreKnown}
 use Rattle.pol_compare.proofs.comparing.list_gone.Given as goal
 
 -- the users among the first subjects come after those that were listed before
@@ -9,7 +8,6 @@ abbrev pub invariant-loop-subject : goal.invariant-loop-subject
 invariant-loop-subject l = record {
   so_far : (users : List (List ℕ)) → ChangesOf l.old l.new users l.fn.changes
       → ChangesOf l.old l.new (users ++ map (λ subject. subject.name) (filter (is_alone l.new) (take l.subject-index l.old))) l.changes;
-  nobody : IsDecider l.known.nobody [];
-  known : AreKnown l.old l.new l.known.found;
+  known : AreKnown l.old l.new l.known.by_keepers;
   same : l.subject-items ≡ l.old;
 }

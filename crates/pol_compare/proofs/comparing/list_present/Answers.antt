@@ -12,7 +12,6 @@ loop-subject-init c =
     let after = c.args.new.now in
     record {
       so_far = λ users h. subst (λ (us : List (List ℕ)). ChangesOf live after us c.args.changes.now) (sym (append-nil users)) h;
-      nobody = c.requires.nobody;
       known = c.requires.known;
       same = c.subjects-subject-items.ensures.subjects ∙ c.policy.ensures.policy;
     }
@@ -30,10 +29,6 @@ loop-subject-preserved c =
             (sym c.is_user.ensures ∙ w.if-is_user.true) (rw w.changes-is w.in_ok-list_user.ensures.listed) (c.loop-subject.invariant.so_far users h)
         | else-is_user w ↦ step_passed c.args.old.now c.args.new.now (λ subject. same_kind subject.kind User) subjects i subject users c.loop-subject.changes c.if-is_user.changes lt at
             (sym c.is_user.ensures ∙ w.if-is_user.false) w.changes-is (c.loop-subject.invariant.so_far users h)
-      ];
-      nobody = elim c.if-is_user.branch [
-        | then-is_user+in_ok-list_user w ↦ rw w.known-is w.in_ok-list_user.ensures.nobody
-        | else-is_user w ↦ rw w.known-is c.loop-subject.invariant.nobody
       ];
       known = elim c.if-is_user.branch [
         | then-is_user+in_ok-list_user w ↦ rw w.known-is w.in_ok-list_user.ensures.known

@@ -10,4 +10,4 @@ returns c =
     let after = c.args.prepared.now.after in
     let user = c.args.user.now in
     let found : IsDifference (along live (user_id user)) (along after (user_id user)) c.in_ok-difference.difference = rw (← c.user.ensures) c.in_ok-difference.ensures in
-    on_ok_so c.list_change.result (is_listed live after user c.args.changes.now c.list_change.new.changes c.in_ok-difference.difference found) c.list_change.ensures
+    on_ok_so c.list_for.result (is_listed live after user c.args.changes.now c.list_for.new.changes c.in_ok-difference.difference found) c.list_for.ensures

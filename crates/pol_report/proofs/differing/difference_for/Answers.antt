@@ -22,10 +22,10 @@ returns-in-Some-Some c =
     let later : own_verdicts second ≡ c.deref-in-Some-Some-3.result.now = sym (c.deref-in-Some-Some-3.ensures.value ∙ c.in_ok-after-in-Some-Some.ensures ∙ ap (λ (rules : List ChainRule). map (λ rule. rule.verdict) rules) (c.deref-in-Some-Some.ensures.value ∙ new_rules)) in
     let was : IsDecider c.in-Some-Some.old.now (patterns_of first) = its_decider live id c.in-Some-Some.old.now c.in-Some-Some.ensures.decider in
     let is : IsDecider c.in-Some-Some.new.now (patterns_of second) = its_decider after id c.in-Some-Some.new.now c.in-Some-Some.ensures'.decider in
-    if_ok_both c.compare.result
+    if_ok_both c.between.result
     (found_difference c.in-Some-Some.ensures.law (along live id) (along after id) (patterns_of first) (patterns_of second) (own_verdicts first) (own_verdicts second) (present_side c.in-Some-Some.ensures.law live id) (present_side c.in-Some-Some.ensures.law after id))
-    (c.compare.ensures.permits (record { entries = patterns_of first; verdicts = own_verdicts first }) (record { entries = patterns_of second; verdicts = own_verdicts second }) was is verdicts later)
-    (c.compare.ensures.denies (record { entries = patterns_of first; verdicts = own_verdicts first }) (record { entries = patterns_of second; verdicts = own_verdicts second }) was is verdicts later)
+    (c.between.ensures.permits (record { entries = patterns_of first; verdicts = own_verdicts first }) (record { entries = patterns_of second; verdicts = own_verdicts second }) was is verdicts later)
+    (c.between.ensures.denies (record { entries = patterns_of first; verdicts = own_verdicts first }) (record { entries = patterns_of second; verdicts = own_verdicts second }) was is verdicts later)
 
 pub returns-in-Some-None : goal.returns-in-Some-None
 returns-in-Some-None c =
@@ -40,10 +40,10 @@ returns-in-Some-None c =
     let later : denials first ≡ c.deref-in-Some-None-4.result.now = sym (c.deref-in-Some-None-4.ensures.value ∙ c.in_ok-after-in-Some-None.ensures ∙ ap (λ (rules : List ChainRule). map (λ rule. Deny) rules) (c.deref-in-Some-None-2.ensures.value ∙ old_rules)) in
     let was : IsDecider c.in-Some-None.old.now (patterns_of first) = its_decider live id c.in-Some-None.old.now c.in-Some-None.ensures.decider in
     let nobody_is = nobody after id c.in-Some-None.ensures'.decider in
-    if_ok_both c.compare-in-Some-None.result
+    if_ok_both c.between-in-Some-None.result
     (found_difference c.in-Some-None.ensures.law (along live id) (along after id) (patterns_of first) (patterns_of first) (own_verdicts first) (denials first) (present_side c.in-Some-None.ensures.law live id) (absent_side c.in-Some-None.ensures.law after id first nobody_is))
-    (c.compare-in-Some-None.ensures.permits (record { entries = patterns_of first; verdicts = own_verdicts first }) (record { entries = patterns_of first; verdicts = denials first }) was was verdicts later)
-    (c.compare-in-Some-None.ensures.denies (record { entries = patterns_of first; verdicts = own_verdicts first }) (record { entries = patterns_of first; verdicts = denials first }) was was verdicts later)
+    (c.between-in-Some-None.ensures.permits (record { entries = patterns_of first; verdicts = own_verdicts first }) (record { entries = patterns_of first; verdicts = denials first }) was was verdicts later)
+    (c.between-in-Some-None.ensures.denies (record { entries = patterns_of first; verdicts = own_verdicts first }) (record { entries = patterns_of first; verdicts = denials first }) was was verdicts later)
 
 pub returns-in-None-Some : goal.returns-in-None-Some
 returns-in-None-Some c =
@@ -58,7 +58,7 @@ returns-in-None-Some c =
     let later : own_verdicts second ≡ c.deref-in-None-Some-4.result.now = sym (c.deref-in-None-Some-4.ensures.value ∙ c.in_ok-after-in-None-Some.ensures ∙ ap (λ (rules : List ChainRule). map (λ rule. rule.verdict) rules) (c.deref-in-None-Some-2.ensures.value ∙ new_rules)) in
     let nobody_was = nobody live id c.in-None-Some.ensures.decider in
     let is : IsDecider c.in-None-Some.new.now (patterns_of second) = its_decider after id c.in-None-Some.new.now c.in-None-Some.ensures'.decider in
-    if_ok_both c.compare-in-None-Some.result
+    if_ok_both c.between-in-None-Some.result
     (found_difference c.in-None-Some.ensures.law (along live id) (along after id) (patterns_of second) (patterns_of second) (denials second) (own_verdicts second) (absent_side c.in-None-Some.ensures.law live id second nobody_was) (present_side c.in-None-Some.ensures.law after id))
-    (c.compare-in-None-Some.ensures.permits (record { entries = patterns_of second; verdicts = denials second }) (record { entries = patterns_of second; verdicts = own_verdicts second }) is is verdicts later)
-    (c.compare-in-None-Some.ensures.denies (record { entries = patterns_of second; verdicts = denials second }) (record { entries = patterns_of second; verdicts = own_verdicts second }) is is verdicts later)
+    (c.between-in-None-Some.ensures.permits (record { entries = patterns_of second; verdicts = denials second }) (record { entries = patterns_of second; verdicts = own_verdicts second }) is is verdicts later)
+    (c.between-in-None-Some.ensures.denies (record { entries = patterns_of second; verdicts = denials second }) (record { entries = patterns_of second; verdicts = own_verdicts second }) is is verdicts later)

@@ -1,7 +1,7 @@
 use Rattle.pol_automaton.specs.Decision.{IsChanged, ruling}
 use Rattle.pol_automaton.specs.declared.way.Way.TheVariants.{NowPermitted, NowDenied}
 use Rattle.pol_report.proofs.Leasts.{if_any}
-use Rattle.pol_report.proofs.differing.compare.Goals as goal
+use Rattle.pol_report.proofs.difference.Difference.between.Goals as goal
 
 pub returns-clause-permits : goal.returns-clause-permits
 returns-clause-permits c before after old new old_are new_are =
