@@ -7,6 +7,6 @@ mod conversing;
 mod faltering;
 mod ledger;
 #[cfg(test)]
-mod serving;
+mod limits;
 #[cfg(test)]
 mod support;

@@ -10,7 +10,7 @@ mod opening;
 mod options;
 mod program;
 mod reviewing;
-mod serving;
+mod server;
 mod status;
 
 pub use program::run;

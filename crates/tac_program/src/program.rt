@@ -8,7 +8,7 @@ use crate::complaint::complain;
 use crate::opening::open_file;
 use crate::options::Options;
 use crate::reviewing::{diff, test, why};
-use crate::serving::serve_by;
+use crate::server::serve_by;
 use crate::status::Status;
 use clap::error::ErrorKind;
 use clap::{ArgMatches, Error};

@@ -24,8 +24,8 @@ use Rattle.tac_stream.specs.Turns.{packets_of, closed_by, turn_of, turn_by, IsTu
 use Rattle.tac_stream.specs.Kept.{Stands, closed_of, pending_of}
 use Rattle.tac_worker.specs.declared.worked.End.{End}
 use Rattle.tac_worker.specs.declared.worked.End.TheVariants.{Finished, ByProtocol, Stopped, LogFull, Memory, ReadFault, WriteFault, Held, NoSeat}
-use Rattle.tac_worker.specs.declared.serving.Went.{Went}
-use Rattle.tac_worker.specs.declared.serving.Went.TheVariants.{On, Rests}
+use Rattle.tac_worker.specs.declared.turning.Went.{Went}
+use Rattle.tac_worker.specs.declared.turning.Went.TheVariants.{On, Rests}
 use Rattle.tac_worker.specs.Served.{Sending, plain, carrying, served_for, asked_by, served_to, asks_in, closes, bytes_sent, carried}
 use Rattle.tac_worker.specs.Worked.{Exchange, asks_of, answers_of, Calling, Makes, Leaves, Closes, Writes, Ends}
 use Rattle.tac_worker.specs.Working.{Handled, GoesOn, IsUncalled, Replies, taken_of, left_of, Turned}

@@ -14,8 +14,8 @@ use Rattle.tac_stream.specs.Kept.{IsReady, Stands, closed_of, pending_of}
 use Rattle.tac_worker.specs.declared.worked.End.{End}
 use Rattle.tac_worker.specs.declared.worked.End.TheVariants.{Finished, ByProtocol, Memory}
 use Rattle.tac_worker.specs.declared.worked.End.TheVariants.{ReadFault, WriteFault}
-use Rattle.tac_worker.specs.declared.serving.Went.{Went}
-use Rattle.tac_worker.specs.declared.serving.Went.TheVariants.{On, Rests}
+use Rattle.tac_worker.specs.declared.turning.Went.{Went}
+use Rattle.tac_worker.specs.declared.turning.Went.TheVariants.{On, Rests}
 use Rattle.tac_worker.specs.Served.{Sending, served_to, asks_in, closes}
 use Rattle.tac_worker.specs.Served.{bytes_sent, carried}
 use Rattle.tac_worker.specs.Worked.{Exchange, asks_of, answers_of, Calling, Makes, Closes, Ends}

@@ -4,7 +4,7 @@
 mod caller;
 mod gate;
 mod hearing;
-mod serving;
+mod turning;
 mod worked;
 mod working;
 

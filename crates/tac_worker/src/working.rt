@@ -5,7 +5,7 @@ ghost use Rattle.tac_worker.specs.Worked.{IsServed};
 
 use crate::caller::Caller;
 use crate::gate::Gate;
-use crate::serving::serve;
+use crate::turning::serve;
 use crate::worked::Worked;
 use std::io::{Read, Write};
 use std::sync::Wait;

@@ -1,6 +1,6 @@
 use Rattle.std.proofs.Common.{sym, take, drop, length-drop, arith}
 use Rattle.std.proofs.lemmas.List.{take-append-drop}
-use Rattle.tac_worker.proofs.serving.reply.Goals as goal
+use Rattle.tac_worker.proofs.turning.reply.Goals as goal
 
 pub returns-in-Err : goal.returns-in-Err
 returns-in-Err g c =

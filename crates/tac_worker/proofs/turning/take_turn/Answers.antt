@@ -1,5 +1,5 @@
 use Rattle.tac_worker.proofs.TurnFacts.{turned_memory, turned_reply, turned_answer, turned_refusal, turned_silent, turned_close}
-use Rattle.tac_worker.proofs.serving.take_turn.Goals as goal
+use Rattle.tac_worker.proofs.turning.take_turn.Goals as goal
 
 pub returns-in_err-packet : goal.returns-in_err-packet
 returns-in_err-packet g c = λ bytes taken ready s.

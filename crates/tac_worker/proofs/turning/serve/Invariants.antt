@@ -1,5 +1,5 @@
 use Rattle.tac_worker.specs.Working.{Serving}
-use Rattle.tac_worker.proofs.serving.serve.Given as goal
+use Rattle.tac_worker.proofs.turning.serve.Given as goal
 
 -- what the packets that were taken are served was done
 abbrev pub invariant-turns : goal.invariant-turns

@@ -1,5 +1,5 @@
 use Rattle.tac_worker.proofs.WorkFacts.{serving_first, serving_on, serving_more, served_turn, served_read}
-use Rattle.tac_worker.proofs.serving.serve.Goals as goal
+use Rattle.tac_worker.proofs.turning.serve.Goals as goal
 
 pub turns-init : goal.turns-init
 turns-init g c = serving_first c.args.key.now c.args.caller.now _ _ c.new-stream.result c.new-stream.ensures.ready (c.new-stream.ensures.stands c.args.key.now)
