@@ -16,7 +16,7 @@ ghost use Rattle.tac_conn.specs.declared.step.Step.TheVariants as steps;
 use crate::ask::{Answer, Slot};
 use crate::judging::judge;
 use crate::outcome::{Outcome, reply_in};
-use crate::packet::{Packet, clear_packet};
+use crate::packet::Packet;
 use crate::reply;
 use crate::session::{Session, find_session, settle};
 use crate::step::{Sent, Step};
@@ -101,19 +101,44 @@ impl Conn {
     }
 
     // Takes a packet on a connection that is open.
-    fn take_open(&mut self, key: &Key, frame: Frame) -> Result<Step, AllocError>
-        ensures ok { let packet = clear key.now frame in
-            let outcome = standing.outcome_in self.old packet in
-            OnOk result (self.new ≡ standing.conn_after self.old packet.header outcome) }
+    fn take_open(&mut self, key: &Key, packet: &Packet) -> Result<Step, AllocError>
+        ensures ok { let outcome = standing.outcome_in self.old packet.now in
+            OnOk result (self.new ≡ standing.conn_after self.old packet.now.header outcome) }
         ensures step { IfOk result (λ step.
-            step ≡ standing.step_of key.now (standing.outcome_in self.old (clear key.now frame))) }
+            step ≡ standing.step_of key.now (standing.outcome_in self.old packet.now)) }
         ensures err { OnErr result (self.new ≡ self.old) }
-        ensures memory { OnErr result
-            (IsTrue (standing.is_read_in self.old (clear key.now frame))) }
+        ensures memory { OnErr result (IsTrue (standing.is_read_in self.old packet.now)) }
     {
-        let packet = clear_packet(key, frame);
-        let outcome = self.judge(&packet)?;
+        let outcome = self.judge(packet)?;
         self.follow(key, &packet.header, outcome)
+    }
+
+    /// Takes a packet that came, without its pad, where no answer is waited for.
+    ///
+    /// A closed connection answers [`Step::Close`] and stays as it is. The error means that memory
+    /// ran out: nothing has changed.
+    pub fn take_clear(&mut self, key: &Key, packet: &Packet) -> Result<Step, AllocError>
+        requires { standing.pending_of self.old ≡ None }
+        // What is done is the packet's outcome, by the clear packets that came before it.
+        ensures step { (earlier : List PacketValue) → standing.Stands self.old earlier →
+            let outcome = history.outcome earlier packet.now in
+            IfOk result (λ step. step ≡ standing.step_of key.now outcome) }
+        ensures stands { (earlier : List PacketValue) → standing.Stands self.old earlier →
+            OnOk result (standing.Stands self.new (packet.now ∷ earlier)) }
+        ensures pending { IfOk result
+            (λ step. standing.pending_of self.new ≡ standing.slot_in step) }
+        ensures kind { IfOk result standing.HasItsSlot }
+        ensures closed { IsTrue (standing.closed_of self.old) →
+            (result ≡ Ok steps.Close) × (self.new ≡ self.old) }
+        ensures err { OnErr result (self.new ≡ self.old) }
+        // Only a packet that is read takes memory, so any other is refused in any case.
+        ensures memory { (earlier : List PacketValue) → standing.Stands self.old earlier →
+            OnErr result (IsTrue (history.is_read_after earlier packet.now)) }
+    {
+        if self.closed {
+            return Ok(Step::Close);
+        }
+        self.take_open(key, packet)
     }
 
     /// Takes a packet that came, with the pad on its body, where no answer is waited for.
@@ -145,10 +170,8 @@ impl Conn {
         ensures alone { (packets : List PacketValue) → history.is_single packets ≡ false →
             history.open_sessions packets ≤ 1 }
     {
-        if self.closed {
-            return Ok(Step::Close);
-        }
-        self.take_open(key, frame)
+        let packet = Packet::clear(key, frame);
+        self.take_clear(key, &packet)
     }
 
     /// The reply that carries the desk's answer, and whether the connection closes then. The slot

@@ -17,6 +17,7 @@ mod step;
 
 pub use ask::{Answer, Ask, AskKind, Proof, Slot};
 pub use conn::Conn;
+pub use packet::Packet;
 pub use pol_names::{By, Decision, Kind, Name, SubjectId};
 pub use step::{Sent, Step};
 pub use tac_authen::Service;

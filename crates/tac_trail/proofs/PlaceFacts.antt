@@ -14,10 +14,10 @@ use Rattle.tac_conn.specs.Standing as conns
 use Rattle.tac_trail.specs.declared.logins.Logins.{Logins}
 use Rattle.tac_trail.specs.declared.trail.Trail.{Trail}
 use Rattle.tac_trail.specs.Logins.{asker_at}
-use Rattle.tac_trail.specs.declared.packet.Clear.{Clear}
+use Rattle.tac_conn.specs.declared.packet.Packet.{Packet}
 use Rattle.tac_trail.specs.declared.shadow.Course.{Course}
 use Rattle.tac_trail.specs.Course.{course_of}
-use Rattle.tac_trail.specs.Notes.{packet_in, packets_of}
+use Rattle.tac_trail.specs.Notes.{packets_of}
 use Rattle.tac_trail.specs.Kept.{Knows, Reads, Stands, IsFirst, IsOpen, IsFault}
 
 -- ---- the beginning
@@ -108,7 +108,7 @@ module _ (key bytes : List ℕ) (done : List Frame) (left : Parts) (old : Trail)
 
   -- a packet is taken
   pub first_turn : (new : Trail) (frame : Frame) → nexts.Packet frame ≡ next_of old.framer → new.framer ≡ left_of old.framer → new.ahead.items ≡ drop (12 + length frame.body) old.ahead.items
-      → (packet : Clear) → packet_in packet ≡ clear key frame → (course : Course) → course ≡ course_of key (outcome (packets_of key done) (clear key frame))
+      → (packet : Packet) → packet ≡ clear key frame → (course : Course) → course ≡ course_of key (outcome (packets_of key done) (clear key frame))
       → conns.Stands new.shadow (clear key frame ∷ packets_of key done) → IsFirst key bytes done left packet course new
   first_turn new frame e framer dropped packet same course is stands =
       let it : nexts.Packet frame ≡ told_by (first_item ahead) = told_is (nexts.Packet frame) e in

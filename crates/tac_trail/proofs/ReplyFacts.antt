@@ -16,7 +16,6 @@ use Rattle.tac_audit.specs.declared.telling.Answered.{Answered}
 use Rattle.tac_audit.specs.declared.telling.Answered.TheVariants as answers
 use Rattle.tac_audit.specs.Telling.{answered_by}
 use Rattle.tac_trail.specs.declared.logins.Logins.{Logins}
-use Rattle.tac_trail.specs.declared.packet.Clear.{Clear}
 use Rattle.tac_trail.specs.declared.shadow.Course.{Course}
 use Rattle.tac_trail.specs.declared.shadow.Course.TheVariants as courses
 use Rattle.tac_trail.specs.declared.trail.Noted.{Noted}
@@ -24,7 +23,7 @@ use Rattle.tac_trail.specs.declared.trail.Trail.{Trail}
 use Rattle.tac_trail.specs.declared.trail.Turn.{Turn}
 use Rattle.tac_trail.specs.declared.trail.Turn.TheVariants as turns
 use Rattle.tac_trail.specs.Course.{course_of, is_reply, is_silent, is_last, closes}
-use Rattle.tac_trail.specs.Notes.{packet_in, packets_of, note_of, passed, Place, closing_note, bad_header, last_note}
+use Rattle.tac_trail.specs.Notes.{packets_of, note_of, passed, Place, closing_note, bad_header, last_note}
 use Rattle.tac_trail.specs.Said.{answered_in}
 use Rattle.tac_trail.specs.Kept.{Knows, Reads, IsTurn, IsPassed, IsReplied, IsEnded, IsOther, IsOpen, IsFault, is_question, closing_by, end_note, silent_by, silent_in}
 use Rattle.tac_trail.proofs.OutcomeFacts.{heard, Says, Fits, judged_fits}
@@ -135,7 +134,7 @@ IsStop (turns.Packet packet course) = is_silent course ≡ false
 IsStop turns.Need = Unit {0}
 IsStop (turns.Refused session) = Unit {0}
 
-stop_by : (course : Course) (packet : Clear) → silent_by course packet ≡ None → is_silent course ≡ false
+stop_by : (course : Course) (packet : Packet) → silent_by course packet ≡ None → is_silent course ≡ false
 stop_by (courses.Reply sent ends) packet e = refl
 stop_by (courses.Answer ends) packet e = refl
 stop_by courses.Silent packet e = absurd cc
@@ -147,13 +146,13 @@ stop_is turns.Need e = tt
 stop_is (turns.Refused session) e = tt
 
 -- and goes on at one that is
-go_by : (course : Course) (packet it : Clear) → silent_by course packet ≡ Some it → turns.Packet packet course ≡ turns.Packet it courses.Silent
+go_by : (course : Course) (packet it : Packet) → silent_by course packet ≡ Some it → turns.Packet packet course ≡ turns.Packet it courses.Silent
 go_by (courses.Reply sent ends) packet it e = absurd cc
 go_by (courses.Answer ends) packet it e = absurd cc
-go_by courses.Silent packet it e = ap (λ (p : Clear). turns.Packet p courses.Silent) (same_Some packet it e)
+go_by courses.Silent packet it e = ap (λ (p : Packet). turns.Packet p courses.Silent) (same_Some packet it e)
 go_by courses.Close packet it e = absurd cc
 
-go_is : (turn : Turn) (it : Clear) → silent_in turn ≡ Some it → turn ≡ turns.Packet it courses.Silent
+go_is : (turn : Turn) (it : Packet) → silent_in turn ≡ Some it → turn ≡ turns.Packet it courses.Silent
 go_is (turns.Packet packet course) it e = go_by course packet it e
 go_is turns.Need it e = absurd cc
 go_is (turns.Refused session) it e = absurd cc
@@ -187,16 +186,16 @@ abbrev pub NotesNext : Logins → List Noted → List Noted → Packet → Answe
 NotesNext old before after packet answered = (earlier : List Packet) → Knows old earlier → after ≡ before ++ note_of earlier packet answered
 
 -- a silent packet was told, and the next was taken
-passes_from : (key bytes : List ℕ) (place : Place) (tail : Tail) (before after : List Noted) (packet : Clear) (old noted new : Trail) (turn : Turn)
+passes_from : (key bytes : List ℕ) (place : Place) (tail : Tail) (before after : List Noted) (packet : Packet) (old noted new : Trail) (turn : Turn)
     → IsPassing key bytes place tail before (turns.Packet packet courses.Silent) old
-    → NotesNext old.logins before after (packet_in packet) answers.Nothing → KnowsNext old.logins noted.logins (packet_in packet) answers.Nothing
+    → NotesNext old.logins before after packet answers.Nothing → KnowsNext old.logins noted.logins packet answers.Nothing
     → noted.framer ≡ old.framer → noted.ahead ≡ old.ahead → noted.shadow ≡ old.shadow → new.logins ≡ noted.logins
     → ((done : List Frame) (left : Parts) → Reads key bytes done left noted → IsTurn key bytes done left turn new)
     → IsPassing key bytes place tail after turn new
 passes_from key bytes place tail before after packet old noted new turn p told knows framer ahead shadow same next =
     let first = p.next in
     let earlier : List Packet = packets_of key p.done in
-    let it : packet_in packet ≡ clear key first.frame = first.same in
+    let it : packet ≡ clear key first.frame = first.same in
     let agrees = silent_agrees key earlier (clear key first.frame) first.done in
     let notes_are : after ≡ before ++ note_of earlier (clear key first.frame) answers.Nothing = told earlier p.logins ∙ ap (λ (k : Packet). before ++ note_of earlier k answers.Nothing) it in
     let silent : is_silent (course_of key (outcome earlier (clear key first.frame))) ≡ true = ap is_silent (sym first.done) in
@@ -211,9 +210,9 @@ passes_from key bytes place tail before after packet old noted new turn p told k
       next = next (p.done ++ first.frame ∷ []) (record { packets = first.more; tail = tail }) (reads_same key bytes (p.done ++ first.frame ∷ []) (record { packets = first.more; tail = tail }) old noted framer ahead shadow first.reads);
     }
 
-pub passes : (key bytes : List ℕ) (place : Place) (tail : Tail) (before after : List Noted) (packet : Clear) (old noted new : Trail) (last turn : Turn)
+pub passes : (key bytes : List ℕ) (place : Place) (tail : Tail) (before after : List Noted) (packet : Packet) (old noted new : Trail) (last turn : Turn)
     → IsPassing key bytes place tail before last old → silent_in last ≡ Some packet
-    → NotesNext old.logins before after (packet_in packet) answers.Nothing → KnowsNext old.logins noted.logins (packet_in packet) answers.Nothing
+    → NotesNext old.logins before after packet answers.Nothing → KnowsNext old.logins noted.logins packet answers.Nothing
     → noted.framer ≡ old.framer → noted.ahead ≡ old.ahead → noted.shadow ≡ old.shadow → new.logins ≡ noted.logins
     → ((done : List Frame) (left : Parts) → Reads key bytes done left noted → IsTurn key bytes done left turn new)
     → IsPassing key bytes place tail after turn new
@@ -222,16 +221,16 @@ passes key bytes place tail before after packet old noted new last turn p e told
 
 -- ---- a reply, and the end
 
-pub replied : (key bytes reply : List ℕ) (place : Place) (tail : Tail) (before after : List Noted) (packet : Clear) (course : Course) (answered : Answered) (old noted new : Trail)
+pub replied : (key bytes reply : List ℕ) (place : Place) (tail : Tail) (before after : List Noted) (packet : Packet) (course : Course) (answered : Answered) (old noted new : Trail)
     → IsPassed key bytes place tail before (turns.Packet packet course) old → answered_in key reply ≡ Some answered → is_reply course reply answered ≡ true → packet.header.session < 2 ^ 32
-    → NotesNext old.logins before after (packet_in packet) answered → KnowsNext old.logins noted.logins (packet_in packet) answered
+    → NotesNext old.logins before after packet answered → KnowsNext old.logins noted.logins packet answered
     → noted.framer ≡ old.framer → noted.ahead ≡ old.ahead → noted.shadow ≡ old.shadow
     → new.framer ≡ noted.framer → new.ahead ≡ noted.ahead → new.shadow ≡ noted.shadow → new.logins ≡ noted.logins → new.over ≡ closes course
     → IsReplied key bytes reply place tail after new
 replied key bytes reply place tail before after packet course answered old noted new p said own small told knows f a s f' a' s' l' over =
     let first = p.next in
     let earlier : List Packet = packets_of key place.told in
-    let it : packet_in packet ≡ clear key first.frame = first.same in
+    let it : packet ≡ clear key first.frame = first.same in
     let fits_in : (clear key first.frame).header.session < 2 ^ 32 = subst (λ (k : Packet). k.header.session < 2 ^ 32) it small in
     let agree = agrees key reply earlier (clear key first.frame) answered fits_in said course first.done own in
     let P : Packet → Type 0 = λ k. (outcome earlier k ≡ judged_after earlier k) → (is_question answered ≡ leaves_open (outcome earlier k)) → Knows noted.logins (k ∷ earlier) in
@@ -283,7 +282,7 @@ module _ (key bytes : List ℕ) (place : Place) (tail : Tail) (before : List Not
   last_of (turns.Packet packet course) p =
       let first = p.next in
       let earlier : List Packet = packets_of key place.told in
-      let it : packet_in packet ≡ clear key first.frame = first.same in (
+      let it : packet ≡ clear key first.frame = first.same in (
         0,
         ap (λ (k : Packet). closing_by course (note_of earlier k answers.Nothing)) it
             ∙ ap (λ (c : Course). closing_by c (note_of earlier (clear key first.frame) answers.Nothing)) first.done
@@ -307,7 +306,7 @@ other_none key reply place none = λ frame more answered first said. absurd (no 
     no : (answered : Answered) → Some answered ≡ None → ⊥
     no answered e = absurd cc
 
-pub other_reply : (key bytes reply : List ℕ) (place : Place) (tail : Tail) (notes : List Noted) (packet : Clear) (course : Course) (answered : Answered) (now : Trail)
+pub other_reply : (key bytes reply : List ℕ) (place : Place) (tail : Tail) (notes : List Noted) (packet : Packet) (course : Course) (answered : Answered) (now : Trail)
     → IsPassed key bytes place tail notes (turns.Packet packet course) now → answered_in key reply ≡ Some answered → is_reply course reply answered ≡ false → IsOther key reply place
 other_reply key bytes reply place tail notes packet course answered now p said other = λ frame more it first read.
     let here : p.next.frame ≡ frame = heads p.next.frame frame p.next.more more (sym p.next.first ∙ first) in
@@ -331,11 +330,11 @@ none_there key bytes reply place tail notes turns.Need now p none = p.next.0
 none_there key bytes reply place tail notes (turns.Refused session) now p none = p.next.0
 
 pub other_end : (key bytes reply : List ℕ) (place : Place) (tail : Tail) (notes : List Noted) (turn : Turn) (now : Trail) → IsPassed key bytes place tail notes turn now
-    → ((packet : Clear) (course : Course) → turn ≡ turns.Packet packet course → ⊥) → IsOther key reply place
+    → ((packet : Packet) (course : Course) → turn ≡ turns.Packet packet course → ⊥) → IsOther key reply place
 other_end key bytes reply place tail notes turn now p not_one = λ frame more answered first said.
     absurd (full frame more (sym first ∙ none_there key bytes reply place tail notes turn now p (none turn not_one)))
   where
-    none : (t : Turn) → ((packet : Clear) (course : Course) → t ≡ turns.Packet packet course → ⊥) → IsNone t
+    none : (t : Turn) → ((packet : Packet) (course : Course) → t ≡ turns.Packet packet course → ⊥) → IsNone t
     none (turns.Packet packet course) not_one = not_one packet course refl
     none turns.Need not_one = tt
     none (turns.Refused session) not_one = tt

@@ -11,7 +11,6 @@ use Rattle.tac_audit.specs.declared.telling.Answered.{Answered}
 use Rattle.tac_audit.specs.declared.telling.Answered.TheVariants as answers
 use Rattle.tac_audit.specs.Telling.{asker_of}
 use Rattle.tac_trail.specs.declared.logins.Logins.{Logins}
-use Rattle.tac_trail.specs.declared.packet.Clear.{Clear}
 use Rattle.tac_trail.specs.declared.shadow.Course.{Course}
 use Rattle.tac_trail.specs.declared.shadow.Course.TheVariants as courses
 use Rattle.tac_trail.specs.declared.trail.Noted.{Noted}
@@ -22,7 +21,7 @@ use Rattle.tac_trail.specs.declared.trail.Turn.{Turn}
 use Rattle.tac_trail.specs.declared.trail.Turn.TheVariants as turns
 use Rattle.tac_trail.specs.Course.{course_of, is_reply, closes}
 use Rattle.tac_trail.specs.Logins.{asker_at}
-use Rattle.tac_trail.specs.Notes.{packet_in, packets_of, note_of, Place, bad_header, last_note}
+use Rattle.tac_trail.specs.Notes.{packets_of, note_of, Place, bad_header, last_note}
 use Rattle.tac_trail.specs.Said.{answered_in}
 
 -- the logins that are kept are those of the sessions that are open after these packets
@@ -52,11 +51,11 @@ over_of trail = trail.over
 
 -- the first packet that is left is taken
 pub record IsFirst (key bytes : List ℕ) (told : List Frame) (left : Parts)
-    (packet : Clear) (course : Course) (new : Trail) : Type 0 where
+    (packet : Packet) (course : Course) (new : Trail) : Type 0 where
   pub frame : Frame
   pub more : List Frame
   pub first : left.packets ≡ frame ∷ more
-  pub same : packet_in packet ≡ clear key frame
+  pub same : packet ≡ clear key frame
   pub done : course ≡ course_of key (outcome (packets_of key told) (clear key frame))
   pub reads : Reads key bytes (told ++ frame ∷ []) (record left { packets = more }) new
 
@@ -89,13 +88,13 @@ taken_by turns.Need = 0
 taken_by (turns.Refused session) = 0
 
 -- a packet that nothing is sent for
-abbrev pub silent_by : Course → Clear → Option Clear
+abbrev pub silent_by : Course → Packet → Option Packet
 silent_by (courses.Reply sent ends) packet = None
 silent_by (courses.Answer ends) packet = None
 silent_by courses.Silent packet = Some packet
 silent_by courses.Close packet = None
 
-abbrev pub silent_in : Turn → Option Clear
+abbrev pub silent_in : Turn → Option Packet
 silent_in (turns.Packet packet course) = silent_by course packet
 silent_in turns.Need = None
 silent_in (turns.Refused session) = None
@@ -143,7 +142,7 @@ closing_by courses.Close notes = notes
 
 abbrev pub end_note : List Packet → Turn → List Noted
 end_note earlier (turns.Packet packet course) =
-    closing_by course (note_of earlier (packet_in packet) answers.Nothing)
+    closing_by course (note_of earlier packet answers.Nothing)
 end_note earlier turns.Need = []
 end_note earlier (turns.Refused session) = bad_header session
 

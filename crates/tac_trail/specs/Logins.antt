@@ -9,7 +9,7 @@ use Rattle.tac_authen.specs.Start.{start_of}
 use Rattle.tac_authen.specs.Continue.{continue_of}
 use Rattle.tac_audit.specs.declared.event.Asker.{Asker}
 use Rattle.tac_audit.specs.Telling.{start_asker, named}
-use Rattle.tac_trail.specs.declared.packet.Clear.{Clear}
+use Rattle.tac_conn.specs.declared.packet.Packet.{Packet}
 use Rattle.tac_trail.specs.declared.logins.Logins.{Logins}
 
 abbrev pub asker_at : Logins → ℕ → Option Asker
@@ -26,7 +26,7 @@ asker_then true asker body = next_asker asker body
 asker_then false asker body = None
 
 -- the login of the packet's session goes on or is over; the others stay
-abbrev pub Follows : Logins → Logins → Clear → Bool → Type 0
+abbrev pub Follows : Logins → Logins → Packet → Bool → Type 0
 Follows old new packet goes_on =
     (session : ℕ) → asker_at new session
     ≡ (if packet.header.session == session

@@ -14,12 +14,8 @@ use Rattle.tac_audit.specs.declared.event.Why.TheVariants.{BadHeader}
 use Rattle.tac_audit.specs.declared.telling.Answered.{Answered}
 use Rattle.tac_audit.specs.declared.telling.Answered.TheVariants.{Nothing}
 use Rattle.tac_audit.specs.Telling.{told_of, asker_in}
-use Rattle.tac_trail.specs.declared.packet.Clear.{Clear}
 use Rattle.tac_trail.specs.declared.trail.Noted.{Noted}
 use Rattle.tac_trail.specs.Course.{course_of, is_silent}
-
-abbrev pub packet_in : Clear → Packet
-packet_in packet = record { header = packet.header; body = packet.body }
 
 -- the packets without their pads, the latest first, as the history of a connection has them
 abbrev pub packets_of : List ℕ → List Frame → List Packet

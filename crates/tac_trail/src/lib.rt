@@ -3,7 +3,6 @@
 #![tactic(auto)]
 
 mod logins;
-mod packet;
 mod said;
 mod shadow;
 mod trail;

@@ -4,10 +4,10 @@ ghost use Rattle.std.specs.Prelude.{◌≡◌, ℕ, None, IfOk, OnOk};
 ghost use Rattle.std.specs.Option.{option_copied};
 ghost use Rattle.tac_trail.specs.Logins as logins;
 
-use crate::packet::Clear;
 use std::alloc::{AllocError, Global};
 use std::collections::BTreeMap;
 use tac_audit::{Asker, login_begun, login_named};
+use tac_conn::Packet;
 
 /// Who logs in on each open session; at most 16 are open.
 #[derive(Drop)]
@@ -47,7 +47,7 @@ impl Logins {
     pub(crate) fn follow(
         &mut self,
         alloc: Global,
-        packet: &Clear,
+        packet: &Packet,
         goes_on: bool,
     ) -> Result<(), AllocError>
         ensures { OnOk result (logins.Follows self.old self.new packet.now goes_on) }

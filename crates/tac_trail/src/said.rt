@@ -3,19 +3,28 @@
 ghost use Rattle.std.specs.Prelude.{◌≡◌, Some, IfOk};
 ghost use Rattle.std.specs.Option.{option_map};
 ghost use Rattle.std.specs.Result.{result_ok};
+ghost use Rattle.tac_wire.specs.Pad.{padded};
 ghost use Rattle.tac_authen.specs.Reply.{reply_of};
 ghost use Rattle.tac_request.specs.AuthorReply.{author_reply_of};
 ghost use Rattle.tac_request.specs.AcctReply.{acct_reply_of};
 ghost use Rattle.tac_audit.specs.Telling as telling;
 ghost use Rattle.tac_trail.specs.Said as said;
 
-use crate::packet::without_pad;
 use basics::Bytes;
 use std::alloc::{AllocError, Global};
 use tac_audit::{Answered, Said, Status};
 use tac_authen::{AuthenStatus, read_reply};
 use tac_request::{AcctStatus, AuthorStatus, read_acct_reply, read_author_reply};
-use tac_wire::{Header, Key, PacketType};
+use tac_wire::{Header, Key, PacketType, pad_in_place};
+
+// A body without its pad. The error means that memory ran out.
+fn without_pad(alloc: Global, key: &Key, header: &Header, body: &[u8]) -> Result<Bytes, AllocError>
+    ensures { IfOk result (λ clear. clear ≡ padded header.now key.now body.now) }
+{
+    let mut bytes = Vec::from_slice(alloc, body)?;
+    pad_in_place(header, key, bytes.as_mut_slice());
+    Ok(Bytes::from(bytes))
+}
 
 // The status of a last reply; questions have none.
 fn authen_status(status: AuthenStatus) -> Option<Status>

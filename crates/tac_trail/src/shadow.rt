@@ -2,7 +2,6 @@
 
 ghost use Rattle.std.specs.Prelude.{◌≡◌, ◌∷◌, [], List, ℕ, None, IfOk, OnOk};
 ghost use Rattle.tac_conn.specs.Ask.{kind_of_answer};
-ghost use Rattle.tac_conn.specs.Packet.{clear};
 ghost use Rattle.tac_conn.specs.History.{outcome};
 ghost use Rattle.tac_conn.specs.Standing as conns;
 ghost use Rattle.tac_conn.specs.declared.outcome.Outcome.{Outcome as OutcomeValue};
@@ -12,8 +11,8 @@ ghost use Rattle.tac_trail.specs.Course as course;
 use std::alloc::{AllocError, Global};
 use std::marker::Model;
 use tac_audit::Answered;
-use tac_conn::{Answer, AskKind, Conn, Sent, Step};
-use tac_wire::{Frame, Key};
+use tac_conn::{Answer, AskKind, Conn, Packet, Sent, Step};
+use tac_wire::Key;
 
 /// What is done for a packet.
 #[derive(Debug, Drop)]
@@ -122,15 +121,14 @@ impl Shadow {
         }
     }
 
-    /// Takes a packet. Where memory ran out the packet is gone.
-    pub(crate) fn take(&mut self, key: &Key, frame: Frame) -> Result<Course, AllocError>
+    /// Takes a packet. Where memory ran out nothing has changed.
+    pub(crate) fn take(&mut self, key: &Key, packet: &Packet) -> Result<Course, AllocError>
         ensures course { (earlier : List PacketValue) → conns.Stands self.old earlier →
-            IfOk result (λ it.
-            it ≡ course.course_of key.now (outcome earlier (clear key.now frame))) }
+            IfOk result (λ it. it ≡ course.course_of key.now (outcome earlier packet.now)) }
         ensures stands { (earlier : List PacketValue) → conns.Stands self.old earlier →
-            OnOk result (conns.Stands self.new (clear key.now frame ∷ earlier)) }
+            OnOk result (conns.Stands self.new (packet.now ∷ earlier)) }
     {
-        match self.conn.take(key, frame) {
+        match self.conn.take_clear(key, packet) {
             Ok(step) => {
                 let closes = settle(&mut self.conn, key, &step);
                 Ok(followed(step, closes))

@@ -11,16 +11,16 @@ ghost use Rattle.tac_conn.specs.Judging.{leaves_open};
 ghost use Rattle.tac_conn.specs.declared.ask.Answer.{Answer as AnswerValue};
 ghost use Rattle.tac_trail.specs.Kept as kept;
 ghost use Rattle.tac_trail.specs.Law as law;
-ghost use Rattle.tac_trail.specs.Notes.{packet_in, packets_of, note_of, passed};
+ghost use Rattle.tac_trail.specs.Notes.{packets_of, note_of, passed};
 ghost use Rattle.tac_trail.specs.declared.trail.TrailFault.TheVariants.{Memory, Over};
 
 use crate::logins::Logins;
-use crate::packet::{Clear, clear_packet};
 use crate::said::answered;
 use crate::shadow::{Course, Shadow};
 use basics::Sequence;
 use std::alloc::{AllocError, AllocFailed, Global};
 use tac_audit::{Answered, Told, Why, tell};
+use tac_conn::Packet;
 use tac_wire::{Framer, Header, Key, Next};
 
 /// What is told of a packet, and on which session.
@@ -81,7 +81,7 @@ const HEADER: usize = 12;
 /// What comes next on a connection.
 #[derive(Drop)]
 enum Turn {
-    Packet(Clear, Course),
+    Packet(Packet, Course),
     /// No whole packet.
     Need,
     /// A header that is refused, of this session.
@@ -90,7 +90,7 @@ enum Turn {
 
 impl Turn {
     // A packet that nothing is sent for, where it is one.
-    fn silent(&self) -> Option<&Clear>
+    fn silent(&self) -> Option<&Packet>
         ensures { option_copied result ≡ kept.silent_in self.now }
     {
         match self {
@@ -182,9 +182,9 @@ impl Trail {
             Next::Fault(_) => return Ok(Turn::Refused(self.first_session())),
             Next::Need | Next::Ended => return Ok(Turn::Need),
         };
-        let packet = clear_packet(self.alloc, key, &frame)?;
         remove_front(&mut self.ahead, HEADER + frame.body.len());
-        let course = self.shadow.take(key, frame)?;
+        let packet = Packet::clear(key, frame);
+        let course = self.shadow.take(key, &packet)?;
         Ok(Turn::Packet(packet, course))
     }
 
@@ -192,25 +192,23 @@ impl Trail {
     fn note(
         &mut self,
         notes: &mut Sequence<Noted>,
-        packet: &Clear,
+        packet: &Packet,
         answered: Answered,
     ) -> Result<(), AllocError>
         ensures told { (earlier : List PacketValue) → kept.Knows self.old.logins earlier →
             OnOk result
-            (notes.new ≡ notes.old ++ note_of earlier (packet_in packet.now) answered) }
+            (notes.new ≡ notes.old ++ note_of earlier packet.now answered) }
         ensures logins { (earlier : List PacketValue) → kept.Knows self.old.logins earlier →
-            history.outcome earlier (packet_in packet.now)
-            ≡ history.judged_after earlier (packet_in packet.now) →
-            kept.is_question answered
-            ≡ leaves_open (history.outcome earlier (packet_in packet.now)) →
-            OnOk result (kept.Knows self.new.logins (packet_in packet.now ∷ earlier)) }
+            history.outcome earlier packet.now ≡ history.judged_after earlier packet.now →
+            kept.is_question answered ≡ leaves_open (history.outcome earlier packet.now) →
+            OnOk result (kept.Knows self.new.logins (packet.now ∷ earlier)) }
         ensures small { packet.now.header.session < 2 ^ 32 }
         ensures framer { self.new.framer ≡ self.old.framer }
         ensures ahead { self.new.ahead ≡ self.old.ahead }
         ensures shadow { self.new.shadow ≡ self.old.shadow }
         ensures over { self.new.over ≡ self.old.over }
     {
-        let session = packet.session();
+        let session = packet.header.session;
         let goes_on = is_question(&answered);
         let asker = self.logins.get(session);
         let told = tell(
