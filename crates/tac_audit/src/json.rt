@@ -1,6 +1,7 @@
 //! Texts, lists of texts and members of objects as JSON (RFC 8259).
 
-ghost use Rattle.std.specs.Prelude.{◌≡◌, ◌<◌, ◌++◌, ◌∷◌, [], false, OnOk};
+ghost use Rattle.std.specs.Prelude.{◌≡◌, ◌<◌, ◌≤◌, ◌-◌, ◌++◌, ◌∷◌, [], length, take, true, false};
+ghost use Rattle.std.specs.Prelude.{IfOk, OnOk};
 ghost use Rattle.std.specs.List.{flat_map};
 ghost use Rattle.std.specs.Option.{option_copied};
 ghost use Rattle.std.specs.Fmt.{decimal, digit_glyph};
@@ -23,6 +24,13 @@ pub(crate) fn hex_digit(value: u8) -> u8
     }
 }
 
+// Whether a byte is shown as itself.
+fn is_plain(byte: u8) -> bool
+    ensures { result ≡ true → json.shown_byte byte ≡ byte ∷ [] }
+{
+    0x20 <= byte && byte < 0x80 && byte != b'"' && byte != b'\\'
+}
+
 // A byte within quotation marks, as the character of its number.
 fn write_byte(out: &mut Vec<u8>, byte: u8) -> Result<(), AllocError>
     ensures { OnOk result (out.new.items ≡ out.old.items ++ json.shown_byte byte) }
@@ -40,12 +48,46 @@ fn write_byte(out: &mut Vec<u8>, byte: u8) -> Result<(), AllocError>
     out.extend_from_slice(&[0xC0 + byte / 64, 0x80 + byte % 64])
 }
 
-// The bytes of a text, without the quotation marks.
+// How many of the first bytes are shown as they are.
+fn plain_front(text: &[u8]) -> usize
+    ensures within { result ≤ length text.now }
+    ensures plain { flat_map json.shown_byte (take result text.now) ≡ take result text.now }
+{
+    let mut count = 0;
+    'bytes: for byte in text {
+        if !is_plain(*byte) {
+            return count;
+        }
+        count += 1;
+    }
+    count
+}
+
+// Writes the first byte, if there is one, and answers what follows it.
+fn write_first<'a>(out: &mut Vec<u8>, text: &'a [u8]) -> Result<&'a [u8], AllocError>
+    ensures written { IfOk result (λ rest. out.new.items ++ flat_map json.shown_byte rest.now
+        ≡ out.old.items ++ flat_map json.shown_byte text.now) }
+    ensures shorter { IfOk result (λ rest. length rest.now ≡ length text.now - 1) }
+{
+    match text.split_first() {
+        Some((first, rest)) => {
+            write_byte(out, *first)?;
+            Ok(rest)
+        }
+        None => Ok(text),
+    }
+}
+
+// The bytes of a text, without the quotation marks. Bytes that are shown as they are, which most
+// are, are copied together.
 fn write_bytes(out: &mut Vec<u8>, text: &[u8]) -> Result<(), AllocError>
     ensures { OnOk result (out.new.items ≡ out.old.items ++ flat_map json.shown_byte text.now) }
 {
-    'bytes: for byte in text {
-        write_byte(out, *byte)?;
+    let mut rest = text;
+    'runs: while !rest.is_empty() {
+        let (plain, more) = rest.split_at(plain_front(rest));
+        out.extend_from_slice(plain)?;
+        rest = write_first(out, more)?;
     }
     Ok(())
 }

@@ -9,6 +9,6 @@ mod masking;
 mod telling;
 
 pub use event::{Asker, Event, Said, Status, Told, Typed, Why};
-pub use line::{event_line, typed_line};
+pub use line::{push_event, typed_line};
 pub use masking::{masked, masked_answer, typed};
 pub use telling::{Answered, login_begun, login_named, tell};

@@ -241,17 +241,20 @@ fn write_event(out: &mut Vec<u8>, event: &Event) -> io::Result<()>
     Ok(())
 }
 
-/// The line of an event, with its LF: one JSON object (RFC 8259). The error means that memory ran
-/// out. Linear in what is told.
+// What most lines have room in.
+const ROOM: usize = 512;
+
+/// Adds the line of an event, with its LF: one JSON object (RFC 8259). The error means that memory
+/// ran out, and then a part of the line may have been added. Linear in what is told.
 #[tactic(auto, using(crate::proofs::EventsApart::events_apart))]
-pub fn event_line(alloc: Global, event: &Event) -> Result<Vec<u8>, AllocError>
-    ensures line { IfOk result (λ line. line.items ≡ lines.line_of event.now) }
+pub fn push_event(out: &mut Vec<u8>, event: &Event) -> Result<(), AllocError>
+    ensures line { OnOk result (out.new.items ≡ out.old.items ++ lines.line_of event.now) }
     // What is told is read back from the line: events with the same line are the same.
     ensures apart { (a b : EventValue) → AreApart a b }
 {
-    let mut out = Vec::new(alloc);
-    match write_event(&mut out, event) {
-        Ok(()) => Ok(out),
+    out.reserve(ROOM)?;
+    match write_event(out, event) {
+        Ok(()) => Ok(()),
         Err(_) => Err(AllocError),
     }
 }

@@ -6,7 +6,7 @@ ghost use Rattle.tac_journal.specs.Lines.{event_of, lines_of};
 
 use basics::{Bytes, Sequence};
 use std::alloc::{AllocError, Global};
-use tac_audit::{Event, event_line};
+use tac_audit::{Event, push_event};
 use tac_trail::Noted;
 
 // Adds the line of one.
@@ -26,8 +26,7 @@ fn push_line(
         session: noted.session,
         told: noted.told,
     };
-    let line = event_line(alloc, &event)?;
-    lines.extend_from_slice(line.as_slice())
+    push_event(lines, &event)
 }
 
 /// The lines of what is told of packets of this device at this time, one after another.

@@ -5,7 +5,7 @@ use std::alloc::{AllocError, Global};
 use std::fmt::Write;
 use std::process::Abort;
 use std::test::Fail;
-use tac_audit::{Event, event_line};
+use tac_audit::{Event, push_event};
 use tac_trail::{Noted, Trail, TrailFault};
 use tac_wire::{Header, Key, pad_in_place};
 
@@ -37,7 +37,9 @@ fn line_bytes(alloc: Global, noted: Noted) -> Result<Vec<u8>, AllocError> {
         session: noted.session,
         told: noted.told,
     };
-    event_line(alloc, &event)
+    let mut line = Vec::new(alloc);
+    push_event(&mut line, &event)?;
+    Ok(line)
 }
 
 // Such a line without the two.
