@@ -2,7 +2,7 @@
 
 use crate::lines::lines_of;
 use crate::log::{Log, Refused};
-use crate::moment::now;
+use crate::moment::Moments;
 use crate::opening::LogFiles;
 use crate::telling::send_told;
 use basics::{Bytes, Sequence};
@@ -51,6 +51,7 @@ pub struct Audited<'a, S, H, L> {
     device: Bytes,
     stream: S,
     trail: RefCell<Trail>,
+    moments: Moments,
 }
 
 impl<'a, S: Read + Write + Copy, H, L: Log> Audited<'a, S, H, L>
@@ -74,6 +75,7 @@ where
             device,
             stream,
             trail: RefCell::new(Trail::new(alloc)),
+            moments: Moments::new(),
         }
     }
 
@@ -91,7 +93,7 @@ where
         if noted.is_empty() {
             return Ok(Bytes::new(self.alloc));
         }
-        now(self.alloc, self.host)
+        self.moments.now(self.alloc, self.host)
     }
 
     // What is told where this reply is sent.
