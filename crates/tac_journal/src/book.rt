@@ -1,10 +1,12 @@
 //! A file as it is open now, and what takes lines into it.
 
+use crate::disk::Disk;
 use crate::log::Refused;
 use crate::opening::{LogFiles, open};
 use crate::tail::{Tail, Untaken};
 use std::fs::{File, OpenFile};
 use std::io;
+use std::sync::{Mutex, Wait};
 use std::time::{Clock, Duration, Instant};
 
 /// After how many milliseconds a file is opened again by its path.
@@ -18,21 +20,15 @@ pub(crate) struct Book {
     opened: Option<Instant>,
     // whether it was said that it takes no lines
     has_complained: bool,
+    // how many appends it took, under all its names
+    appends: u64,
 }
 
-/// Where a file is, and whether its lines are on the disk before they count.
+/// Where a file is, and what of it is on the disk, where its lines count only then.
 #[derive(Drop)]
 pub(crate) struct Place<'a> {
     pub(crate) path: &'a str,
-    pub(crate) syncs: bool,
-}
-
-// Sends what was written to the disk.
-fn sync(file: &File) -> Result<(), Untaken> {
-    match file.sync_data() {
-        Ok(()) => Ok(()),
-        Err(error) => Err(Untaken::Failed(error)),
-    }
+    pub(crate) disk: Option<Disk>,
 }
 
 // Whether the file is to be opened again: its path may be another's by now.
@@ -53,37 +49,41 @@ impl Place<'_> {
             tail: open(host, self.path)?,
             opened: Instant::now(host).ok(),
             has_complained: false,
+            appends: 0,
         })
     }
 
-    // Opens the file again, where that is due.
-    fn refresh<H>(&self, host: &H, book: &mut Book) -> Result<(), Untaken>
-    where
-        H: Clock + LogFiles,
-    {
-        if !is_stale(host, book.opened) {
+    // Sends what a file took to the disk before another takes its place.
+    fn leave<H: Wait>(&self, host: &H, book: &Book) -> io::Result<()> {
+        let Some(disk) = &self.disk else {
             return Ok(());
-        }
-        match open(host, self.path) {
-            Ok(tail) => {
-                book.tail = tail;
-                book.opened = Instant::now(host).ok();
-                Ok(())
-            }
-            Err(error) => Err(Untaken::Failed(error)),
-        }
+        };
+        let sent = book.tail.file.sync_data();
+        disk.settle(host, book.appends, sent.is_ok());
+        sent
     }
 
+    // Opens the file again.
+    fn reopen<H>(&self, host: &H, book: &mut Book) -> io::Result<()>
+    where
+        H: Wait + Clock + LogFiles,
+    {
+        let tail = open(host, self.path)?;
+        self.leave(host, book)?;
+        book.tail = tail;
+        book.opened = Instant::now(host).ok();
+        Ok(())
+    }
+
+    // Appends lines, to the file that is at the path now.
     fn write<H>(&self, host: &H, book: &mut Book, lines: &[u8]) -> Result<(), Untaken>
     where
-        H: Clock + LogFiles,
+        H: Wait + Clock + LogFiles,
     {
-        self.refresh(host, book)?;
-        book.tail.append(lines)?;
-        if self.syncs {
-            sync(&book.tail.file)?;
+        if is_stale(host, book.opened) {
+            self.reopen(host, book).map_err(Untaken::Failed)?;
         }
-        Ok(())
+        book.tail.append(lines)
     }
 
     // Says on standard error that the file takes no lines, once until it takes some again, and
@@ -106,20 +106,62 @@ impl Place<'_> {
         }
     }
 
-    /// Appends lines.
-    pub(crate) fn append<H>(&self, host: &H, book: &mut Book, lines: &[u8]) -> Result<(), Refused>
+    /// Appends lines, and answers the number of the append. The lines count at once, or where the
+    /// file is sent to the disk once that is [done](Place::send).
+    pub(crate) fn append<H>(&self, host: &H, book: &mut Book, lines: &[u8]) -> Result<u64, Refused>
     where
-        H: Clock + Eprint + LogFiles,
+        H: Wait + Clock + Eprint + LogFiles,
     {
         match self.write(host, book, lines) {
             Ok(()) => {
-                self.relent(host, book);
-                Ok(())
+                book.appends = book.appends.saturating_add(1);
+                if self.disk.is_none() {
+                    self.relent(host, book);
+                }
+                Ok(book.appends)
             }
             Err(why) => {
                 self.complain(host, book, &why);
                 Err(Refused)
             }
         }
+    }
+
+    // Sends the file as it is now to the disk. Others append to it meanwhile.
+    fn send_all<H>(&self, host: &H, disk: &Disk, book: &Mutex<Book>)
+    where
+        H: Wait + Eprint,
+    {
+        let (file, appends) = {
+            let book = book.lock(host);
+            (book.tail.file.try_clone(), book.appends)
+        };
+        let sent = file.and_then(|file| file.sync_data());
+        disk.settle(host, appends, sent.is_ok());
+        let mut book = book.lock(host);
+        match sent {
+            Ok(()) => self.relent(host, &mut book),
+            Err(error) => self.complain(host, &mut book, &Untaken::Failed(error)),
+        }
+    }
+
+    /// Waits until the lines of an append are on the disk. Whoever waits longest sends the file,
+    /// with the lines of all who came meanwhile: many appends take one turn of the disk.
+    pub(crate) fn send<H>(
+        &self,
+        host: &H,
+        disk: &Disk,
+        book: &Mutex<Book>,
+        number: u64,
+    ) -> Result<(), Refused>
+    where
+        H: Wait + Eprint,
+    {
+        let _sending = disk.sending.lock(host);
+        if let Some(outcome) = disk.outcome(host, number) {
+            return outcome;
+        }
+        self.send_all(host, disk, book);
+        disk.outcome(host, number).unwrap_or(Err(Refused))
     }
 }

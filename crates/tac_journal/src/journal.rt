@@ -1,6 +1,7 @@
 //! A file that several threads append lines to.
 
 use crate::book::{Book, Place};
+use crate::disk::Disk;
 use crate::log::{Log, Refused};
 use crate::opening::LogFiles;
 use std::io;
@@ -24,7 +25,8 @@ impl<'a> Journal<'a> {
     where
         H: Clock + LogFiles,
     {
-        let place = Place { path, syncs };
+        let disk = if syncs { Some(Disk::new()) } else { None };
+        let place = Place { path, disk };
         let book = place.open(host)?;
         Ok(Journal {
             place,
@@ -45,6 +47,10 @@ impl Log for Journal<'_> {
         if lines.is_empty() {
             return Ok(());
         }
-        self.place.append(host, &mut self.book.lock(host), lines)
+        let number = self.place.append(host, &mut self.book.lock(host), lines)?;
+        match &self.place.disk {
+            Some(disk) => self.place.send(host, disk, &self.book, number),
+            None => Ok(()),
+        }
     }
 }

@@ -5,6 +5,7 @@
 mod audited;
 mod book;
 mod console;
+mod disk;
 mod journal;
 mod lines;
 mod log;
