@@ -17,10 +17,24 @@ fn key() -> Result<Key, Fail> {
     }
 }
 
-// The packet that hexadecimal digits spell, with the pad put on. A blank may follow its header.
+// The digits of a packet. Dots drop out, and text in single quotes represents its bytes.
+fn digits_of(alloc: Global, text: &str) -> Result<String, Fail> {
+    let mut digits = String::new(alloc);
+    let mut is_quoted = false;
+    for byte in text.bytes() {
+        match byte {
+            b'\'' => is_quoted = !is_quoted,
+            _ if is_quoted => write!(digits, "{byte:02x}")?,
+            b'.' => {}
+            _ => digits.push(char::from(byte))?,
+        }
+    }
+    Ok(digits)
+}
+
+// The packet that is spelled so, with the pad put on.
 fn packet<R: AllocGlobal>(rt: &R, text: &str) -> Result<Vec<u8>, Fail> {
-    let (header, body) = text.split_once(' ').unwrap_or((text, ""));
-    let digits = format!(in rt.alloc(); "{header}{body}")?;
+    let digits = digits_of(rt.alloc(), text)?;
     let mut bytes = hex::decode(rt.alloc(), digits.as_bytes())?;
     let Some((header, body)) = bytes.split_first_chunk_mut::<12>() else {
         return Err(Fail::from("no packet"));
@@ -114,7 +128,7 @@ fn push_notes(
     }
 }
 
-// Adds what is told at an event: `> HEX` comes, `< HEX` is sent, or the connection ends.
+// Adds what is told at an event: `> PACKET` comes, `< PACKET` is sent, or the connection ends.
 fn hears<R: AllocGlobal>(
     rt: &R,
     trail: &mut Trail,
@@ -154,14 +168,20 @@ fn connects<R: AllocGlobal>(
     Ok(())
 }
 
-// The lines of a paragraph that are no comments.
+// The lines of a paragraph that are no comments. One that begins with a comma continues the one
+// before it.
 fn push_wanted(wanted: &mut String, paragraph: &str) -> Result<(), Fail> {
     for line in paragraph.lines() {
         let line = line.trim_start();
-        if !line.is_empty() && !line.starts_with('#') {
-            writeln!(wanted, "{line}")?;
+        if line.is_empty() || line.starts_with('#') {
+            continue;
         }
+        if !wanted.is_empty() && !line.starts_with(',') {
+            wanted.push_str("\n")?;
+        }
+        wanted.push_str(line)?;
     }
+    wanted.push_str("\n")?;
     Ok(())
 }
 
@@ -189,36 +209,41 @@ fn logins(rt: HostRuntime) -> Result<(), Fail> {
         &rt,
         r#"
         # The name is asked for, and then the password.
-        > c0010100000000010000000c 010101010004000074747930
-        < c00102000000000100000010 0400000a0000557365726e616d653a20
-        > c00103000000000100000008 0003000000626f62
-        < c00104000000000100000010 0501000a000050617373776f72643a20
-        > c0010500000000010000000b 0006000000736563726574
-        < c0010600000000010000001b 02000015000041757468656e7469636174696f6e206661696c6564
-        "00000001","type":"login","user":"bob","port":"tty0","from":"","privilege":1,"service":1,"status":"FAIL","text":"Authentication failed"}
+        > c0010100.00000001.0000000c.0101010100040000'tty0'
+        < c0010200.00000001.00000010.0400000a0000'Username: '
+        > c0010300.00000001.00000008.0003000000'bob'
+        < c0010400.00000001.00000010.0501000a0000'Password: '
+        > c0010500.00000001.0000000b.0006000000'secret'
+        < c0010600.00000001.0000001b.020000150000'Authentication failed'
+        "00000001","type":"login","user":"bob","port":"tty0","from":"","privilege":1,"service":1
+        ,"status":"FAIL","text":"Authentication failed"}
         ends
 
         # CHAP, of service 3.
-        > c1010100000000010000001d 0101030303000012626f626163900150983cd24fb0d6963f7d28e17f72
-        < c10102000000000100000006 010000000000
-        "00000001","type":"login","user":"bob","port":"","from":"","privilege":1,"service":3,"status":"PASS","text":""}
+        > c1010100.00000001.0000001d.0101030303000012'bobac'900150983cd24fb0d6963f7d28e17f72
+        < c1010200.00000001.00000006.010000000000
+        "00000001","type":"login","user":"bob","port":"","from":"","privilege":1,"service":3
+        ,"status":"PASS","text":""}
         ends
 
         # PAP, with minor version 0 and then with 1.
-        > c00101000000000100000011 0101020103000006626f62736563726574
-        < c00102000000000100000011 0700000b0000756e737570706f72746564
-        "00000001","type":"login","user":"bob","port":"","from":"","privilege":1,"service":1,"status":"ERROR","text":"unsupported"}
+        > c0010100.00000001.00000011.0101020103000006'bobsecret'
+        < c0010200.00000001.00000011.0700000b0000'unsupported'
+        "00000001","type":"login","user":"bob","port":"","from":"","privilege":1,"service":1
+        ,"status":"ERROR","text":"unsupported"}
 
-        > c10101000000000100000011 0101020103000006626f62736563726574
-        < c10102000000000100000006 010000000000
-        "00000001","type":"login","user":"bob","port":"","from":"","privilege":1,"service":1,"status":"PASS","text":""}
+        > c1010100.00000001.00000011.0101020103000006'bobsecret'
+        < c1010200.00000001.00000006.010000000000
+        "00000001","type":"login","user":"bob","port":"","from":"","privilege":1,"service":1
+        ,"status":"PASS","text":""}
 
         # An empty name.
-        > c0010100000000010000000c 010101010004000074747930
-        < c00102000000000100000010 0400000a0000557365726e616d653a20
-        > c00103000000000100000005 0000000000
-        < c0010400000000010000001b 02000015000041757468656e7469636174696f6e206661696c6564
-        "00000001","type":"login","user":"","port":"tty0","from":"","privilege":1,"service":1,"status":"FAIL","text":"Authentication failed"}
+        > c0010100.00000001.0000000c.0101010100040000'tty0'
+        < c0010200.00000001.00000010.0400000a0000'Username: '
+        > c0010300.00000001.00000005.0000000000
+        < c0010400.00000001.0000001b.020000150000'Authentication failed'
+        "00000001","type":"login","user":"","port":"tty0","from":"","privilege":1,"service":1
+        ,"status":"FAIL","text":"Authentication failed"}
         "#,
     )
 }
@@ -228,18 +253,23 @@ fn commands(rt: HostRuntime) -> Result<(), Fail> {
     is_told(
         &rt,
         r#"
-        > c00201000000000100000036 06010101030400030d080f626f6274747930736572766963653d7368656c6c636d643d73686f77636d642d6172673d76657273696f6e
-        < c00202000000000100000006 010000000000
-        "00000001","type":"command","user":"bob","port":"tty0","from":"","privilege":1,"service":1,"arguments":["service=shell","cmd=show","cmd-arg=version"],"line":"show version","status":"PASS_ADD","text":""}
+        > c0020100.00000001.00000036.06010101030400030d080f'bobtty0service=shellcmd=showcmd-arg=version'
+        < c0020200.00000001.00000006.010000000000
+        "00000001","type":"command","user":"bob","port":"tty0","from":"","privilege":1,"service":1
+        ,"arguments":["service=shell","cmd=show","cmd-arg=version"],"line":"show version"
+        ,"status":"PASS_ADD","text":""}
 
-        > c00201000000000100000036 06010101030400030d080f626f6274747930736572766963653d7368656c6c636d643d73686f77636d642d6172673d76657273696f6e
-        < c00202000000000100000020 1000001a000064656e6965642062792067726f7570206f70732072756c652032
-        "00000001","type":"command","user":"bob","port":"tty0","from":"","privilege":1,"service":1,"arguments":["service=shell","cmd=show","cmd-arg=version"],"line":"show version","status":"FAIL","text":"denied by group ops rule 2"}
+        > c0020100.00000001.00000036.06010101030400030d080f'bobtty0service=shellcmd=showcmd-arg=version'
+        < c0020200.00000001.00000020.1000001a0000'denied by group ops rule 2'
+        "00000001","type":"command","user":"bob","port":"tty0","from":"","privilege":1,"service":1
+        ,"arguments":["service=shell","cmd=show","cmd-arg=version"],"line":"show version"
+        ,"status":"FAIL","text":"denied by group ops rule 2"}
 
         # An argument without a sign makes no line.
-        > c00201000000000100000013 060101010304000103626f6274747930636d64
-        < c00202000000000100000012 1000000c000062616420617267756d656e74
-        "00000001","type":"command","user":"bob","port":"tty0","from":"","privilege":1,"service":1,"arguments":["cmd"],"line":null,"status":"FAIL","text":"bad argument"}
+        > c0020100.00000001.00000013.060101010304000103'bobtty0cmd'
+        < c0020200.00000001.00000012.1000000c0000'bad argument'
+        "00000001","type":"command","user":"bob","port":"tty0","from":"","privilege":1,"service":1
+        ,"arguments":["cmd"],"line":null,"status":"FAIL","text":"bad argument"}
         "#,
     )
 }
@@ -249,23 +279,31 @@ fn records(rt: HostRuntime) -> Result<(), Fail> {
     is_told(
         &rt,
         r#"
-        > c00301000000000100000041 040601010103040004090f0d08626f62747479307461736b5f69643d37656c61707365645f74696d653d3630736572766963653d7368656c6c636d643d73686f77
-        < c00302000000000100000005 0000000001
-        "00000001","type":"account","user":"bob","port":"tty0","from":"","privilege":1,"service":1,"kind":"stop","task":"7","arguments":["task_id=7","elapsed_time=60","service=shell","cmd=show"],"status":"SUCCESS","text":""}
+        > c0030100.00000001.00000041.040601010103040004090f0d08'bobtty0task_id=7elapsed_time=60service=shellcmd=show'
+        < c0030200.00000001.00000005.0000000001
+        "00000001","type":"account","user":"bob","port":"tty0","from":"","privilege":1,"service":1
+        ,"kind":"stop","task":"7"
+        ,"arguments":["task_id=7","elapsed_time=60","service=shell","cmd=show"]
+        ,"status":"SUCCESS","text":""}
 
         # On a single connection: an update for which there is no room, flags of no kind, START, WATCHDOG.
-        > c0030104000000010000001a 0a060101010304000109626f62747479307461736b5f69643d37
-        < c00302040000000100000011 000c0000027265636f7264732066756c6c
-        "00000001","type":"account","user":"bob","port":"tty0","from":"","privilege":1,"service":1,"kind":"update","task":"7","arguments":["task_id=7"],"status":"ERROR","text":"records full"}
-        > c0030104000000020000001a 06060101010304000109626f62747479307461736b5f69643d37
-        < c0030204000000020000000e 000900000262616420666c616773
-        "00000002","type":"account","user":"bob","port":"tty0","from":"","privilege":1,"service":1,"kind":null,"task":"7","arguments":["task_id=7"],"status":"ERROR","text":"bad flags"}
-        > c0030104000000020000001a 02060101010304000109626f62747479307461736b5f69643d37
-        < c00302040000000200000005 0000000001
-        "00000002","type":"account","user":"bob","port":"tty0","from":"","privilege":1,"service":1,"kind":"start","task":"7","arguments":["task_id=7"],"status":"SUCCESS","text":""}
-        > c0030104000000020000001a 08060101010304000109626f62747479307461736b5f69643d37
-        < c00302040000000200000005 0000000001
-        "00000002","type":"account","user":"bob","port":"tty0","from":"","privilege":1,"service":1,"kind":"watchdog","task":"7","arguments":["task_id=7"],"status":"SUCCESS","text":""}
+        > c0030104.00000001.0000001a.0a060101010304000109'bobtty0task_id=7'
+        < c0030204.00000001.00000011.000c000002'records full'
+        "00000001","type":"account","user":"bob","port":"tty0","from":"","privilege":1,"service":1
+        ,"kind":"update","task":"7","arguments":["task_id=7"]
+        ,"status":"ERROR","text":"records full"}
+        > c0030104.00000002.0000001a.06060101010304000109'bobtty0task_id=7'
+        < c0030204.00000002.0000000e.0009000002'bad flags'
+        "00000002","type":"account","user":"bob","port":"tty0","from":"","privilege":1,"service":1
+        ,"kind":null,"task":"7","arguments":["task_id=7"],"status":"ERROR","text":"bad flags"}
+        > c0030104.00000002.0000001a.02060101010304000109'bobtty0task_id=7'
+        < c0030204.00000002.00000005.0000000001
+        "00000002","type":"account","user":"bob","port":"tty0","from":"","privilege":1,"service":1
+        ,"kind":"start","task":"7","arguments":["task_id=7"],"status":"SUCCESS","text":""}
+        > c0030104.00000002.0000001a.08060101010304000109'bobtty0task_id=7'
+        < c0030204.00000002.00000005.0000000001
+        "00000002","type":"account","user":"bob","port":"tty0","from":"","privilege":1,"service":1
+        ,"kind":"watchdog","task":"7","arguments":["task_id=7"],"status":"SUCCESS","text":""}
         ends
         "#,
     )
@@ -277,30 +315,30 @@ fn refusals(rt: HostRuntime) -> Result<(), Fail> {
         &rt,
         r#"
         # A body under another key, say.
-        > c00101000000000100000003 010101
-        < c0010200000000010000000e 07000008000062616420626f6479
+        > c0010100.00000001.00000003.010101
+        < c0010200.00000001.0000000e.070000080000'bad body'
         "00000001","type":"refused","why":"bad body"}
         ends
 
-        > c00901040000000100000000
-        < c00902040000000100000000
+        > c0090104.00000001.00000000
+        < c0090204.00000001.00000000
         "00000001","type":"refused","why":"unserved type"}
 
         # No session is open for a seq_no of 3.
-        > c0010304000000010000000b 0006000000736563726574
+        > c0010304.00000001.0000000b.0006000000'secret'
         ends
         "00000001","type":"refused","why":"out of turn"}
 
         # A header of another major version.
-        > d001010000000abc00000000
+        > d0010100.00000abc.00000000
         ends
         "00000abc","type":"refused","why":"bad header"}
 
         # A reply that wasn't sent, and a packet that isn't whole.
-        > c0010100000000010000000c 010101010004000074747930
+        > c0010100.00000001.0000000c.0101010100040000'tty0'
         ends
 
-        > c0010100000000010000000c 0101
+        > c0010100.00000001.0000000c.0101
         ends
         "#,
     )
@@ -312,25 +350,27 @@ fn sessions_of_a_single_connection(rt: HostRuntime) -> Result<(), Fail> {
         &rt,
         r#"
         # A login that is given up is told where the next is replied to.
-        > c0010104000000030000000b 0101010103000000626f62
-        < c00102040000000300000010 0501000a000050617373776f72643a20
-        > c00103040000000300000005 00000000ff
-        > c00101040000001100000008 0101010100000000
-        < c00102040000001100000010 0400000a0000557365726e616d653a20
+        > c0010104.00000003.0000000b.0101010103000000'bob'
+        < c0010204.00000003.00000010.0501000a0000'Password: '
+        > c0010304.00000003.00000005.00000000ff
+        > c0010104.00000011.00000008.0101010100000000
+        < c0010204.00000011.00000010.0400000a0000'Username: '
         "00000003","type":"refused","why":"aborted"}
-        > c0010104000000120000000c 010101010004000074747930
-        < c00102040000001200000010 0400000a0000557365726e616d653a20
-        > c00103040000001200000008 0003000000626f62
-        < c00104040000001200000010 0501000a000050617373776f72643a20
-        > c00103040000001100000008 0003000000616e6e
-        < c00104040000001100000010 0501000a000050617373776f72643a20
-        > c0010504000000120000000b 0006000000736563726574
-        < c00106040000001200000006 010000000000
-        "00000012","type":"login","user":"bob","port":"tty0","from":"","privilege":1,"service":1,"status":"PASS","text":""}
-        > c0010504000000110000000b 0006000000736563726574
-        < c00106040000001100000006 010000000000
-        "00000011","type":"login","user":"ann","port":"","from":"","privilege":1,"service":1,"status":"PASS","text":""}
-        > c0010504000000110000000b 0006000000736563726574
+        > c0010104.00000012.0000000c.0101010100040000'tty0'
+        < c0010204.00000012.00000010.0400000a0000'Username: '
+        > c0010304.00000012.00000008.0003000000'bob'
+        < c0010404.00000012.00000010.0501000a0000'Password: '
+        > c0010304.00000011.00000008.0003000000'ann'
+        < c0010404.00000011.00000010.0501000a0000'Password: '
+        > c0010504.00000012.0000000b.0006000000'secret'
+        < c0010604.00000012.00000006.010000000000
+        "00000012","type":"login","user":"bob","port":"tty0","from":"","privilege":1,"service":1
+        ,"status":"PASS","text":""}
+        > c0010504.00000011.0000000b.0006000000'secret'
+        < c0010604.00000011.00000006.010000000000
+        "00000011","type":"login","user":"ann","port":"","from":"","privilege":1,"service":1
+        ,"status":"PASS","text":""}
+        > c0010504.00000011.0000000b.0006000000'secret'
         ends
         "00000011","type":"refused","why":"out of turn"}
         "#,
@@ -343,20 +383,20 @@ fn other_replies(rt: HostRuntime) -> Result<(), Fail> {
         &rt,
         r#"
         # The name is to be asked for, and not refused. After a fault nothing is told.
-        > c0010100000000010000000c 010101010004000074747930
-        < c0010200000000010000001b 02000015000041757468656e7469636174696f6e206661696c6564
+        > c0010100.00000001.0000000c.0101010100040000'tty0'
+        < c0010200.00000001.0000001b.020000150000'Authentication failed'
         OtherReply
-        < c00102000000000100000010 0400000a0000557365726e616d653a20
+        < c0010200.00000001.00000010.0400000a0000'Username: '
         Over
         ends
 
         # No packet came.
-        < c10102000000000100000006 010000000000
+        < c1010200.00000001.00000006.010000000000
         OtherReply
 
         # A question where the desk answers.
-        > c10101000000000100000011 0101020103000006626f62736563726574
-        < c10102000000000100000010 0501000a000050617373776f72643a20
+        > c1010100.00000001.00000011.0101020103000006'bobsecret'
+        < c1010200.00000001.00000010.0501000a0000'Password: '
         OtherReply
         "#,
     )
@@ -367,14 +407,16 @@ fn any_bytes(rt: HostRuntime) -> Result<(), Fail> {
     is_told(
         &rt,
         r#"
-        > c10101000000000100000012 0101020105020201225c001fff220affc378
-        < c10102000000000100000006 010000000000
-        "00000001","type":"login","user":"\"\\\u0000\u001fÿ","port":"\"\u000a","from":"ÿÃ","privilege":1,"service":1,"status":"PASS","text":""}
+        > c1010100.00000001.00000012.0101020105020201225c001fff220affc378
+        < c1010200.00000001.00000006.010000000000
+        "00000001","type":"login","user":"\"\\\u0000\u001fÿ","port":"\"\u000a","from":"ÿÃ"
+        ,"privilege":1,"service":1,"status":"PASS","text":""}
 
         # An argument of such bytes, and a task.
-        > c0030100000000010000001b 0a06010101030400010a626f62747479307461736b5f69643d22ff
-        < c00302000000000100000005 0000000001
-        "00000001","type":"account","user":"bob","port":"tty0","from":"","privilege":1,"service":1,"kind":"update","task":"\"ÿ","arguments":["task_id=\"ÿ"],"status":"SUCCESS","text":""}
+        > c0030100.00000001.0000001b.0a06010101030400010a'bobtty0task_id='22ff
+        < c0030200.00000001.00000005.0000000001
+        "00000001","type":"account","user":"bob","port":"tty0","from":"","privilege":1,"service":1
+        ,"kind":"update","task":"\"ÿ","arguments":["task_id=\"ÿ"],"status":"SUCCESS","text":""}
         "#,
     )
 }
