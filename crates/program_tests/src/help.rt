@@ -34,15 +34,15 @@ Lines of the console, where a SUBJECT is 'user NAME' or 'group NAME':
   shift SUBJECT N M    rule N gets the number M
   begin, commit, abandon
                        edits after 'begin', up to 64, are kept, and made by 'commit' all or none
-  rotate               puts the log away and begins the next; its number and how many calls it has
-                       are printed
+  rotate               puts the log of calls away and begins the next; its number and how many calls
+                       it has are printed
   quit                 the server stops, as it does where the input ends
 
 An edit and a 'commit' are answered by 'ok', and for each user whom they concern by the shortest
 line that is now permitted, and the shortest that is now denied; or by 'refused' and why, and have
 changed nothing.
-A call that the server doesn't take is answered by 'hall' and why. A log takes 65536 calls. It is
-put away before it is full, as --rotate-at says, and nothing is printed then.
+A call that the server doesn't take is answered by 'hall' and why. The log of calls in memory takes
+65536. It is put away before it is full, as --rotate-at says, and nothing is printed then.
 
 Lines of a policy:
   policy 2             the first line, if it is there: patterns may count, as '{1,3}'
@@ -129,6 +129,7 @@ What is printed of one that is refused:
   fault line L FAULT   line L of the file is wrong
   fault TooManyStates SUBJECT
                        the rules along SUBJECT and its groups are too large together
+  fault Memory         memory ran out
 
 Example:
   $ cat desk.policy
@@ -236,7 +237,7 @@ Exit status:
   2  the command line is wrong
   3  memory ran out
   4  a file could not be read, or the output could not be written
-  5  with --exit-code: anyone gains or loses a line; with --edits: there are edits";
+  5  with --exit-code: anyone gains or loses a line, or with --edits too, there are edits";
 
 pub(crate) const WHY_LONG_ABOUT: &str =
     "Prints which rule of a policy decides on a command line of a user, as the console of 'tacd serve'

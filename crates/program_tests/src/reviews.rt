@@ -326,7 +326,7 @@ Options:
           Print the lines of the console that make NEW of OLD
 
       --exit-code
-          End with status 5 where anyone gains or loses a line
+          End with status 5 where anyone gains or loses a line; with --edits, where there are edits
 
   -h, --help
           Print help (see a summary with '-h')

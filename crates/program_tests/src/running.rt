@@ -583,7 +583,7 @@ Options:
       --workers <W>      How many connections are served at once, 1 to 63 [default: 4]
       --idle <SECONDS>   After how many seconds without a reply a connection is closed, 0 to 86400; 0 is never [default: 300]
       --connections <N>  How many connections each worker serves before it ends, at least 1 [default: 4294967295]
-      --rotate-at <N>    Put a log away, and begin the next, before its Nth call, 1 to 65536 [default: 32768]
+      --rotate-at <N>    Put the log of calls away, and begin the next, before its Nth call, 1 to 65536 [default: 32768]
       --log <PATH>       The file that takes a line of JSON for each request, before the device hears of it
       --sync             Answer a device only once its line is on the disk
   -h, --help             Print help (see more with '--help')
@@ -633,7 +633,7 @@ Options:
           [default: 4294967295]
 
       --rotate-at <N>
-          Put a log away, and begin the next, before its Nth call, 1 to 65536
+          Put the log of calls away, and begin the next, before its Nth call, 1 to 65536
           
           [default: 32768]
 

@@ -25,7 +25,7 @@ pub(crate) enum Status {
     OutOfMemory = 3,
     /// Reading or writing failed.
     Failed = 4,
-    /// Someone gains or loses a line by the new policy, or the policy probably isn't meant so.
+    /// Someone gains or loses a line by the new policy, or it takes edits; or a lint told something.
     Differs = 5,
 }
 
