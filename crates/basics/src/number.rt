@@ -22,7 +22,7 @@ fn read_digits(text: &[u8], most: usize) -> Option<u32>
     Some(value)
 }
 
-/// The number that 1 to `most` digits spell, also with leading zeros.
+/// The number that 1 to `most` digits spell, also with leading zeros; None for any other text.
 pub fn read_number(text: &[u8], most: usize) -> Option<u32>
     requires { most ≤ 9 }
     ensures value { result ≡ number_of most text.now }

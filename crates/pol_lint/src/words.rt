@@ -21,7 +21,7 @@ pub(crate) enum Keyword {
     Nothing,
 }
 
-/// The first word of a text, and what comes after the space behind it.
+/// The first word of a text, and what comes after the space after it.
 pub(crate) fn words_of(text: &[u8]) -> (&[u8], &[u8])
     ensures { (result.0.now, result.1.now) ≡ words.words_of text.now }
 {

@@ -99,7 +99,7 @@ impl Name {
     /// The most bytes that a name has.
     pub const MAX_LEN: usize = 32;
 
-    /// The name that the text is.
+    /// The name that the text spells; None for an invalid text. Takes no memory.
     pub fn read(text: &[u8]) -> Option<Name>
         ensures { result ≡ name_of text.now }
     {

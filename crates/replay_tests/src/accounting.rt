@@ -59,7 +59,7 @@ fn packets_that_are_none(rt: HostRuntime) -> Result<(), Fail> {
         reply 1 c0030204.00000001.0000000e.0009000002'bad flags'
         reply 1 c0030204.00000001.0000000e.0009000002'bad flags'
 
-        # A body that is none comes before its flags, and closes a single connection too.
+        # An invalid body comes before its flags, and closes a single connection too.
         packet 1 c0030104.00000001.0000001b.06060101010304000109'bobtty0task_id=7'00
         reply 1 c0030204.00000001.0000000d.0008000002'bad body'
         closed 1

@@ -57,7 +57,7 @@ fn questions_and_answers(rt: HostRuntime) -> Result<(), Fail> {
         reply 1 c0010600.00000001.0000001b.020000150000'Authentication failed'
         closed 1
 
-        # The empty name is none, whatever the data are.
+        # The empty name is invalid, whatever the data are.
         packet 1 c0010100.00000001.0000000b.0101010100000003'bob'
         reply 1 c0010200.00000001.00000010.0400000a0000'Username: '
         packet 1 c0010300.00000001.00000008.0000000300'bob'

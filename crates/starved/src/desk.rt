@@ -22,7 +22,7 @@ const LIMIT: usize = 9;
 /// The user whom the cases ask about.
 const BOB: &[u8] = b"bob";
 
-const NO_NAME: Trouble = Trouble::Wrong("the name is none");
+const NO_NAME: Trouble = Trouble::Wrong("the name is invalid");
 
 // Says what is wrong with an answer, which has to be this one.
 fn store_record(desk: &mut LiveDesk, ask: &Ask) -> Result<Finding, Trouble> {

@@ -46,7 +46,7 @@ fn packets(alloc: Global, digits: &[&str]) -> Result<Vec<u8>, Trouble> {
 // A server over the desk of the policy, before anyone has connected.
 fn started(alloc: Global) -> Result<Server<LiveDesk>, Trouble> {
     let Some(key) = Key::read(b"k") else {
-        return Err(Trouble::Wrong("the key is none"));
+        return Err(Trouble::Wrong("the key is invalid"));
     };
     let policy = policy_of(alloc, POLICY)?;
     match LiveDesk::new(alloc, policy, LIMIT) {

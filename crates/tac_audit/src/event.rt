@@ -38,9 +38,9 @@ pub struct Said {
 /// Why a packet is refused as it stands.
 #[derive(Clone, Copy, Debug, PartialEq, Eq)]
 pub enum Why {
-    /// Its body is none of its kind, as under another key.
+    /// Its body is invalid for its type, as under another key.
     BadBody,
-    /// Its type is none of the three.
+    /// Its type isn't one of the three that are served.
     UnservedType,
     /// It doesn't come in its turn, and the connection closes without a reply.
     OutOfTurn,
@@ -58,14 +58,14 @@ pub enum Told {
         asker: Asker,
         said: Said,
     },
-    /// A command line; none where the arguments make none.
+    /// A command. The line is None where the arguments make none.
     Command {
         asker: Asker,
         arguments: Sequence<Bytes>,
         line: Option<Bytes>,
         said: Said,
     },
-    /// An accounting record; no kind where the flags are those of none.
+    /// An accounting record. The kind is None where the flags mean none.
     Account {
         asker: Asker,
         kind: Option<AcctKind>,
@@ -78,7 +78,7 @@ pub enum Told {
     },
 }
 
-/// What is told of a packet, when it came, and on which session of which device.
+/// What is told of a packet, when its line was made, and on which session of which device.
 #[derive(Debug, Drop)]
 pub struct Event {
     /// By RFC 3339.

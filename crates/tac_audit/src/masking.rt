@@ -89,8 +89,8 @@ fn starred(alloc: Global, shown: &[u8]) -> Result<Bytes, AllocError>
 
 /// A line of the console, without its LF, that shows no secret: what follows `login NAME ` and
 /// `enable NAME ` is a star. So it is where the line isn't quite one, as in capitals or with more
-/// blanks, so that a mistyped line doesn't tell its secret. The error means that memory ran out.
-/// Linear.
+/// blanks. A line with another first word stands as it is; where the name was left out, the secret's
+/// first word shows. The error means that memory ran out. Linear.
 #[tactic(auto, using(crate::proofs::MaskingFacts::hides), unfolding(crate::specs::Masking::masked))]
 pub fn masked(alloc: Global, line: &[u8]) -> Result<Bytes, AllocError>
     ensures line { IfOk result (λ text. text ≡ words.masked line.now) }

@@ -82,7 +82,7 @@ impl Answer {
     ghost use Rattle.std.specs.Prelude.{◌≡◌};
     ghost use Rattle.tac_conn.specs.Ask.{kind_of_answer};
 
-    /// What the answer is to.
+    /// Which kind of ask this answers.
     pub fn kind(self) -> AskKind
         ensures { result ≡ kind_of_answer self }
     {

@@ -29,7 +29,7 @@ abbrev pub Ends : Result (Unit {0}) Untaken → Bool → Bool → Option (List �
 Ends (Ok _) was now old new = (now ≡ false) × Appends old new (with_end was [])
 Ends (Err _) was now old new = (was ≡ true) × (now ≡ true) × Appends old new []
 
--- only so many bytes were taken, and it is known whether the last line has an end
+-- only so many bytes were taken; of the lines some were, if the last line counts as cut off
 abbrev pub IsTakenInPart : List ℕ → Bool → Bool → Option (List ℕ) → Option (List ℕ) → Type 0
 IsTakenInPart lines was now old new =
     (taken : ℕ) × (now ≡ is_left_cut was taken)

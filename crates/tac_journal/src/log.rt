@@ -5,7 +5,7 @@ use std::alloc::{AllocError, AllocFailed};
 use std::sync::Wait;
 use std::time::Clock;
 
-/// The log didn't take the lines whole. Of whom the lines tell is to hear nothing.
+/// The log didn't take the lines whole: the device that they tell of is to be sent nothing.
 #[derive(Clone, Copy, Debug, PartialEq, Eq)]
 pub struct Refused;
 

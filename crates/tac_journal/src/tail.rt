@@ -28,7 +28,7 @@ impl fmt::Display for Untaken {
 #[derive(Drop)]
 pub(crate) struct Tail<F> {
     pub(crate) file: F,
-    /// Whether its last line has no end.
+    /// Whether its last line counts as having no end.
     pub(crate) is_cut: bool,
 }
 
@@ -60,7 +60,7 @@ impl<F: Write> Tail<F> {
     }
 
     /// Appends these lines by one write, after one that ends a last line without an end. Where the
-    /// file takes only a part of them, it is known from then on whether its last line has an end.
+    /// file takes a part of them, its last line counts as having no end, whatever the part ends in.
     pub(crate) fn append(&mut self, lines: &[u8]) -> Result<(), Untaken>
         ensures { Appended result lines.now self.old.is_cut self.new.is_cut
             (F.contents self.old.file) (F.contents self.new.file) }

@@ -19,7 +19,7 @@ pub enum BodyFault {
     Short,
     /// The lengths of the fields don't add up to the length of the body.
     LengthSum,
-    /// Memory ran out; a reader may answer this in place of any other.
+    /// Memory ran out for the fields of a valid body.
     Memory,
     /// A reply that this server never sends: over 64 bytes of text, any data, or other arguments
     /// than one privilege level.
