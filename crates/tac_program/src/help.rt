@@ -280,7 +280,7 @@ pub(crate) const EXIT_CODE_HELP: &str =
 
 pub(crate) const DIFF_AFTER_HELP: &str = "Examples:
   tacd diff campus.policy campus-next.policy
-  tacd diff --edits saved.policy campus-next.policy > /run/tacd.console
+  tacd diff --edits saved.policy campus-next.policy > /run/tacd/console
 
 'tacd diff --help' describes what is printed; 'tacd replay --help' the lines of a policy.";
 
