@@ -84,7 +84,7 @@ impl<D: Desk> Hall<D> {
             (seat.segment ≡ 0) × (seat.next ≡ 0) × (seat.view ≡ [])) }
         ensures fault { IfErr result (λ fault. fault ≡ NoSeat) }
 
-        // One step of some room has this result; `close` tells that the room was this hall's.
+        // One step of some room has this result; `close` tells it was this one, of seats it takes.
         ensures room { (was : Contents) × (then : Contents) × IsLawful was
             × sitting.SitsBy was result then }
     {
@@ -99,7 +99,7 @@ impl<D: Desk> Hall<D> {
         ensures made { IfOk result (λ receipt. sitting.IsMade seat.old call receipt seat.new) }
         ensures err { OnErr result (seat.new ≡ seat.old) }
 
-        // One step of some room has this result; `close` tells that the room was this hall's.
+        // One step of some room has this result; `close` tells it was this one, of seats it takes.
         ensures room { (was : Contents) × (then : Contents) × IsLawful was
             × sitting.CallsBy was seat.old call result then }
     {
@@ -112,7 +112,7 @@ impl<D: Desk> Hall<D> {
     /// log. Copies what the desk represents, and all calls wait meanwhile: linear in the policy and
     /// the records, however long the log is.
     pub fn rotate_log<R: Wait>(&self, rt: &R) -> Result<Segment, HallFault>
-        // One step of some room has this result; `close` tells that the room was this hall's.
+        // One step of some room has this result; `close` tells it was this one, of seats it takes.
         ensures { (was : Contents) × (then : Contents) × IsLawful was × Rotates was result then }
     {
         rotate_in(&mut take(rt, &self.room))
