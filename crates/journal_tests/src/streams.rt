@@ -3,7 +3,7 @@
 use basics::Bytes;
 use std::alloc::Global;
 use std::cell::RefCell;
-use std::io::{self, ErrorKind, Read, Write};
+use std::io::{self, Read, Write};
 use std::sync::Wait;
 use std::test::Fail;
 use std::thread::sleep;
@@ -79,13 +79,35 @@ fn packet(alloc: Global, key: &Key, seq: u8, body: &[u8]) -> Result<Vec<u8>, Fai
 }
 
 // One request, and its reply.
-fn exchange<S: Read + Write>(stream: &mut S, reply: &[u8]) -> io::Result<()> {
+fn exchange<'a, R>(audited: &Audited<'a, Device<'a>, R, Lines>, reply: &[u8]) -> Result<(), Fail>
+where
+    R: Wait + Clock + AllocGlobal + Eprint + LogFiles,
+{
+    let mut stream = audited;
     let mut chunk = [0; 99];
     stream.read(&mut chunk)?;
-    match stream.write(reply)? {
-        n if n == reply.len() => Ok(()),
-        _ => Err(io::Error::from(ErrorKind::WriteZero)),
+    if stream.write(reply)? == reply.len() {
+        return Ok(());
     }
+    Err(Fail::from("a part of a reply"))
+}
+
+// The device makes its request twice, a while apart.
+fn asks_twice<'a, R>(
+    rt: &'a R,
+    lines: &'a Lines,
+    key: &'a Key,
+    device: Device<'a>,
+    reply: &[u8],
+) -> Result<(), Fail>
+where
+    R: Wait + Clock + AllocGlobal + Eprint + LogFiles,
+{
+    let name = Bytes::from_slice(rt.alloc(), b"d")?;
+    let audited = Audited::new(rt, lines, key, name, device);
+    exchange(&audited, reply)?;
+    sleep(rt, Duration::from_millis(5));
+    exchange(&audited, reply)
 }
 
 // The time of a line.
@@ -119,10 +141,7 @@ fn each_line_has_its_time(rt: HostRuntime) -> Result<(), Fail> {
     let device = Device {
         sends: asked.as_slice(),
     };
-    let audited = Audited::new(&rt, &lines, &key, Bytes::from_slice(alloc, b"d")?, device);
-    exchange(&mut &audited, permitted.as_slice())?;
-    sleep(&rt, Duration::from_millis(5));
-    exchange(&mut &audited, permitted.as_slice())?;
+    asks_twice(&rt, &lines, &key, device, permitted.as_slice())?;
     match lines.taken.try_borrow() {
         Ok(taken) if in_turn(taken.as_slice()) => Ok(()),
         _ => Err(Fail::from("not two lines in their order")),
