@@ -145,8 +145,8 @@ impl Place<'_> {
         }
     }
 
-    /// Waits until the lines of an append are on the disk. Whoever waits longest sends the file,
-    /// with the lines of all who came meanwhile: many appends take one turn of the disk.
+    /// Waits until the lines of an append are on the disk. One of those who wait sends the file,
+    /// with the lines of all who came before: many appends take one turn of the disk.
     pub(crate) fn send<H>(
         &self,
         host: &H,
