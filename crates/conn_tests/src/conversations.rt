@@ -1,6 +1,7 @@
 //! What a connection says, packet by packet.
 
 use basics::Bytes;
+use packet_notation::{packet, push_digits};
 use std::alloc::{AllocError, Global};
 use std::fmt::Write;
 use std::process::Abort;
@@ -16,35 +17,30 @@ fn key() -> Result<Key, Fail> {
     }
 }
 
-// The packet that hexadecimal digits spell, with the pad put on. A blank may follow its header.
+// The packet that is written so, with the pad put on.
 fn frame<R: AllocGlobal>(rt: &R, text: &str) -> Result<Frame, Fail> {
-    let (header, body) = text.split_once(' ').unwrap_or((text, ""));
-    let digits = format!(in rt.alloc(); "{header}{body}")?;
-    let bytes = hex::decode(rt.alloc(), digits.as_bytes())?;
-    let Some((header, body)) = bytes.split_first_chunk::<12>() else {
+    let packet = packet(rt.alloc(), &key()?, text)?;
+    let Some((header, body)) = packet.split_first_chunk::<12>() else {
         return Err(Fail::from("no packet"));
     };
-    let header = Header::read(header);
-    let mut body = Vec::from_slice(rt.alloc(), body)?;
-    pad_in_place(&header, &key()?, &mut body);
     Ok(Frame {
-        header,
-        body: Bytes::from(body),
+        header: Header::read(header),
+        body: Bytes::from_slice(rt.alloc(), body)?,
     })
 }
 
-// A packet that is sent, with the pad taken off and a blank after the header, and whether the
-// connection closes.
+// A packet that is sent, in hexadecimal digits, with the pad taken off, and whether the connection
+// closes.
 fn spelled<R: AllocGlobal>(rt: &R, sent: Sent, closes: bool) -> Result<String, Fail> {
     let mut bytes = Vec::from_slice(rt.alloc(), sent.as_slice())?;
     let Some((header, body)) = bytes.split_first_chunk_mut::<12>() else {
         return Err(Fail::from("no packet"));
     };
     pad_in_place(&Header::read(header), &key()?, body);
-    let header = hex::encode(rt.alloc(), header.as_slice())?;
-    let body = hex::encode(rt.alloc(), body)?;
-    let end = if closes { " closes" } else { "" };
-    let text = format!(in rt.alloc(); "{header} {body}{end}")?;
+    let mut text = hex::encode(rt.alloc(), bytes.as_slice())?;
+    if closes {
+        text.push_str(" closes")?;
+    }
     Ok(text)
 }
 
@@ -137,9 +133,17 @@ fn answer(word: &str) -> Result<Answer, Fail> {
     })
 }
 
-// Holds conversations. A paragraph is a connection, to which a line `> ANSWER HEX` hands a packet,
-// ANSWER being what the desk would say to it. After each stands what is said: what is asked, before
-// a colon, and what is sent. A line that begins with `#` is a comment.
+// What is said has to be this, whose packets are in the notation of packets.
+fn is_said<R: Abort + AllocGlobal>(rt: &R, said: &str, line: &str) -> Result<(), Fail> {
+    let mut wanted = String::new(rt.alloc());
+    push_digits(&mut wanted, line)?;
+    assert_eq!(rt; said, wanted.as_str());
+    Ok(())
+}
+
+// Holds conversations. A paragraph is a connection, to which a line `> ANSWER PACKET` hands a
+// packet, ANSWER being what the desk would say to it. After each stands what is said: what is
+// asked, before a colon, and what is sent. A line that begins with `#` is a comment.
 fn converses<R: Abort + AllocGlobal>(rt: &R, text: &str) -> Result<(), Fail> {
     let mut conn = Conn::new(rt.alloc());
     let mut heard = None;
@@ -150,10 +154,10 @@ fn converses<R: Abort + AllocGlobal>(rt: &R, text: &str) -> Result<(), Fail> {
         }
         if let Some(said) = heard.take() {
             let said: String = said;
-            assert_eq!(rt; said.as_str(), line);
+            is_said(rt, said.as_str(), line)?;
         } else if let Some(packet) = line.strip_prefix("> ") {
-            let (word, hex) = packet.split_once(' ').ok_or("no packet")?;
-            heard = Some(said(rt, &mut conn, hex, answer(word)?)?);
+            let (word, text) = packet.split_once(' ').ok_or("no packet")?;
+            heard = Some(said(rt, &mut conn, text, answer(word)?)?);
         } else if line.is_empty() {
             conn = Conn::new(rt.alloc());
         } else {
@@ -171,14 +175,14 @@ fn a_login_by_questions(rt: HostRuntime) -> Result<(), Fail> {
     converses(
         &rt,
         "
-        > pass c0010100000000010000000c 010101010004000074747930
-        c00102000000000100000010 0400000a0000557365726e616d653a20
-        > pass c00103000000000100000008 0003000000626f62
-        c00104000000000100000010 0501000a000050617373776f72643a20
-        > fail c0010500000000010000000b 0006000000736563726574
-        bob 1 secret: c0010600000000010000001b 02000015000041757468656e7469636174696f6e206661696c6564 closes
+        > pass c0010100.00000001.0000000c.0101010100040000'tty0'
+        c0010200.00000001.00000010.0400000a0000'Username: '
+        > pass c0010300.00000001.00000008.0003000000'bob'
+        c0010400.00000001.00000010.0501000a0000'Password: '
+        > fail c0010500.00000001.0000000b.0006000000'secret'
+        bob 1 secret: c0010600.00000001.0000001b.020000150000'Authentication failed' closes
         # It takes nothing more.
-        > pass c0010100000000010000000c 010101010004000074747930
+        > pass c0010100.00000001.0000000c.0101010100040000'tty0'
         close
         ",
     )
@@ -189,20 +193,20 @@ fn logins_of_one_packet(rt: HostRuntime) -> Result<(), Fail> {
     converses(
         &rt,
         "
-        # CHAP, whose response is 16 bytes behind the id and the challenge.
-        > pass c1010100000000010000001d 0101030303000012626f626163900150983cd24fb0d6963f7d28e17f72
-        bob 3 (chap): c10102000000000100000006 010000000000 closes
+        # CHAP, whose response is 16 bytes after the id and the challenge.
+        > pass c1010100.00000001.0000001d.0101030303000012'bobac'900150983cd24fb0d6963f7d28e17f72
+        bob 3 (chap): c1010200.00000001.00000006.010000000000 closes
 
         # Sixteen bytes are no challenge.
-        > pass c1010100000000010000001b 0101030303000010626f6200000000000000000000000000000000
-        c1010200000000010000001b 02000015000041757468656e7469636174696f6e206661696c6564 closes
+        > pass c1010100.00000001.0000001b.0101030303000010'bob'00000000000000000000000000000000
+        c1010200.00000001.0000001b.020000150000'Authentication failed' closes
 
         # PAP, with minor version 0 and then with 1.
-        > pass c00101000000000100000011 0101020103000006626f62736563726574
-        c00102000000000100000011 0700000b0000756e737570706f72746564 closes
+        > pass c0010100.00000001.00000011.0101020103000006'bobsecret'
+        c0010200.00000001.00000011.0700000b0000'unsupported' closes
 
-        > pass c10101000000000100000011 0101020103000006626f62736563726574
-        bob 1 secret: c10102000000000100000006 010000000000 closes
+        > pass c1010100.00000001.00000011.0101020103000006'bobsecret'
+        bob 1 secret: c1010200.00000001.00000006.010000000000 closes
         ",
     )
 }
@@ -212,19 +216,19 @@ fn sessions_side_by_side(rt: HostRuntime) -> Result<(), Fail> {
     converses(
         &rt,
         "
-        > pass c0010104000000010000000b 0101010103000000626f62
-        c00102040000000100000010 0501000a000050617373776f72643a20
-        > pass c0010104000000020000000b 0101010103000000626f62
-        c00102040000000200000010 0501000a000050617373776f72643a20
-        > pass c0010304000000020000000b 0006000000736563726574
-        bob 1 secret: c00104040000000200000006 010000000000
-        > pass c0010304000000010000000b 0006000000736563726574
-        bob 1 secret: c00104040000000100000006 010000000000
+        > pass c0010104.00000001.0000000b.0101010103000000'bob'
+        c0010204.00000001.00000010.0501000a0000'Password: '
+        > pass c0010104.00000002.0000000b.0101010103000000'bob'
+        c0010204.00000002.00000010.0501000a0000'Password: '
+        > pass c0010304.00000002.0000000b.0006000000'secret'
+        bob 1 secret: c0010404.00000002.00000006.010000000000
+        > pass c0010304.00000001.0000000b.0006000000'secret'
+        bob 1 secret: c0010404.00000001.00000006.010000000000
 
         # Where the first packet asks for no single connection, a second session closes it.
-        > pass c0010100000000010000000b 0101010103000000626f62
-        c00102000000000100000010 0501000a000050617373776f72643a20
-        > pass c0010100000000020000000b 0101010103000000626f62
+        > pass c0010100.00000001.0000000b.0101010103000000'bob'
+        c0010200.00000001.00000010.0501000a0000'Password: '
+        > pass c0010100.00000002.0000000b.0101010103000000'bob'
         close
         ",
     )
@@ -236,11 +240,11 @@ fn sixteen_logins(alloc: Global, rest: &str) -> Result<String, AllocError> {
     for session in 1..=16 {
         writeln!(
             text,
-            "> pass c0010104{session:08x}0000000b 0101010103000000626f62"
+            "> pass c0010104.{session:08x}.0000000b.0101010103000000'bob'"
         )?;
         writeln!(
             text,
-            "c0010204{session:08x}00000010 0501000a000050617373776f72643a20"
+            "c0010204.{session:08x}.00000010.0501000a0000'Password: '"
         )?;
     }
     text.push_str(rest)?;
@@ -251,13 +255,13 @@ fn sixteen_logins(alloc: Global, rest: &str) -> Result<String, AllocError> {
 fn seventeen_sessions(rt: HostRuntime) -> Result<(), Fail> {
     let text = sixteen_logins(
         rt.alloc(),
-        "> pass c0010104000000110000000b 0101010103000000626f62
-        c00102040000001100000017 070000110000746f6f206d616e792073657373696f6e73
+        "> pass c0010104.00000011.0000000b.0101010103000000'bob'
+        c0010204.00000011.00000017.070000110000'too many sessions'
         # A client that gives up gets no answer, and its session makes room.
-        > pass c00103040000000300000005 00000000ff
+        > pass c0010304.00000003.00000005.00000000ff
         silent
-        > pass c0010104000000110000000b 0101010103000000626f62
-        c00102040000001100000010 0501000a000050617373776f72643a20
+        > pass c0010104.00000011.0000000b.0101010103000000'bob'
+        c0010204.00000011.00000010.0501000a0000'Password: '
         ",
     )?;
     converses(&rt, text.as_str())
@@ -268,17 +272,17 @@ fn authorisation(rt: HostRuntime) -> Result<(), Fail> {
     converses(
         &rt,
         "
-        > permitted c00201000000000100000036 06010101030400030d080f626f6274747930736572766963653d7368656c6c636d643d73686f77636d642d6172673d76657273696f6e
-        bob: show version: c00202000000000100000006 010000000000 closes
+        > permitted c0020100.00000001.00000036.06010101030400030d080f'bobtty0service=shellcmd=showcmd-arg=version'
+        bob: show version: c0020200.00000001.00000006.010000000000 closes
 
-        > level-15 c00201000000000100000036 06010101030400030d080f626f6274747930736572766963653d7368656c6c636d643d73686f77636d642d6172673d76657273696f6e
-        bob: show version: c00202000000000100000012 0101000000000b707269762d6c766c3d3135 closes
+        > level-15 c0020100.00000001.00000036.06010101030400030d080f'bobtty0service=shellcmd=showcmd-arg=version'
+        bob: show version: c0020200.00000001.00000012.0101000000000b'priv-lvl=15' closes
 
-        > ops-2 c00201000000000100000036 06010101030400030d080f626f6274747930736572766963653d7368656c6c636d643d73686f77636d642d6172673d76657273696f6e
-        bob: show version: c00202000000000100000020 1000001a000064656e6965642062792067726f7570206f70732072756c652032 closes
+        > ops-2 c0020100.00000001.00000036.06010101030400030d080f'bobtty0service=shellcmd=showcmd-arg=version'
+        bob: show version: c0020200.00000001.00000020.1000001a0000'denied by group ops rule 2' closes
 
-        > denied c00201000000000100000036 06010101030400030d080f626f6274747930736572766963653d7368656c6c636d643d73686f77636d642d6172673d76657273696f6e
-        bob: show version: c00202000000000100000017 10000011000064656e6965642062792064656661756c74 closes
+        > denied c0020100.00000001.00000036.06010101030400030d080f'bobtty0service=shellcmd=showcmd-arg=version'
+        bob: show version: c0020200.00000001.00000017.100000110000'denied by default' closes
         ",
     )
 }
@@ -289,17 +293,17 @@ fn accounting(rt: HostRuntime) -> Result<(), Fail> {
         &rt,
         "
         # The line and the seconds, and then a record without them that finds no room.
-        > stored c00301000000000100000041 040601010103040004090f0d08626f62747479307461736b5f69643d37656c61707365645f74696d653d3630736572766963653d7368656c6c636d643d73686f77
-        bob Stop 7 60 show: c00302000000000100000005 0000000001 closes
+        > stored c0030100.00000001.00000041.040601010103040004090f0d08'bobtty0task_id=7elapsed_time=60service=shellcmd=show'
+        bob Stop 7 60 show: c0030200.00000001.00000005.0000000001 closes
 
-        > full c0030100000000010000001a 0a060101010304000109626f62747479307461736b5f69643d37
-        bob Update 7 0 (no line): c00302000000000100000011 000c0000027265636f7264732066756c6c closes
+        > full c0030100.00000001.0000001a.0a060101010304000109'bobtty0task_id=7'
+        bob Update 7 0 (no line): c0030200.00000001.00000011.000c000002'records full' closes
 
         # START and STOP together are no record's flags: a single connection stays open.
-        > stored c0030104000000010000001a 06060101010304000109626f62747479307461736b5f69643d37
-        c0030204000000010000000e 000900000262616420666c616773
-        > stored c0030104000000010000001a 0a060101010304000109626f62747479307461736b5f69643d37
-        bob Update 7 0 (no line): c00302040000000100000005 0000000001
+        > stored c0030104.00000001.0000001a.06060101010304000109'bobtty0task_id=7'
+        c0030204.00000001.0000000e.0009000002'bad flags'
+        > stored c0030104.00000001.0000001a.0a060101010304000109'bobtty0task_id=7'
+        bob Update 7 0 (no line): c0030204.00000001.00000005.0000000001
         ",
     )
 }
@@ -310,52 +314,52 @@ fn packets_that_close(rt: HostRuntime) -> Result<(), Fail> {
         &rt,
         "
         # A type that isn't served, with a seq_no above and with none.
-        > pass c00901040000000100000000
-        c00902040000000100000000  closes
-        > pass c00901040000000100000000
+        > pass c0090104.00000001.00000000
+        c0090204.00000001.00000000 closes
+        > pass c0090104.00000001.00000000
         close
 
-        > pass c009ff040000000100000000
+        > pass c009ff04.00000001.00000000
         close
-        > pass c009ff040000000100000000
+        > pass c009ff04.00000001.00000000
         close
 
         # No session is open for a seq_no of 3.
-        > pass c0010304000000010000000b 0006000000736563726574
+        > pass c0010304.00000001.0000000b.0006000000'secret'
         close
-        > pass c0010304000000010000000b 0006000000736563726574
-        close
-
-        # Bodies that are none, also on a single connection.
-        > pass c00101040000000100000003 010101
-        c0010204000000010000000e 07000008000062616420626f6479 closes
-        > pass c00101040000000100000003 010101
+        > pass c0010304.00000001.0000000b.0006000000'secret'
         close
 
-        > pass c00201040000000100000003 010101
-        c0020204000000010000000e 11000008000062616420626f6479 closes
-        > pass c00201040000000100000003 010101
+        # Invalid bodies, also on a single connection.
+        > pass c0010104.00000001.00000003.010101
+        c0010204.00000001.0000000e.070000080000'bad body' closes
+        > pass c0010104.00000001.00000003.010101
         close
 
-        > pass c00301040000000100000003 020101
-        c0030204000000010000000d 000800000262616420626f6479 closes
-        > pass c00301040000000100000003 020101
+        > pass c0020104.00000001.00000003.010101
+        c0020204.00000001.0000000e.110000080000'bad body' closes
+        > pass c0020104.00000001.00000003.010101
+        close
+
+        > pass c0030104.00000001.00000003.020101
+        c0030204.00000001.0000000d.0008000002'bad body' closes
+        > pass c0030104.00000001.00000003.020101
         close
 
         # An open session, by another seq_no and by other types.
-        > pass c0010104000000010000000b 0101010103000000626f62
-        c00102040000000100000010 0501000a000050617373776f72643a20
-        > pass c0010504000000010000000b 0006000000736563726574
+        > pass c0010104.00000001.0000000b.0101010103000000'bob'
+        c0010204.00000001.00000010.0501000a0000'Password: '
+        > pass c0010504.00000001.0000000b.0006000000'secret'
         close
 
-        > pass c0010104000000010000000b 0101010103000000626f62
-        c00102040000000100000010 0501000a000050617373776f72643a20
-        > pass c0020304000000010000000b 0006000000736563726574
+        > pass c0010104.00000001.0000000b.0101010103000000'bob'
+        c0010204.00000001.00000010.0501000a0000'Password: '
+        > pass c0020304.00000001.0000000b.0006000000'secret'
         close
 
-        > pass c0010104000000010000000b 0101010103000000626f62
-        c00102040000000100000010 0501000a000050617373776f72643a20
-        > pass c0030304000000010000000b 0006000000736563726574
+        > pass c0010104.00000001.0000000b.0101010103000000'bob'
+        c0010204.00000001.00000010.0501000a0000'Password: '
+        > pass c0030304.00000001.0000000b.0006000000'secret'
         close
         ",
     )

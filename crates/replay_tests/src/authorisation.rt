@@ -2,6 +2,7 @@
 
 use crate::support::{
     BAD_BODY, OPS, PERMITTED, SHOW_VERSION, SHOW_VERSION_ARGS, failed, packet, plays, request,
+    spelled_out,
 };
 use std::process::Abort;
 use std::test::Fail;
@@ -34,21 +35,21 @@ fn worked_answers(rt: HostRuntime) -> Result<(), Fail> {
         &rt,
         "group ops\npermit show clock\ndeny show .*\npermit show .*\nuser bob in ops\n",
         SHOW_VERSION,
-        "reply 1 c002020000000001000000201000001a0000\
-         64656e6965642062792067726f7570206f70732072756c652032\nclosed 1\n",
+        "reply 1 c0020200.00000001.00000020.1000001a0000'denied by group ops rule 2'\nclosed 1\n",
     )?;
     answers(
         &rt,
         "user bob\n",
         SHOW_VERSION,
-        "reply 1 c0020200000000010000001710000011000064656e6965642062792064656661756c74\nclosed 1\n",
+        "reply 1 c0020200.00000001.00000017.100000110000'denied by default'\nclosed 1\n",
     )
 }
 
 #[test]
 fn spelling_of_the_tests_own(rt: HostRuntime) -> Result<(), Fail> {
     let spelled = request(&rt, b"bob", &SHOW_VERSION_ARGS)?;
-    assert!(rt; spelled.as_str() == SHOW_VERSION, "{spelled}");
+    let wanted = spelled_out(&rt, &[SHOW_VERSION])?;
+    assert_eq!(rt; spelled.as_str(), wanted.as_str());
     Ok(())
 }
 
@@ -248,8 +249,8 @@ fn bad_bodies(rt: HostRuntime) -> Result<(), Fail> {
     answers(
         &rt,
         OPS,
-        "packet 1 c0020100000000010000003606010101020400030d080f626f6274747930\
-         736572766963653d7368656c6c636d643d73686f77636d642d6172673d76657273696f6e\n",
+        "packet 1 c0020100.00000001.00000036.06010101020400030d080f\
+         'bobtty0service=shellcmd=showcmd-arg=version'\n",
         BAD_BODY,
     )?;
     let bodies: [&[u8]; 6] = [
@@ -275,30 +276,28 @@ fn other_fields_count_for_nothing(rt: HostRuntime) -> Result<(), Fail> {
     answers(
         &rt,
         "user bob\npermit \n",
-        "packet 1 c0020100000000010000001fffffffff030001020d04626f62ff\
-         736572766963653d7368656c6c636d643d\n",
+        "packet 1 c0020100.00000001.0000001f.ffffffff030001020d04'bob'ff'service=shellcmd='\n",
         PERMITTED,
     )?;
     // Of the header: the minor version and the session, which the reply repeats, and other flags.
     answers(
         &rt,
         OPS,
-        "packet 1 c10201fa8899aabb0000003606010101030400030d080f626f6274747930\
-         736572766963653d7368656c6c636d643d73686f77636d642d6172673d76657273696f6e\n",
-        "reply 1 c10202008899aabb00000006010000000000\nclosed 1\n",
+        "packet 1 c10201fa.8899aabb.00000036.06010101030400030d080f\
+         'bobtty0service=shellcmd=showcmd-arg=version'\n",
+        "reply 1 c1020200.8899aabb.00000006.010000000000\nclosed 1\n",
     )
 }
 
 #[test]
 fn a_line_that_ends_in_its_return(rt: HostRuntime) -> Result<(), Fail> {
-    let asked = "packet 1 c00201000000000100000043060101010304000\
-                 40d080f0c626f6274747930736572766963653d7368656c6c636d643d73686f77\
-                 636d642d6172673d76657273696f6e636d642d6172673d3c63723e\n";
+    let asked = "packet 1 c0020100.00000001.00000043.06010101030400040d080f0c\
+                 'bobtty0service=shellcmd=showcmd-arg=versioncmd-arg=<cr>'\n";
     answers(
         &rt,
         "user bob\npermit show version\n",
         asked,
-        "reply 1 c0020200000000010000001710000011000064656e6965642062792064656661756c74\nclosed 1\n",
+        "reply 1 c0020200.00000001.00000017.100000110000'denied by default'\nclosed 1\n",
     )?;
     answers(
         &rt,
@@ -310,12 +309,11 @@ fn a_line_that_ends_in_its_return(rt: HostRuntime) -> Result<(), Fail> {
 
 #[test]
 fn levels_of_shells(rt: HostRuntime) -> Result<(), Fail> {
-    let fifteen =
-        "reply 1 c002020000000001000000120101000000000b707269762d6c766c3d3135\nclosed 1\n";
-    let empty = "packet 1 c0020100000000010000002206010101030400020d04626f62\
-                 74747930736572766963653d7368656c6c636d643d\n";
-    let starred = "packet 1 c0020100000000010000002206010101030400020d04626f62\
-                   74747930736572766963653d7368656c6c636d642a\n";
+    let fifteen = "reply 1 c0020200.00000001.00000012.0101000000000b'priv-lvl=15'\nclosed 1\n";
+    let empty =
+        "packet 1 c0020100.00000001.00000022.06010101030400020d04'bobtty0service=shellcmd='\n";
+    let starred =
+        "packet 1 c0020100.00000001.00000022.06010101030400020d04'bobtty0service=shellcmd*'\n";
     for asked in [empty, starred] {
         answers(&rt, "user bob\npriv 15\npermit ()\n", asked, fifteen)?;
     }
@@ -326,7 +324,7 @@ fn levels_of_shells(rt: HostRuntime) -> Result<(), Fail> {
         &rt,
         "group ops\npriv 15\nuser bob in ops\npriv 0\npermit \n",
         empty,
-        "reply 1 c002020000000001000000110101000000000a707269762d6c766c3d30\nclosed 1\n",
+        "reply 1 c0020200.00000001.00000011.0101000000000a'priv-lvl=0'\nclosed 1\n",
     )?;
     answers(&rt, nearest, SHOW_VERSION, PERMITTED)?;
     answers(&rt, "user bob\npermit \n", empty, PERMITTED)

@@ -1,41 +1,40 @@
 //! What packets do to connections.
 
-use crate::support::{OPS, PERMITTED, SHOW_VERSION, SHOW_VERSION_HEX, joined, packet, plays};
+use crate::support::{OPS, PERMITTED, SHOW_VERSION, SHOW_VERSION_PACKET, joined, packet, plays};
 use std::test::Fail;
 
 const OPENED: &str = "run\nopen 1\n";
 
 /// The body of the packet in which bob asks for `show version`.
-const BODY: &str = "06010101030400030d080f626f6274747930\
-     736572766963653d7368656c6c636d643d73686f77636d642d6172673d76657273696f6e\n";
+const BODY: &str = ".06010101030400030d080f'bobtty0service=shellcmd=showcmd-arg=version'\n";
 
 #[test]
 fn packets_of_no_known_type(rt: HostRuntime) -> Result<(), Fail> {
     let closed = "closed 1\n";
     let cases = [
         (
-            "c00901000000000100000000",
-            "reply 1 c00902000000000100000000\nclosed 1\n",
+            "c0090100.00000001.00000000",
+            "reply 1 c0090200.00000001.00000000\nclosed 1\n",
         ),
         // The number of the packet can't go up.
-        ("c009ff000000000100000000", closed),
+        ("c009ff00.00000001.00000000", closed),
         (
-            "c009fe000000000100000000",
-            "reply 1 c009ff000000000100000000\nclosed 1\n",
+            "c009fe00.00000001.00000000",
+            "reply 1 c009ff00.00000001.00000000\nclosed 1\n",
         ),
         // Another major version, and another minor one.
-        ("d00901000000000100000000", closed),
-        ("c20901000000000100000000", closed),
+        ("d0090100.00000001.00000000", closed),
+        ("c2090100.00000001.00000000", closed),
         // A body without a pad.
-        ("c00901010000000100000000", closed),
+        ("c0090101.00000001.00000000", closed),
         // The reply keeps the flags, the minor version and the session, and has no body.
         (
-            "c109010489abcdef00000003616263",
-            "reply 1 c109020489abcdef00000000\nclosed 1\n",
+            "c1090104.89abcdef.00000003.'abc'",
+            "reply 1 c1090204.89abcdef.00000000\nclosed 1\n",
         ),
         (
-            "c00001fa0000000100000000",
-            "reply 1 c00002fa0000000100000000\nclosed 1\n",
+            "c00001fa.00000001.00000000",
+            "reply 1 c00002fa.00000001.00000000\nclosed 1\n",
         ),
     ];
     for (hex, output) in &cases {
@@ -47,14 +46,14 @@ fn packets_of_no_known_type(rt: HostRuntime) -> Result<(), Fail> {
 #[test]
 fn packets_that_close_without_a_reply(rt: HostRuntime) -> Result<(), Fail> {
     let headers = [
-        "d00201000000000100000036",
-        "c20201000000000100000036",
-        "b00201000000000100000036",
-        "c00201010000000100000036",
+        "d0020100.00000001.00000036",
+        "c2020100.00000001.00000036",
+        "b0020100.00000001.00000036",
+        "c0020101.00000001.00000036",
         // A session begins with packet 1.
-        "c00203000000000100000036",
-        "c00200000000000100000036",
-        "c002ff000000000100000036",
+        "c0020300.00000001.00000036",
+        "c0020000.00000001.00000036",
+        "c002ff00.00000001.00000036",
     ];
     for header in &headers {
         let script = ["key k\n", OPS, OPENED, "packet 1 ", header, BODY];
@@ -72,8 +71,8 @@ fn the_longest_body(rt: HostRuntime) -> Result<(), Fail> {
 
 #[test]
 fn single_connections(rt: HostRuntime) -> Result<(), Fail> {
-    let first = "packet 1 c00201040000000100000036";
-    let first_reply = "reply 1 c00202040000000100000006010000000000\n";
+    let first = "packet 1 c0020104.00000001.00000036";
+    let first_reply = "reply 1 c0020204.00000001.00000006.010000000000\n";
     // It stays open. Neither the flag of a later packet nor a session that is over matters.
     let script = [
         "key k\n",
@@ -81,7 +80,7 @@ fn single_connections(rt: HostRuntime) -> Result<(), Fail> {
         OPENED,
         first,
         BODY,
-        "packet 1 c00201000000000200000036",
+        "packet 1 c0020100.00000002.00000036",
         BODY,
         first,
         BODY,
@@ -89,26 +88,26 @@ fn single_connections(rt: HostRuntime) -> Result<(), Fail> {
     plays(
         &rt,
         &script,
-        "reply 1 c00202040000000100000006010000000000\n\
-         reply 1 c00202040000000200000006010000000000\n\
-         reply 1 c00202040000000100000006010000000000\n",
+        "reply 1 c0020204.00000001.00000006.010000000000\n\
+         reply 1 c0020204.00000002.00000006.010000000000\n\
+         reply 1 c0020204.00000001.00000006.010000000000\n",
     )?;
     // A refusal leaves it open too.
     let script = ["key k\nuser bob\n", OPENED, first, BODY, first, BODY];
-    let denied = "reply 1 c0020204000000010000001710000011000064656e6965642062792064656661756c74\n";
+    let denied = "reply 1 c0020204.00000001.00000017.100000110000'denied by default'\n";
     let output = joined(&rt, &[denied, denied])?;
     plays(&rt, &script, output.as_str())?;
     // A bad body, a type that isn't known and a version that isn't close it.
     let endings = [
         (
-            "c0020104000000020000000100",
-            "reply 1 c0020204000000020000000e11000008000062616420626f6479\n",
+            "c0020104.00000002.00000001.00",
+            "reply 1 c0020204.00000002.0000000e.110000080000'bad body'\n",
         ),
         (
-            "c00901000000000200000000",
-            "reply 1 c00902000000000200000000\n",
+            "c0090100.00000002.00000000",
+            "reply 1 c0090200.00000002.00000000\n",
         ),
-        ("c20201040000000200000000", ""),
+        ("c2020104.00000002.00000000", ""),
     ];
     for (hex, reply) in &endings {
         let output = joined(&rt, &[first_reply, reply, "closed 1\n"])?;
@@ -132,31 +131,36 @@ fn numbers_of_connections(rt: HostRuntime) -> Result<(), Fail> {
     plays(
         &rt,
         &script,
-        "reply 1 c00202000000000100000006010000000000\nclosed 1\n\
-         reply 1 c00202000000000100000006010000000000\nclosed 1\n",
+        "reply 1 c0020200.00000001.00000006.010000000000\nclosed 1\n\
+         reply 1 c0020200.00000001.00000006.010000000000\nclosed 1\n",
     )?;
     // It is printed in its fewest digits.
-    let script = ["key k\n", OPS, "run\nopen 007\npacket 7 ", SHOW_VERSION_HEX];
+    let script = [
+        "key k\n",
+        OPS,
+        "run\nopen 007\npacket 7 ",
+        SHOW_VERSION_PACKET,
+    ];
     plays(
         &rt,
         &script,
-        "reply 7 c00202000000000100000006010000000000\nclosed 7\n",
+        "reply 7 c0020200.00000001.00000006.010000000000\nclosed 7\n",
     )?;
     // The least and the greatest, open at the same time.
     let script = [
         "key k\n",
         OPS,
         "run\nopen 65535\nopen 00000\npacket 0 ",
-        SHOW_VERSION_HEX,
+        SHOW_VERSION_PACKET,
         "\npacket 65535 ",
-        SHOW_VERSION_HEX,
+        SHOW_VERSION_PACKET,
         "\n",
     ];
     plays(
         &rt,
         &script,
-        "reply 0 c00202000000000100000006010000000000\nclosed 0\n\
-         reply 65535 c00202000000000100000006010000000000\nclosed 65535\n",
+        "reply 0 c0020200.00000001.00000006.010000000000\nclosed 0\n\
+         reply 65535 c0020200.00000001.00000006.010000000000\nclosed 65535\n",
     )
 }
 
@@ -165,18 +169,18 @@ fn connections_do_not_share_sessions(rt: HostRuntime) -> Result<(), Fail> {
     let script = [
         "key k\n",
         OPS,
-        "run\nopen 1\nopen 2\npacket 2 c00201040000000100000036",
+        "run\nopen 1\nopen 2\npacket 2 c0020104.00000001.00000036",
         BODY,
         SHOW_VERSION,
-        "packet 2 c00201040000000100000036",
+        "packet 2 c0020104.00000001.00000036",
         BODY,
     ];
     plays(
         &rt,
         &script,
-        "reply 2 c00202040000000100000006010000000000\n\
-         reply 1 c00202000000000100000006010000000000\nclosed 1\n\
-         reply 2 c00202040000000100000006010000000000\n",
+        "reply 2 c0020204.00000001.00000006.010000000000\n\
+         reply 1 c0020200.00000001.00000006.010000000000\nclosed 1\n\
+         reply 2 c0020204.00000001.00000006.010000000000\n",
     )
 }
 
@@ -194,7 +198,7 @@ fn spelling_of_scripts(rt: HostRuntime) -> Result<(), Fail> {
     // The last line needs no end.
     plays(
         &rt,
-        &["key k\n", OPS, OPENED, "packet 1 ", SHOW_VERSION_HEX],
+        &["key k\n", OPS, OPENED, "packet 1 ", SHOW_VERSION_PACKET],
         PERMITTED,
     )?;
     plays(&rt, &["key k\nrun"], "")?;

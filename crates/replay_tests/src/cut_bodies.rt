@@ -74,8 +74,8 @@ fn starts(rt: HostRuntime) -> Result<(), Fail> {
             begun: "",
             header: [0xc0, 1, 1, 0, 0, 0, 0, 1],
             body: b"\x01\x01\x01\x01\x00\x04\x00\x00tty0",
-            answered: "reply 1 c001020000000001000000100400000a0000557365726e616d653a20\n",
-            refused: "reply 1 c0010200000000010000000e07000008000062616420626f6479\nclosed 1\n",
+            answered: "reply 1 c0010200.00000001.00000010.0400000a0000'Username: '\n",
+            refused: "reply 1 c0010200.00000001.0000000e.070000080000'bad body'\nclosed 1\n",
         },
     )
 }
@@ -85,12 +85,12 @@ fn continuations(rt: HostRuntime) -> Result<(), Fail> {
     is_whole_alone(
         &rt,
         &Sent {
-            before: "packet 1 c0010100000000010000000c010101010004000074747930\n",
-            begun: "reply 1 c001020000000001000000100400000a0000557365726e616d653a20\n",
+            before: "packet 1 c0010100.00000001.0000000c.0101010100040000'tty0'\n",
+            begun: "reply 1 c0010200.00000001.00000010.0400000a0000'Username: '\n",
             header: [0xc0, 1, 3, 0, 0, 0, 0, 1],
             body: b"\x00\x03\x00\x00\x00bob",
-            answered: "reply 1 c001040000000001000000100501000a000050617373776f72643a20\n",
-            refused: "reply 1 c0010400000000010000000e07000008000062616420626f6479\nclosed 1\n",
+            answered: "reply 1 c0010400.00000001.00000010.0501000a0000'Password: '\n",
+            refused: "reply 1 c0010400.00000001.0000000e.070000080000'bad body'\nclosed 1\n",
         },
     )
 }
@@ -105,8 +105,8 @@ fn records(rt: HostRuntime) -> Result<(), Fail> {
             header: [0xc0, 3, 1, 0, 0, 0, 0, 1],
             body: b"\x04\x06\x01\x01\x01\x03\x04\x00\x05\x09\x0f\x0d\x08\x0f\
                     bobtty0task_id=7elapsed_time=12service=shellcmd=showcmd-arg=version",
-            answered: "reply 1 c003020000000001000000050000000001\nclosed 1\n",
-            refused: "reply 1 c0030200000000010000000d000800000262616420626f6479\nclosed 1\n",
+            answered: "reply 1 c0030200.00000001.00000005.0000000001\nclosed 1\n",
+            refused: "reply 1 c0030200.00000001.0000000d.0008000002'bad body'\nclosed 1\n",
         },
     )
 }

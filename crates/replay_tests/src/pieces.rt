@@ -119,11 +119,11 @@ fn headers_without_their_bodies(rt: HostRuntime) -> Result<(), Fail> {
     }
     // These wait for their bodies, whatever is wrong with them.
     let waiting = [
-        "c00101000000000100020003",
-        "c10101fe0000000100000002",
-        "c00103000000000100000002",
-        "c00200000000000100000002",
-        "c009ff000000000100000002",
+        "c0010100.00000001.00020003",
+        "c10101fe.00000001.00000002",
+        "c0010300.00000001.00000002",
+        "c0020000.00000001.00000002",
+        "c009ff00.00000001.00000002",
     ];
     for header in &waiting {
         let text = joined(&rt, &["bytes 1 ", header, "\nbytes 1 00\n"])?;

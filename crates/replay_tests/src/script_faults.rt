@@ -1,6 +1,6 @@
 //! Faults of scripts, apart from those of the policy.
 
-use crate::support::{OPS, PERMITTED, SHOW_VERSION, SHOW_VERSION_HEX, joined, plays, stops};
+use crate::support::{OPS, PERMITTED, SHOW_VERSION, SHOW_VERSION_PACKET, joined, plays, stops};
 use std::test::Fail;
 
 #[test]
@@ -219,7 +219,7 @@ fn more_bad_commands(rt: HostRuntime) -> Result<(), Fail> {
 
 #[test]
 fn connections_that_are_not_there(rt: HostRuntime) -> Result<(), Fail> {
-    let packet = ["packet 2 ", SHOW_VERSION_HEX, "\n"];
+    let packet = ["packet 2 ", SHOW_VERSION_PACKET, "\n"];
     let packet = joined(&rt, &packet)?;
     stops(
         &rt,
@@ -230,7 +230,7 @@ fn connections_that_are_not_there(rt: HostRuntime) -> Result<(), Fail> {
     stops(
         &rt,
         &["key k\n", OPS, "run\nopen 1\n", SHOW_VERSION, SHOW_VERSION],
-        "reply 1 c00202000000000100000006010000000000\nclosed 1\nfault line 8 NoConnection\n",
+        "reply 1 c0020200.00000001.00000006.010000000000\nclosed 1\nfault line 8 NoConnection\n",
     )
 }
 
@@ -259,7 +259,7 @@ fn a_fault_is_the_end(rt: HostRuntime) -> Result<(), Fail> {
             "\nopen 1\n",
             SHOW_VERSION,
         ],
-        "reply 1 c00202000000000100000006010000000000\nclosed 1\nfault line 8 BadCommand\n",
+        "reply 1 c0020200.00000001.00000006.010000000000\nclosed 1\nfault line 8 BadCommand\n",
     )?;
     stops(
         &rt,

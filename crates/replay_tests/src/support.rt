@@ -1,5 +1,6 @@
 //! What the tests share: playing scripts and conversations, and spelling packets in them.
 
+use packet_notation::push_digits;
 use std::alloc::AllocError;
 use std::fmt::Write;
 use std::process::Abort;
@@ -13,26 +14,30 @@ pub(crate) const OPS: &str = "group ops\npermit show .*\nuser bob in ops\n";
 pub(crate) const BOB: &str = "group ops\npermit show .*\nuser bob in ops\nlogin secret\n";
 
 /// The packet in which bob asks for `show version`.
-pub(crate) const SHOW_VERSION: &str =
-    "packet 1 c0020100000000010000003606010101030400030d080f626f6274747930\
-     736572766963653d7368656c6c636d643d73686f77636d642d6172673d76657273696f6e\n";
+pub(crate) const SHOW_VERSION: &str = "packet 1 c0020100.00000001.00000036.06010101030400030d080f\
+     'bobtty0service=shellcmd=showcmd-arg=version'\n";
 
-/// The same hexadecimal digits, without the connection.
-pub(crate) const SHOW_VERSION_HEX: &str =
-    "c0020100000000010000003606010101030400030d080f626f6274747930\
-     736572766963653d7368656c6c636d643d73686f77636d642d6172673d76657273696f6e";
+/// The same packet, without the connection.
+pub(crate) const SHOW_VERSION_PACKET: &str = "c0020100.00000001.00000036.06010101030400030d080f\
+     'bobtty0service=shellcmd=showcmd-arg=version'";
 
 /// What permits it.
-pub(crate) const PERMITTED: &str = "reply 1 c00202000000000100000006010000000000\nclosed 1\n";
+pub(crate) const PERMITTED: &str = "reply 1 c0020200.00000001.00000006.010000000000\nclosed 1\n";
 
 pub(crate) const BAD_BODY: &str =
-    "reply 1 c0020200000000010000000e11000008000062616420626f6479\nclosed 1\n";
+    "reply 1 c0020200.00000001.0000000e.110000080000'bad body'\nclosed 1\n";
 
 pub(crate) const SHOW_VERSION_ARGS: [&[u8]; 3] = [
     b"service=shell",
     b"cmd=show",
     b"cmd-arg=version",
 ];
+
+// Whether the line of a script or of its output has packets, or bytes of them.
+fn has_packets(line: &str) -> bool {
+    let word = line.split_once(' ').unwrap_or((line, "")).0;
+    matches!(word, "packet" | "bytes" | "pieces" | "reply")
+}
 
 /// The parts, one after another.
 pub(crate) fn joined<R: AllocGlobal>(rt: &R, parts: &[&str]) -> Result<String, AllocError> {
@@ -43,20 +48,40 @@ pub(crate) fn joined<R: AllocGlobal>(rt: &R, parts: &[&str]) -> Result<String, A
     Ok(whole)
 }
 
-/// Plays the script that the parts make. It has to end so, with this output.
+/// The text of the parts, as a script and its output have it: its lines of packets are in the
+/// notation of `packet_notation`.
+pub(crate) fn spelled_out<R: AllocGlobal>(rt: &R, parts: &[&str]) -> Result<String, AllocError> {
+    let text = joined(rt, parts)?;
+    let mut whole = String::new(rt.alloc());
+    for (at, line) in text.split('\n').enumerate() {
+        if at > 0 {
+            whole.push('\n')?;
+        }
+        if has_packets(line) {
+            push_digits(&mut whole, line)?;
+        } else {
+            whole.push_str(line)?;
+        }
+    }
+    Ok(whole)
+}
+
+/// Plays the script that the parts make. It has to end so, with this output. Lines of packets are
+/// in the notation of `packet_notation`.
 pub(crate) fn ends<R: Abort + AllocGlobal>(
     rt: &R,
     parts: &[&str],
     end: ReplayEnd,
     output: &str,
 ) -> Result<(), Fail> {
-    let script = joined(rt, parts)?;
+    let script = spelled_out(rt, parts)?;
+    let output = spelled_out(rt, &[output])?;
     let mut reader = script.as_bytes();
     let mut written = Vec::new(rt.alloc());
     let reached = replay(rt.alloc(), &mut reader, &mut written)?;
     let printed = str::from_utf8(written.as_slice())?;
     assert!(rt;
-        printed == output,
+        printed == output.as_str(),
         "expected\n{output}printed\n{printed}by\n{script:.600}"
     );
     assert_eq!(rt; reached, end, "after\n{script:.600}");
@@ -81,21 +106,6 @@ pub(crate) fn stops<R: Abort + AllocGlobal>(
     ends(rt, parts, ReplayEnd::Refused, output)
 }
 
-// Adds a line of a conversation as a script has it.
-fn push_line(text: &mut String, line: &str) -> Result<(), Fail> {
-    let mut is_quoted = false;
-    for byte in line.bytes() {
-        match byte {
-            b'\'' => is_quoted = !is_quoted,
-            _ if is_quoted => write!(text, "{byte:02x}")?,
-            b'.' => {}
-            _ => text.push(char::from(byte))?,
-        }
-    }
-    text.push_str("\n")?;
-    Ok(())
-}
-
 // Whether the line of a conversation is one that is printed for packets, or a fault.
 fn is_printed(line: &str) -> bool {
     line.starts_with("reply ") || line.starts_with("closed ") || line.starts_with("fault ")
@@ -107,8 +117,8 @@ fn is_event(line: &str) -> bool {
     matches!(word, "open" | "packet" | "bytes" | "pieces" | "lost")
 }
 
-// Adds a line as it stands, after these words.
-fn push_as_is(text: &mut String, start: &str, line: &str) -> Result<(), Fail> {
+// Adds a line, after these words.
+fn push_line(text: &mut String, start: &str, line: &str) -> Result<(), Fail> {
     text.push_str(start)?;
     text.push_str(line)?;
     text.push_str("\n")?;
@@ -126,10 +136,9 @@ fn comes_to<R: Abort + AllocGlobal>(rt: &R, script: &str, output: &str) -> Resul
 
 /// Plays conversations under a policy, each on its own, with connection 1 open.
 ///
-/// A paragraph is a conversation: lines of a script, and after each line what it prints. In these
-/// lines dots drop out, and text in single quotes represents its bytes in hexadecimal digits. What
-/// stands after `> ` is said at the console, and the lines after it are the answer: all of these
-/// are taken as they stand. A line that begins with `#` is a comment.
+/// A paragraph is a conversation: lines of a script, and after each line what it prints. What
+/// stands after `> ` is said at the console, and the lines after it are the answer. A line that
+/// begins with `#` is a comment.
 pub(crate) fn converses<R: Abort + AllocGlobal>(
     rt: &R,
     policy: &str,
@@ -145,25 +154,25 @@ pub(crate) fn converses<R: Abort + AllocGlobal>(
             continue;
         }
         if is_printed(line) {
-            push_line(&mut output, line)?;
+            push_line(&mut output, "", line)?;
             continue;
         }
         let said = line.strip_prefix("> ");
         is_answer = said.is_some() || is_answer && !line.is_empty() && !is_event(line);
         if said.is_none() && is_answer {
-            push_as_is(&mut output, "", line)?;
+            push_line(&mut output, "", line)?;
             continue;
         }
         comes_to(rt, script.as_str(), output.as_str())?;
         if let Some(said) = said {
-            push_as_is(&mut script, "console ", said)?;
+            push_line(&mut script, "console ", said)?;
             continue;
         }
         if line.is_empty() {
             script = joined(rt, &opened)?;
             output.clear();
         } else {
-            push_line(&mut script, line)?;
+            push_line(&mut script, "", line)?;
         }
     }
     comes_to(rt, script.as_str(), output.as_str())

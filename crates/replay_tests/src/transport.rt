@@ -1,6 +1,6 @@
 //! Readers that fail or give little at a time, and writers that take little or fail.
 
-use crate::support::{BOB, OPS, PERMITTED, SHOW_VERSION, joined};
+use crate::support::{BOB, OPS, PERMITTED, SHOW_VERSION, spelled_out};
 use std::alloc::Global;
 use std::io::{self, ErrorKind, Read, Write};
 use std::process::Abort;
@@ -95,7 +95,7 @@ impl Narrow {
 
 #[test]
 fn a_reader_that_fails(rt: HostRuntime) -> Result<(), Fail> {
-    let script = joined(&rt, &["key k\n", OPS, "run\nopen 1\n", SHOW_VERSION])?;
+    let script = spelled_out(&rt, &["key k\n", OPS, "run\nopen 1\n", SHOW_VERSION])?;
     for (fails, expected) in [
         (false, Ok(ReplayEnd::Done)),
         (true, Err(ReplayFault::ReadFault)),
@@ -121,8 +121,8 @@ fn trickles<R: Abort + AllocGlobal>(
     end: ReplayEnd,
     output: &[&str],
 ) -> Result<(), Fail> {
-    let script = joined(rt, parts)?;
-    let expected = joined(rt, output)?;
+    let script = spelled_out(rt, parts)?;
+    let expected = spelled_out(rt, output)?;
     let mut reader = Trickle {
         rest: script.as_bytes(),
         is_interrupted: false,
@@ -159,15 +159,15 @@ fn a_byte_at_a_time(rt: HostRuntime) -> Result<(), Fail> {
             "key k\n",
             OPS,
             "run\nopen 1\n",
-            "packet 1 c0020104000000010000003606010101030400030d080f626f6274747930\
-             736572766963653d7368656c6c636d643d73686f77636d642d6172673d76657273696f6e ",
-            "c0020104000000020000003606010101030400030d080f626f6274747930\
-             736572766963653d7368656c6c636d643d73686f77636d642d6172673d76657273696f6e\n",
+            "packet 1 c0020104.00000001.00000036.06010101030400030d080f\
+             'bobtty0service=shellcmd=showcmd-arg=version' ",
+            "c0020104.00000002.00000036.06010101030400030d080f\
+             'bobtty0service=shellcmd=showcmd-arg=version'\n",
         ],
         ReplayEnd::Done,
         &[
-            "reply 1 c00202040000000100000006010000000000\n",
-            "reply 1 c00202040000000200000006010000000000\n",
+            "reply 1 c0020204.00000001.00000006.010000000000\n",
+            "reply 1 c0020204.00000002.00000006.010000000000\n",
         ],
     )?;
     // Two logins, the second of which ends before the first.
@@ -177,24 +177,24 @@ fn a_byte_at_a_time(rt: HostRuntime) -> Result<(), Fail> {
             "key k\n",
             BOB,
             "run\nopen 1\n",
-            "packet 1 c0010104000000010000000b0101010103000000626f62\n",
-            "packet 1 c0010104000000020000000b0101010103000000626f62\n",
-            "packet 1 c0010304000000020000000b0006000000736563726574\n",
-            "packet 1 c0010304000000010000000b0006000000736563726574\n",
+            "packet 1 c0010104.00000001.0000000b.0101010103000000'bob'\n",
+            "packet 1 c0010104.00000002.0000000b.0101010103000000'bob'\n",
+            "packet 1 c0010304.00000002.0000000b.0006000000'secret'\n",
+            "packet 1 c0010304.00000001.0000000b.0006000000'secret'\n",
         ],
         ReplayEnd::Done,
         &[
-            "reply 1 c001020400000001000000100501000a000050617373776f72643a20\n",
-            "reply 1 c001020400000002000000100501000a000050617373776f72643a20\n",
-            "reply 1 c00104040000000200000006010000000000\n",
-            "reply 1 c00104040000000100000006010000000000\n",
+            "reply 1 c0010204.00000001.00000010.0501000a0000'Password: '\n",
+            "reply 1 c0010204.00000002.00000010.0501000a0000'Password: '\n",
+            "reply 1 c0010404.00000002.00000006.010000000000\n",
+            "reply 1 c0010404.00000001.00000006.010000000000\n",
         ],
     )
 }
 
 #[test]
 fn a_writer_that_fails(rt: HostRuntime) -> Result<(), Fail> {
-    let script = joined(
+    let script = spelled_out(
         &rt,
         &[
             "key k\n",
@@ -204,7 +204,7 @@ fn a_writer_that_fails(rt: HostRuntime) -> Result<(), Fail> {
             "open 1\nclose 1\n",
         ],
     )?;
-    let expected = joined(&rt, &[PERMITTED, "fault line 9 BadCommand\n"])?;
+    let expected = spelled_out(&rt, &[PERMITTED, "fault line 9 BadCommand\n"])?;
     let expected = expected.as_bytes();
     for room in 0..expected.len() {
         let mut reader = script.as_bytes();

@@ -5,12 +5,11 @@ use crate::ledger::Ledger;
 use basics::Sequence;
 use pol_text::Policy;
 use std::alloc::Global;
-use std::fmt::Write;
 use std::test::Fail;
 use tac_desk::Desk;
 use tac_desks::PlainDesk;
 use tac_server::Server;
-use tac_wire::{Header, Key, pad_in_place};
+use tac_wire::Key;
 
 pub(crate) fn key() -> Result<Key, Fail> {
     match Key::read(b"k") {
@@ -47,23 +46,7 @@ pub(crate) fn serving<D: Desk>(alloc: Global, desk: D) -> Result<Server<D>, Fail
     Ok(Server::new(alloc, desk, key()?))
 }
 
-/// The bytes that hexadecimal digits spell, with dots between them and text in single quotes, and
-/// the pad put on the body.
-pub(crate) fn packet(alloc: Global, digits: &str) -> Result<Vec<u8>, Fail> {
-    let mut plain = String::new(alloc);
-    let mut is_quoted = false;
-    for byte in digits.bytes() {
-        match byte {
-            b'\'' => is_quoted = !is_quoted,
-            _ if is_quoted => write!(plain, "{byte:02x}")?,
-            b'.' => {}
-            _ => plain.push(char::from(byte))?,
-        }
-    }
-    let mut bytes = hex::decode(alloc, plain.as_bytes())?;
-    if let Some((head, _)) = bytes.as_slice().split_first_chunk::<12>() {
-        let header = Header::read(head);
-        pad_in_place(&header, &key()?, &mut bytes.as_mut_slice()[12..]);
-    }
-    Ok(bytes)
+/// The packet that is written so, as a client sends it.
+pub(crate) fn packet(alloc: Global, text: &str) -> Result<Vec<u8>, Fail> {
+    Ok(packet_notation::packet(alloc, &key()?, text)?)
 }

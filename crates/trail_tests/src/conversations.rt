@@ -1,13 +1,14 @@
 //! What is told of a connection, packet by packet and reply by reply.
 
 use basics::{Bytes, Sequence};
+use packet_notation::packet;
 use std::alloc::{AllocError, Global};
 use std::fmt::Write;
 use std::process::Abort;
 use std::test::Fail;
 use tac_audit::{Event, push_event};
 use tac_trail::{Noted, Trail, TrailFault};
-use tac_wire::{Header, Key, pad_in_place};
+use tac_wire::Key;
 
 /// The key of all conversations.
 fn key() -> Result<Key, Fail> {
@@ -15,32 +16,6 @@ fn key() -> Result<Key, Fail> {
         Some(key) => Ok(key),
         None => Err(Fail::from("no key")),
     }
-}
-
-// The digits of a packet. Dots drop out, and text in single quotes represents its bytes.
-fn digits_of(alloc: Global, text: &str) -> Result<String, Fail> {
-    let mut digits = String::new(alloc);
-    let mut is_quoted = false;
-    for byte in text.bytes() {
-        match byte {
-            b'\'' => is_quoted = !is_quoted,
-            _ if is_quoted => write!(digits, "{byte:02x}")?,
-            b'.' => {}
-            _ => digits.push(char::from(byte))?,
-        }
-    }
-    Ok(digits)
-}
-
-// The packet that is spelled so, with the pad put on.
-fn packet<R: AllocGlobal>(rt: &R, text: &str) -> Result<Vec<u8>, Fail> {
-    let digits = digits_of(rt.alloc(), text)?;
-    let mut bytes = hex::decode(rt.alloc(), digits.as_bytes())?;
-    let Some((header, body)) = bytes.split_first_chunk_mut::<12>() else {
-        return Err(Fail::from("no packet"));
-    };
-    pad_in_place(&Header::read(header), &key()?, body);
-    Ok(bytes)
 }
 
 // The line of what is told, by a time and a device that are made up.
@@ -90,25 +65,25 @@ fn came(trail: &mut Trail, bytes: &[u8], one_by_one: bool) -> Result<(), AllocEr
     Ok(())
 }
 
-// The trail takes a packet of these digits.
+// The trail takes a packet that is written so.
 fn takes<R: AllocGlobal>(
     rt: &R,
     trail: &mut Trail,
-    digits: &str,
+    text: &str,
     one_by_one: bool,
 ) -> Result<(), Fail> {
-    let packet = packet(rt, digits)?;
+    let packet = packet(rt.alloc(), &key()?, text)?;
     came(trail, packet.as_slice(), one_by_one)?;
     Ok(())
 }
 
-// What is told where a packet of these digits is sent.
+// What is told where a packet that is written so is sent.
 fn notes_of<R: AllocGlobal>(
     rt: &R,
     trail: &mut Trail,
-    digits: &str,
+    text: &str,
 ) -> Result<Result<Vec<Noted>, TrailFault>, Fail> {
-    let packet = packet(rt, digits)?;
+    let packet = packet(rt.alloc(), &key()?, text)?;
     let noted = trail.replies(&key()?, packet.as_slice());
     Ok(noted.map(Sequence::into_vec))
 }

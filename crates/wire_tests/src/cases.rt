@@ -10,36 +10,9 @@ use std::fmt::{Debug, Write};
 use std::process::Abort;
 use std::test::Fail;
 
-// The value of a hexadecimal digit.
-fn digit(byte: u8) -> u8 {
-    match byte {
-        b'0'..=b'9' => byte - b'0',
-        b'a'..=b'f' => byte - b'a' + 10,
-        _ => 0,
-    }
-}
-
-fn push_digits(bytes: &mut Bytes, digits: &[u8]) -> Result<(), Fail> {
-    for pair in digits.chunks(2) {
-        let [high, low] = pair else {
-            return Err(Fail::from("half a byte"));
-        };
-        bytes.push(digit(*high) << 4 | digit(*low))?;
-    }
-    Ok(())
-}
-
 /// The bytes that a text spells: hexadecimal digits in pairs, and symbols in quotes.
 pub(crate) fn bytes(alloc: Global, text: &str) -> Result<Bytes, Fail> {
-    let mut bytes = Bytes::new(alloc);
-    for (at, part) in text.split('\'').enumerate() {
-        if at % 2 == 0 {
-            push_digits(&mut bytes, part.as_bytes())?;
-        } else {
-            bytes.extend_from_slice(part.as_bytes())?;
-        }
-    }
-    Ok(bytes)
+    Ok(Bytes::from(packet_notation::bytes(alloc, text)?))
 }
 
 // Adds a blank and the field, spelled as `bytes` reads it: in quotes where it is a text.
