@@ -14,7 +14,8 @@ use std::time::Clock;
 use tac_trail::{Noted, Trail};
 use tac_wire::Key;
 
-// A log as a writer, which takes each write whole or not at all.
+// A log as a writer. A write that it doesn't take whole is a fault, though the file may have a
+// part of it.
 #[derive(Drop)]
 struct Entry<'a, H, L> {
     host: &'a H,

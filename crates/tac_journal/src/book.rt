@@ -18,8 +18,9 @@ pub(crate) struct Book {
     tail: Tail<File>,
     // when it was opened; nothing where no clock said so
     opened: Option<Instant>,
-    // whether it was said that it takes no lines
-    has_complained: bool,
+    // how many appends it had taken when it last took none, which was said; nothing where it takes
+    // lines
+    complained: Option<u64>,
     // how many appends it took, under all its names
     appends: u64,
 }
@@ -48,7 +49,7 @@ impl Place<'_> {
         Ok(Book {
             tail: open(host, self.path)?,
             opened: Instant::now(host).ok(),
-            has_complained: false,
+            complained: None,
             appends: 0,
         })
     }
@@ -86,23 +87,28 @@ impl Place<'_> {
         book.tail.append(lines)
     }
 
-    // Says on standard error that the file takes no lines, once until it takes some again, and
-    // then that it does. It doesn't matter whether that can be written.
+    // Says on standard error that the file takes no lines, once until it takes some again. It
+    // doesn't matter whether that can be written.
     fn complain<H: Eprint>(&self, host: &H, book: &mut Book, why: &Untaken) {
-        if !book.has_complained {
+        if book.complained.is_none() {
             let path = self.path;
             let _ = eprintln!(host;
                 "tacd: {path}: {why}; requests aren't answered until it takes lines"
             );
-            book.has_complained = true;
         }
+        book.complained = Some(book.appends);
     }
 
-    fn relent<H: Eprint>(&self, host: &H, book: &mut Book) {
-        if book.has_complained {
+    // Says that the file takes lines again, where the lines of an append count that came after it
+    // last took none.
+    fn relent<H: Eprint>(&self, host: &H, book: &mut Book, number: u64) {
+        let Some(before) = book.complained else {
+            return;
+        };
+        if number > before {
             let path = self.path;
             let _ = eprintln!(host; "tacd: {path}: it takes lines again");
-            book.has_complained = false;
+            book.complained = None;
         }
     }
 
@@ -114,11 +120,12 @@ impl Place<'_> {
     {
         match self.write(host, book, lines) {
             Ok(()) => {
-                book.appends = book.appends.saturating_add(1);
+                let number = book.appends.saturating_add(1);
+                book.appends = number;
                 if self.disk.is_none() {
-                    self.relent(host, book);
+                    self.relent(host, book, number);
                 }
-                Ok(book.appends)
+                Ok(number)
             }
             Err(why) => {
                 self.complain(host, book, &why);
@@ -127,7 +134,8 @@ impl Place<'_> {
         }
     }
 
-    // Sends the file as it is now to the disk. Others append to it meanwhile.
+    // Sends the file as it is now to the disk. Others append to it meanwhile, and the system tells
+    // a fault once: so it may be of their lines too, and none counts that was appended by then.
     fn send_all<H>(&self, host: &H, disk: &Disk, book: &Mutex<Book>)
     where
         H: Wait + Eprint,
@@ -137,11 +145,16 @@ impl Place<'_> {
             (book.tail.file.try_clone(), book.appends)
         };
         let sent = file.and_then(|file| file.sync_data());
-        disk.settle(host, appends, sent.is_ok());
         let mut book = book.lock(host);
         match sent {
-            Ok(()) => self.relent(host, &mut book),
-            Err(error) => self.complain(host, &mut book, &Untaken::Failed(error)),
+            Ok(()) => {
+                disk.settle(host, appends, true);
+                self.relent(host, &mut book, appends);
+            }
+            Err(error) => {
+                disk.settle(host, book.appends, false);
+                self.complain(host, &mut book, &Untaken::Failed(error));
+            }
         }
     }
 

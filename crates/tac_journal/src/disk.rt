@@ -28,7 +28,7 @@ impl Disk {
     }
 
     /// Whether the lines of an append count; nothing where that isn't known yet. Where some may be
-    /// lost, so may be those before them: the system tells a fault once.
+    /// lost, so may be those before them, of which a later sync tells nothing more.
     pub(crate) fn outcome<H: Wait>(&self, host: &H, number: u64) -> Option<Result<(), Refused>> {
         let settled = self.settled.lock(host);
         if number <= settled.lost {

@@ -10,8 +10,8 @@ use std::time::Clock;
 
 /// A file that several threads append lines to, one after another.
 ///
-/// Twice a second at most it is opened again by its path. So where it was renamed, lines go to a
-/// new file within a second.
+/// Twice a second at most it is opened again by its path, and where that fails, or no clock can be
+/// read, at each append. So where it was renamed, lines go to a new file within a second.
 #[derive(Drop)]
 pub struct Journal<'a> {
     place: Place<'a>,
@@ -20,7 +20,8 @@ pub struct Journal<'a> {
 
 impl<'a> Journal<'a> {
     /// Opens the file at a path, and makes it where there is none. Lines count once the file took
-    /// them; or once they are on the disk, where it syncs.
+    /// them; or once they are on the disk, where it syncs. The error is the system's, or that it is
+    /// no regular file.
     pub fn open<H>(host: &H, path: &'a str, syncs: bool) -> io::Result<Journal<'a>>
     where
         H: Clock + LogFiles,

@@ -5,7 +5,8 @@ use std::alloc::{AllocError, AllocFailed};
 use std::sync::Wait;
 use std::time::Clock;
 
-/// The log didn't take the lines whole: the device that they tell of is to be sent nothing.
+/// The lines don't count: the log didn't take them whole, or the disk may have lost them, or there
+/// was no memory or no time for them. The device that they tell of is to be sent nothing.
 #[derive(Clone, Copy, Debug, PartialEq, Eq)]
 pub struct Refused;
 
