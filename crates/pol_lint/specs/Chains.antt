@@ -9,6 +9,7 @@ use Rattle.pol_names.specs.Name.{name_of}
 use Rattle.pol_names.specs.SubjectId.{same_id, group_id}
 use Rattle.pol_names.specs.declared.subject_id.SubjectId.{SubjectId}
 use Rattle.pol_text.specs.declared.fault.PolicyRefusal.{PolicyRefusal}
+use Rattle.pol_text.specs.Policy.{max_subjects}
 use Rattle.pol_text.specs.Text.{body_of}
 use Rattle.pol_lint.specs.Words.{column_of, noted, words_of, words_in, keyword_of}
 use Rattle.pol_lint.specs.Faults.{body_faults}
@@ -95,7 +96,7 @@ or_else (remark ∷ remarks) later = remark ∷ remarks
 -- subjects no chains are judged: their number is refused
 abbrev pub chain_faults : List Heading → List Remark
 chain_faults headings =
-    if nat_le (length headings) 1024
+    if nat_le (length headings) max_subjects
     then or_else (told_of (orphan headings) headings) (told_of (cycle headings) headings) else []
 
 -- ---- sizes

@@ -40,7 +40,7 @@ habit_of version rest =
     else if begins rest (codes "[[:") then Some NamedClass
     else count_habit version rest
 
--- such habits in this end of a line; a symbol behind a `\` is no beginning of one
+-- such habits in this end of a line; a symbol after a `\` is no beginning of one
 abbrev pub habits_within : Version → ℕ → List ℕ → Bool → List ℕ → List Remark
 habits_within version number line escaped [] = []
 habits_within version number line escaped (byte ∷ rest) =

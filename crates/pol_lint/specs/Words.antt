@@ -27,7 +27,7 @@ begins text start = starts_with nat_eq text start
 abbrev pub ends : List ℕ → List ℕ → Bool
 ends text end = ends_with nat_eq text end
 
--- the first word of a text, and what comes after the space behind it
+-- the first word of a text, and what comes after the space that ends it
 abbrev pub words_of : List ℕ → List ℕ × List ℕ
 words_of text = option_map_or (λ parts. parts) (split_at_first 32 text) (text, [])
 

@@ -187,7 +187,8 @@ fn is_told(remarks: &[Remark], line: usize) -> bool
 /// group that its own chain comes back to. The check's refusal comes first, unless its line is told
 /// of.
 ///
-/// Linear in the text, but for the chains of at most 1,024 subjects.
+/// Linear in the text, but for the chains of at most 1,024 subjects. The error means that memory ran
+/// out.
 pub fn text_faults(
     alloc: Global,
     text: &[u8],
@@ -211,7 +212,7 @@ pub fn text_faults(
 }
 
 /// What is told of a text whose policy is refused since the rules along the chain of this subject
-/// have too many states: the line of the subject.
+/// have too many states: the line of the subject. The error means that memory ran out.
 pub fn size_faults(
     alloc: Global,
     text: &[u8],

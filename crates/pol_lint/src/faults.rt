@@ -170,7 +170,7 @@ fn place_in(fault: PatternFault) -> usize
 }
 
 // What comes after so many bytes.
-fn behind(text: &[u8], count: usize) -> &[u8]
+fn after_first(text: &[u8], count: usize) -> &[u8]
     ensures { result.now ≡ drop count text.now }
 {
     if count <= text.len() {
@@ -185,7 +185,7 @@ fn refusal_column(line: &[u8], refusal: PolicyRefusal) -> usize
 {
     let (_, rest) = words_in(line);
     match refusal {
-        PolicyRefusal::BadPattern(fault) => column_of(line, behind(rest, place_in(fault))),
+        PolicyRefusal::BadPattern(fault) => column_of(line, after_first(rest, place_in(fault))),
         PolicyRefusal::BadName | PolicyRefusal::BadValue => column_of(line, rest),
         _ => column_of(line, without_leading_spaces(line)),
     }

@@ -293,7 +293,8 @@ fn told_of<'a>(
 /// What is told of a policy with this text, of whose rules these decide nothing: what is right and
 /// probably not meant.
 ///
-/// Expected time linear in the text, but for a look at all subjects for each group.
+/// Expected time linear in the text, but for a look at all subjects for each group. The error means
+/// that memory ran out.
 pub fn policy_remarks(
     alloc: Global,
     text: &[u8],
