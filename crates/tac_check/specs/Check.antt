@@ -51,10 +51,6 @@ IsCheckOf (Err (policies.Refused line refusal)) output end =
     (output ≡ policy_fault (policies.Refused line refusal)) × (end ≡ Refused)
 IsCheckOf (Err policies.Memory) output end = ⊥
 
--- the check of a text prints this, and ends so
-abbrev pub IsCheck : List ℕ → List ℕ → CheckEnd → Type 0
-IsCheck text output end = IsCheckOf (policy_of text) output end
-
 -- ---- what a function returned, against what was wanted
 
 -- a policy was reported on, and no other report is right
