@@ -61,7 +61,7 @@ fn longest(wanted: &[Wanted]) -> usize {
 }
 
 /// Which of the present rules those are that are wanted, each of them once, and which of these stay
-/// where they are: as many as can. Quadratic.
+/// where they are: as many as can, where no rule stands twice. Quadratic.
 pub(crate) fn matched(
     alloc: Global,
     present: &[Rule],

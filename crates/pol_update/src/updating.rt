@@ -44,10 +44,10 @@ fn made(alloc: Global, old: &Policy, edits: &[Edit]) -> Result<Policy, UpdateFau
 /// applied to the old policy, and what they made was compared with the new one.
 ///
 /// What is the same in both policies isn't touched: a rule that moved is one `MoveRule`, and of a
-/// subject's rules as many stay in their places as can. Rules are dropped first, then subjects go,
-/// come and move, and then secrets, levels and rules are set; so no limit is exceeded in between.
-/// The cost is quadratic in the rules of each subject that is changed, and a look through all chains
-/// for each subject that moves.
+/// subject's rules as many stay as can, where none stands twice. Rules are dropped first, then
+/// subjects go, come and move, and then secrets, levels and rules are set; so no limit is exceeded
+/// in between. The cost is quadratic in the rules of each subject that is changed, and a look
+/// through all chains for each subject that moves.
 pub fn edits_between(
     alloc: Global,
     old: &Policy,
