@@ -42,7 +42,7 @@ pub enum Answered {
 }
 
 impl Asker {
-    /// An equal one.
+    /// An equal one. The error means that memory ran out.
     pub fn copy(&self, alloc: Global) -> Result<Asker, AllocError>
         ensures { IfOk result (λ copy. copy ≡ self.now) }
     {
@@ -76,7 +76,7 @@ pub fn login_begun(alloc: Global, body: &[u8]) -> Result<Option<Asker>, AllocErr
     }))
 }
 
-/// Who logs in once the name was asked for, by the body of the CONTINUE that tells it.
+/// Who logs in, by the body of the CONTINUE that tells the name. The error is that of no memory.
 pub fn login_named(alloc: Global, asker: Asker, body: &[u8]) -> Result<Asker, AllocError>
     ensures { IfOk result (λ named. named
         ≡ telling.named asker (result_ok (continue_of body.now))) }
