@@ -73,14 +73,14 @@ impl Operator {
             self.old.console self.new.console (W.contents writer.old) (W.contents writer.new) }
     {
         let mut rest = piece;
-        'lines: while let Some((front, behind)) = split_once(rest, b'\n') {
+        'lines: while let Some((front, after)) = split_once(rest, b'\n') {
             self.begun.extend_from_slice(front)?;
             if is_quit(self.begun.as_slice()) {
                 return Ok(Went::Quits);
             }
             self.answer(rt, hall, archive, writer)?;
             self.begun.clear();
-            rest = behind;
+            rest = after;
         }
         self.begun.extend_from_slice(rest)?;
         Ok(Went::On)

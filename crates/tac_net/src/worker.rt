@@ -100,7 +100,7 @@ where
         receipts: _,
         end,
     } = work(rt, hall, key, seat, &mut reader, &mut writer, gate);
-    // that these lines aren't in the log was said
+    // a log that takes no lines was told; where memory or a clock is missing nothing is said
     let _ = audited.end();
     (seat, end)
 }

@@ -17,14 +17,14 @@ returns-then-is_quit g c =
     let quit : is_quit (c.lines.self.begun.items ++ c.in-Some.front.now) ≡ true =
     is_quit-shown c.as_slice.result.now c.extend_from_slice.new.self.items _ true c.as_slice.ensures.value c.in_ok-extend_from_slice.ensures.items c.if-is_quit.ensures in
     took_quit c.args.self.now.begun.items c.args.piece.now c.lines.self.begun.items c.lines.rest.now c.args.self.now.console c.lines.self.console _ _ c.lines.invariant.goes
-    c.in-Some.front.now c.in-Some.behind.now c.lines.invariant.opens (sym c.in-Some.ensures.parts) c.extend_from_slice.new.self.items quit
+    c.in-Some.front.now c.in-Some.after.now c.lines.invariant.opens (sym c.in-Some.ensures.parts) c.extend_from_slice.new.self.items quit
 
 pub returns-in_err-answer : goal.returns-in_err-answer
 returns-in_err-answer g c =
     let other : is_quit (c.lines.self.begun.items ++ c.in-Some.front.now) ≡ false =
     is_quit-shown c.as_slice.result.now c.extend_from_slice.new.self.items _ false c.as_slice.ensures.value c.in_ok-extend_from_slice.ensures.items c.if-is_quit.ensures in
     took_fault_as c.args.self.now.begun.items c.args.piece.now c.lines.self.begun.items c.lines.rest.now c.args.self.now.console c.lines.self.console _ _ c.lines.invariant.goes
-    c.in-Some.front.now c.in-Some.behind.now c.lines.invariant.opens (sym c.in-Some.ensures.parts) other c.answer.new.self.console _
+    c.in-Some.front.now c.in-Some.after.now c.lines.invariant.opens (sym c.in-Some.ensures.parts) other c.answer.new.self.console _
     c.from_residual-in_err-answer.result c.in_err-answer.field-0.0 _ c.from_residual-in_err-answer.ensures.1
     (rw c.in_ok-extend_from_slice.ensures.items at c.in_err-answer.ensures)
 
@@ -35,7 +35,7 @@ lines-preserved g c =
     rw c.clear.ensures.items
     (record {
       goes = took_line c.args.self.now.begun.items c.args.piece.now c.lines.self.begun.items c.lines.rest.now c.args.self.now.console c.lines.self.console _ _ c.lines.invariant.goes
-          c.in-Some.front.now c.in-Some.behind.now c.lines.invariant.opens (sym c.in-Some.ensures.parts) other c.answer.new.self.console _
+          c.in-Some.front.now c.in-Some.after.now c.lines.invariant.opens (sym c.in-Some.ensures.parts) other c.answer.new.self.console _
           (rw c.in_ok-extend_from_slice.ensures.items at c.in_ok-answer.ensures);
       opens = refl;
     })
