@@ -11,7 +11,7 @@ use std::sync::Wait;
 use std::sync::atomic::{AtomicBool, Ordering};
 use std::test::Fail;
 use std::thread::{Threads, join, sleep};
-use std::time::{Clock, Duration};
+use std::time::{Clock, Duration, Instant};
 use tac_journal::LogFiles;
 use tac_program::run;
 
@@ -42,6 +42,9 @@ enum Visit {
     AtOnce(u32),
     /// One connection is kept open, and bob asks on it ten times.
     TenTimes,
+    /// Bob asks on a connection that is silent afterwards, and asks on another one, where he is
+    /// answered within five seconds.
+    AfterASilentOne,
     /// Each on a connection of its own: one is cut off in the middle of a packet, bob asks, one is
     /// reset after its first reply, bob asks, another is cut off, bob asks, another is reset, bob
     /// asks, and then nobody is served any more.
@@ -137,6 +140,29 @@ where
     Ok(true)
 }
 
+// Whether bob is permitted, and waits for less than five seconds.
+fn asks_in_time<R>(rt: &R, address: SocketAddr) -> io::Result<bool>
+where
+    R: Clock + AllocGlobal + Net<Listener = TcpListener, Stream = TcpStream>,
+{
+    let since = Instant::now(rt)?;
+    let is_asked = asks_once(rt, address)?;
+    let passed = since.elapsed(rt)?;
+    Ok(is_asked && passed < Duration::from_secs(5))
+}
+
+// The silent connection is closed by the end.
+fn after_a_silent_one<R>(rt: &R, address: SocketAddr) -> io::Result<bool>
+where
+    R: Clock + AllocGlobal + Net<Listener = TcpListener, Stream = TcpStream>,
+{
+    let mut silent = connect(rt, address)?;
+    let is_first = is_answered(rt.alloc(), &silent, ASK_AGAIN, PERMITTED_AGAIN)?;
+    let is_second = asks_in_time(rt, address)?;
+    let left = silent.read(&mut [0])?;
+    Ok(is_first && is_second && left == 0)
+}
+
 fn eight_and_no_more<R>(rt: &R, address: SocketAddr) -> io::Result<bool>
 where
     R: Clock + AllocGlobal + Net<Listener = TcpListener, Stream = TcpStream>,
@@ -163,6 +189,7 @@ impl Visit {
         let went = match self {
             Visit::AtOnce(count) => at_once(rt, address, count),
             Visit::TenTimes => ten_times(rt, address),
+            Visit::AfterASilentOne => after_a_silent_one(rt, address),
             Visit::EightAndNoMore => eight_and_no_more(rt, address),
         };
         went.unwrap_or(false)
@@ -174,7 +201,7 @@ fn free_port<R: Net<Listener = TcpListener, Stream = TcpStream>>(rt: &R) -> Resu
     Ok(listener.local_addr()?.port())
 }
 
-// Devices visit a server, in a thread of their own, and then its operator is to quit.
+// Devices visit a server, in a thread of their own, and then its operator is to type.
 fn visit_it<R>(
     rt: &R,
     fake: &Fake<'_>,
@@ -197,35 +224,64 @@ where
     )
 }
 
-// Whether all went as it is to go at the server that these words start.
-fn serves<R>(rt: &R, words: &str, address: SocketAddr, visit: Visit) -> bool
+// Whether all went as it is to go at the server that these words start, at whose console this is
+// typed, and whether it printed that.
+fn serves<R>(
+    rt: &R,
+    words: &str,
+    address: SocketAddr,
+    visit: Visit,
+    types: &'static str,
+    printed: &str,
+) -> bool
 where
     R: Threads + Wait + Clock + Sync + AllocGlobal + LogFiles + Eprint,
     R: Net<Listener = TcpListener, Stream = TcpStream>,
 {
     let is_over = AtomicBool::new(false);
     let policy = "group ops\npermit show .*\nuser bob in ops\n";
-    let fake = Fake::quitting(rt.alloc(), words, policy, &is_over);
+    let fake = Fake::typing(rt.alloc(), words, policy, types, &is_over);
     let (went, status) = visit_it(rt, &fake, &is_over, address, visit);
-    went && status == ExitCode::from(0)
+    went && status == ExitCode::from(0) && fake.output.holds(printed)
 }
 
-// The program serves, devices visit it at this address, and then its operator quits.
+// The program serves at this port, devices visit it at this address, and then its operator types
+// lines, of which `quit` is the last. It prints the port and these answers.
+fn operated<R>(
+    rt: &R,
+    options: &str,
+    address: SocketAddr,
+    visit: Visit,
+    types: &'static str,
+    answers: &str,
+) -> Result<(), Fail>
+where
+    R: Threads + Wait + Clock + Sync + AllocGlobal + LogFiles + Eprint,
+    R: Net<Listener = TcpListener, Stream = TcpStream>,
+{
+    let port = address.port();
+    let words = format!(in rt.alloc(); "tacd serve --port {port} --key-file key {options} policy")?;
+    let printed = format!(in rt.alloc(); "listening {port}\n{answers}")?;
+    if serves(rt, words.as_str(), address, visit, types, printed.as_str()) {
+        return Ok(());
+    }
+    Err(Fail::from("a device was served otherwise, or the console"))
+}
+
+// The same at any port of this host, where the operator only quits.
 fn visited<R>(rt: &R, options: &str, host: [u8; 4], visit: Visit) -> Result<(), Fail>
 where
     R: Threads + Wait + Clock + Sync + AllocGlobal + LogFiles + Eprint,
     R: Net<Listener = TcpListener, Stream = TcpStream>,
 {
     let port = free_port(rt)?;
-    let words = format!(in rt.alloc(); "tacd serve --port {port} --key-file key {options} policy")?;
     let address = SocketAddr::from((Ipv4Addr::from(host), port));
-    if serves(rt, words.as_str(), address, visit) {
-        return Ok(());
-    }
-    Err(Fail::from("a device was served otherwise"))
+    operated(rt, options, address, visit, "quit\n", "")
 }
 
 const HERE: [u8; 4] = [127, 0, 0, 1];
+
+const THERE: [u8; 4] = [127, 0, 0, 2];
 
 #[test]
 fn so_many_are_served_at_once(rt: HostRuntime) -> Result<(), Fail> {
@@ -234,16 +290,34 @@ fn so_many_are_served_at_once(rt: HostRuntime) -> Result<(), Fail> {
     visited(&rt, "--idle 0", HERE, Visit::AtOnce(4))
 }
 
+// Without the option a server has its port at each address of the machine. With it the port may be
+// another's at each other address.
 #[test]
 fn at_an_address(rt: HostRuntime) -> Result<(), Fail> {
-    visited(
-        &rt,
-        "--idle 1 --rotate-at 3",
-        [127, 0, 0, 2],
-        Visit::TenTimes,
-    )?;
+    visited(&rt, "--workers 1", THERE, Visit::TenTimes)?;
+    let other = TcpListener::bind(&rt, "127.0.0.1:0")?;
+    let port = other.local_addr()?.port();
+    let address = SocketAddr::from((Ipv4Addr::from(THERE), port));
     let options = "--address 127.0.0.2 --workers 1";
-    visited(&rt, options, [127, 0, 0, 2], Visit::TenTimes)
+    operated(&rt, options, address, Visit::TenTimes, "quit\n", "")
+}
+
+// Each log takes two of the ten calls, so the operator finds two in the fifth.
+#[test]
+fn a_log_that_is_put_away(rt: HostRuntime) -> Result<(), Fail> {
+    let port = free_port(&rt)?;
+    let address = SocketAddr::from((Ipv4Addr::LOCALHOST, port));
+    let options = "--workers 1 --rotate-at 3";
+    let lines = "rotate\nquit\n";
+    let answers = "rotated 4 entries 2\n";
+    operated(&rt, options, address, Visit::TenTimes, lines, answers)
+}
+
+// The one worker gives the silent device up a second after its reply, and then serves the other one.
+#[test]
+fn a_silent_device_is_given_up(rt: HostRuntime) -> Result<(), Fail> {
+    let options = "--idle 1 --workers 1";
+    visited(&rt, options, HERE, Visit::AfterASilentOne)
 }
 
 // Each request has a line in the file, and so has what is typed.

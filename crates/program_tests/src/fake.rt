@@ -112,17 +112,18 @@ pub(crate) struct Fake<'a> {
 }
 
 impl<'a> Fake<'a> {
-    /// One at whose console `quit` is typed, once the flag is set.
-    pub(crate) fn quitting(
+    /// One at whose console this is typed, once the flag is set.
+    pub(crate) fn typing(
         alloc: Global,
         words: &'a str,
         policy: &'static str,
+        input: &'static str,
         after: &'a AtomicBool,
     ) -> Fake<'a> {
         Fake {
             alloc,
             words,
-            input: "quit\n",
+            input,
             policy,
             after: Some(after),
             output: Stream::new(alloc, true),
