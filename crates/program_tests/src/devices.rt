@@ -324,6 +324,8 @@ fn a_silent_device_is_given_up(rt: HostRuntime) -> Result<(), Fail> {
 #[test]
 fn lines_in_a_log(rt: HostRuntime) -> Result<(), Fail> {
     let path = "tacd-lines.log";
+    // where a run has failed before, its file may be there
+    let _ = fs::remove_file(&rt, path);
     let options = "--sync --log tacd-lines.log --workers 1";
     visited(&rt, options, HERE, Visit::TenTimes)?;
     let text = fs::read_to_string(&rt, path)?;
