@@ -103,20 +103,26 @@ pub(crate) fn asks<R: Net<Listener = TcpListener, Stream = TcpStream> + AllocGlo
     Ok(client)
 }
 
-/// The client was answered with a permission, and its connection is closed.
-pub(crate) fn is_permitted(alloc: Global, client: &TcpStream) -> io::Result<bool> {
-    let mut wanted = Vec::new(alloc);
-    add_packet(&mut wanted, 1, 2, 0, PERMITTED)?;
+/// What it is answered where bob is permitted.
+pub(crate) fn permission(alloc: Global) -> io::Result<Vec<u8>> {
+    let mut packet = Vec::new(alloc);
+    add_packet(&mut packet, 1, 2, 0, PERMITTED)?;
+    Ok(packet)
+}
+
+/// The client was answered with these bytes and no more, and its connection is closed.
+pub(crate) fn is_answered(alloc: Global, client: &TcpStream, wanted: &[u8]) -> io::Result<bool> {
     let mut answer = Vec::new(alloc);
     let mut client = client;
     client.read_to_end(&mut answer)?;
-    Ok(answer == wanted)
+    Ok(answer.as_slice() == wanted)
 }
 
 // Both clients were answered with a permission.
 fn are_permitted(alloc: Global, one: &TcpStream, two: &TcpStream) -> io::Result<bool> {
-    let is_first = is_permitted(alloc, one)?;
-    let is_second = is_permitted(alloc, two)?;
+    let wanted = permission(alloc)?;
+    let is_first = is_answered(alloc, one, wanted.as_slice())?;
+    let is_second = is_answered(alloc, two, wanted.as_slice())?;
     Ok(is_first && is_second)
 }
 

@@ -1,6 +1,6 @@
 //! A server with a console, which ends by itself.
 
-use crate::clients::{asks, hall_of, is_permitted, key};
+use crate::clients::{asks, hall_of, is_answered, key, permission};
 use std::alloc::{AllocError, Global};
 use std::io::{self, ErrorKind, Read, Write};
 use std::net::{Ipv4Addr, Net, SocketAddr, TcpListener, TcpStream};
@@ -27,7 +27,7 @@ struct Course {
     /// Before this call of a segment the log is taken out.
     rotate_at: u32,
     /// He asks as a client does, once for each letter, and goes on if he was permitted at each p,
-    /// and not answered at each x.
+    /// and at each x his connection was closed without a byte.
     asks: &'static str,
     /// Then he types this.
     types: &'static str,
@@ -80,6 +80,15 @@ impl Log for Refusing {
     }
 }
 
+// The client was answered as the letter says.
+fn is_answered_so(alloc: Global, client: &TcpStream, letter: u8) -> io::Result<bool> {
+    if letter != b'p' {
+        return is_answered(alloc, client, b"");
+    }
+    let wanted = permission(alloc)?;
+    is_answered(alloc, client, wanted.as_slice())
+}
+
 /// The input of an operator who does so.
 #[derive(Drop)]
 struct Operator<'a, R> {
@@ -104,7 +113,7 @@ where
     fn ask(&self) -> io::Result<()> {
         for letter in self.course.asks.bytes() {
             let client = asks(self.rt, self.address)?;
-            if is_permitted(self.rt.alloc(), &client)? != (letter == b'p') {
+            if !is_answered_so(self.rt.alloc(), &client, letter)? {
                 return Err(io::Error::from(ErrorKind::PermissionDenied));
             }
         }
