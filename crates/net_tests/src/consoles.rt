@@ -8,7 +8,7 @@ use std::sync::Wait;
 use std::sync::atomic::{AtomicU64, Ordering};
 use std::test::Fail;
 use std::thread::Threads;
-use std::time::Clock;
+use std::time::{Clock, Duration, Instant};
 use tac_desks::PlainDesk;
 use tac_hall::Hall;
 use tac_journal::{Log, LogFiles, Refused};
@@ -200,7 +200,7 @@ where
 
 // The operator's server ends so, though most of its workers wait for clients, and printed this
 // after its port.
-fn ends<R>(
+fn ends_at_last<R>(
     rt: &R,
     course: Course,
     printed: &str,
@@ -235,6 +235,26 @@ where
     Err(Fail::from("it ended or printed otherwise"))
 }
 
+// The same, all within five seconds. The ten that a device has before its first reply would be too
+// long.
+fn ends<R>(
+    rt: &R,
+    course: Course,
+    printed: &str,
+    wanted: Result<(), ServeFault>,
+) -> Result<(), Fail>
+where
+    R: Threads + Wait + Clock + Sync + AllocGlobal + Eprint + LogFiles,
+    R: Net<Listener = TcpListener, Stream = TcpStream>,
+{
+    let since = Instant::now(rt)?;
+    ends_at_last(rt, course, printed, wanted)?;
+    if since.elapsed(rt)? < Duration::from_secs(5) {
+        return Ok(());
+    }
+    Err(Fail::from("it took too long"))
+}
+
 #[test]
 fn workers_that_wait_end(rt: HostRuntime) -> Result<(), Fail> {
     ends(&rt, QUITS, "", Ok(()))
@@ -252,7 +272,7 @@ fn a_silent_device_holds_up_no_end(rt: HostRuntime) -> Result<(), Fail> {
     ends(&rt, course, "", Ok(()))
 }
 
-// The one worker gives the silent device up, and then serves the other one.
+// The one worker gives the silent device up after a second, and then serves the other one.
 #[test]
 fn a_silent_device_is_given_up(rt: HostRuntime) -> Result<(), Fail> {
     let course = Course {
