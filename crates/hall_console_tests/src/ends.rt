@@ -50,6 +50,14 @@ fn by_a_failed_read(rt: HostRuntime) -> Result<(), Fail> {
         99,
         ("none\n", "Err(ReadFault)", 2),
     )?;
+    // here the log is full at the Stop
+    ends(
+        &rt,
+        "shadow\nshadow\n",
+        FAILING,
+        99,
+        ("none\nnone\n", "Err(ReadFault)", 3),
+    )?;
     ends(
         &rt,
         "shadow\nquit",

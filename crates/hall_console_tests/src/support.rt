@@ -122,6 +122,21 @@ fn closes(alloc: Global, hall: Hall<PlainDesk>, chain: &Chain, console: ConsoleS
     chain.close(hall, seats).is_ok()
 }
 
+// The hall is closed with the console's seat and the chain.
+fn closes_with(alloc: Global, hall: Hall<PlainDesk>, seen: Seen) -> Result<(), Fail> {
+    let Seen {
+        written: _,
+        end: _,
+        seat,
+        chain,
+    } = seen;
+    if closes(alloc, hall, &chain, seat) {
+        Ok(())
+    } else {
+        Err(Fail::from("the hall isn't closed with its chain"))
+    }
+}
+
 // One conversation at a new hall, in one manner.
 fn talks<R: Wait + AllocGlobal>(
     rt: &R,
@@ -139,17 +154,7 @@ fn talks<R: Wait + AllocGlobal>(
     if seen.end.as_str() != "Ok(())" || seen.seat.seat.view().len() != made {
         return Err(fail(rt, "another end or number of calls", &seen));
     }
-    let Seen {
-        written: _,
-        end: _,
-        seat,
-        chain,
-    } = seen;
-    if closes(rt.alloc(), hall, &chain, seat) {
-        Ok(())
-    } else {
-        Err(Fail::from("the hall isn't closed with its chain"))
-    }
+    closes_with(rt.alloc(), hall, seen)
 }
 
 /// The lines after `> ` are typed at the console of a hall whose log takes so many calls; then all
@@ -172,8 +177,9 @@ pub(crate) fn converses<R: Wait + AllocGlobal>(
     Ok(())
 }
 
-/// On these bytes in this manner, with so much room, a console writes this, ends so, and made so
-/// many calls; then the hall takes no more.
+/// On these bytes in this manner, with so much room, the console of a hall whose log takes two
+/// calls writes this, ends so, and made so many calls; then the hall takes no more, and is closed
+/// with all that was taken out of its log.
 pub(crate) fn ends<R: Wait + AllocGlobal>(
     rt: &R,
     text: &str,
@@ -181,8 +187,8 @@ pub(crate) fn ends<R: Wait + AllocGlobal>(
     room: usize,
     wanted: (&str, &str, usize),
 ) -> Result<(), Fail> {
-    let hall = hall_of(rt, 9)?;
-    let seen = run(rt, &hall, text.as_bytes(), manner, room)?;
+    let hall = hall_of(rt, 2)?;
+    let mut seen = run(rt, &hall, text.as_bytes(), manner, room)?;
     let (written, end, made) = wanted;
     if seen.written.as_slice() != written.as_bytes() || seen.end.as_str() != end {
         return Err(fail(rt, "written", &seen));
@@ -190,9 +196,8 @@ pub(crate) fn ends<R: Wait + AllocGlobal>(
     if seen.seat.seat.view().len() != made {
         return Err(fail(rt, "another number of calls", &seen));
     }
-    let mut other = hall.seat(rt)?;
-    match hall.call(rt, &mut other, Call::Stop) {
-        Err(HallFault::Closed) => Ok(()),
-        _ => Err(Fail::from("the hall isn't closed")),
+    match hall.call(rt, &mut seen.seat.seat, Call::Stop) {
+        Err(HallFault::Closed) => closes_with(rt.alloc(), hall, seen),
+        _ => Err(Fail::from("the hall takes more")),
     }
 }
