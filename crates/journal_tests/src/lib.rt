@@ -1,9 +1,12 @@
 //! Tests of what an auditor reads: of a console lines without their secrets, each before its
-//! answer; of a device lines with their times.
+//! answer; of a device lines with their times; and a file that has the lines whole, and is found
+//! again by its path.
 #![tactic(auto)]
 
 #[cfg(test)]
 mod consoles;
+#[cfg(test)]
+mod files;
 #[cfg(test)]
 mod secrets;
 #[cfg(test)]
