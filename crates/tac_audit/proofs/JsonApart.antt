@@ -8,7 +8,7 @@ use Rattle.std.proofs.lemmas.Bool.Decides.{nat_tests}
 use Rattle.std.proofs.lemmas.Bool.{and_parts, and_from}
 use Rattle.std.proofs.lemmas.List.{append_cancel_left}
 use Rattle.std.proofs.lemmas.Fmt.{decimal_injective}
-use Rattle.tac_audit.specs.Json.{is_marked, shown_byte, hex_byte, text_json, optional_json, more_json, texts_json, member}
+use Rattle.tac_audit.specs.Json.{is_marked, is_control, shown_byte, hex_byte, text_json, optional_json, more_json, texts_json, member}
 use Rattle.tac_audit.specs.Apart.{are_bytes, are_texts}
 
 true_false : (b : Bool) → b ≡ true → b ≡ false → ⊥
@@ -75,9 +75,9 @@ hex_again byte small =
 
 shown_again : (byte : ℕ) (x : List ℕ) → byte < 256 → unshown (shown_byte byte ++ x) ≡ Some (byte, x)
 unfolding unshown unmarked unhex joined
-shown_again byte x small = cases (is_marked byte) (nat_lt byte 0x20) (nat_lt byte 0x80) refl refl refl
+shown_again byte x small = cases (is_marked byte) (is_control byte) (nat_lt byte 0x80) refl refl refl
   where
-    cases : (m c p : Bool) → is_marked byte ≡ m → nat_lt byte 0x20 ≡ c → nat_lt byte 0x80 ≡ p
+    cases : (m c p : Bool) → is_marked byte ≡ m → is_control byte ≡ c → nat_lt byte 0x80 ≡ p
         → unshown ((if m then 0x5C ∷ byte ∷ [] else (if c then 0x5C ∷ 0x75 ∷ 0x30 ∷ 0x30 ∷ hex_byte byte else (if p then byte ∷ [] else (0xC0 + byte / 64) ∷ (0x80 + byte % 64) ∷ []))) ++ x)
         ≡ Some (byte, x)
     cases true c p is_m is_c is_p = rw (marked_plain byte is_m) refl

@@ -1,5 +1,5 @@
 -- Texts, lists of texts and members of objects as JSON (RFC 8259).
-use Rattle.std.specs.Prelude.{ℕ, ◌+◌, ◌/◌, ◌%◌, List, [], ◌∷◌, ◌++◌, Bool, false, ◌||◌, ◌==◌}
+use Rattle.std.specs.Prelude.{ℕ, ◌+◌, ◌/◌, ◌%◌, List, [], ◌∷◌, ◌++◌, Bool, false, ◌||◌, ◌&&◌, ◌==◌}
 use Rattle.std.specs.Prelude.{nat_lt, codes}
 use Rattle.std.specs.Prelude.{Option, Some, None, if◌then◌else◌}
 use Rattle.std.specs.List.{flat_map}
@@ -13,12 +13,16 @@ hex_byte byte = digit_glyph false (byte / 16) ∷ digit_glyph false (byte % 16) 
 abbrev pub is_marked : ℕ → Bool
 is_marked byte = byte == 0x22 || byte == 0x5C
 
--- a byte as the character of its number, within quotation marks (section 7). A control byte is
--- `\u00` and its digits; a byte from 0x80 on is the two bytes of its character in UTF-8
+-- a control character: what comes before the blank, and 0x7F to 0x9F, some of which terminals obey
+abbrev pub is_control : ℕ → Bool
+is_control byte = nat_lt byte 0x20 || nat_lt 0x7E byte && nat_lt byte 0xA0
+
+-- a byte as the character of its number, within quotation marks (section 7). A control character is
+-- `\u00` and its digits; any other from 0x80 on is the two bytes of its character in UTF-8
 abbrev pub shown_byte : ℕ → List ℕ
 shown_byte byte =
     if is_marked byte then 0x5C ∷ byte ∷ []
-    else if nat_lt byte 0x20 then 0x5C ∷ 0x75 ∷ 0x30 ∷ 0x30 ∷ hex_byte byte
+    else if is_control byte then 0x5C ∷ 0x75 ∷ 0x30 ∷ 0x30 ∷ hex_byte byte
     else if nat_lt byte 0x80 then byte ∷ []
     else (0xC0 + byte / 64) ∷ (0x80 + byte % 64) ∷ []
 

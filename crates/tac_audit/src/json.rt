@@ -24,11 +24,18 @@ pub(crate) fn hex_digit(value: u8) -> u8
     }
 }
 
+// Whether a byte is a control character.
+fn is_control(byte: u8) -> bool
+    ensures { result ≡ json.is_control byte }
+{
+    byte < 0x20 || 0x7E < byte && byte < 0xA0
+}
+
 // Whether a byte is shown as itself.
 fn is_plain(byte: u8) -> bool
     ensures { result ≡ true → json.shown_byte byte ≡ byte ∷ [] }
 {
-    0x20 <= byte && byte < 0x80 && byte != b'"' && byte != b'\\'
+    0x20 <= byte && byte < 0x7F && byte != b'"' && byte != b'\\'
 }
 
 // A byte within quotation marks, as the character of its number.
@@ -38,7 +45,7 @@ fn write_byte(out: &mut Vec<u8>, byte: u8) -> Result<(), AllocError>
     if byte == b'"' || byte == b'\\' {
         return out.extend_from_slice(&[b'\\', byte]);
     }
-    if byte < 0x20 {
+    if is_control(byte) {
         let digits = [hex_digit(byte / 16), hex_digit(byte % 16)];
         return out.extend_from_slice(&[b'\\', b'u', b'0', b'0', digits[0], digits[1]]);
     }

@@ -387,6 +387,12 @@ fn any_bytes(rt: HostRuntime) -> Result<(), Fail> {
         "00000001","type":"login","user":"\"\\\u0000\u001fÿ","port":"\"\u000a","from":"ÿÃ"
         ,"privilege":1,"service":1,"status":"PASS","text":""}
 
+        # The controls from DEL to 0x9F, and what stands about them.
+        > c1010100.00000001.00000010.01010201060001017e7f809b9fa1.'ax'
+        < c1010200.00000001.00000006.010000000000
+        "00000001","type":"login","user":"~\u007f\u0080\u009b\u009f¡","port":"","from":"a"
+        ,"privilege":1,"service":1,"status":"PASS","text":""}
+
         # An argument of such bytes, and a task.
         > c0030100.00000001.0000001b.0a06010101030400010a'bobtty0task_id='22ff
         < c0030200.00000001.00000005.0000000001
