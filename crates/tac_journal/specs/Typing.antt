@@ -1,5 +1,6 @@
 -- What has come of a line that is typed at a console.
 use Rattle.std.specs.Prelude.{ℕ, List, [], ◌∷◌, ◌++◌, ◌==◌, Option, Some, None, if◌then◌else◌}
+use Rattle.std.specs.Prelude.{◌≡◌, ◌≢◌, ◌⊎◌}
 use Rattle.tac_journal.specs.declared.console.Typing.{Typing}
 use Rattle.tac_journal.specs.declared.console.Typing.TheVariants.{Coming, Whole, Lost}
 
@@ -17,3 +18,13 @@ typing_on (Some byte) (Coming line) =
 typing_on byte (Whole line) = Whole line
 typing_on None Lost = Lost
 typing_on (Some byte) Lost = if byte == 10 then Coming [] else Lost
+
+-- only a byte of a line takes memory: neither its LF nor the end of the input does
+abbrev pub TakesMemory : Option ℕ → Type 0
+TakesMemory None = ⊥
+TakesMemory (Some byte) = byte ≢ 10
+
+-- what has come of it then, if there was memory where it takes some
+abbrev pub TypesOn : Option ℕ → Typing → Typing → Type 0
+TypesOn byte typing result =
+    (result ≡ typing_on byte typing) ⊎ ((result ≡ Lost) × TakesMemory byte)

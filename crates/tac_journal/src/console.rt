@@ -1,10 +1,10 @@
 //! A console whose lines are logged, each with its answer.
 
-ghost use Rattle.std.specs.Prelude.{◌≡◌, ◌⊎◌, IfOk};
+ghost use Rattle.std.specs.Prelude.{◌≡◌, IfOk};
 ghost use Rattle.tac_audit.specs.Event.{typed_line as line_of};
 ghost use Rattle.tac_audit.specs.Masking.{typed_of};
-ghost use Rattle.tac_journal.specs.Typing.{typing_on};
-ghost use Rattle.tac_journal.specs.declared.console.Typing.TheVariants.{Coming, Lost};
+ghost use Rattle.tac_journal.specs.Typing.{TypesOn};
+ghost use Rattle.tac_journal.specs.declared.console.Typing.TheVariants.{Coming};
 
 use crate::log::{Log, Refused};
 use crate::moment::now;
@@ -31,7 +31,7 @@ enum Typing {
 
 // What has come of a line once one more byte has, or the end of the input.
 fn line_on(mut line: Bytes, byte: Option<u8>) -> Typing
-    ensures { (result ≡ typing_on byte (Coming line)) ⊎ (result ≡ Lost) }
+    ensures { TypesOn byte (Coming line) result }
 {
     match byte {
         None if line.is_empty() => Typing::Coming(line),
@@ -46,7 +46,7 @@ fn line_on(mut line: Bytes, byte: Option<u8>) -> Typing
 impl Typing {
     // The same, whatever has come before.
     fn on(self, alloc: Global, byte: Option<u8>) -> Typing
-        ensures { (result ≡ typing_on byte self) ⊎ (result ≡ Lost) }
+        ensures { TypesOn byte self result }
     {
         match self {
             Typing::Coming(line) => line_on(line, byte),
