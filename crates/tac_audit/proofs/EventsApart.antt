@@ -1,7 +1,6 @@
 -- The lines of events are told apart.
-use Rattle.std.proofs.Common.{◌≡◌, ℕ, ◌+◌, ◌/◌, ◌%◌, ◌^◌, ◌<◌, ◌&&◌, Bool, true, false, if◌then◌else◌, eqb, eq-eqb, length, List, [], ◌∷◌, ◌++◌, drop, Option, Some, None, codes, nat_lt, append_assoc, append-nil, refl, sym, ap, ◌∙◌, arith}
+use Rattle.std.proofs.Common.{◌≡◌, ℕ, ◌/◌, ◌%◌, ◌^◌, ◌<◌, ◌&&◌, true, if◌then◌else◌, eqb, length, List, ◌∷◌, ◌++◌, drop, Option, Some, None, codes, nat_lt, append_assoc, refl, sym, ap, ◌∙◌, arith}
 use Rattle.std.specs.Prelude.{slice_index}
-use Rattle.std.specs.List.{flat_map}
 use Rattle.std.specs.Int.{to_be_bytes, from_be_bytes, w32}
 use Rattle.std.specs.Option.{option_map, option_map_or}
 use Rattle.std.specs.Fmt.{decimal}
@@ -22,7 +21,7 @@ use Rattle.tac_audit.specs.declared.event.Event.{Event}
 use Rattle.tac_audit.specs.declared.event.Typed.{Typed}
 use Rattle.tac_audit.specs.Json.{text_json, optional_json, texts_json, member}
 use Rattle.tac_audit.specs.Event.{status_word, why_word, kind_word, session_digits, asker_json, said_json, type_json, told_json, begun, ended, line_of, typed_line}
-use Rattle.tac_audit.specs.Apart.{are_bytes, are_texts, is_asker, is_said, is_told, is_event, is_typed, AreApart, AreTypedApart}
+use Rattle.tac_audit.specs.Apart.{are_bytes, are_texts, is_asker, is_said, is_told, AreApart, AreTypedApart}
 use Rattle.tac_audit.proofs.JsonApart.{text_apart, optional_apart, texts_apart, IsNext, next_member, unlike, number_apart, member_apart, hexes_are_bytes, hexes_apart}
 
 -- ---- words

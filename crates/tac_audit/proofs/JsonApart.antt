@@ -1,6 +1,6 @@
 -- Texts, lists and members are told apart, and so is what follows them.
 use Rattle.std.specs.Prelude.{slice_index}
-use Rattle.std.proofs.Common.{◌≡◌, ℕ, zero, suc, ◌+◌, ◌-◌, ◌*◌, ◌/◌, ◌%◌, ◌<◌, ◌&&◌, Bool, true, false, not, if◌then◌else◌, eqb, eq-eqb, List, [], ◌∷◌, ◌++◌, drop, Option, Some, None, codes, nat_lt, append_assoc, refl, sym, ap, ◌∙◌, arith}
+use Rattle.std.proofs.Common.{◌≡◌, ℕ, zero, suc, ◌+◌, ◌-◌, ◌*◌, ◌/◌, ◌%◌, ◌<◌, Bool, true, false, not, if◌then◌else◌, eqb, eq-eqb, List, [], ◌∷◌, ◌++◌, drop, Option, Some, None, nat_lt, append_assoc, refl, sym, ap, ◌∙◌, arith}
 use Rattle.std.specs.List.{list_all, flat_map}
 use Rattle.std.specs.Option.{option_map_or}
 use Rattle.std.specs.Fmt.{digit_glyph, digits_onto, digits, decimal}

@@ -1,5 +1,5 @@
 -- The lines of events are told apart, so what they tell is read back from them.
-use Rattle.std.specs.Prelude.{◌≡◌, ◌^◌, ◌<◌, ℕ, List, Bool, true, ◌&&◌, nat_lt, IsTrue, Option}
+use Rattle.std.specs.Prelude.{◌≡◌, ◌^◌, ℕ, List, Bool, true, ◌&&◌, nat_lt, IsTrue}
 use Rattle.std.specs.List.{list_all}
 use Rattle.std.specs.Option.{option_map_or}
 use Rattle.tac_audit.specs.declared.event.Asker.{Asker}

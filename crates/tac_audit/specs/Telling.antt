@@ -1,12 +1,11 @@
 -- What is told of a packet, by what came before it on its session, and by what it was answered.
-use Rattle.std.specs.Prelude.{ℕ, List, [], ◌∷◌, Bool, false, ◌&&◌, ◌==◌, Option, Some, None, codes}
+use Rattle.std.specs.Prelude.{ℕ, List, [], ◌∷◌, Bool, false, ◌==◌, Option, Some, None}
 use Rattle.std.specs.Prelude.{if◌then◌else◌}
 use Rattle.std.specs.Option.{option_map, option_map_or}
 use Rattle.std.specs.Result.{result_ok}
 use Rattle.tac_wire.specs.Flag.{has_flag}
 use Rattle.tac_authen.specs.declared.start.Start.{Start}
 use Rattle.tac_authen.specs.declared.continuation.Continue.{Continue}
-use Rattle.tac_authen.specs.declared.reply.AuthenReply.{AuthenReply}
 use Rattle.tac_authen.specs.Start.{start_of}
 use Rattle.tac_authen.specs.Continue.{continue_of, continue_flag_abort}
 use Rattle.tac_authen.specs.Reply.{authen_status_pass, authen_status_fail, authen_status_error}
