@@ -124,7 +124,8 @@ An edit and a 'commit' are answered by 'ok', and for each user whom they concern
 line that is now permitted, and the shortest that is now denied; or by 'refused' and why, and have
 changed nothing.
 A call that the server doesn't take is answered by 'hall' and why. The log of calls in memory takes
-65536. It is put away before it is full, as --rotate-at says, and nothing is printed then.
+65536. It is put away as --rotate-at says, and nothing is printed then; calls of the console aren't
+counted, so where many are typed, type 'rotate' now and then.
 
 Lines of a policy:
   policy 2             the first line, if it is there: patterns may count, as '{1,3}'
