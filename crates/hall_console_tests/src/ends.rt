@@ -132,7 +132,7 @@ hall 3 Closed
 ";
 
 #[test]
-fn behind_a_stop(rt: HostRuntime) -> Result<(), Fail> {
+fn after_a_stop(rt: HostRuntime) -> Result<(), Fail> {
     let hall = hall_of(&rt, 9)?;
     let mut other = hall.seat(&rt)?;
     if hall.call(&rt, &mut other, Call::Stop).is_err() {

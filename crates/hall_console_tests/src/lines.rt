@@ -56,7 +56,7 @@ fn no_console_line(rt: HostRuntime) -> Result<(), Fail> {
 }
 
 #[test]
-fn nothing_behind_quit(rt: HostRuntime) -> Result<(), Fail> {
+fn nothing_after_quit(rt: HostRuntime) -> Result<(), Fail> {
     converses(
         &rt,
         9,

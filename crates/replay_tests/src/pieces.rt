@@ -203,7 +203,7 @@ fn lost_connections(rt: HostRuntime) -> Result<(), Fail> {
 }
 
 #[test]
-fn bytes_behind_the_last_packet(rt: HostRuntime) -> Result<(), Fail> {
+fn bytes_after_the_last_packet(rt: HostRuntime) -> Result<(), Fail> {
     converses(
         &rt,
         BOB,

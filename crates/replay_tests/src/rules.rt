@@ -4,7 +4,7 @@ use crate::support::{OPS, converses};
 use std::test::Fail;
 
 #[test]
-fn rules_behind_others(rt: HostRuntime) -> Result<(), Fail> {
+fn rules_after_others(rt: HostRuntime) -> Result<(), Fail> {
     converses(
         &rt,
         "group g\ndeny [a-m].*\ndeny [n-z].*\npermit [a-z]x\nuser u in g\npermit .*\n",

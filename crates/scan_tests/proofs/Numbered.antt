@@ -3,11 +3,11 @@ use Rattle.std.proofs.Common.{◌<◌, ℕ, List, [], ◌∷◌, arith}
 use Rattle.std.specs.List.{fold}
 use Rattle.pol_scan.specs.Congruence.{HasNumbersBelow}
 use Rattle.scan_tests.specs.declared.remainders.Numerals.{Numerals}
-use Rattle.scan_tests.specs.Remainder.{behind, remainder, remainders}
+use Rattle.scan_tests.specs.Remainder.{after, remainder, remainders}
 
-below : (n : Numerals) (r : ℕ) (word : List ℕ) → r < n.divisor → fold (behind n) r word < n.divisor
+below : (n : Numerals) (r : ℕ) (word : List ℕ) → r < n.divisor → fold (after n) r word < n.divisor
 below n r [] h = h
-below n r (c ∷ word) h = below n (behind n r c) word (omega (arith, n.positive))
+below n r (c ∷ word) h = below n (after n r c) word (omega (arith, n.positive))
 
 pub numbered : (n : Numerals) → HasNumbersBelow (remainders n) n.divisor
 numbered n = record {

@@ -8,16 +8,16 @@ use Rattle.pol_scan.specs.Congruence.{Congruence, Keeps, keeps_itself}
 use Rattle.scan_tests.specs.declared.remainders.Numerals.{Numerals}
 
 -- the remainder after one more digit
-abbrev pub behind : Numerals → ℕ → ℕ → ℕ
-behind n remainder digit = (remainder * n.base + digit) % n.divisor
+abbrev pub after : Numerals → ℕ → ℕ → ℕ
+after n remainder digit = (remainder * n.base + digit) % n.divisor
 
 -- the remainder of the number that a word spells
 abbrev pub remainder : Numerals → List ℕ → ℕ
-remainder n word = fold (behind n) 0 word
+remainder n word = fold (after n) 0 word
 
 pub remainder-longer : (n : Numerals) (word : List ℕ) (digit : ℕ)
-    → remainder n (longer word digit) ≡ behind n (remainder n word) digit
-remainder-longer n word digit = fold_push (behind n) 0 word digit
+    → remainder n (longer word digit) ≡ after n (remainder n word) digit
+remainder-longer n word digit = fold_push (after n) 0 word digit
 
 -- words are the same if their remainders are
 abbrev pub remainders : Numerals → Congruence
@@ -28,7 +28,7 @@ remainders n = record {
   symmetric = λ u v e. sym e;
   transitive = λ u v w e f. e ∙ f;
   followed = λ u v digit in_range e.
-      remainder-longer n u digit ∙ ap (λ r. behind n r digit) e ∙ sym (remainder-longer n v digit);
+      remainder-longer n u digit ∙ ap (λ r. after n r digit) e ∙ sym (remainder-longer n v digit);
 }
 
 abbrev pub LeadsTo : Numerals → List ℕ → ℕ → Type 0

@@ -63,7 +63,7 @@ fn pieces_of_any_size(rt: HostRuntime) -> Result<(), Fail> {
 }
 
 #[test]
-fn a_packet_waits_for_nothing_behind_it(rt: HostRuntime) -> Result<(), Fail> {
+fn a_packet_waits_for_nothing_after_it(rt: HostRuntime) -> Result<(), Fail> {
     let mut framer = Framer::new(rt.alloc());
     told(&rt, &mut framer, 0, b"(need)")?;
     framer.feed(&STREAM[..14])?;
