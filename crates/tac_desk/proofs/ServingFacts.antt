@@ -9,7 +9,7 @@ use Rattle.tac_conn.specs.Packet.{clear}
 use Rattle.tac_conn.specs.History.{outcome}
 use Rattle.tac_stream.specs.Turns.{packets_of, closed_by}
 use Rattle.tac_desk.specs.Meaning.{Meaning}
-use Rattle.tac_desk.specs.Serving.{Said, says, behind, unless_closed, said_to, said_on}
+use Rattle.tac_desk.specs.Serving.{Said, says, sent_before, unless_closed, said_to, said_on}
 
 drop_front : (front rest : List Frame) → drop (length front) (front ++ rest) ≡ rest
 drop_front [] rest = refl
@@ -19,18 +19,18 @@ drop_front (frame ∷ front) rest = drop_front front rest
 
 -- what comes later counts only with the meaning that is left
 pub unless_closed-same : (said : Said) (f g : Meaning → Said) → f said.meaning ≡ g said.meaning → unless_closed said f ≡ unless_closed said g
-unless_closed-same said f g e = ap (λ (next : Said). cond said.closes said (behind said.sent next)) e
+unless_closed-same said f g e = ap (λ (next : Said). cond said.closes said (sent_before said.sent next)) e
 
 pub unless_closed-true : (said : Said) (f : Meaning → Said) → said.closes ≡ true → unless_closed said f ≡ said
 unless_closed-true said f e = rw e refl
 
-pub unless_closed-false : (said : Said) (f : Meaning → Said) → said.closes ≡ false → unless_closed said f ≡ behind said.sent (f said.meaning)
+pub unless_closed-false : (said : Said) (f : Meaning → Said) → said.closes ≡ false → unless_closed said f ≡ sent_before said.sent (f said.meaning)
 unless_closed-false said f e = rw e refl
 
-pub behind_behind : (first second : List Packet) (said : Said) → behind first (behind second said) ≡ behind (first ++ second) said
+pub behind_behind : (first second : List Packet) (said : Said) → sent_before first (sent_before second said) ≡ sent_before (first ++ second) said
 behind_behind first second said = ap (λ (sent : List Packet). record said { sent = sent }) (sym (append_assoc first second said.sent))
 
-joined_open : (b : Bool) (sent : List Packet) (next : Said) (last : Meaning → Said) → next.closes ≡ b → behind sent (unless_closed next last) ≡ unless_closed (behind sent next) last
+joined_open : (b : Bool) (sent : List Packet) (next : Said) (last : Meaning → Said) → next.closes ≡ b → sent_before sent (unless_closed next last) ≡ unless_closed (sent_before sent next) last
 joined_open true sent next last e = rw e refl
 joined_open false sent next last e = rw e (behind_behind sent next.sent (last next.meaning))
 

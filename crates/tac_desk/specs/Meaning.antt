@@ -11,6 +11,10 @@ pub record Meaning : Type 0 where
   pub records : List Record
   pub limit : ℕ
 
+-- how many records the desk of a server accepts, and that of a script
+abbrev pub max_records : ℕ
+max_records = 1000000
+
 -- a desk before anything was asked of it
 abbrev pub opening : List Subject → ℕ → Meaning
 opening policy limit = record { policy = policy; records = []; limit = limit }

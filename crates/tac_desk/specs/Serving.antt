@@ -47,12 +47,12 @@ says meaning Close = record { sent = []; closes = true; meaning = meaning }
 -- ---- to a stream
 
 -- what is said after what was sent before
-abbrev pub behind : List Packet → Said → Said
-behind sent said = record said { sent = sent ++ said.sent }
+abbrev pub sent_before : List Packet → Said → Said
+sent_before sent said = record said { sent = sent ++ said.sent }
 
 -- a connection that is closed says no more
 abbrev pub unless_closed : Said → (Meaning → Said) → Said
-unless_closed said go_on = if said.closes then said else behind said.sent (go_on said.meaning)
+unless_closed said go_on = if said.closes then said else sent_before said.sent (go_on said.meaning)
 
 -- what is said to these packets, one after another, on a connection on which others came earlier,
 -- the latest first: to each by what the desk represents after the one before, until the connection

@@ -16,7 +16,7 @@ use Rattle.tac_stream.specs.Turns.{packets_of}
 use Rattle.tac_desk.specs.Meaning.{Meaning}
 use Rattle.tac_desk.specs.Asking.{asked}
 use Rattle.tac_worker.specs.Served.{Sending, carrying, served_for, asked_by, served_to, asks_in, served, asks, bytes_sent}
-use Rattle.tac_desk.specs.Serving.{Said, says, behind, unless_closed, said_to, said_on, sent_bytes}
+use Rattle.tac_desk.specs.Serving.{Said, says, sent_before, unless_closed, said_to, said_on, sent_bytes}
 use Rattle.tac_desk.proofs.ServingFacts.{packets_of-append, said_to-append, unless_closed-same, unless_closed-joined}
 use Rattle.tac_net.specs.Shared.{says_shared, said_shared, answers_by, along, packets_in, said_shared_on, PieceLaw, AloneLaw, AloneStreamLaw, SentLaw, SentStreamLaw}
 
@@ -44,15 +44,15 @@ module _ (asks : List Ask) (sends : List Answer → List Sending) (say : Meaning
 module _ (asks : List Ask) (say : Meaning → List Meaning → Said) (others : List Meaning) (said : Meaning → Said) (same : (meaning : Meaning) → say meaning (along meaning asks ++ others) ≡ said meaning) where
   behind_said : (now : Said) (single : Bool)
       → unless_closed (record now { closes = not single }) (λ next. say next (along now.meaning (cond single asks []) ++ others)) ≡ unless_closed (record now { closes = not single }) said
-  behind_said now true = ap (behind now.sent) (same now.meaning)
+  behind_said now true = ap (sent_before now.sent) (same now.meaning)
   behind_said now false = refl
 
   pub said_for : (meaning : Meaning) (comes : Outcome) → says_shared meaning comes (along meaning (asked_by comes asks) ++ others) say ≡ unless_closed (says meaning comes) said
-  said_for meaning (Question reply session) = ap (behind (packet_of reply ∷ [])) (same meaning)
+  said_for meaning (Question reply session) = ap (sent_before (packet_of reply ∷ [])) (same meaning)
   said_for meaning (Reply reply true) = refl
-  said_for meaning (Reply reply false) = ap (behind (packet_of reply ∷ [])) (same meaning)
+  said_for meaning (Reply reply false) = ap (sent_before (packet_of reply ∷ [])) (same meaning)
   said_for meaning (Asks ask slot) = behind_said (says meaning (Asks ask slot)) slot.single
-  said_for meaning Silent = ap (behind []) (same meaning)
+  said_for meaning Silent = ap (sent_before []) (same meaning)
   said_for meaning Close = refl
 
 -- ---- packets, one after another

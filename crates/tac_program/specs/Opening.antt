@@ -3,16 +3,17 @@ use Rattle.std.specs.Prelude.{◌≡◌, ℕ, List, [], Option, Some, None, Resu
 use Rattle.pol_text.specs.Text.{policy_of}
 use Rattle.pol_text.specs.declared.subject.Subject.{Subject}
 use Rattle.pol_text.specs.declared.fault.PolicyFault.{PolicyFault}
+use Rattle.tac_desk.specs.Meaning.{max_records}
 use Rattle.tac_desks.specs.Metered.{Metered}
 use Rattle.tac_desks.specs.Opening.{Opens}
 use Rattle.tac_check.specs.Check.{IsCheckOf}
 use Rattle.tac_check.specs.declared.checking.CheckEnd.TheVariants.{Refused}
 
--- a policy that may stand has a desk, which accepts 1,000,000 records, and nothing is printed; of
--- one that is refused, what its check prints is printed
+-- a policy that may stand has a desk, and nothing is printed; of one that is refused, what its check
+-- prints is printed
 abbrev pub IsDeskOf : Result (List Subject) PolicyFault → List ℕ → Option Metered → Type 0
 IsDeskOf (Ok policy) printed (Some desk) =
-    Opens policy 1000000 (Ok desk.meaning) × (printed ≡ [])
+    Opens policy max_records (Ok desk.meaning) × (printed ≡ [])
 IsDeskOf (Err fault) printed (Some desk) = ⊥
 IsDeskOf policy printed None = IsCheckOf policy printed Refused
 

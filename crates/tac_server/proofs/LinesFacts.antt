@@ -7,7 +7,7 @@ use Rattle.tac_server.specs.Command.{event_of}
 use Rattle.tac_server.specs.Happening.{Happening, Opens, Brings, Given, Gives}
 use Rattle.tac_server.specs.Course.{Course}
 use Rattle.tac_server.specs.Events.{fault_in, happening_of, printed, Does, DoesIf}
-use Rattle.tac_server.specs.Script.{Run, Runs, StopsAt, Ends, Prints, stopped, behind_text, with_happening, happenings, line_fault}
+use Rattle.tac_server.specs.Script.{Run, Runs, StopsAt, Ends, Prints, stopped, after_text, with_happening, happenings, line_fault}
 use Rattle.tac_server.specs.Running.{EventSteps, LineSteps, Steps}
 use Rattle.tac_server.specs.declared.event.Event.{Event}
 use Rattle.tac_server.specs.declared.event.Event.TheVariants.{Open, Hand, Pieces, Lost, Console}
@@ -45,7 +45,7 @@ module _ (state : State) (number : ℕ) (line : List ℕ) (lines : List (List �
 
   module _ (event : Event) (found : event_of state.key line ≡ Some event) (text : List ℕ) (next : State) (run : Run) where
     -- it was done
-    runs_more : (happens : Option Happening) → happening_of event ≡ happens → DoesIf state happens text next → Runs next (number + 1) lines run → Runs state number (line ∷ lines) (behind_text text run)
+    runs_more : (happens : Option Happening) → happening_of event ≡ happens → DoesIf state happens text next → Runs next (number + 1) lines run → Runs state number (line ∷ lines) (after_text text run)
     runs_more None is does onward =
         let r : Runs state (number + 1) lines run = subst (λ (s : State). Runs s (number + 1) lines run) does.1 onward in
         record {

@@ -27,7 +27,7 @@ use Rattle.tac_server.specs.Happening.{Nothing, Packets, Text}
 use Rattle.tac_server.specs.Events.{shown, printed}
 use Rattle.tac_server.specs.Kept.{Sends, HasState, IsOpened, IsHeardUnlessMemory, IsAnswered, IsOnlyAnswer, IsDone, IsDoneUnless, stop_of}
 use Rattle.tac_server.specs.Running.{Steps, EventGoesOn}
-use Rattle.tac_server.specs.Script.{Run, Runs, BodyRuns, LinesRun, ReadsPolicy, Ends, Prints, DeskRuns, desk_of, ended, stopped_by, stopped, behind_text, is_run, before_run, key_line}
+use Rattle.tac_server.specs.Script.{Run, Runs, BodyRuns, LinesRun, ReadsPolicy, Ends, Prints, DeskRuns, desk_of, ended, stopped_by, stopped, after_text, is_run, before_run, key_line}
 use Rattle.tac_server.proofs.CourseFacts.{only_hears}
 use Rattle.tac_server.proofs.LinesFacts.{prints_course}
 
@@ -139,8 +139,8 @@ pub record Progress {D : Type 0} (meaning : D → Meaning) (old new : List ℕ) 
   pub text : List ℕ
   pub has : HasState meaning server state
   pub printed : new ≡ old ++ text
-  pub found : (rest : Run) → Steps state number lines rest → runs (behind_text text rest)
-  pub only : (run : Run) → runs run → (rest : Run) × Steps state number lines rest × (run ≡ behind_text text rest)
+  pub found : (rest : Run) → Steps state number lines rest → runs (after_text text rest)
+  pub only : (run : Run) → runs run → (rest : Run) × Steps state number lines rest × (run ≡ after_text text rest)
 
 pub run_begun : {D : Type 0} (meaning : D → Meaning) (old : List ℕ) (server : Server D) (number : ℕ) (lines : List (List ℕ)) (state : State) → HasState meaning server state
     → Progress meaning old old server number lines (Steps state number lines)
@@ -158,9 +158,9 @@ module _ {D : Type 0} (meaning : D → Meaning) (old new : List ℕ) (server : S
   ends_with : (end : Run) (fault : Option Located) → Steps p.state number lines end → ((other : Run) → Steps p.state number lines other → other ≡ end) → end.text ≡ [] → end.fault ≡ fault
       → Ends old new fault runs
   ends_with end fault is only none same = record {
-    run = behind_text p.text end;
+    run = after_text p.text end;
     is = p.found end is;
-    only = λ other h. (let o = p.only other h in o.2 ∙ ap (behind_text p.text) (only o.0 o.1));
+    only = λ other h. (let o = p.only other h in o.2 ∙ ap (after_text p.text) (only o.0 o.1));
     printed = p.printed ∙ ap (λ (t : List ℕ). old ++ t) (sym (append-nil p.text) ∙ ap (λ (t : List ℕ). p.text ++ t) (sym none));
     fault_is = same;
   }
@@ -189,20 +189,20 @@ module _ {D : Type 0} (meaning : D → Meaning) (old new : List ℕ) (server : S
 
     -- the event was done
     module _ (event : Event) (next : ℕ) (now : List ℕ) (last : Server D) (more : next ≡ number + 1) (found : event_of p.state.key line ≡ Some event) (d : IsDone meaning new now last p.state event) where
-      joined : (r : Run) → behind_text p.text (behind_text d.text r) ≡ behind_text (p.text ++ d.text) r
+      joined : (r : Run) → after_text p.text (after_text d.text r) ≡ after_text (p.text ++ d.text) r
       joined r = ap (λ (t : List ℕ). record r { text = t }) (sym (append_assoc p.text d.text r.text))
 
-      runs_line : (r : Run) → Steps d.next next rest r → Steps p.state number lines (behind_text d.text r)
+      runs_line : (r : Run) → Steps d.next next rest r → Steps p.state number lines (after_text d.text r)
       unfolding Steps
       runs_line r h = rw (split, found, d.free) (record { text = d.text; next = d.next; rest = r; does = d.does; onward = rw more at h; is = refl })
 
-      runs_back : (run : Run) → Steps p.state number lines run → (r : Run) × Steps d.next next rest r × (run ≡ behind_text d.text r)
+      runs_back : (run : Run) → Steps p.state number lines run → (r : Run) × Steps d.next next rest r × (run ≡ after_text d.text r)
       unfolding Steps
       runs_back run h =
           let on : EventGoesOn p.state event (λ after r. Steps after (number + 1) rest r) run = rw (split, found, d.free) at h in
           let same = d.only on.text on.next on.does in
           let onward : Steps d.next next rest on.rest = rw (← same.1, more) on.onward in
-          (on.rest, onward, on.is ∙ ap (λ (t : List ℕ). behind_text t on.rest) same.0)
+          (on.rest, onward, on.is ∙ ap (λ (t : List ℕ). after_text t on.rest) same.0)
 
       pub run_goes_on : Progress meaning old now last next rest runs
       run_goes_on = record {
@@ -210,11 +210,11 @@ module _ {D : Type 0} (meaning : D → Meaning) (old new : List ℕ) (server : S
         text = p.text ++ d.text;
         has = d.has;
         printed = d.added ∙ ap (λ (t : List ℕ). t ++ d.text) p.printed ∙ append_assoc old p.text d.text;
-        found = λ r h. subst runs (joined r) (p.found (behind_text d.text r) (runs_line r h));
+        found = λ r h. subst runs (joined r) (p.found (after_text d.text r) (runs_line r h));
         only = λ run h. (
             let o = p.only run h in
             let b = runs_back o.0 o.1 in
-            (b.0, b.1, o.2 ∙ ap (behind_text p.text) b.2 ∙ joined b.0));
+            (b.0, b.1, o.2 ∙ ap (after_text p.text) b.2 ∙ joined b.0));
       }
 
 -- ---- what comes before the events

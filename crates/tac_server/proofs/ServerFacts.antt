@@ -13,7 +13,7 @@ use Rattle.tac_desk.specs.Meaning.{Meaning}
 use Rattle.tac_server.specs.declared.server.Server.{Server}
 use Rattle.tac_server.specs.declared.server.ServerFault.{ServerFault}
 use Rattle.tac_server.specs.declared.server.ServerFault.TheVariants as faults
-use Rattle.tac_desk.specs.Serving.{Said, behind, unless_closed, said_on}
+use Rattle.tac_desk.specs.Serving.{Said, sent_before, unless_closed, said_on}
 use Rattle.tac_server.specs.Server.{Connections, State, with_connection, opened, heard}
 use Rattle.tac_server.specs.Kept.{Sends, Serves, Ties, Has, stands_for, HasState, IsOpened, IsSaid, IsHeard, IsHeardUnlessMemory}
 use Rattle.tac_server.specs.Turning.{ServesUnless, SaysPiece}
@@ -216,7 +216,7 @@ module _ {D : Type 0} (meaning : D → Meaning) (was now last : List ℕ) (middl
   still_open before e = with_same number _ state.connections ∙ rw e refl
 
   joined_said : (before : List ℕ) → (said_on state.key state.meaning before first).closes ≡ false
-      → said_on state.key state.meaning before (first ++ second) ≡ behind (said_on state.key state.meaning before first).sent (said_on state.key (said_on state.key state.meaning before first).meaning (before ++ first) second)
+      → said_on state.key state.meaning before (first ++ second) ≡ sent_before (said_on state.key state.meaning before first).sent (said_on state.key (said_on state.key state.meaning before first).meaning (before ++ first) second)
   joined_said before e = pieces state.meaning before first second ∙ unless_closed-false (said_on state.key state.meaning before first) (λ next. said_on state.key next (before ++ first) second) e
 
   both : (result : Result Bool ServerFault) (before : List ℕ) → state.connections number ≡ Some before → IsSaid meaning was now false middle number (before ++ first) state (said_on state.key state.meaning before first)

@@ -23,7 +23,7 @@ use Rattle.tac_stream.specs.Turns.{packets_of, closed_by, turn_of, turn_by, next
 use Rattle.tac_stream.specs.Kept.{IsReady, Stands, closed_of, pending_of}
 use Rattle.tac_desk.specs.Meaning.{Meaning}
 use Rattle.tac_desk.specs.Asking.{asked}
-use Rattle.tac_desk.specs.Serving.{Said, says, answered, behind, unless_closed, said_to, said_from, said_part, whole_packets}
+use Rattle.tac_desk.specs.Serving.{Said, says, answered, sent_before, unless_closed, said_to, said_from, said_part, whole_packets}
 use Rattle.tac_server.specs.Kept.{Sends}
 use Rattle.tac_server.specs.declared.turning.Went.TheVariants as went
 use Rattle.tac_server.specs.Turning.{went_by, Goes, GoesOn, IsAtRest, ClosesWith, SaysAll, SaysSome, SaysPiece}
@@ -277,16 +277,16 @@ module _ (key : List ℕ) (bytes : List ℕ) (from : ℕ) where
     going_on next new after g = record {
       count = suc p.count;
       packets = p.packets ++ g.packets;
-      said = one_more was p.count ∙ ap (λ (s : Said). unless_closed s (λ next. said_part key next bytes (from + p.count) 1)) p.said ∙ ap (behind p.packets) g.said;
+      said = one_more was p.count ∙ ap (λ (s : Said). unless_closed s (λ next. said_part key next bytes (from + p.count) 1)) p.said ∙ ap (sent_before p.packets) g.said;
       sends = sends-append key old mid new p.packets g.packets p.sends g.sends;
       ready = g.ready;
       stands = (let same : suc (from + p.count) ≡ from + suc p.count = omega arith in subst (λ (n : ℕ). Stands key after bytes n) same g.stands);
     }
 
     -- all that is said from there on, by what is said to the others
-    all_said : (rest : Said) → said_from key now bytes (from + p.count) ≡ rest → said_from key was bytes from ≡ behind p.packets rest
+    all_said : (rest : Said) → said_from key now bytes (from + p.count) ≡ rest → said_from key was bytes from ≡ sent_before p.packets rest
     all_said rest e =
-        the_others was p.count ∙ ap (λ (s : Said). unless_closed s (λ next. said_from key next bytes (from + p.count))) p.said ∙ ap (behind p.packets) e
+        the_others was p.count ∙ ap (λ (s : Said). unless_closed s (λ next. said_from key next bytes (from + p.count))) p.said ∙ ap (sent_before p.packets) e
 
     -- no packet is left
     pub at_rest : (next : Meaning) (new : List ℕ) (after : Stream) → IsAtRest key now next mid new after bytes (from + p.count)

@@ -6,7 +6,8 @@ use Rattle.tac_io.specs.declared.answering.AnswerFault.TheVariants as answers
 use Rattle.tac_server.specs.Script.{IsWorkedOut}
 use Rattle.tac_server.specs.declared.replaying.ReplayEnd.{ReplayEnd}
 use Rattle.tac_server.specs.declared.replaying.ReplayFault.{ReplayFault}
-use Rattle.tac_server.specs.declared.replaying.ReplayFault.TheVariants.{ReadFault, WriteFault, Memory}
+use Rattle.tac_server.specs.declared.replaying.ReplayFault.TheVariants.{ReadFault, WriteFault}
+use Rattle.tac_server.specs.declared.replaying.ReplayFault.TheVariants.{Memory}
 
 -- a script that is too long is as one that can't be read
 abbrev pub fault_by : AnswerFault → ReplayFault

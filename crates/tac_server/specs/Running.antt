@@ -3,7 +3,7 @@ use Rattle.std.specs.Prelude.{◌≡◌, ℕ, ◌+◌, List, [], ◌∷◌, Opti
 use Rattle.tac_server.specs.Command.{event_of}
 use Rattle.tac_server.specs.Server.{State}
 use Rattle.tac_server.specs.Events.{fault_in, Does}
-use Rattle.tac_server.specs.Script.{Run, ended, stopped, behind_text}
+use Rattle.tac_server.specs.Script.{Run, ended, stopped, after_text}
 use Rattle.tac_server.specs.declared.event.Event.{Event}
 use Rattle.tac_server.specs.declared.script_fault.ScriptFault.{ScriptFault}
 use Rattle.tac_server.specs.declared.script_fault.ScriptFault.TheVariants.{BadCommand}
@@ -16,7 +16,7 @@ pub record EventGoesOn (state : State) (event : Event) (goes_on : State → Run 
   pub rest : Run
   pub does : Does state event text next
   pub onward : goes_on next rest
-  pub is : run ≡ behind_text text rest
+  pub is : run ≡ after_text text rest
 
 -- an event at a line, and then what goes on with the server that it leaves
 abbrev pub EventSteps : Option ScriptFault → State → ℕ → Event → (State → Run → Type 0) → Run

@@ -53,8 +53,8 @@ abbrev pub too_large : SubjectId → Run
 too_large subject = stopped_by (record { line = None; fault = TooManyStates subject })
 
 -- a run that first prints this
-abbrev pub behind_text : List ℕ → Run → Run
-behind_text text run = record run { text = text ++ run.text }
+abbrev pub after_text : List ℕ → Run → Run
+after_text text run = record run { text = text ++ run.text }
 
 -- ---- events
 
@@ -110,9 +110,9 @@ abbrev pub after_run : List (List ℕ) → List (List ℕ)
 after_run [] = []
 after_run (line ∷ lines) = if is_run line then lines else after_run lines
 
--- what the desk of a script represents at first: this policy, and room for a million records
+-- what the desk of a script represents at first: this policy, and no records
 abbrev pub desk_of : List Subject → Meaning
-desk_of policy = desks.opening policy 1000000
+desk_of policy = desks.opening policy desks.max_records
 
 -- `key TEXT`
 unfoldable pub key_line : List ℕ → Option (List ℕ)
