@@ -1,5 +1,6 @@
 -- What is right in a policy and probably not meant (docs/REVIEW.md).
-use Rattle.std.specs.Prelude.{ℕ, ◌+◌, ◌-◌, ◌^◌, List, [], ◌∷◌, ◌++◌, ◌==◌, length, codes, nat_eq, min, Bool, true}
+use Rattle.std.specs.Prelude.{ℕ, ◌+◌, ◌-◌, ◌^◌, List, [], ◌∷◌, ◌++◌, ◌==◌, length, codes, nat_eq}
+use Rattle.std.specs.Prelude.{min, Bool, true}
 use Rattle.std.specs.Prelude.{not, is_some, ◌&&◌, ◌||◌, Option, Some, None, option_map}
 use Rattle.std.specs.Prelude.{if◌then◌else◌}
 use Rattle.std.specs.Option.{option_map_or}

@@ -187,8 +187,8 @@ fn is_told(remarks: &[Remark], line: usize) -> bool
 /// group that its own chain comes back to. The check's refusal comes first, unless its line is told
 /// of.
 ///
-/// Linear in the text, but for the chains of at most 1,024 subjects. The error means that memory ran
-/// out.
+/// Linear in the text, but for the chains of at most 1,024 subjects. The error means that memory
+/// ran out.
 pub fn text_faults(
     alloc: Global,
     text: &[u8],

@@ -27,7 +27,7 @@ impl Archive {
     /// Rotates the log of a hall, and keeps what is taken out ([`Chain::rotate`]). It may wait for
     /// the two locks, and then costs as much as that.
     pub fn rotate<R: Wait, D: Desk>(&self, rt: &R, hall: &Hall<D>) -> Result<Rotated, HallFault>
-        // One rotation with some chain has this result; `Chain::has_all` tells that it was this one.
+        // One rotation with some chain has this result; `Chain::has_all` tells that it was this.
         ensures { (was : Chained) × (then : Chained) × IsChained was.logs was.ends
             × Keeps was result then }
     {

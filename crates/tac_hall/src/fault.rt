@@ -9,7 +9,7 @@ use std::error::Error;
 use std::fmt;
 
 /// Why a hall takes no call, has no seat, or isn't rotated. Of a call NoSeat is judged first, then
-/// Closed, then LogFull, then Memory; of a rotation the same, without NoSeat.
+/// Closed, then LogFull, then Memory; of a rotation by the hall the same, without NoSeat.
 #[derive(Clone, Copy, Debug, PartialEq, Eq)]
 pub enum HallFault {
     /// The log has as many calls as it may have; or, of a rotation, no number is left.

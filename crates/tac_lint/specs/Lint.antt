@@ -51,7 +51,7 @@ pub record IsBuilt (text : List ℕ) (policy : List Subject) (output : List ℕ)
   pub builds : Builds policy built
   pub tells : TellsBuilt text built output end
 
--- a text that says no policy is told of by all its faults. No text is refused because memory ran out
+-- a text that says no policy is told of by all its faults. A lack of memory refuses no text
 abbrev pub IsLintOf : List ℕ → Result (List Subject) PolicyFault → List ℕ → LintEnd → Type 0
 IsLintOf text (Ok policy) output end = IsBuilt text policy output end
 IsLintOf text (Err (policies.Refused line refusal)) output end =

@@ -84,13 +84,13 @@ where
 ///
 /// Once each worker has a thread it prints `listening P`. The workers serve their connections, as
 /// by [`serve_on`](crate::serve_on), while the lines of the input are the console's calls
-/// ([`operate`](tac_hall_console::operate)). A log is taken out of the hall before that call of
-/// a device that the settings say. `quit` or the input's end stops the hall. Then the port is closed, and each
-/// worker ends within half a second, whatever its device does: as Stopped, where no connection was
-/// accepted any more. At last each seat sheds the logs that were taken out, and the hall is closed
-/// with all its seats. Where one doesn't have the calls that these logs have of it, where the
-/// console told of a rotation that isn't one of these logs, or where the hall can't be closed,
-/// `close refused` is printed.
+/// ([`operate`](tac_hall_console::operate)). A log is taken out of the hall before that call of a
+/// device that the settings say. `quit` or the input's end stops the hall. Then the port is closed,
+/// and each worker ends within half a second, whatever its device does: as Stopped, where no
+/// connection was accepted any more. At last each seat sheds the logs that were taken out, and the
+/// hall is closed with all its seats. Where one doesn't have the calls that these logs have of it,
+/// where the console told of a rotation that isn't one of these logs, or where the hall can't be
+/// closed, `close refused` is printed.
 ///
 /// A connection is given up, as one that can't be read or written, where so many seconds as the
 /// settings say have passed since it was accepted or since its last reply was written, whatever

@@ -1,7 +1,8 @@
 //! What the program's exit status tells.
 
 ghost use Rattle.std.specs.Prelude.{◌≡◌, ◌≢◌, ◌⊎◌};
-ghost use Rattle.tac_program.specs.Ending.{status_of, status_of_check, status_of_lint, status_of_review};
+ghost use Rattle.tac_program.specs.Ending.{status_of, status_of_check, status_of_lint};
+ghost use Rattle.tac_program.specs.Ending.{status_of_review};
 
 use clap::error::ErrorKind;
 use std::io::ErrorKind as IoErrorKind;
@@ -17,17 +18,18 @@ use tac_server::{ReplayEnd, ReplayFault};
 pub(crate) enum Status {
     /// All was done; help counts as that.
     Done = 0,
-    /// The script, a policy, an edit, a question or a table has a fault, which was printed; or a case
-    /// isn't so.
+    /// The script, a policy, an edit, a question or a table has a fault, which was printed; or a
+    /// case isn't so.
     Refused = 1,
     /// The command line is not one of this program's.
     BadCommandLine = 2,
     /// Memory ran out, or a thread could not be made.
     OutOfMemory = 3,
-    /// Reading or writing failed, a port or the file of a log couldn't be had, or a hall couldn't be
-    /// closed.
+    /// Reading or writing failed, a port or the file of a log couldn't be had, or a hall couldn't
+    /// be closed.
     Failed = 4,
-    /// Someone gains or loses a line by the new policy, or it takes edits; or a lint told something.
+    /// Someone gains or loses a line by the new policy, or it takes edits; or a lint told
+    /// something.
     Differs = 5,
 }
 

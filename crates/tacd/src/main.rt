@@ -1,4 +1,4 @@
-//! `tacd`: a TACACS+ server (RFC 8907), the check of its policy, and the server played from scripts.
+//! `tacd`: a TACACS+ server (RFC 8907), the check of its policy, and the replay of scripts.
 #![tactic(auto)]
 
 use std::process::ExitCode;
