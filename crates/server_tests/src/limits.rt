@@ -10,11 +10,10 @@ use tac_desk::Desk;
 use tac_server::Server;
 
 /// Bob asks for `show version`, on a connection that stays open.
-const SHOW_VERSION: &str = "c0020104000000010000003606010101030400030d080f626f6274747930\
-                            736572766963653d7368656c6c636d643d73686f77\
-                            636d642d6172673d76657273696f6e";
+const SHOW_VERSION: &str = "c0020104.00000001.00000036.06010101030400030d080f\
+                            'bobtty0service=shellcmd=showcmd-arg=version'";
 
-const PERMITTED: &str = "c00202040000000100000006010000000000";
+const PERMITTED: &str = "c0020204.00000001.00000006.010000000000";
 
 const OPS: &str = "group ops\npermit show .*\nuser bob in ops\n";
 
@@ -228,9 +227,9 @@ fn connections_by_number(rt: HostRuntime) -> Result<(), Fail> {
         already open
         # A header that is refused closes its connection alone.
         > open 4
-        > hand 3 d00101000000000100000000
+        > hand 3 d0010100.00000001.00000000
         closed
-        > hand 3 d00101000000000100000000
+        > hand 3 d0010100.00000001.00000000
         no connection
         > hand 4
         > lost 4
