@@ -122,6 +122,31 @@ fn by_a_failed_write(rt: HostRuntime) -> Result<(), Fail> {
     ends(&rt, "hello\nshadow\n", WHOLE, 0, ("", "Err(WriteFault)", 1))
 }
 
+// The first 13 bytes come before the others.
+const HALF: Manner = Manner {
+    piece: 13,
+    interrupted: false,
+    fails: false,
+};
+
+#[test]
+fn by_a_failed_write_before_half_a_line(rt: HostRuntime) -> Result<(), Fail> {
+    ends(
+        &rt,
+        "shadow\nshadow",
+        WHOLE,
+        4,
+        ("none", "Err(WriteFault)", 2),
+    )?;
+    ends(
+        &rt,
+        "shadow\nshadow bob\n",
+        HALF,
+        4,
+        ("none", "Err(WriteFault)", 2),
+    )
+}
+
 const BEHIND_A_STOP: &str = "\
 ok
 hall 3 Closed

@@ -1,5 +1,6 @@
 -- Lines of bytes to which more come.
 use Rattle.std.proofs.Common.{◌≡◌, ◌<◌, ℕ, suc, Bool, true, false, cond, eqb, List, [], ◌∷◌, ◌++◌, length, Option, None, Some, refl, ap, subst, ◌∙◌, arith}
+use Rattle.std.specs.Prelude.{◌||◌}
 use Rattle.std.specs.Option.{option_map}
 use Rattle.basics.specs.Lines.{split_at_first, onto_first, lines_of}
 use Rattle.tac_hall_console.specs.Commands.{onto_ended, ended_lines, is_quit, commands, quits}
@@ -138,3 +139,44 @@ no_command line lines quit = rw quit refl
 
 pub quits_here : (line : List ℕ) (lines : List (List ℕ)) → is_quit line ≡ true → quits (line ∷ lines) ≡ true
 quits_here line lines quit = rw quit refl
+
+-- ---- a last line that has not ended
+
+last_case : (here : Bool) (byte : ℕ) (lines ended : List (List ℕ)) → (last : List (List ℕ)) × (lines ≡ ended ++ last)
+    → (last : List (List ℕ)) × (lines_if onto_first here byte lines ≡ lines_if onto_ended here byte ended ++ last)
+last_case true byte lines ended below = (below.0, ap (λ (l : List (List ℕ)). [] ∷ l) below.1)
+last_case false byte lines [] below = (onto_first byte lines, refl)
+last_case false byte lines (line ∷ ended) below = (below.0, ap (onto_first byte) below.1)
+
+-- it comes after those that have
+lines_last : (bytes : List ℕ) → (last : List (List ℕ)) × (lines_of bytes ≡ ended_lines bytes ++ last)
+lines_last [] = ([], refl)
+lines_last (byte ∷ bytes) = last_case (eqb byte 10) byte (lines_of bytes) (ended_lines bytes) (lines_last bytes)
+
+commands_case : (quit : Bool) (line : List ℕ) (all some : List (List ℕ)) → (more : List (List ℕ)) × (all ≡ some ++ more)
+    → (more : List (List ℕ)) × (cond quit [] (line ∷ all) ≡ cond quit [] (line ∷ some) ++ more)
+commands_case true line all some below = ([], refl)
+commands_case false line all some below = (below.0, ap (λ (l : List (List ℕ)). line ∷ l) below.1)
+
+commands_more : (lines last : List (List ℕ)) → (more : List (List ℕ)) × (commands (lines ++ last) ≡ commands lines ++ more)
+commands_more [] last = (commands last, refl)
+commands_more (line ∷ lines) last = commands_case (is_quit line) line (commands (lines ++ last)) (commands lines) (commands_more lines last)
+
+quit_case : (quit : Bool) (line : List ℕ) (all some : List (List ℕ)) (later : Bool) → (later ≡ true → all ≡ some) → (quit || later) ≡ true
+    → cond {A = List (List ℕ)} quit [] (line ∷ all) ≡ cond quit [] (line ∷ some)
+quit_case true line all some later below h = refl
+quit_case false line all some later below h = ap (λ (l : List (List ℕ)). line ∷ l) (below h)
+
+quit_first : (lines last : List (List ℕ)) → quits lines ≡ true → commands (lines ++ last) ≡ commands lines
+quit_first [] last h = absurd cc
+quit_first (line ∷ lines) last h = quit_case (is_quit line) line (commands (lines ++ last)) (commands lines) (quits lines) (quit_first lines last) h
+
+pub commands_last : (bytes : List ℕ) → (more : List (List ℕ)) × (commands (lines_of bytes) ≡ commands (ended_lines bytes) ++ more)
+commands_last bytes =
+    let all = lines_last bytes in
+    let more = commands_more (ended_lines bytes) all.0 in
+    (more.0, ap commands all.1 ∙ more.1)
+
+-- after a `quit` it is no command
+pub commands_quit : (bytes : List ℕ) → quits (ended_lines bytes) ≡ true → commands (lines_of bytes) ≡ commands (ended_lines bytes)
+commands_quit bytes quit = let all = lines_last bytes in ap commands all.1 ∙ quit_first (ended_lines bytes) all.0 quit

@@ -45,6 +45,7 @@ module _ (seat : Sitting) (was mid : Console) (now : ConsoleSeat) (before after 
     left = h.ends.left;
     lines = h.ends.parts;
     leaves = h.ends.leaves;
+    whole = h.whole;
     outcomes = h.ends.outcomes;
     came = rw closed at h.ends.came;
     stop = s.stop;
@@ -63,6 +64,7 @@ module _ (seat : Sitting) (was mid : Console) (now : ConsoleSeat) (before after 
     left = h.ends.left;
     lines = h.ends.parts;
     leaves = tt;
+    whole = h.whole;
     outcomes = h.ends.outcomes;
     came = rw closed at h.ends.came;
     stop = s.stop;
@@ -82,6 +84,7 @@ module _ (seat : Sitting) (was mid : Console) (now : ConsoleSeat) (before after 
     left = h.ends.left;
     lines = h.ends.parts;
     leaves = tt;
+    whole = h.whole;
     outcomes = h.ends.outcomes;
     came = rw closed at h.ends.came;
     stop = s.stop;
@@ -108,6 +111,7 @@ module _ (seat : Sitting) (was mid : Console) (now : ConsoleSeat) (before after 
     left = h.ends.left;
     lines = h.ends.parts;
     leaves = h.ends.leaves;
+    whole = h.whole;
     outcomes = h.ends.outcomes;
     came = rw closed at h.ends.came;
     stop = s.stop;
@@ -125,6 +129,7 @@ module _ (seat : Sitting) (was mid : Console) (now : ConsoleSeat) (before after 
     left = h.ends.left;
     lines = h.ends.parts;
     leaves = tt;
+    whole = h.whole;
     outcomes = h.ends.outcomes;
     came = rw closed at h.ends.came;
     stop = s.stop;
@@ -142,6 +147,7 @@ module _ (seat : Sitting) (was mid : Console) (now : ConsoleSeat) (before after 
     left = h.ends.left;
     lines = h.ends.parts;
     leaves = tt;
+    whole = h.whole;
     outcomes = h.ends.outcomes;
     came = rw closed at h.ends.came;
     stop = s.stop;

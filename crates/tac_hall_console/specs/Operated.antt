@@ -1,5 +1,5 @@
 -- What was done at the console of a hall (docs/CONSOLE.md, "The console of a hall").
-use Rattle.std.specs.Prelude.{◌≡◌, ◌≢◌, ◌<◌, ◌≤◌, ℕ, List, [], ◌∷◌, ◌++◌, length, codes, false}
+use Rattle.std.specs.Prelude.{◌≡◌, ◌≢◌, ◌<◌, ◌≤◌, ◌⊎◌, ℕ, List, [], ◌∷◌, ◌++◌, length, codes, false}
 use Rattle.std.specs.Prelude.{Option, Some, None, Result, Ok, Err, flat_map, filter_map, MatchBool}
 use Rattle.std.specs.Prelude.{if◌then◌else◌}
 use Rattle.std.specs.Fmt.{decimal}
@@ -175,6 +175,11 @@ lines_at (Err faults.ReadFault) input = ended_lines input
 lines_at (Err faults.WriteFault) input = lines_of input
 lines_at (Err faults.Memory) input = lines_of input
 
+-- these commands come first, and each ended in LF
+abbrev pub HaveEnded : List ℕ → List (List ℕ) → Type 0
+HaveEnded input answered =
+    (more : List (List ℕ)) × (commands (ended_lines input) ≡ answered ++ more)
+
 -- the commands that nothing came of: none, unless the console failed at one
 abbrev pub Leaves : Result (Unit {0}) OperatorFault → List (List ℕ) → Type 0
 Leaves (Ok _) left = left ≡ []
@@ -203,8 +208,9 @@ HasFound (Ok _) (refused fault) = fault ≢ hall.Memory
 HasFound (Err fault) stop = Unit {0}
 
 -- the lines of what was read up to the first `quit` were answered, one after another, by calls of
--- this seat, and then it made the Stop; at first no batch is open. Where the log was full at the
--- Stop, what came of that may be that it couldn't be taken out
+-- this seat, and then it made the Stop; at first no batch is open. A line without its LF is
+-- answered only where nothing is left of the input. Where the log was full at the Stop, what came
+-- of that may be that it couldn't be taken out
 pub record IsOperated (end : Result (Unit {0}) OperatorFault) (was : Sitting) (now : ConsoleSeat)
     (before after old new : Option (List ℕ)) : Type 0 where
   pub input : List ℕ
@@ -214,6 +220,7 @@ pub record IsOperated (end : Result (Unit {0}) OperatorFault) (was : Sitting) (n
   pub left : List (List ℕ)
   pub lines : commands (lines_at end input) ≡ answered ++ left
   pub leaves : Leaves end left
+  pub whole : HaveEnded input answered ⊎ IsAtEnd after
   pub outcomes : List Outcome
   pub came : CameTo None answered outcomes
   pub stop : Outcome

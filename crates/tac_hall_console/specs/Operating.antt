@@ -1,7 +1,7 @@
 -- How a console goes on, one line after another.
 use Rattle.std.specs.Prelude.{◌≡◌, ◌≤◌, ◌<◌, ◌⊎◌, ℕ, List, [], ◌∷◌, ◌++◌, length, true}
 use Rattle.std.specs.Prelude.{Option, None, Result, Ok, Err}
-use Rattle.std.specs.Io.KnownBytes.{Appends, Consumes}
+use Rattle.std.specs.Io.KnownBytes.{Appends, Consumes, IsAtEnd}
 use Rattle.basics.specs.Lines.{split_at_first, lines_of}
 use Rattle.pol_edit.specs.declared.edit.Edit.{Edit}
 use Rattle.tac_hall.specs.declared.call.Call.TheVariants as calls
@@ -16,7 +16,7 @@ use Rattle.tac_hall_console.specs.Operated.{Outcome, noticed, made, rotated, ref
 use Rattle.tac_hall_console.specs.Operated.{batch_by, CameTo, told, text_of}
 use Rattle.tac_hall_console.specs.Operated.{entries_of, rotations_of, Makes}
 use Rattle.tac_hall_console.specs.Operated.{WritesBeginning, WritesMost}
-use Rattle.tac_hall_console.specs.Operated.{lines_at, Leaves, Finishes, HasFound}
+use Rattle.tac_hall_console.specs.Operated.{lines_at, HaveEnded, Leaves, Finishes, HasFound}
 
 -- ---- one line
 
@@ -124,9 +124,10 @@ Took (Ok On) begun piece next was now old new =
     IsOpen next × GoesOn (begun ++ piece) next was now old new
 Took (Ok Quits) begun piece next was now old new =
     (quits (ended_lines (begun ++ piece)) ≡ true)
-    × EndsAt (Ok tt) (commands (lines_of (begun ++ piece))) was now old new
+    × EndsAt (Ok tt) (commands (ended_lines (begun ++ piece))) was now old new
 Took (Err fault) begun piece next was now old new =
-    IsRead (Err fault) × EndsAt (Err fault) (commands (lines_of (begun ++ piece))) was now old new
+    IsRead (Err fault)
+    × EndsAt (Err fault) (commands (ended_lines (begun ++ piece))) was now old new
 
 -- ---- the whole input
 
@@ -146,6 +147,13 @@ pub record IsHeard (end : Result (Unit {0}) OperatorFault) (was now : Console)
   pub finishes : Finishes end input after
   pub wants : end ≡ Err faults.Memory → 0 < length input
   pub ends : EndsAt end (commands (lines_at end input)) was now old new
+  pub whole : HaveEnded input ends.answered ⊎ IsAtEnd after
+
+-- it ends at commands that ended in LF
+abbrev pub EndsWhole : Result (Unit {0}) OperatorFault → List ℕ → Console → Console
+    → Option (List ℕ) → Option (List ℕ) → Type 0
+EndsWhole end input was now old new =
+    (ends : EndsAt end (commands (lines_of input)) was now old new) × HaveEnded input ends.answered
 
 -- ---- the Stop
 

@@ -22,7 +22,7 @@ use tac_console::{
 use tac_desk::Desk;
 use tac_hall::{Call, CallAnswer, Hall, HallFault, Made, Seat};
 
-// The room that a line takes, which most answers are.
+// Room for one line, since most answers are one.
 const LINE: usize = 64;
 
 /// The seat that calls for a console, and the rotations that its lines asked for and that were

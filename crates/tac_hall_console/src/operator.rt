@@ -16,7 +16,7 @@ use tac_desk::Desk;
 use tac_hall::Hall;
 use tac_io::read_piece;
 
-// What is read at once.
+// How many bytes are read at once.
 const CHUNK: usize = 4096;
 
 /// How it went on at a piece of the input.
@@ -28,7 +28,7 @@ pub(crate) enum Went {
     Quits,
 }
 
-/// A console, and what has begun of a line.
+/// A console, and the beginning of a line whose end hasn't come yet.
 #[derive(Drop)]
 pub(crate) struct Operator {
     pub(crate) alloc: Global,
@@ -43,7 +43,7 @@ fn is_quit(line: &[u8]) -> bool
 }
 
 impl Operator {
-    // Answers what has begun of a line as a whole one.
+    // Answers the line that was begun as a whole one.
     fn answer<H: Wait, D: Desk, W: Write>(
         &mut self,
         rt: &H,
@@ -86,7 +86,7 @@ impl Operator {
         Ok(Went::On)
     }
 
-    // The input has ended: what has begun of a line is one, unless nothing has.
+    // The input has ended: the line that was begun, if it isn't empty, is the last.
     fn take_last<H: Wait, D: Desk, W: Write>(
         &mut self,
         rt: &H,
