@@ -2,6 +2,7 @@
 
 ghost use Rattle.std.specs.Prelude.{OnOk};
 ghost use Rattle.std.specs.Io.KnownBytes.{IsAtEnd};
+ghost use Rattle.pol_pattern.specs.Matching.{MatchLaw};
 ghost use Rattle.tac_io.specs.Answering.{IsAnswered, IsWorked};
 ghost use Rattle.tac_check.specs.Check.{IsWorkedOut};
 
@@ -31,7 +32,7 @@ fn answer<R: Read>(alloc: Global, reader: &mut R) -> Result<(Vec<u8>, CheckEnd),
 
 /// Checks the policy whose text the reader gives, and writes what is wrong with it, or how much it
 /// has and which of its rules decide nothing (docs/POLICY.md, "Checking a policy"). The whole text
-/// is read first.
+/// is read first. Most of the time and memory goes into the automata of the policy's subjects.
 pub fn check<R: Read, W: Write>(
     alloc: Global,
     reader: &mut R,
@@ -44,6 +45,9 @@ pub fn check<R: Read, W: Write>(
     // or what a fault leaves.
     ensures answered { IsAnswered IsWorkedOut (R.remaining reader.old)
         (W.contents writer.old) (W.contents writer.new) result }
+
+    // Whether a pattern matches a line by the definitions is whether its set of texts has it.
+    ensures matching { MatchLaw }
 {
     write_answer(writer, answer(alloc, reader))
 }

@@ -28,8 +28,8 @@ abbrev pub end_by : Result (Unit {0}) OperatorFault → Result (Unit {0}) ServeF
 end_by (Err fault) closed = Err (fault_by fault)
 end_by (Ok _) closed = closed
 
--- before its console could begin: it has no seats, no memory or no threads, or its first line
--- couldn't be written
+-- before its console could begin: `close refused` was printed where it has no seats, nothing where
+-- it has no threads or no memory; a beginning of that or of the first line where a write failed
 abbrev pub Fails : Result (Unit {0}) ServeFault → ℕ → Option (List ℕ) → Option (List ℕ) → Type 0
 Fails (Ok _) port old new = ⊥
 Fails (Err Threads) port old new = new ≡ old

@@ -9,7 +9,7 @@ use Rattle.tac_worker.specs.Worked.{IsServed}
 
 -- ---- one connection
 
--- a connection was served, and it ended so
+-- a connection was served, and it ended so; that its bytes are the device's is in no contract
 pub record IsConnection (key : List ℕ) (was : Sitting) (end : End) (now : Sitting) : Type 0 where
   pub receipts : List Receipt
   pub before : Option (List ℕ)

@@ -16,20 +16,20 @@ pub(crate) struct Pause {
 }
 
 impl Pause {
-    /// The first of some.
+    /// Pauses that begin with the shortest.
     pub(crate) fn new() -> Pause {
         Pause {
             milliseconds: FIRST,
         }
     }
 
-    /// Pauses.
+    /// Pauses, and doubles the next pause, up to a second.
     pub(crate) fn take<C: Clock>(&mut self, clock: &C) {
         sleep(clock, Duration::from_millis(self.milliseconds));
         self.milliseconds = self.milliseconds.saturating_mul(2).min(LONGEST);
     }
 
-    /// Pauses are over for now: the next one is a first one.
+    /// Ends a row of pauses: the next one is the shortest again.
     pub(crate) fn end(&mut self) {
         self.milliseconds = FIRST;
     }

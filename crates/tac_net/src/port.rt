@@ -14,7 +14,7 @@ pub struct Port {
 
 impl Port {
     /// Listens at an address of this machine. The error is the system's: the address is another
-    /// one's, the port is in use, or it takes rights that the process lacks.
+    /// machine's, the port is in use, or it takes rights that the process lacks.
     pub fn bind<R>(rt: &R, address: SocketAddr) -> io::Result<Port>
     where
         R: Net<Listener = TcpListener, Stream = TcpStream>,
@@ -32,7 +32,7 @@ impl Port {
     /// Takes no more connections. Whoever waits for one is told at once that there is none, and
     /// those in the queue are closed.
     pub(crate) fn close(&self) {
-        // a port that is closed already is well closed
+        // to shut down a port that is closed already fails, and does no harm
         let _ = self.door.shutdown(Shutdown::Both);
     }
 }

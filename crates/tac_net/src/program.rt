@@ -1,6 +1,7 @@
 //! A server with a console.
 
 ghost use Rattle.std.specs.Prelude.{IfOk, IfSome, IsSome};
+ghost use Rattle.pol_pattern.specs.Matching.{MatchLaw};
 ghost use Rattle.tac_net.specs.Serving.{HaveServed};
 ghost use Rattle.tac_net.specs.Program as program;
 
@@ -109,9 +110,12 @@ pub fn serve<R, D: Desk + Send, L: Log + Sync, I: Read, O: Write>(
 ) -> Result<(), ServeFault>
 where
     R: Threads + Wait + Clock + Sync + AllocGlobal + Eprint + LogFiles,
-    ensures { program.Runs result settings.now hall
+    ensures runs { program.Runs result settings.now hall
         (I.remaining input.old) (I.remaining input.new)
         (O.contents output.old) (O.contents output.new) }
+
+    // Whether a pattern matches a line by the definitions is whether its set of texts has it.
+    ensures matching { MatchLaw }
 {
     let alloc = rt.alloc();
     let Ok(console) = hall.seat(rt) else {

@@ -30,7 +30,7 @@ impl Count {
 }
 
 /// A gate by which each worker may always call, and which has the log taken out of the hall before
-/// the call that would be this many-th of its segment. It counts the calls of workers, not those of
+/// the call with the number `at` in its segment. It counts the calls of workers, not those of
 /// a console, which are few; and of calls that come at once it may count some in the segment before
 /// theirs, as many as there are workers. A rotation at the console doesn't set the count back.
 /// Where the log can't be taken out, that is tried again at the next call.

@@ -114,7 +114,7 @@ where
 }
 
 /// Serves a hall on the network: for each seat there is a worker in a thread of its own, which
-/// serves so many connections, one after another.
+/// serves `connections` connections, one after another.
 ///
 /// The result has the seats in their order, each with the end of its last connection, Finished
 /// where there was none. A worker stops before its last connection at the ends Stopped, Held and

@@ -13,10 +13,10 @@ pub struct Settings {
     pub workers: u32,
     /// How many connections each worker serves, one after another.
     pub connections: u32,
-    /// After how many seconds without a reply a connection is given up; never, if that is 0.
-    /// Before the first reply ten seconds are enough.
+    /// After how many seconds without a reply a connection is given up, and before its first reply
+    /// after ten at the latest; 0 means never.
     pub idle: u32,
-    /// Before the call that would be this many-th of its segment the log is taken out of the hall,
-    /// and nothing is printed of it.
+    /// Before the call of a device that has this number in its segment, counted from 1, the log is
+    /// taken out of the hall. Nothing is printed of it.
     pub rotate_at: u32,
 }

@@ -2,6 +2,7 @@
 
 ghost use Rattle.std.specs.Prelude.{IfOk, OnOk};
 ghost use Rattle.std.specs.Io.KnownBytes.{IsAtEnd};
+ghost use Rattle.pol_pattern.specs.Matching.{MatchLaw};
 ghost use Rattle.pol_meaning.specs.Deciding.{DecisionLaw};
 ghost use Rattle.tac_io.specs.Answering.{IsWorked};
 ghost use Rattle.tac_server.specs.Replay.{fault_by, IsReplayed};
@@ -94,6 +95,9 @@ pub fn replay<R: Read, W: Write>(
     // or what a fault leaves.
     ensures replayed { IsReplayed (R.remaining reader.old)
         (W.contents writer.old) (W.contents writer.new) result }
+
+    // Whether a pattern matches a line by the definitions is whether its set of texts has it.
+    ensures matching { MatchLaw }
 
     // What a policy permits by the definitions is what the sets of its patterns permit.
     ensures law { DecisionLaw }

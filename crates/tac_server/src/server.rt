@@ -133,10 +133,10 @@ impl<D: Desk> Server<D> {
             conn piece.now events outs result }
 
         // However bytes are cut into pieces, the same is said.
-        ensures pieces { OnOk result ((meaning : MeaningValue) (before first second : List ℕ) →
+        ensures pieces { (meaning : MeaningValue) (before first second : List ℕ) →
             said_on self.old.key meaning before (first ++ second)
             ≡ unless_closed (said_on self.old.key meaning before first)
-            (λ next. said_on self.old.key next (before ++ first) second)) }
+            (λ next. said_on self.old.key next (before ++ first) second) }
     {
         let Some(stream) = self.connections.get_mut(&conn) else {
             return Err(ServerFault::NoConnection);

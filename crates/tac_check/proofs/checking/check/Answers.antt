@@ -1,3 +1,4 @@
+use Rattle.pol_pattern.proofs.HeldTexts.{match_law}
 use Rattle.tac_io.proofs.Answered.{answered, at_end}
 use Rattle.tac_check.specs.Check.{IsWorkedOut}
 use Rattle.tac_check.proofs.checking.check.Goals as goal
@@ -7,3 +8,6 @@ returns-clause-read g c = at_end IsWorkedOut (g.R.Read.remaining c.args.reader.n
 
 pub returns-clause-answered : goal.returns-clause-answered
 returns-clause-answered g c = answered IsWorkedOut _ _ _ _ _ c.answer.ensures.worked c.write_answer.ensures
+
+pub returns-clause-matching : goal.returns-clause-matching
+returns-clause-matching g c = match_law

@@ -1,11 +1,33 @@
-use Rattle.std.proofs.Common.{Ok, Err}
+use Rattle.std.proofs.Common.{rules, Ok, Err}
 use Rattle.std.proofs.lemmas.Result.{err_from_is_err_and}
+use Rattle.pol_pattern.proofs.HeldTexts.{match_law}
 use Rattle.tac_net.proofs.RunFacts.{ran, ran_out}
 use Rattle.tac_net.proofs.program.serve.Goals as goal
 use Rattle.tac_net.proofs.program.serve.Goals.{in-Ok-served, in-Err-served}
 
-pub returns-in_err-operated : goal.returns-in_err-operated
-returns-in_err-operated g c =
+pub returns-in_default-clause-matching : goal.returns-in_default-clause-matching
+returns-in_default-clause-matching g c = match_law
+
+pub returns-in-Err-Memory-clause-matching : goal.returns-in-Err-Memory-clause-matching
+returns-in-Err-Memory-clause-matching g c = match_law
+
+pub returns-in_err-room-clause-matching : goal.returns-in_err-room-clause-matching
+returns-in_err-room-clause-matching g c = match_law
+
+pub returns-in-Err-attended-clause-matching : goal.returns-in-Err-attended-clause-matching
+returns-in-Err-attended-clause-matching g c = match_law
+
+pub returns-in-Err : goal.returns-in-Err
+returns-in-Err g c = record { runs = search rules; matching = match_law }
+
+pub returns-in_err-operated-clause-matching : goal.returns-in_err-operated-clause-matching
+returns-in_err-operated-clause-matching g c = match_law
+
+pub returns-clause-matching : goal.returns-clause-matching
+returns-clause-matching g c = match_law
+
+pub returns-in_err-operated-clause-runs : goal.returns-in_err-operated-clause-runs
+returns-in_err-operated-clause-runs g c =
     let p = err_from_is_err_and c.from_residual-in_err-operated.result c.from_residual-in_err-operated.ensures.1 in
     let both = c.serve_both-served in
     let attended = rw c.in-Ok-attended.is at both.ensures.attended in
@@ -21,8 +43,8 @@ returns-in_err-operated g c =
           _ _ _ attended.announced _ attended.announces c.in-Ok-seats_of.ensures.count c.in-Ok-seats_of.ensures.fresh c.in-Ok.ensures.fresh.2 operates)
     ]
 
-pub returns : goal.returns
-returns g c =
+pub returns-clause-runs : goal.returns-clause-runs
+returns-clause-runs g c =
     let both = c.serve_both-served in
     let attended = rw c.in-Ok-attended.is at both.ensures.attended in
     let ended = c.in-Ok-attended.ended in

@@ -1,4 +1,5 @@
 use Rattle.std.proofs.Common.{refl}
+use Rattle.pol_pattern.proofs.HeldTexts.{match_law}
 use Rattle.pol_meaning.proofs.DecidingFacts.{decision_law}
 use Rattle.tac_io.proofs.Answered.{answered, at_end}
 use Rattle.tac_server.specs.Script.{IsWorkedOut}
@@ -15,6 +16,9 @@ returns-in-Ok-clause-replayed g c = record {
   ends = rw c.in-Ok.is refl;
 }
 
+pub returns-in-Ok-clause-matching : goal.returns-in-Ok-clause-matching
+returns-in-Ok-clause-matching g c = match_law
+
 pub returns-in-Ok-clause-law : goal.returns-in-Ok-clause-law
 returns-in-Ok-clause-law g c = decision_law
 
@@ -27,6 +31,9 @@ returns-in-Err-clause-replayed g c = record {
   answers = answered IsWorkedOut _ _ _ _ _ c.answer.ensures.worked c.write_answer.ensures;
   ends = rw (c.in-Err.is, c.from.ensures) refl;
 }
+
+pub returns-in-Err-clause-matching : goal.returns-in-Err-clause-matching
+returns-in-Err-clause-matching g c = match_law
 
 pub returns-in-Err-clause-law : goal.returns-in-Err-clause-law
 returns-in-Err-clause-law g c = decision_law
