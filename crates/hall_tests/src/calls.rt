@@ -1,7 +1,61 @@
 //! What calls are answered, and when they are refused.
 
-use crate::support::converses;
+use crate::support::{DENYING, Kept, OPS, closes_with, converses, hall_of, seats_of, talks};
+use std::sync::Wait;
 use std::test::Fail;
+
+// A conversation at a hall whose log takes so many calls, and then the hall is closed: it was in
+// its first segment, and has kept exactly these calls.
+fn keeps<R: Wait + AllocGlobal>(
+    rt: &R,
+    limit: usize,
+    talk: &str,
+    lines: &'static str,
+) -> Result<(), Fail> {
+    let kept = Kept {
+        number: 0,
+        base: OPS,
+        lines,
+        policy: DENYING,
+    };
+    let hall = hall_of(rt, OPS, limit)?;
+    let mut seats = seats_of(rt, &hall, 2)?;
+    talks(rt, &hall, seats.as_mut_slice(), talk)?;
+    closes_with(rt.alloc(), hall, seats, &kept)
+}
+
+// A call that the log has no place for stands nowhere, and does nothing.
+#[test]
+fn a_full_log_has_exactly_its_calls(rt: HostRuntime) -> Result<(), Fail> {
+    keeps(
+        &rt,
+        2,
+        "
+        1 run bob show version = 0:0 permitted
+        0 insert group ops 1 deny show .* = 0:1 changes 1
+        0 remove user bob = 1 LogFull
+        ",
+        "
+        1 run bob show version = permitted
+        0 insert group ops 1 deny show .* = changes 1
+        ",
+    )?;
+    keeps(
+        &rt,
+        3,
+        "
+        1 run bob show version = 0:0 permitted
+        0 insert group ops 1 deny show .* = 0:1 changes 1
+        1 run bob show version = 0:2 denied by group ops rule 1
+        0 remove user bob = 1 LogFull
+        ",
+        "
+        1 run bob show version = permitted
+        0 insert group ops 1 deny show .* = changes 1
+        1 run bob show version = denied by group ops rule 1
+        ",
+    )
+}
 
 #[test]
 fn a_log_of_three_calls(rt: HostRuntime) -> Result<(), Fail> {

@@ -1,9 +1,9 @@
 //! Segments that are taken out of a log, and seats that shed them.
 
-use crate::support::{Kept, OPS, closes_with, converses, hall_of, refused, seats_of, talks_on};
+use crate::support::{
+    DENYING, Kept, OPS, closes_with, converses, hall_of, refused, seats_of, talks_on,
+};
 use std::test::Fail;
-
-const DENYING: &str = "group ops\ndeny show .*\npermit show .*\nuser bob in ops\n";
 
 const SHED_BY_BOTH: &str = "
     0 shed 0 = true

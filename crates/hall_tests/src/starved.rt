@@ -85,7 +85,7 @@ fn starves<R: Wait + AllocGlobal>(rt: &R, talk: &str, logged: usize) -> Result<(
 }
 
 #[test]
-fn want_of_memory_stands_in_the_log(rt: HostRuntime) -> Result<(), Fail> {
+fn refusals_for_memory_stand_in_the_log(rt: HostRuntime) -> Result<(), Fail> {
     starves(
         &rt,
         "

@@ -16,6 +16,9 @@ use tac_request::{AcctKind, Record};
 /// A policy under which bob may show things.
 pub(crate) const OPS: &str = "group ops\npermit show .*\nuser bob in ops\n";
 
+/// The same, with a rule before that which denies them.
+pub(crate) const DENYING: &str = "group ops\ndeny show .*\npermit show .*\nuser bob in ops\n";
+
 /// A desk of this policy, without records.
 pub(crate) fn desk_of(alloc: Global, policy: &str) -> Result<PlainDesk, Fail> {
     let policy = Policy::read(alloc, policy.as_bytes())?;
@@ -319,6 +322,7 @@ fn is_state_of(alloc: Global, state: &State, policy: &str) -> Result<bool, Fail>
 
 /// What a hall has to have kept: the number of its last segment, the policy at the beginning of
 /// that, its calls, each line of which is `SEAT CALL = ANSWER`, and the policy at the end.
+#[derive(Drop)]
 pub(crate) struct Kept {
     pub(crate) number: u64,
     pub(crate) base: &'static str,
