@@ -89,6 +89,17 @@ fn authorisation(rt: HostRuntime) -> Result<(), Fail> {
         &rt,
         "
         authorisation 06010101030400030d080f'bobtty0service=shellcmd=showcmd-arg=version' = 6 1 1 1 'bob' 'tty0' '' 'service=shell' 'cmd=show' 'cmd-arg=version'
+        authorisation 0601010100000000 = 6 1 1 1 '' '' ''
+        authorisation = Short
+        authorisation 06010101000000 = Short
+        # The length of the one argument is missing.
+        authorisation 0601010100000001 = Short
+        authorisation 060101010000000100 = 6 1 1 1 '' '' '' ''
+        # One length is too great by one, or too small.
+        authorisation 0601010104000000'bob' = LengthSum
+        authorisation 0601010102000000'bob' = LengthSum
+        authorisation 060101010000000105'cmd=' = LengthSum
+        authorisation 060101010000000103'cmd=' = LengthSum
 
         authorisation-reply 010000000000 = 1 99 1 ''
         authorisation-reply 1000001a0000'denied by group ops rule 2' = 16 99 1 'denied by group ops rule 2'
@@ -96,6 +107,27 @@ fn authorisation(rt: HostRuntime) -> Result<(), Fail> {
         authorisation-reply 110000080000'bad body' = 17 99 1 'bad body'
         authorisation-reply 0101000000000b'priv-lvl=15' = 1 15 1 ''
         authorisation-reply 0101000200000a'okpriv-lvl=0' = 1 0 1 'ok'
+        authorisation-reply 0101000000000c'priv-lvl=255' = 1 255 1 ''
+        authorisation-reply 100000400000'0000000000000000000000000000000000000000000000000000000000000000' = 16 99 1 '0000000000000000000000000000000000000000000000000000000000000000'
+
+        # What this server doesn't send: a longer text, data, a level that no byte holds, one that is
+        # spelled otherwise, and other arguments.
+        authorisation-reply 100000410000'00000000000000000000000000000000000000000000000000000000000000000' = TooLong
+        authorisation-reply 010000000001'x' = TooLong
+        authorisation-reply 0101000000000c'priv-lvl=256' = TooLong
+        authorisation-reply 0101000000000b'priv-lvl=07' = TooLong
+        authorisation-reply 0101000000000b'priv-lvl=+7' = TooLong
+        authorisation-reply 01010000000009'priv-lvl=' = TooLong
+        authorisation-reply 0101000000000a'priv_lvl=7' = TooLong
+        authorisation-reply 0102000000000a0a'priv-lvl=7priv-lvl=7' = TooLong
+
+        authorisation-reply = Short
+        authorisation-reply 0100000000 = Short
+        authorisation-reply 010100000000 = Short
+        authorisation-reply 100000020000'x' = LengthSum
+        authorisation-reply 100000000000'x' = LengthSum
+        # That the lengths are wrong comes before what is too long.
+        authorisation-reply 0101000000010b'priv-lvl=07' = LengthSum
         ",
     )
 }
