@@ -35,6 +35,16 @@ fn patterns_of_nothing(rt: HostRuntime) -> Result<(), Fail> {
         group g rule 2 first reached by: 
         group g rule 3 never reached
         ",
+    )?;
+    // A star of stars of the empty text holds that text by itself too.
+    converses(
+        &rt,
+        "group g\ndeny [^ -~]\npermit (()*)*\n",
+        "
+        > reach group g
+        group g rule 1 never reached
+        group g rule 2 first reached by: 
+        ",
     )
 }
 
