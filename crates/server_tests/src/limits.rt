@@ -76,7 +76,7 @@ fn another_desk_through_the_same_server(rt: HostRuntime) -> Result<(), Fail> {
 }
 
 #[test]
-fn want_of_memory_on_a_connection(rt: HostRuntime) -> Result<(), Fail> {
+fn out_of_memory_on_a_connection(rt: HostRuntime) -> Result<(), Fail> {
     converses(
         &rt,
         ledger(rt.alloc(), 9, 1),
@@ -130,7 +130,7 @@ fn want_of_memory_on_a_connection(rt: HostRuntime) -> Result<(), Fail> {
 }
 
 #[test]
-fn want_of_memory_at_the_console(rt: HostRuntime) -> Result<(), Fail> {
+fn out_of_memory_at_the_console(rt: HostRuntime) -> Result<(), Fail> {
     let desk = faltering(rt.alloc(), OPS, 1)?;
     converses(
         &rt,
@@ -172,7 +172,7 @@ fn want_of_memory_at_the_console(rt: HostRuntime) -> Result<(), Fail> {
 }
 
 #[test]
-fn want_of_memory_for_a_batch(rt: HostRuntime) -> Result<(), Fail> {
+fn out_of_memory_for_a_batch(rt: HostRuntime) -> Result<(), Fail> {
     let desk = faltering(rt.alloc(), OPS, 0)?;
     converses(
         &rt,
