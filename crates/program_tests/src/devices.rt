@@ -3,10 +3,11 @@
 
 use crate::fake::Fake;
 use std::alloc::Global;
+use std::env::temp_dir;
 use std::fs;
 use std::io::{self, ErrorKind, Read, Write};
 use std::net::{Ipv4Addr, Net, SocketAddr, TcpListener, TcpStream};
-use std::process::ExitCode;
+use std::process::{self, ExitCode};
 use std::sync::Wait;
 use std::sync::atomic::{AtomicBool, Ordering};
 use std::test::Fail;
@@ -323,13 +324,14 @@ fn a_silent_device_is_given_up(rt: HostRuntime) -> Result<(), Fail> {
 // Each request has a line in the file, and so has what is typed.
 #[test]
 fn lines_in_a_log(rt: HostRuntime) -> Result<(), Fail> {
-    let path = "tacd-lines.log";
+    let (folder, id) = (temp_dir(&rt)?, process::id(rt.process()));
+    let path = format!(in rt.alloc(); "{}/tacd-{id}-lines.log", folder.as_str())?;
     // where a run has failed before, its file may be there
-    let _ = fs::remove_file(&rt, path);
-    let options = "--sync --log tacd-lines.log --workers 1";
-    visited(&rt, options, HERE, Visit::TenTimes)?;
-    let text = fs::read_to_string(&rt, path)?;
-    fs::remove_file(&rt, path)?;
+    let _ = fs::remove_file(&rt, path.as_str());
+    let options = format!(in rt.alloc(); "--sync --log {path} --workers 1")?;
+    visited(&rt, options.as_str(), HERE, Visit::TenTimes)?;
+    let text = fs::read_to_string(&rt, path.as_str())?;
+    fs::remove_file(&rt, path.as_str())?;
     let permitted = "\"line\":\"show version\",\"status\":\"PASS_ADD\",\"text\":\"\"}";
     let told = text
         .lines()

@@ -45,6 +45,17 @@ impl Stream {
             Err(_) => false,
         }
     }
+
+    /// What was written, where it is a text.
+    pub(crate) fn text(&self, alloc: Global) -> Option<String> {
+        let Ok(written) = self.written.try_borrow() else {
+            return None;
+        };
+        match str::from_utf8(written.as_slice()) {
+            Ok(text) => format!(in alloc; "{text}").ok(),
+            Err(_) => None,
+        }
+    }
 }
 
 /// What is typed, once the flag is set, where there is one.

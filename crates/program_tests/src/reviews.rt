@@ -384,7 +384,7 @@ Options:
 
 ";
 
-// What the long help says round the options is the text that the program has for it.
+// What the long help says before and after the options stands in help.rt.
 #[test]
 fn help(rt: HostRuntime) -> Result<(), Fail> {
     let diff = format!(in rt.alloc(); "{DIFF_LONG_ABOUT}{DIFF_OPTIONS}{DIFF_AFTER_LONG_HELP}\n")?;

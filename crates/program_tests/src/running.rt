@@ -30,10 +30,15 @@ where
 {
     let words = fake.words;
     assert_eq!(rt; run(fake, rt), ExitCode::from(status), "by {words:?}");
-    assert!(rt; fake.output.holds(printed), "printed by {words:?}");
+    let output = fake.output.text(rt.alloc());
+    let complaints = fake.complaints.text(rt.alloc());
+    assert!(rt;
+        fake.output.holds(printed),
+        "expected\n{printed}printed\n{output:?}\nby {words:?}"
+    );
     assert!(rt;
         fake.complaints.holds(complained),
-        "complained by {words:?}"
+        "expected\n{complained}complained\n{complaints:?}\nby {words:?}"
     );
 }
 
@@ -289,13 +294,12 @@ const UNREAD: [(&str, &str); 2] = [
 ];
 
 #[test]
-fn serves_no_file(rt: HostRuntime) {
+fn serves_no_file(rt: HostRuntime) -> Result<(), Fail> {
     let nowhere = "tacd: nowhere: entity not found\n";
     let unwritten = "tacd: the output could not be written\n";
     for (path, complained) in UNREAD {
-        if let Ok(words) = format!(in rt.alloc(); "tacd serve --port 1 --key k {path}") {
-            ends(&rt, words.as_str(), "", true, 4, "", complained);
-        }
+        let words = format!(in rt.alloc(); "tacd serve --port 1 --key k {path}")?;
+        ends(&rt, words.as_str(), "", true, 4, "", complained);
     }
     ends(
         &rt,
@@ -315,20 +319,21 @@ fn serves_no_file(rt: HostRuntime) {
         "",
         unwritten,
     );
+    Ok(())
 }
 
 #[test]
-fn checks_no_file(rt: HostRuntime) {
+fn checks_no_file(rt: HostRuntime) -> Result<(), Fail> {
     let nowhere = "tacd: nowhere: entity not found\n";
     let unwritten = "tacd: the output could not be written\n";
     for (path, complained) in UNREAD {
-        if let Ok(words) = format!(in rt.alloc(); "tacd check {path}") {
-            ends(&rt, words.as_str(), "", true, 4, "", complained);
-        }
+        let words = format!(in rt.alloc(); "tacd check {path}")?;
+        ends(&rt, words.as_str(), "", true, 4, "", complained);
     }
     ends(&rt, "tacd check nowhere", "", true, 4, "", nowhere);
     ends(&rt, "tacd check policy", "", false, 4, "", unwritten);
     ends(&rt, "tacd check policy", "x", false, 4, "", unwritten);
+    Ok(())
 }
 
 const NO_FILE: &str = "error: the following required arguments were not provided:
@@ -482,7 +487,7 @@ fn syncs_a_log(rt: HostRuntime) {
 
 // A key's file is judged after the command line, and before the policy's file.
 #[test]
-fn key_files(rt: HostRuntime) {
+fn key_files(rt: HostRuntime) -> Result<(), Fail> {
     let first = "its first line is not 1 to 128 printable ASCII characters\n";
     let cases = [
         ("nowhere", 4, "tacd: nowhere: entity not found\n"),
@@ -491,21 +496,17 @@ fn key_files(rt: HostRuntime) {
         ("key", 4, "tacd: nobody: entity not found\n"),
     ];
     for (path, status, complained) in cases {
-        let Ok(words) = format!(in rt.alloc(); "tacd serve --port 1 --key-file {path} nobody")
-        else {
-            return;
-        };
+        let words = format!(in rt.alloc(); "tacd serve --port 1 --key-file {path} nobody")?;
         ends(&rt, words.as_str(), "", true, status, "", complained);
     }
     for path in ["bad-key", "no-key"] {
-        let words = format!(in rt.alloc(); "tacd serve --port 1 --key-file {path} nobody");
-        let complained = format!(in rt.alloc(); "tacd: {path}: {first}");
-        if let (Ok(words), Ok(complained)) = (words, complained) {
-            ends(&rt, words.as_str(), "", true, 2, "", complained.as_str());
-        }
+        let words = format!(in rt.alloc(); "tacd serve --port 1 --key-file {path} nobody")?;
+        let complained = format!(in rt.alloc(); "tacd: {path}: {first}")?;
+        ends(&rt, words.as_str(), "", true, 2, "", complained.as_str());
     }
     let both = "tacd serve --port 1 --key k --key-file key policy";
     ends(&rt, both, "", true, 2, "", TWO_KEYS);
+    Ok(())
 }
 
 #[test]
@@ -706,7 +707,7 @@ fn help(rt: HostRuntime) -> Result<(), Fail> {
     ends(&rt, "tacd --version", "", true, 0, "tacd 0.1.0\n", "");
     ends(&rt, "tacd -h", "", true, 0, SUMMARY, "");
     ends(&rt, "tacd replay -h", "", true, 0, REPLAY_SUMMARY, "");
-    // What the long one says between is the text that the program has for it.
+    // What the long help says before and after the options stands in help.rt.
     let lines = format!(in rt.alloc();
         "{REPLAY_LONG_ABOUT}{REPLAY_OPTIONS}{REPLAY_AFTER_LONG_HELP}\n"
     )?;
