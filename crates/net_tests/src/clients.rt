@@ -1,60 +1,105 @@
-//! Clients over loopback, and what they send: bob asks for `show version`.
+//! Clients over loopback, what they send, and what they are answered.
 
+use packet_notation::packet;
 use pol_text::Policy;
 use std::alloc::Global;
 use std::io::{self, ErrorKind, Read, Write};
-use std::net::{Ipv4Addr, Net, SocketAddr, TcpListener, TcpStream};
+use std::net::{Ipv4Addr, Net, Shutdown, SocketAddr, TcpListener, TcpStream};
 use std::sync::Wait;
 use std::test::Fail;
 use std::thread::Threads;
-use std::time::Clock;
+use std::time::{Clock, Duration};
 use tac_desks::PlainDesk;
 use tac_hall::{Hall, Seat};
 use tac_journal::LogFiles;
 use tac_net::serve_on;
-use tac_wire::{Header, Key, PacketType, pad_in_place};
+use tac_wire::Key;
 use tac_worker::{End, Gate};
 
-const BODY: &[u8; 54] =
-    b"\x06\x01\x01\x01\x03\x04\x00\x03\x0d\x08\x0fbobtty0service=shellcmd=showcmd-arg=version";
+/// Bob may show things, and can log in.
+const POLICY: &[u8] = b"group ops\npermit show .*\nuser bob in ops\nlogin secret\n";
 
-const PERMITTED: &[u8; 6] = b"\x01\0\0\0\0\0";
+/// Bob asks for `show version`, on a connection of its own.
+const SHOW: &str =
+    "c0020100.00000001.00000036.06010101030400030d080f'bobtty0service=shellcmd=showcmd-arg=version'";
 
-// Adds a packet of a session of authorisation, as it is sent.
-fn add_packet(out: &mut Vec<u8>, session: u32, seq: u8, flags: u8, body: &[u8]) -> io::Result<()> {
-    let Ok(length) = u32::try_from(body.len()) else {
-        return Err(io::Error::from(ErrorKind::InvalidInput));
-    };
-    let header = Header {
-        version: 0xc0,
-        kind: PacketType::AUTHORISATION,
-        seq,
-        flags,
-        session,
-        length,
-    };
-    let mut padded = Vec::new(*out.allocator());
-    padded.extend_from_slice(body)?;
-    pad_in_place(&header, &key()?, padded.as_mut_slice());
-    out.extend_from_slice(&header.write())?;
-    out.extend_from_slice(padded.as_slice())?;
-    Ok(())
+/// He is permitted.
+const PERMITTED: &str = "c0020200.00000001.00000006.010000000000";
+
+/// He asks for `reload` in session 2, on a connection of its own.
+const RELOAD: &str =
+    "c0020100.00000002.00000028.06010101030400020d0a'bobtty0service=shellcmd=reload'";
+
+/// He is denied that.
+const DENIED: &str = "c0020200.00000002.00000017.100000110000'denied by default'";
+
+/// Two sessions on one connection, in each of which he asks for `show version`.
+const SHOW_TWICE: [&str; 2] = [
+    "c0020104.00000001.00000036.06010101030400030d080f'bobtty0service=shellcmd=showcmd-arg=version'",
+    "c0020104.00000002.00000036.06010101030400030d080f'bobtty0service=shellcmd=showcmd-arg=version'",
+];
+
+/// What these are answered.
+const PERMITTED_TWICE: [&str; 2] = [
+    "c0020204.00000001.00000006.010000000000",
+    "c0020204.00000002.00000006.010000000000",
+];
+
+/// Sessions of all kinds on one connection, each packet with its answer: a login with another
+/// password, one by questions, a line that is denied, and a record.
+const VISIT: [(&str, &str); 6] = [
+    (
+        "c1010104.00000001.00000011.0101020103000006'bobSecret'",
+        "c1010204.00000001.0000001b.020000150000'Authentication failed'",
+    ),
+    (
+        "c0010104.00000002.0000000c.0101010100040000'tty0'",
+        "c0010204.00000002.00000010.0400000a0000'Username: '",
+    ),
+    (
+        "c0010304.00000002.00000008.0003000000'bob'",
+        "c0010404.00000002.00000010.0501000a0000'Password: '",
+    ),
+    (
+        "c0010504.00000002.0000000b.0006000000'secret'",
+        "c0010604.00000002.00000006.010000000000",
+    ),
+    (
+        "c0020104.00000003.00000028.06010101030400020d0a'bobtty0service=shellcmd=reload'",
+        "c0020204.00000003.00000017.100000110000'denied by default'",
+    ),
+    (
+        "c0030104.00000004.0000001a.04060101010304000109'bobtty0task_id=7'",
+        "c0030204.00000004.00000005.0000000001",
+    ),
+];
+
+// The packet that a text in the notation of `packet_notation` stands for, as it is sent.
+fn sent_as(alloc: Global, text: &str) -> io::Result<Vec<u8>> {
+    match packet(alloc, &key()?, text) {
+        Ok(packet) => Ok(packet),
+        Err(_) => Err(io::Error::from(ErrorKind::InvalidInput)),
+    }
+}
+
+// Such packets, one after another.
+fn all_sent_as(alloc: Global, texts: &[&str]) -> io::Result<Vec<u8>> {
+    let mut all = Vec::new(alloc);
+    for text in texts {
+        let packet = sent_as(alloc, text)?;
+        all.extend_from_slice(packet.as_slice())?;
+    }
+    Ok(all)
 }
 
 /// Two sessions on one connection, in each of which bob asks.
 pub(crate) fn questions(alloc: Global) -> io::Result<Vec<u8>> {
-    let mut packets = Vec::new(alloc);
-    add_packet(&mut packets, 1, 1, 4, BODY)?;
-    add_packet(&mut packets, 2, 1, 4, BODY)?;
-    Ok(packets)
+    all_sent_as(alloc, &SHOW_TWICE)
 }
 
 /// What these are answered.
 pub(crate) fn permissions(alloc: Global) -> io::Result<Vec<u8>> {
-    let mut packets = Vec::new(alloc);
-    add_packet(&mut packets, 1, 2, 4, PERMITTED)?;
-    add_packet(&mut packets, 2, 2, 4, PERMITTED)?;
-    Ok(packets)
+    all_sent_as(alloc, &PERMITTED_TWICE)
 }
 
 pub(crate) fn key() -> io::Result<Key> {
@@ -64,9 +109,9 @@ pub(crate) fn key() -> io::Result<Key> {
     }
 }
 
-/// A hall at whose desk bob may show things, and whose log takes so many calls.
+/// A hall whose log takes so many calls.
 pub(crate) fn hall_of<R: AllocGlobal>(rt: &R, limit: usize) -> Result<Hall<PlainDesk>, Fail> {
-    let policy = Policy::read(rt.alloc(), b"user bob\npermit show .*\n")?;
+    let policy = Policy::read(rt.alloc(), POLICY)?;
     let desk = PlainDesk::new(rt.alloc(), policy, 9)?;
     Ok(Hall::new(rt, desk, limit)?)
 }
@@ -91,23 +136,29 @@ pub(crate) fn listen<R: Net<Listener = TcpListener, Stream = TcpStream>>(
     TcpListener::bind(rt, SocketAddr::from((Ipv4Addr::LOCALHOST, 0)))
 }
 
-/// A client that has asked.
-pub(crate) fn asks<R: Net<Listener = TcpListener, Stream = TcpStream> + AllocGlobal>(
+// A client that has sent a packet.
+fn sends<R: Net<Listener = TcpListener, Stream = TcpStream> + AllocGlobal>(
     rt: &R,
     address: SocketAddr,
+    text: &str,
 ) -> io::Result<TcpStream> {
-    let mut packet = Vec::new(rt.alloc());
-    add_packet(&mut packet, 1, 1, 0, BODY)?;
+    let packet = sent_as(rt.alloc(), text)?;
     let mut client = TcpStream::connect(rt, address)?;
     client.write_all(packet.as_slice())?;
     Ok(client)
 }
 
+/// A client that has asked for `show version`.
+pub(crate) fn asks<R: Net<Listener = TcpListener, Stream = TcpStream> + AllocGlobal>(
+    rt: &R,
+    address: SocketAddr,
+) -> io::Result<TcpStream> {
+    sends(rt, address, SHOW)
+}
+
 /// What it is answered where bob is permitted.
 pub(crate) fn permission(alloc: Global) -> io::Result<Vec<u8>> {
-    let mut packet = Vec::new(alloc);
-    add_packet(&mut packet, 1, 2, 0, PERMITTED)?;
-    Ok(packet)
+    sent_as(alloc, PERMITTED)
 }
 
 /// The client was answered with these bytes and no more, and its connection is closed.
@@ -118,15 +169,45 @@ pub(crate) fn is_answered(alloc: Global, client: &TcpStream, wanted: &[u8]) -> i
     Ok(answer.as_slice() == wanted)
 }
 
-// Both clients were answered with a permission.
-fn are_permitted(alloc: Global, one: &TcpStream, two: &TcpStream) -> io::Result<bool> {
-    let wanted = permission(alloc)?;
-    let is_first = is_answered(alloc, one, wanted.as_slice())?;
-    let is_second = is_answered(alloc, two, wanted.as_slice())?;
+// Whether a packet on a connection that is kept has this answer. Nothing more is read.
+fn is_answer(alloc: Global, device: &TcpStream, sent: &str, wanted: &str) -> io::Result<bool> {
+    let sent = sent_as(alloc, sent)?;
+    let wanted = sent_as(alloc, wanted)?;
+    let mut answer = vec![in alloc; 0; wanted.len()]?;
+    let mut device = device;
+    device.write_all(sent.as_slice())?;
+    device.read_exact(answer.as_mut_slice())?;
+    Ok(answer == wanted)
+}
+
+/// A device sends the packets of its visit on one connection, each after the last one's answer.
+/// Whether all are answered as they are to be, and nothing comes after them.
+pub(crate) fn visits<R: Net<Listener = TcpListener, Stream = TcpStream> + AllocGlobal>(
+    rt: &R,
+    address: SocketAddr,
+) -> io::Result<bool> {
+    let device = TcpStream::connect(rt, address)?;
+    device.set_read_timeout(Some(Duration::from_secs(4)))?;
+    for (sent, wanted) in VISIT {
+        if !is_answer(rt.alloc(), &device, sent, wanted)? {
+            return Ok(false);
+        }
+    }
+    device.shutdown(Shutdown::Write)?;
+    is_answered(rt.alloc(), &device, b"")
+}
+
+// The first client was permitted, and the second one denied.
+fn are_answered(alloc: Global, one: &TcpStream, two: &TcpStream) -> io::Result<bool> {
+    let permission = permission(alloc)?;
+    let denial = sent_as(alloc, DENIED)?;
+    let is_first = is_answered(alloc, one, permission.as_slice())?;
+    let is_second = is_answered(alloc, two, denial.as_slice())?;
     Ok(is_first && is_second)
 }
 
-/// Two clients ask, and then these seats serve a connection each; both clients were permitted.
+/// Two clients ask, each for another line, and then these seats serve a connection each. Each
+/// client has its own answer.
 pub(crate) fn two_asked<R, G: Gate + Sync>(
     rt: &R,
     hall: &Hall<PlainDesk>,
@@ -141,11 +222,11 @@ where
     let listener = listen(rt)?;
     let address = listener.local_addr()?;
     let one = asks(rt, address)?;
-    let two = asks(rt, address)?;
+    let two = sends(rt, address, RELOAD)?;
     let served = serve_on(rt, &listener, hall, &key, seats, 1, gate)?;
-    if are_permitted(rt.alloc(), &one, &two)? {
+    if are_answered(rt.alloc(), &one, &two)? {
         Ok(served)
     } else {
-        Err(Fail::from("not permitted"))
+        Err(Fail::from("answered otherwise"))
     }
 }

@@ -1,6 +1,6 @@
 //! A server with a console, which ends by itself.
 
-use crate::clients::{asks, hall_of, is_answered, key, permission};
+use crate::clients::{asks, hall_of, is_answered, key, permission, seats_of, visits};
 use std::alloc::{AllocError, Global};
 use std::io::{self, ErrorKind, Read, Write};
 use std::net::{Ipv4Addr, Net, SocketAddr, TcpListener, TcpStream};
@@ -24,10 +24,12 @@ struct Course {
     keeps: bool,
     /// So many calls the hall's log takes.
     limit: usize,
+    /// So many of the hall's 64 seats are others' before the server begins.
+    taken: usize,
     /// Before this call of a segment the log is taken out.
     rotate_at: u32,
     /// He asks as a client does, once for each letter, and goes on if he was permitted at each p,
-    /// and at each x his connection was closed without a byte.
+    /// and at each x his connection was closed without a byte. At each v he makes a device's visit.
     asks: &'static str,
     /// Then he types this.
     types: &'static str,
@@ -44,6 +46,7 @@ const QUITS: Course = Course {
     idle: 0,
     keeps: false,
     limit: 9,
+    taken: 0,
     rotate_at: 9,
     asks: "p",
     types: "quit\n",
@@ -89,6 +92,18 @@ fn is_answered_so(alloc: Global, client: &TcpStream, letter: u8) -> io::Result<b
     is_answered(alloc, client, wanted.as_slice())
 }
 
+// A client calls, and is served as the letter says.
+fn is_served_so<R>(rt: &R, address: SocketAddr, letter: u8) -> io::Result<bool>
+where
+    R: AllocGlobal + Net<Listener = TcpListener, Stream = TcpStream>,
+{
+    if letter == b'v' {
+        return visits(rt, address);
+    }
+    let client = asks(rt, address)?;
+    is_answered_so(rt.alloc(), &client, letter)
+}
+
 /// The input of an operator who does so.
 #[derive(Drop)]
 struct Operator<'a, R> {
@@ -112,8 +127,7 @@ where
 
     fn ask(&self) -> io::Result<()> {
         for letter in self.course.asks.bytes() {
-            let client = asks(self.rt, self.address)?;
-            if !is_answered_so(self.rt.alloc(), &client, letter)? {
+            if !is_served_so(self.rt, self.address, letter)? {
                 return Err(io::Error::from(ErrorKind::PermissionDenied));
             }
         }
@@ -173,8 +187,18 @@ impl Write for Screen {
     }
 }
 
+// What a server prints before its console begins: its port, or nothing where there aren't enough
+// seats for the console and each worker.
+fn printed_first(alloc: Global, course: &Course, port: u16) -> Result<String, AllocError> {
+    let workers = course.workers as usize;
+    if course.taken.saturating_add(workers) >= 64 {
+        return Ok(String::new(alloc));
+    }
+    format!(in alloc; "listening {port}\n")
+}
+
 // A server on a port that was bound, with this operator: how it ends, and whether it printed its
-// port and then this.
+// port, if it has its seats, and then this.
 fn serves<R>(
     rt: &R,
     port: &Port,
@@ -187,7 +211,7 @@ where
     R: Threads + Wait + Clock + Sync + AllocGlobal + Eprint + LogFiles,
     R: Net<Listener = TcpListener, Stream = TcpStream>,
 {
-    let first = format!(in rt.alloc(); "listening {}\n", settings.port)?;
+    let first = printed_first(rt.alloc(), &operator.course, settings.port)?;
     let wanted = format!(in rt.alloc(); "{first}{printed}")?;
     let mut screen = Screen::new(rt.alloc(), first.len().saturating_add(operator.course.room));
     let log = Refusing {
@@ -221,6 +245,7 @@ where
         rotate_at: course.rotate_at,
     };
     let hall = hall_of(rt, course.limit)?;
+    let _taken = seats_of(rt, &hall, course.taken)?;
     let mut operator = Operator {
         rt,
         address,
@@ -371,4 +396,57 @@ fn an_output_that_fails(rt: HostRuntime) -> Result<(), Fail> {
     ends(&rt, failing, "", Err(ServeFault::WriteFault))?;
     let in_a_line = Course { room: 3, ..failing };
     ends(&rt, in_a_line, "non", Err(ServeFault::WriteFault))
+}
+
+// One connection has sessions of all kinds. Of their packets four are calls, one of which is a
+// record.
+#[test]
+fn a_visit_of_all_kinds(rt: HostRuntime) -> Result<(), Fail> {
+    let course = Course {
+        workers: 1,
+        asks: "v",
+        types: "rotate\nrecords\nquit\n",
+        room: 99,
+        ..QUITS
+    };
+    let printed = "rotated 0 entries 4\nrecord 1 user bob stop task 7 elapsed 0\n";
+    ends(&rt, course, printed, Ok(()))
+}
+
+// Where another has one of the hall's seats, the hall can't be closed, though that made no call.
+// This is printed too after an input that fails, which is then the fault.
+#[test]
+fn a_seat_that_was_taken(rt: HostRuntime) -> Result<(), Fail> {
+    let refused = "close refused\n";
+    let taken = Course {
+        taken: 1,
+        room: 99,
+        ..QUITS
+    };
+    ends(&rt, taken, refused, Err(ServeFault::CloseRefused))?;
+    let unread = Course {
+        types: "",
+        fails: true,
+        ..taken
+    };
+    ends(&rt, unread, refused, Err(ServeFault::ReadFault))?;
+    let unwritten = Course { room: 3, ..taken };
+    ends(&rt, unwritten, "clo", Err(ServeFault::WriteFault))
+}
+
+// Without a seat for the console, or for one of the workers, no port is printed. The last server
+// has all of its seats, but the hall can't be closed without those of others.
+#[test]
+fn seats_that_are_missing(rt: HostRuntime) -> Result<(), Fail> {
+    let refused = "close refused\n";
+    let none = Course {
+        taken: 64,
+        room: 99,
+        ..QUITS
+    };
+    ends(&rt, none, refused, Err(ServeFault::CloseRefused))?;
+    let one_too_few = Course { taken: 60, ..none };
+    ends(&rt, one_too_few, refused, Err(ServeFault::CloseRefused))?;
+    let all = Course { taken: 59, ..none };
+    ends(&rt, all, refused, Err(ServeFault::CloseRefused))
 }
