@@ -128,6 +128,7 @@ impl Framer {
 
     /// Tells what stands first in what is held, and removes it. A fault is told once. The error
     /// means that memory ran out for a packet's body; nothing has changed then.
+    #[inline]
     pub fn next(&mut self) -> Result<Next, AllocError>
         ensures told { IfOk result (λ next. next ≡ stream.next_of self.old) }
         ensures left { OnOk result (self.new ≡ stream.left_of self.old) }
