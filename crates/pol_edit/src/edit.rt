@@ -9,53 +9,53 @@ use pol_names::{Name, SubjectId, Verdict};
 /// applied; rules are counted from 1.
 #[derive(Debug, Drop, PartialEq, Eq)]
 pub enum Edit {
-    /// A new group, last, without rules.
+    /// Adds a group, last, without rules.
     AddGroup {
         name: Name,
         parent: Option<Name>,
     },
-    /// A new user, last, without rules.
+    /// Adds a user, last, without rules.
     AddUser {
         name: Name,
         parent: Option<Name>,
     },
-    /// The subject goes.
+    /// Removes the subject.
     Remove {
         subject: SubjectId,
     },
-    /// The subject gets another parent, or none.
+    /// Gives the subject another parent, or none.
     SetParent {
         subject: SubjectId,
         parent: Option<Name>,
     },
-    /// What a user logs in with, or that there is nothing.
+    /// Sets the secret that a user logs in with, or clears it.
     SetLogin {
         user: Name,
         secret: Option<Bytes>,
     },
-    /// What a user enables with, or that there is nothing.
+    /// Sets the secret that a user enables with, or clears it.
     SetEnable {
         user: Name,
         secret: Option<Bytes>,
     },
-    /// The level of the subject's shells, or that there is none.
+    /// Sets the level of the subject's shells, or clears it.
     SetPriv {
         subject: SubjectId,
         level: Option<u16>,
     },
-    /// A rule, so that it has this number.
+    /// Inserts a rule, so that it has this number.
     InsertRule {
         subject: SubjectId,
         at: u16,
         verdict: Verdict,
         pattern: Bytes,
     },
-    /// The rule of this number goes.
+    /// Removes the rule of this number.
     RemoveRule {
         subject: SubjectId,
         at: u16,
     },
-    /// The rule of one number is taken out, and put so that it has the other.
+    /// Moves the rule of one number, so that it has the other.
     MoveRule {
         subject: SubjectId,
         from: u16,
