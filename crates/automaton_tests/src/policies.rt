@@ -182,10 +182,10 @@ fn push_foretold(
     if !prepared.fits(live) {
         return Err(Fail::from("it doesn't fit"));
     }
-    if let Some(decider) = prepared.decider(live, &SubjectId::user(*user)) {
+    if let Some(decider) = prepared.decider(&SubjectId::user(*user)) {
         write!(out, "{} states ", decider.states())?;
     }
-    push_decision(out, prepared.decide(live, user, line.as_bytes()))
+    push_decision(out, prepared.decide(user, line.as_bytes()))
 }
 
 fn is_foretold(
@@ -245,7 +245,7 @@ fn is_stale(live: &mut Live, first: Prepared, second: &Prepared) -> bool {
     !second.fits(live)
 }
 
-fn is_stale_behind(
+fn is_stale_after(
     alloc: Global,
     live: &mut Live,
     first: &str,
@@ -257,7 +257,7 @@ fn is_stale_behind(
 
 fn becomes_stale(alloc: Global, live: &mut Live, first: &str, second: &str) -> Result<bool, Fail> {
     let second = prepare(alloc, live, second)?;
-    is_stale_behind(alloc, live, first, &second)
+    is_stale_after(alloc, live, first, &second)
 }
 
 /// `stale: EDITS => EDITS` where the second no longer fit once the first are made, else `fits: ..`.

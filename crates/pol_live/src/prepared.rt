@@ -168,8 +168,7 @@ impl Prepared {
 
     /// What the new policy says of a user's line. Nothing where it has no such user. Takes no
     /// memory.
-    pub fn decide(&self, live: &Live, user: &Name, line: &[u8]) -> Option<Decision>
-        requires { self.now.before ≡ live.now }
+    pub fn decide(&self, user: &Name, line: &[u8]) -> Option<Decision>
         ensures { result ≡ decide self.now.after user.now line.now }
     {
         self.after.decide(user, line)
@@ -177,8 +176,7 @@ impl Prepared {
 
     /// The decider of the rules along the chain of a subject of the new policy. Nothing where it
     /// has no such subject.
-    pub fn decider<'a>(&'a self, live: &'a Live, subject: &SubjectId) -> Option<&'a Decider>
-        requires { self.now.before ≡ live.now }
+    pub fn decider(&self, subject: &SubjectId) -> Option<&Decider>
         ensures decider { IsDeciderFor self.now.after (find_subject subject.now self.now.after)
             (option_copied result) }
 

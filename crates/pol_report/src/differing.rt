@@ -37,7 +37,7 @@ pub(crate) fn difference_for(
 {
     let old_rules = rules_along(alloc, live.policy(), id)?;
     let new_rules = rules_along(alloc, prepared.policy(), id)?;
-    match (live.decider(id), prepared.decider(live, id)) {
+    match (live.decider(id), prepared.decider(id)) {
         (Some(old), Some(new)) => {
             let before = verdicts(alloc, &old_rules)?;
             let after = verdicts(alloc, &new_rules)?;

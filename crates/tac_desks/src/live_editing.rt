@@ -10,7 +10,7 @@ ghost use Rattle.tac_desk.specs.Editing as editing;
 ghost use Rattle.tac_desks.specs.Kept.{meaning_of, entries_by};
 ghost use Rattle.tac_desks.specs.Metered.{HasMarksBy};
 
-use crate::recounting::{Coming, recount_changed};
+use crate::recounting::recount_changed;
 use pol_automaton::Meter;
 use pol_edit::{BatchFault, Edit};
 use pol_live::{Live, Prepared};
@@ -59,11 +59,7 @@ pub(crate) fn change_kept(
     let prepared = live.prepare_all(alloc, edits, meter)?;
     let changes = changes(alloc, live, &prepared)?;
     let thrice = Thrice::new(alloc, changes)?;
-    let coming = Coming {
-        live,
-        prepared: &prepared,
-    };
-    let recount = recount_changed(alloc, &coming, thrice.first.as_slice(), book)?;
+    let recount = recount_changed(alloc, &prepared, thrice.first.as_slice(), book)?;
     make(live, book, prepared, recount);
     Ok(thrice)
 }

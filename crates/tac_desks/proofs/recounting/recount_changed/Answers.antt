@@ -7,9 +7,9 @@ use Rattle.tac_desks.proofs.recounting.recount_changed.Goals as goal
 
 pub returns-clause-marks : goal.returns-clause-marks
 returns-clause-marks c =
-    let coming = c.args.coming.now in
+    let prepared = c.args.prepared.now in
     let entries = c.args.book.now.entries in
     let users = c.as_slice.ensures ∙ c.in_ok-users.ensures in
-    c.in_ok-recount.ensures.settles (denies coming.after) (always_returns_same _ _ _ (λ a r f' k. search rules))
-    ∙ ap (λ names. remarked (denies coming.after) names entries) users
-    ∙ marks_stay_right coming.before coming.after c.args.changes.now c.requires.changes entries c.requires.marks
+    c.in_ok-recount.ensures.settles (denies prepared.after) (always_returns_same _ _ _ (λ a r f' k. search rules))
+    ∙ ap (λ names. remarked (denies prepared.after) names entries) users
+    ∙ marks_stay_right prepared.before prepared.after c.args.changes.now c.requires.changes entries c.requires.marks
