@@ -1,10 +1,7 @@
 //! What is right in a policy and probably not meant.
 
-ghost use Rattle.std.specs.Prelude.{◌≡◌, ◌++◌, false, IfOk, OnOk};
-ghost use Rattle.std.specs.Option.{option_map_or};
+ghost use Rattle.std.specs.Prelude.{◌≡◌, ◌++◌, IfOk, OnOk};
 ghost use Rattle.std.specs.List.{list_any};
-ghost use Rattle.std.specs.Str.{bytes_eq};
-ghost use Rattle.pol_text.specs.Change.{is_parent as parent_test};
 ghost use Rattle.pol_lint.specs.Remarks as wanted;
 
 use crate::finding::Finding;
@@ -140,24 +137,6 @@ fn after(present: Option<Present>, says: Keyword, rest: &[u8]) -> Option<Present
     }
 }
 
-fn is_in(subject: &Subject, group: &Name) -> bool
-    ensures { result ≡ option_map_or (bytes_eq group.now) subject.now.parent false }
-{
-    match subject.parent {
-        Some(parent) => *group == parent,
-        None => false,
-    }
-}
-
-fn is_parent(policy: &Policy, group: &Name) -> bool
-    ensures { result ≡ parent_test group.now policy.now }
-{
-    policy
-        .subjects()
-        .iter()
-        .any(|subject| is_in(subject, group))
-}
-
 // A user who isn't there lacks nothing.
 fn can_log_in(policy: &Policy, user: &SubjectId) -> bool
     ensures { result ≡ wanted.can_log_in policy.now user.now }
@@ -175,7 +154,7 @@ fn subject_finding(policy: &Policy, present: Option<Present>) -> Option<Finding>
         return None;
     };
     match owner.kind {
-        Kind::Group if is_parent(policy, &owner.name) => None,
+        Kind::Group if policy.is_parent(&owner.name) => None,
         Kind::Group => Some(Finding::NoMembers),
         Kind::User if can_log_in(policy, &owner) => None,
         Kind::User => Some(Finding::NoLogin),
