@@ -1,6 +1,6 @@
 //! What is told of a packet.
 
-ghost use Rattle.std.specs.Prelude.{◌≡◌, ◌∷◌, [], List, ℕ, Some, IfOk, slice_get};
+ghost use Rattle.std.specs.Prelude.{◌≡◌, ◌∷◌, [], List, ℕ, Some, IfOk};
 ghost use Rattle.std.specs.Option.{option_copied};
 ghost use Rattle.std.specs.Result.{result_ok};
 ghost use Rattle.tac_authen.specs.Start.{start_of};
@@ -9,8 +9,6 @@ ghost use Rattle.tac_authen.specs.declared.start.Start.{Start as StartValue};
 ghost use Rattle.tac_authen.specs.declared.continuation.Continue.{Continue as ContinueValue};
 ghost use Rattle.tac_request.specs.AuthorRequest.{author_request_of};
 ghost use Rattle.tac_request.specs.AcctRequest.{acct_request_of};
-ghost use Rattle.tac_request.specs.Line.{value_under as value_of, values_under};
-ghost use Rattle.tac_request.specs.Record.{task_of};
 ghost use Rattle.tac_conn.specs.declared.ask.Answer.{Answer as AnswerValue};
 ghost use Rattle.tac_conn.specs.declared.packet.Packet.{Packet as PacketValue};
 ghost use Rattle.tac_conn.specs.Judging as judging;
@@ -24,7 +22,7 @@ use std::alloc::{AllocError, Global};
 use tac_authen::{read_continue, read_start};
 use tac_conn::AskKind;
 use tac_request::{
-    LineOf, acct_kind, read_acct_request, read_author_request, request_line, split_arg,
+    LineOf, acct_kind, read_acct_request, read_author_request, request_line, task_id,
 };
 use tac_wire::{Header, PacketType, well_formed};
 
@@ -156,34 +154,6 @@ fn tell_request(alloc: Global, body: &[u8], said: Said) -> Result<Told, AllocErr
         line,
         said,
     })
-}
-
-// The value of an argument, if it has this name.
-fn value_under<'a>(argument: &'a [u8], name: &[u8]) -> Option<&'a [u8]>
-    ensures { option_copied result ≡ value_of name.now argument.now }
-{
-    match split_arg(argument) {
-        Some(arg) if arg.name == name => Some(arg.value),
-        _ => None,
-    }
-}
-
-// The value of the first argument with this name.
-fn first_value<'a>(args: &'a [Bytes], name: &[u8]) -> Option<&'a [u8]>
-    ensures { option_copied result ≡ slice_get (values_under name.now args.now) 0 }
-{
-    for argument in args {
-        if let Some(value) = value_under(argument.as_slice(), name) {
-            return Some(value);
-        }
-    }
-    None
-}
-
-fn task_id(alloc: Global, args: &[Bytes]) -> Result<Bytes, AllocError>
-    ensures { IfOk result (λ task. task ≡ task_of args.now) }
-{
-    Bytes::from_slice(alloc, first_value(args, b"task_id").unwrap_or(&[]))
 }
 
 fn tell_record(alloc: Global, body: &[u8], said: Said) -> Result<Told, AllocError>

@@ -16,4 +16,4 @@ pub use argument::{Arg, split_arg};
 pub use author_reply::{AuthorReply, AuthorStatus, read_author_reply, write_author_reply};
 pub use author_request::{AuthorRequest, read_author_request};
 pub use line::{LineOf, request_line};
-pub use record::{AcctKind, Record, acct_kind};
+pub use record::{AcctKind, Record, acct_kind, task_id};

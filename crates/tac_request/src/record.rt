@@ -97,8 +97,9 @@ fn copy_line(alloc: Global, line: &Option<Bytes>) -> Result<Option<Bytes>, Alloc
     }
 }
 
-// The value of the first `task_id`.
-fn task_id(alloc: Global, args: &[Bytes]) -> Result<Bytes, AllocError>
+/// The value of the first argument `task_id` (RFC 8907, section 8.3); the empty text where there is
+/// none. The error means that memory ran out.
+pub fn task_id(alloc: Global, args: &[Bytes]) -> Result<Bytes, AllocError>
     ensures { IfOk result (λ task. task ≡ task_of args.now) }
 {
     Bytes::from_slice(alloc, first_value(args, b"task_id").unwrap_or(&[]))
