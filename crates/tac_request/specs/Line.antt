@@ -1,4 +1,4 @@
--- The command line that a request's arguments make (RFC 8907, section 6.1).
+-- The command line that a request's arguments make (RFC 8907, section 8.2).
 use Rattle.std.specs.Prelude.{ℕ, Bool, List, ◌∷◌, ◌++◌, Option, Some, None, is_some, slice_get}
 use Rattle.std.specs.Prelude.{option_and_then, if◌then◌else◌, codes}
 use Rattle.std.specs.List.{filter_map, flat_map, list_all}

@@ -66,7 +66,7 @@ fn add_cmd_args(line: &mut Bytes, args: &[Bytes]) -> Result<(), AllocError>
     Ok(())
 }
 
-/// The command line that a request's arguments make (RFC 8907, section 6.1): the value of the first
+/// The command line that a request's arguments make (RFC 8907, section 8.2): the value of the first
 /// `cmd`, and for each `cmd-arg` a space and its value. The error means that memory ran out.
 pub fn request_line(alloc: Global, args: &[Bytes]) -> Result<LineOf, AllocError>
     ensures value { IfOk result (λ line. line ≡ line_of args.now) }
