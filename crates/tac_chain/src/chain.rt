@@ -131,8 +131,8 @@ impl Chain {
     }
 
     /// Has a seat shed all logs: exactly where the view begins with what they have of it, one after
-    /// another, and nothing else of their segments is in it. Else the seat stays as it is. Takes no
-    /// memory. Linear in the logs and the view.
+    /// another, and nothing else of their segments is in it. Answers whether it did: if not, the seat
+    /// stays as it is. Takes no memory. Linear in the logs and the view.
     pub fn shed_by(&self, seat: &mut Seat) -> bool
         ensures { ShedAll seat.old self.now.logs result seat.new }
     {

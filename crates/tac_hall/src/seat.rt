@@ -238,8 +238,9 @@ impl Seat {
     }
 
     /// Takes what is the segment's out of the view, if the view has nothing of earlier segments,
-    /// and of this one exactly what its log has of the seat; else nothing changes. The place above
-    /// those of all calls made stays as it is. Takes no memory. Linear in the log and the view.
+    /// and of this one exactly what its log has of the seat, and answers true; else it answers
+    /// false, and nothing changes. The place above those of all calls made stays as it is. Takes no
+    /// memory. Linear in the log and the view.
     ///
     /// It compares contents alone, so a segment of another hall is taken where nothing tells it
     /// apart. [`Hall::close`](crate::Hall::close) looks at the last log alone: what this answers
@@ -259,8 +260,8 @@ impl Seat {
         true
     }
 
-    /// Sheds the segments that have the numbers from 0 on, with these logs: all of them or none.
-    /// Takes no memory. Linear in the logs and the view.
+    /// Sheds the segments that have the numbers from 0 on, with these logs: all of them or none, and
+    /// answers whether it did. Takes no memory. Linear in the logs and the view.
     pub fn shed_logs(&mut self, logs: &[Sequence<Entry>]) -> bool
         ensures { shedding.ShedAll self.old logs.now result self.new }
     {
