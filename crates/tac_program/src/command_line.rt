@@ -69,7 +69,7 @@ pub(crate) const ADDRESS: &str = "address";
 /// After how many seconds without a reply a connection is given up.
 pub(crate) const IDLE: &str = "idle";
 
-/// Before the call that would be which of its segment the log is taken out of the hall.
+/// Before which call of its segment the log is taken out of the hall.
 pub(crate) const ROTATE_AT: &str = "rotate-at";
 
 /// The file that takes the lines of an auditor.

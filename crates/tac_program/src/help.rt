@@ -106,13 +106,13 @@ Lines of the console, where a SUBJECT is 'user NAME' or 'group NAME':
   tally SUBJECT        what the records of a user, or of a group's users, add up to
   records              the accounting records
   add SUBJECT          a new user or group; with ' in GROUP', one that has that group's rules too
-  remove SUBJECT       it goes
+  remove SUBJECT       removes it
   move SUBJECT in GROUP, or move SUBJECT out
   login NAME TEXT, enable NAME TEXT, clear login NAME, clear enable NAME
   priv SUBJECT N, clear priv SUBJECT
   insert SUBJECT N permit PATTERN, or deny PATTERN
                        a new rule with this number
-  drop SUBJECT N       rule N goes
+  drop SUBJECT N       removes rule N
   shift SUBJECT N M    rule N gets the number M
   begin, commit, abandon
                        edits after 'begin', up to 64, are kept, and made by 'commit' all or none
@@ -281,7 +281,7 @@ pub(crate) const EXIT_CODE_HELP: &str =
 
 pub(crate) const DIFF_AFTER_HELP: &str = "Examples:
   tacd diff campus.policy campus-next.policy
-  tacd diff --edits saved.policy campus-next.policy > /run/tacd/console
+  tacd diff --edits saved.policy campus-next.policy > changes && cat changes > /run/tacd/console
 
 'tacd diff --help' describes what is printed; 'tacd replay --help' the lines of a policy.";
 
