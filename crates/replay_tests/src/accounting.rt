@@ -42,7 +42,7 @@ fn a_stop_with_a_time_and_a_line(rt: HostRuntime) -> Result<(), Fail> {
 }
 
 #[test]
-fn packets_that_are_none(rt: HostRuntime) -> Result<(), Fail> {
+fn invalid_packets(rt: HostRuntime) -> Result<(), Fail> {
     converses(
         &rt,
         BOB,

@@ -271,7 +271,7 @@ fn unsupported_starts(rt: HostRuntime) -> Result<(), Fail> {
 }
 
 #[test]
-fn bodies_that_are_none(rt: HostRuntime) -> Result<(), Fail> {
+fn invalid_bodies(rt: HostRuntime) -> Result<(), Fail> {
     converses(
         &rt,
         ONE_USER,

@@ -33,7 +33,7 @@ fn users<R: AllocGlobal>(rt: &R, count: usize) -> Result<String, AllocError> {
 }
 
 #[test]
-fn lines_that_are_none(rt: HostRuntime) -> Result<(), Fail> {
+fn invalid_lines(rt: HostRuntime) -> Result<(), Fail> {
     let lines = [
         "users a",
         "Group a",
@@ -95,7 +95,7 @@ fn lines_that_are_none(rt: HostRuntime) -> Result<(), Fail> {
 }
 
 #[test]
-fn names_that_are_none(rt: HostRuntime) -> Result<(), Fail> {
+fn invalid_names(rt: HostRuntime) -> Result<(), Fail> {
     let lines = [
         "group ",
         "user ",
@@ -154,7 +154,7 @@ fn subjects_that_are_there_or_not(rt: HostRuntime) -> Result<(), Fail> {
 }
 
 #[test]
-fn patterns_that_are_none(rt: HostRuntime) -> Result<(), Fail> {
+fn invalid_patterns(rt: HostRuntime) -> Result<(), Fail> {
     let cases = [
         ("*a", "3 5 BadPattern 5 NothingToRepeat at 0"),
         ("a)b", "3 5 BadPattern 4 Unopened at 1"),
@@ -178,7 +178,7 @@ fn patterns_that_are_none(rt: HostRuntime) -> Result<(), Fail> {
 }
 
 #[test]
-fn values_that_are_none(rt: HostRuntime) -> Result<(), Fail> {
+fn invalid_values(rt: HostRuntime) -> Result<(), Fail> {
     let lines = [
         "login ",
         "enable ",
@@ -243,7 +243,7 @@ fn nested<R: AllocGlobal>(rt: &R, count: usize) -> Result<String, AllocError> {
 }
 
 #[test]
-fn chains_that_are_none(rt: HostRuntime) -> Result<(), Fail> {
+fn invalid_chains(rt: HostRuntime) -> Result<(), Fail> {
     let cases = [
         ("group a in a", "2 8 Cycle"),
         ("group a in b\ngroup b in a", "2 8 Cycle"),
