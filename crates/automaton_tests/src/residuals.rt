@@ -67,7 +67,7 @@ fn residuals(rt: HostRuntime) -> Result<(), Fail> {
         2 no (a|ab)(c|bcd)/a
         2 yes (a|ab)(c|bcd)/abc
 
-        # A star behind itself.
+        # A star after itself.
         1 yes a*/aa
         1 no (ab)*/a
         1 yes (ab)*/ab

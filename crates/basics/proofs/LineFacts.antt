@@ -7,16 +7,16 @@ use Rattle.memchr.specs.Find.{IsFirstByte, is_byte}
 use Rattle.basics.specs.Lines.{split_at_first, onto_first, lines_of}
 
 -- parts with this before the first of them
-abbrev pub behind : List ℕ → Option (List ℕ × List ℕ) → Option (List ℕ × List ℕ)
-behind front parts = option_map (λ parts. (front ++ parts.0, parts.1)) parts
+abbrev pub after : List ℕ → Option (List ℕ × List ℕ) → Option (List ℕ × List ℕ)
+after front parts = option_map (λ parts. (front ++ parts.0, parts.1)) parts
 
-pub behind-nil : (parts : Option (List ℕ × List ℕ)) → behind [] parts ≡ parts
-behind-nil None = refl
-behind-nil (Some parts) = refl
+pub after-nil : (parts : Option (List ℕ × List ℕ)) → after [] parts ≡ parts
+after-nil None = refl
+after-nil (Some parts) = refl
 
-behind-more : (front : List ℕ) (byte : ℕ) (parts : Option (List ℕ × List ℕ)) → behind front (option_map (λ parts. (byte ∷ parts.0, parts.1)) parts) ≡ behind (front ++ byte ∷ []) parts
-behind-more front byte None = refl
-behind-more front byte (Some parts) = ap (λ (text : List ℕ). Some (text, parts.1)) (sym (append_assoc front (byte ∷ []) parts.0))
+after-more : (front : List ℕ) (byte : ℕ) (parts : Option (List ℕ × List ℕ)) → after front (option_map (λ parts. (byte ∷ parts.0, parts.1)) parts) ≡ after (front ++ byte ∷ []) parts
+after-more front byte None = refl
+after-more front byte (Some parts) = ap (λ (text : List ℕ). Some (text, parts.1)) (sym (append_assoc front (byte ∷ []) parts.0))
 
 at_separator : (separator byte : ℕ) (bytes : List ℕ) → byte ≡ separator → split_at_first separator (byte ∷ bytes) ≡ Some ([], bytes)
 at_separator separator byte bytes e = rw (eq-eqb byte separator e) refl
@@ -27,40 +27,40 @@ past_other separator byte bytes ne =
     rw other refl
 
 -- one byte on that is no separator
-pub behind_step : (separator byte at : ℕ) (bytes : List ℕ) → at < length bytes → byte ≡ get_or bytes at 0 → byte ≢ separator
-    → behind (take (at + 1) bytes) (split_at_first separator (drop (at + 1) bytes)) ≡ behind (take at bytes) (split_at_first separator (drop at bytes))
-behind_step separator byte at bytes lt is ne =
+pub after_step : (separator byte at : ℕ) (bytes : List ℕ) → at < length bytes → byte ≡ get_or bytes at 0 → byte ≢ separator
+    → after (take (at + 1) bytes) (split_at_first separator (drop (at + 1) bytes)) ≡ after (take at bytes) (split_at_first separator (drop at bytes))
+after_step separator byte at bytes lt is ne =
     let here : drop at bytes ≡ byte ∷ drop (at + 1) bytes = drop_more bytes at 0 lt ∙ ap (λ (b : ℕ). b ∷ drop (at + 1) bytes) (sym is) in
     let front : take (at + 1) bytes ≡ take at bytes ++ byte ∷ [] = take_more bytes at 0 lt ∙ ap (λ (b : ℕ). take at bytes ++ b ∷ []) (sym is) in
-    rw (front, here, past_other separator byte (drop (at + 1) bytes) ne) (sym (behind-more (take at bytes) byte (split_at_first separator (drop (at + 1) bytes))))
+    rw (front, here, past_other separator byte (drop (at + 1) bytes) ne) (sym (after-more (take at bytes) byte (split_at_first separator (drop (at + 1) bytes))))
 
 -- at a separator
-pub behind_found : (separator byte at : ℕ) (bytes : List ℕ) → at < length bytes → byte ≡ get_or bytes at 0 → byte ≡ separator
-    → behind (take at bytes) (split_at_first separator (drop at bytes)) ≡ Some (take at bytes, drop (at + 1) bytes)
-behind_found separator byte at bytes lt is e =
+pub after_found : (separator byte at : ℕ) (bytes : List ℕ) → at < length bytes → byte ≡ get_or bytes at 0 → byte ≡ separator
+    → after (take at bytes) (split_at_first separator (drop at bytes)) ≡ Some (take at bytes, drop (at + 1) bytes)
+after_found separator byte at bytes lt is e =
     let here : drop at bytes ≡ byte ∷ drop (at + 1) bytes = drop_more bytes at 0 lt ∙ ap (λ (b : ℕ). b ∷ drop (at + 1) bytes) (sym is) in
     rw (here, at_separator separator byte (drop (at + 1) bytes) e, append-nil (take at bytes)) refl
 
 -- past so many bytes, none of which is a separator
-pub behind_others : (separator at : ℕ) (bytes : List ℕ) → at ≤ length bytes → ((k : ℕ) → k < at → get_or bytes k 0 ≢ separator)
-    → behind (take at bytes) (split_at_first separator (drop at bytes)) ≡ split_at_first separator bytes
-behind_others separator zero bytes le others = behind-nil (split_at_first separator bytes)
-behind_others separator (suc at) bytes le others =
+pub after_others : (separator at : ℕ) (bytes : List ℕ) → at ≤ length bytes → ((k : ℕ) → k < at → get_or bytes k 0 ≢ separator)
+    → after (take at bytes) (split_at_first separator (drop at bytes)) ≡ split_at_first separator bytes
+after_others separator zero bytes le others = after-nil (split_at_first separator bytes)
+after_others separator (suc at) bytes le others =
     let next : suc at ≡ at + 1 = omega arith in
-    let last = behind_step separator (get_or bytes at 0) at bytes (omega arith) refl (others at (omega arith)) in
-    ap (λ (n : ℕ). behind (take n bytes) (split_at_first separator (drop n bytes))) next ∙ last ∙ behind_others separator at bytes (omega arith) (λ k lt. others k (omega arith))
+    let last = after_step separator (get_or bytes at 0) at bytes (omega arith) refl (others at (omega arith)) in
+    ap (λ (n : ℕ). after (take n bytes) (split_at_first separator (drop n bytes))) next ∙ last ∙ after_others separator at bytes (omega arith) (λ k lt. others k (omega arith))
 
 -- where the first separator stands
 pub parts_at : (separator : ℕ) (bytes : List ℕ) (at : ℕ) → IsFirstByte (is_byte separator) bytes (Some at) → Some (take at bytes, drop (at + 1) bytes) ≡ split_at_first separator bytes
 parts_at separator bytes at first =
-    sym (behind_found separator (get_or bytes at 0) at bytes first.0.high refl (eqb-true _ _ first.1))
-    ∙ behind_others separator at bytes (omega (arith, first.0.high)) (λ k lt is. first.0.before k (omega arith) lt (eq-eqb _ _ is))
+    sym (after_found separator (get_or bytes at 0) at bytes first.0.high refl (eqb-true _ _ first.1))
+    ∙ after_others separator at bytes (omega (arith, first.0.high)) (λ k lt is. first.0.before k (omega arith) lt (eq-eqb _ _ is))
 
 pub no_parts : (separator : ℕ) (bytes : List ℕ) → IsFirstByte (is_byte separator) bytes None → None ≡ split_at_first separator bytes
 no_parts separator bytes nowhere =
-    let past = behind_others separator (length bytes) bytes (omega arith) (λ k lt is. nowhere k (omega arith) lt (eq-eqb _ _ is)) in
+    let past = after_others separator (length bytes) bytes (omega arith) (λ k lt is. nowhere k (omega arith) lt (eq-eqb _ _ is)) in
     let all : drop (length bytes) bytes ≡ [] = drop_all (length bytes) bytes (omega arith) in
-    let none : behind (take (length bytes) bytes) (split_at_first separator (drop (length bytes) bytes)) ≡ None = rw all refl in
+    let none : after (take (length bytes) bytes) (split_at_first separator (drop (length bytes) bytes)) ≡ None = rw all refl in
     sym none ∙ past
 
 same_parts : (a b : List ℕ × List ℕ) → Some a ≡ Some b → a ≡ b

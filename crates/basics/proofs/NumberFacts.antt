@@ -12,14 +12,14 @@ digits_after-digit : (value digit : ℕ) → digit < 10 → digits_after value (
 digits_after-digit value digit small = grind (arith, nat_tests)
 
 -- the digits after a first byte, if that is a digit too
-behind : (b : Bool) (told : Option ℕ) (value : ℕ) → cond b told None ≡ Some value → (b ≡ true) × (told ≡ Some value)
-behind true told value e = (refl, e)
-behind false told value e = absurd cc
+after : (b : Bool) (told : Option ℕ) (value : ℕ) → cond b told None ≡ Some value → (b ≡ true) × (told ≡ Some value)
+after true told value e = (refl, e)
+after false told value e = absurd cc
 
 digits_after-append : (start : ℕ) (front : List ℕ) (value digit : ℕ) → digit < 10 → digits_after start front ≡ Some value → digits_after start (front ++ (48 + digit) ∷ []) ≡ Some (value * 10 + digit)
 digits_after-append start [] value digit small e = let same : start ≡ value = cc in rw same (digits_after-digit value digit small)
 digits_after-append start (byte ∷ front) value digit small e =
-    let parts = behind (nat_le 48 byte && nat_le byte 57) (digits_after (start * 10 + (byte - 48)) front) value e in
+    let parts = after (nat_le 48 byte && nat_le byte 57) (digits_after (start * 10 + (byte - 48)) front) value e in
     rw parts.0 (digits_after-append (start * 10 + (byte - 48)) front value digit small parts.1)
 
 one_more : (n : ℕ) (front : List ℕ) → digits_after 0 front ≡ Some (n / 10) → digits_after 0 (front ++ (48 + n % 10) ∷ []) ≡ Some n

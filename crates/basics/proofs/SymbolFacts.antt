@@ -23,8 +23,8 @@ shorter true b e = refl
 shorter false b e = e
 
 -- where a text reaches beyond a place, the bytes after the place decide for all
-pub behind : (n m : ℕ) (bytes : List ℕ) → n ≤ m → is_text (take m bytes) ≡ true → is_text (drop n bytes) ≡ is_text bytes
-behind n m bytes le front =
+pub after : (n m : ℕ) (bytes : List ℕ) → n ≤ m → is_text (take m bytes) ≡ true → is_text (drop n bytes) ≡ is_text bytes
+after n m bytes le front =
     let more : n + (m - n) ≡ m = omega (arith, le) in
     let front' = sym (list_all-append is_symbol (take n bytes) (take (m - n) (drop n bytes)))
     ∙ ap is_text (sym (take-add n (m - n) bytes)) ∙ ap (λ k. is_text (take k bytes)) more ∙ front in

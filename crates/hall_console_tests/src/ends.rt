@@ -147,7 +147,7 @@ fn by_a_failed_write_before_half_a_line(rt: HostRuntime) -> Result<(), Fail> {
     )
 }
 
-const BEHIND_A_STOP: &str = "\
+const AFTER_A_STOP: &str = "\
 ok
 hall 3 Closed
 hall 3 Closed
@@ -170,7 +170,7 @@ fn after_a_stop(rt: HostRuntime) -> Result<(), Fail> {
         WHOLE,
         99,
     )?;
-    let written = seen.written.as_slice() == BEHIND_A_STOP.as_bytes();
+    let written = seen.written.as_slice() == AFTER_A_STOP.as_bytes();
     if written && seen.end.as_str() == "Ok(())" && seen.seat.seat.view().is_empty() {
         Ok(())
     } else {

@@ -2,11 +2,11 @@
 use Rattle.std.proofs.Common.{inl, inr, ◌<◌, ℕ, IsTrue, List, [], ◌∷◌, length, sym, subst, ◌∙◌}
 use Rattle.std.specs.List.{slice_index_or}
 use Rattle.pol_pattern.specs.Flat.{Class, Factor, class, group, star, Term, empty, put, Terms, none, alt, join_term}
-use Rattle.pol_residual.specs.Derivative.{IsAmong, Derivative, of_class, of_group, of_star, behind_star, Derivatives, Residual, at_first, by_more}
+use Rattle.pol_residual.specs.Derivative.{IsAmong, Derivative, of_class, of_group, of_star, after_star, Derivatives, Residual, at_first, by_more}
 use Rattle.pol_automaton.specs.After.{After, after_more}
 use Rattle.pol_residual.specs.Residuals.{InResidual, SameResiduals}
 use Rattle.pol_automaton.specs.Alike.{AllInFactor, AllInTerm, AllInTerms, HoldsAlike, AreAlike}
-use Rattle.pol_automaton.proofs.Behind.{residual_after, after_residual}
+use Rattle.pol_automaton.proofs.AfterText.{residual_after, after_residual}
 
 -- ---- facts of all classes of a part
 
@@ -42,7 +42,7 @@ module _ (P : Class → Type 0) where
       all_derived symbol (join_term alternative rest) next d (all_joined alternative rest (all_among _ alternative among p.0) p.1)
   all_derived symbol term next (of_star {terms} {alternative} {rest} {next = inner} among d) p =
       all_joined inner (put (star terms) rest) (all_derived symbol alternative inner d (all_among terms alternative among p.0)) p
-  all_derived symbol term next (behind_star {rest} d) p = all_derived symbol rest next d p.1
+  all_derived symbol term next (after_star {rest} d) p = all_derived symbol rest next d p.1
 
   -- nor has a residual
   all_residual : (flat : Terms) → AllInTerms P flat → (text : List ℕ) (term : Term) → Residual flat text term → AllInTerm P term
@@ -59,7 +59,7 @@ derived_alike a b term next p (of_group {rest} alternative among d) =
     (all_joined (HoldsAlike a b) alternative rest (all_among (HoldsAlike a b) _ alternative among p.0) p.1) d)
 derived_alike a b term next p (of_star {terms} {alternative} {next = inner} among d) =
     of_star among (derived_alike a b alternative inner (all_among (HoldsAlike a b) terms alternative among p.0) d)
-derived_alike a b term next p (behind_star {rest} d) = behind_star (derived_alike a b rest next p.1 d)
+derived_alike a b term next p (after_star {rest} d) = after_star (derived_alike a b rest next p.1 d)
 
 -- ---- texts of which each two symbols at one place are related
 

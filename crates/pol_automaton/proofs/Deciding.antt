@@ -18,10 +18,10 @@ use Rattle.pol_automaton.specs.Automaton.{Automaton, state_of, first_of, IsWhole
 use Rattle.pol_automaton.specs.Scanning.{item_of, HasTerm, LeadsTo, residuals}
 use Rattle.pol_automaton.specs.Entries.{Entries, AreWhole, AreEntries, GrowsTo}
 use Rattle.pol_automaton.specs.Matching.{Accepts, IsFirstAccepted}
-use Rattle.pol_automaton.specs.Telling.{behind_grown}
+use Rattle.pol_automaton.specs.Telling.{after_grown}
 use Rattle.pol_automaton.proofs.Zips.{zip_length, zip_through}
 use Rattle.pol_automaton.proofs.Machines.{TellsResiduals, IsFound, automaton_of, is_whole, read, spelled_same, kept_word, is_decider}
-use Rattle.pol_automaton.proofs.Behind.{SameAfter, same_after, holds_after, behind_none, after_some}
+use Rattle.pol_automaton.proofs.AfterText.{SameAfter, same_after, holds_after, after_none, after_some}
 
 -- ---- what the scan finds
 
@@ -43,8 +43,8 @@ whole_decider e now table states firsts s =
     (λ state i lt is.
     let there = zip_through _ _ table.words states firsts state [] None s.led s.matched lt in
     let accepts : Accepts now.terms there.0.items i = (subst (IsFirstAccepted now.terms there.0.items) is there.2).0 in
-    let behind = (behind_grown e now s.grows (word_at table.words state) i accepts.0).1 ((there.1.members i accepts.0).0 accepts.1) in
-    let first = after_some (HasTerm e.terms e.start i) (text_of e.alphabet (word_at table.words state)) accepts.0 behind in
+    let after = (after_grown e now s.grows (word_at table.words state) i accepts.0).1 ((there.1.members i accepts.0).0 accepts.1) in
+    let first = after_some (HasTerm e.terms e.start i) (text_of e.alphabet (word_at table.words state)) accepts.0 after in
     All-contains (λ (x : EntryTerm). x.entry < e.count) e.start (item_of i first.1.0) s.whole.below first.1.1)
 
 pub tells_residuals : (e : Entries) (sources : List (List ℕ)) → AreWhole e → AreEntries e sources
@@ -74,15 +74,15 @@ module _ (e : Entries) (sources : List (List ℕ)) (whole : AreWhole e) (are : A
           let found = word_at table.words (walk table word) in
           let before : SameAfter e text (text_of e.alphabet word) =
           (same_after e sources whole are text (text_of e.alphabet word)).1 (spelled_same e.alphabet machine sources tells text h) in
-          let behind = kept_word e.alphabet machine sources tells table s.found text h in
+          let after = kept_word e.alphabet machine sources tells table s.found text h in
           let there = zip_through _ _ table.words states firsts (walk table word) [] None s.led s.matched lt in
           record {
             items = there.0.items;
             has = λ entry term.
                 let members = there.1.members entry term in
-                let grown = behind_grown e now s.grows found entry term in
+                let grown = after_grown e now s.grows found entry term in
                 let read_so = before entry term in
-                let kept = behind entry term in
+                let kept = after entry term in
                 (λ k. read_so.1 (kept.1 (grown.1 (members.0 k))), λ k. members.1 (grown.0 (kept.0 (read_so.0 k))));
             accepted = there.2;
           }
@@ -101,7 +101,7 @@ module _ (e : Entries) (sources : List (List ℕ)) (whole : AreWhole e) (are : A
         where
           by : (entry < length sources) ⊎ (length sources ≤ entry) → entry < length sources
           by (inl lt) = lt
-          by (inr le) = absurd (behind_none e sources whole are entry le text a.0 ((has entry a.0).0 a.1))
+          by (inr le) = absurd (after_none e sources whole are entry le text a.0 ((has entry a.0).0 a.1))
 
       first_match : (items : List EntryTerm) (first : Option ℕ) → ((entry : ℕ) (term : Term) → HasTerm now.terms items entry term ↔ After (HasTerm e.terms e.start entry) text term)
           → IsFirstAccepted now.terms items first → IsFirstMatch sources text first

@@ -19,12 +19,12 @@ use Rattle.pol_automaton.specs.Decision.{verdict_by}
 use Rattle.pol_automaton.specs.Automaton.{Automaton, state_of, first_of}
 
 -- the state to which a state and a symbol lead
-abbrev pub behind : Automaton → ℕ → ℕ → ℕ
-behind a state symbol = next a.table state (column_of a.alphabet symbol)
+abbrev pub state_after : Automaton → ℕ → ℕ → ℕ
+state_after a state symbol = next a.table state (column_of a.alphabet symbol)
 
 pub state_longer : (alphabet : Alphabet) (a : Automaton) (word : List ℕ) (column : ℕ)
     → state_of a (text_of alphabet (longer word column))
-    ≡ behind a (state_of a (text_of alphabet word)) (least_of alphabet column)
+    ≡ state_after a (state_of a (text_of alphabet word)) (least_of alphabet column)
 state_longer alphabet a word column =
     ap (λ text. walk a.table (word_of a.alphabet text)) (map_push (least_of alphabet) word column)
     ∙ ap (walk a.table)
@@ -42,9 +42,9 @@ pairs alphabet a b = record {
   symmetric = λ u v s. (sym s.0, sym s.1);
   transitive = λ u v w s t. (s.0 ∙ t.0, s.1 ∙ t.1);
   followed = λ u v column in_range s. (
-    state_longer alphabet a u column ∙ ap (λ n. behind a n (least_of alphabet column)) s.0
+    state_longer alphabet a u column ∙ ap (λ n. state_after a n (least_of alphabet column)) s.0
         ∙ sym (state_longer alphabet a v column),
-    state_longer alphabet b u column ∙ ap (λ n. behind b n (least_of alphabet column)) s.1
+    state_longer alphabet b u column ∙ ap (λ n. state_after b n (least_of alphabet column)) s.1
         ∙ sym (state_longer alphabet b v column),
   );
 }

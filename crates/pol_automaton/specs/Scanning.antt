@@ -32,8 +32,8 @@ pub record AreResiduals (table : List Term) (items : List EntryTerm) : Type 0 wh
   pub distinct : IsDistinct table
 
 -- after the residuals at the start, the residual of an entry by the text that a word spells
-abbrev pub Behind : Alphabet → List Term → List EntryTerm → List ℕ → ℕ → Term → Type 0
-Behind alphabet table start word entry term =
+abbrev pub AfterText : Alphabet → List Term → List EntryTerm → List ℕ → ℕ → Term → Type 0
+AfterText alphabet table start word entry term =
     After (HasTerm table start entry) (text_of alphabet word) term
 
 -- the word leads to the residuals
@@ -42,20 +42,20 @@ pub record LeadsTo (alphabet : Alphabet) (table : List Term) (start : List Entry
     (items : List EntryTerm) : Type 0 where
   pub right : AreResiduals table items
   pub members : (entry : ℕ) (term : Term)
-      → HasTerm table items entry term ↔ Behind alphabet table start word entry term
+      → HasTerm table items entry term ↔ AfterText alphabet table start word entry term
 
 -- words are the same if the residuals after them are
-abbrev pub SameBehind : Alphabet → List Term → List EntryTerm → List ℕ → List ℕ → Type 0
-SameBehind alphabet table start u v =
-    (entry : ℕ) (term : Term) → Behind alphabet table start u entry term
-    ↔ Behind alphabet table start v entry term
+abbrev pub AlikeAfter : Alphabet → List Term → List EntryTerm → List ℕ → List ℕ → Type 0
+AlikeAfter alphabet table start u v =
+    (entry : ℕ) (term : Term) → AfterText alphabet table start u entry term
+    ↔ AfterText alphabet table start v entry term
 
-pub behind_longer : (alphabet : Alphabet) (table : List Term) (start : List EntryTerm)
+pub after_longer : (alphabet : Alphabet) (table : List Term) (start : List EntryTerm)
     (u v : List ℕ) (column : ℕ)
-    → SameBehind alphabet table start u v → (entry : ℕ) (term : Term)
-    → Behind alphabet table start (longer u column) entry term
-    → Behind alphabet table start (longer v column) entry term
-behind_longer alphabet table start u v column same entry term h =
+    → AlikeAfter alphabet table start u v → (entry : ℕ) (term : Term)
+    → AfterText alphabet table start (longer u column) entry term
+    → AfterText alphabet table start (longer v column) entry term
+after_longer alphabet table start u v column same entry term h =
     let set = HasTerm table start entry in
     let at : List ℕ → Type 0 = λ text. After set text term in
     let stepped = (after_push set (text_of alphabet u) (least_of alphabet column) term).0
@@ -69,7 +69,7 @@ behind_longer alphabet table start u v column same entry term h =
 abbrev pub residuals : Alphabet → List Term → List EntryTerm → Congruence
 residuals alphabet table start = record {
   width = alphabet.width;
-  same = SameBehind alphabet table start;
+  same = AlikeAfter alphabet table start;
   reflexive = λ u entry term. (λ h. h, λ h. h);
   symmetric = λ u v same entry term. ((same entry term).1, (same entry term).0);
   transitive = λ u v w one two entry term. (
@@ -77,7 +77,7 @@ residuals alphabet table start = record {
     λ h. (one entry term).1 ((two entry term).1 h),
   );
   followed = λ u v column in_range same entry term. (
-    behind_longer alphabet table start u v column same entry term,
-    behind_longer alphabet table start v u column (λ e t. ((same e t).1, (same e t).0)) entry term,
+    after_longer alphabet table start u v column same entry term,
+    after_longer alphabet table start v u column (λ e t. ((same e t).1, (same e t).0)) entry term,
   );
 }

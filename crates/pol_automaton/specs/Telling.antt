@@ -16,8 +16,8 @@ use Rattle.pol_scan.specs.Words.{longer}
 use Rattle.pol_scan.specs.Congruence.{Keeps}
 use Rattle.pol_automaton.specs.declared.entry_term.EntryTerm.{EntryTerm}
 use Rattle.pol_automaton.specs.After.{After, after_same, after_push, derivatives_more}
-use Rattle.pol_automaton.specs.Scanning.{item_of, HasTerm, AreResiduals, Behind, LeadsTo}
-use Rattle.pol_automaton.specs.Scanning.{SameBehind, residuals}
+use Rattle.pol_automaton.specs.Scanning.{item_of, HasTerm, AreResiduals, AfterText, LeadsTo}
+use Rattle.pol_automaton.specs.Scanning.{AlikeAfter, residuals}
 use Rattle.pol_automaton.specs.Entries.{Entries, SameTerms, GrowsTo}
 use Rattle.pol_automaton.specs.Stepping.{AreDerivatives}
 use Rattle.pol_automaton.specs.Order.{same_item, same_is, order_total, same_sorted}
@@ -27,7 +27,7 @@ use Rattle.pol_automaton.specs.Having.{meant, has_kept, has_back, within_kept}
 
 contained_in : (alphabet : Alphabet) (table : List Term) (start : List EntryTerm) (u v : List ℕ)
     (s t : List EntryTerm) → LeadsTo alphabet table start u s → LeadsTo alphabet table start v t
-    → SameBehind alphabet table start u v → (x : EntryTerm) → Contains s x → Contains t x
+    → AlikeAfter alphabet table start u v → (x : EntryTerm) → Contains s x → Contains t x
 contained_in alphabet table start u v s t p q same x c =
     let m = meant table x.term
     (All-contains (λ (item : EntryTerm). item.term < length table) s x p.right.within c) in
@@ -38,7 +38,7 @@ contained_in alphabet table start u v s t p q same x c =
 
 pub told_apart : (alphabet : Alphabet) (table : List Term) (start : List EntryTerm) (u v : List ℕ)
     (s t : List EntryTerm) → LeadsTo alphabet table start u s → LeadsTo alphabet table start v t
-    → (pointwise same_item s t ≡ true) ↔ SameBehind alphabet table start u v
+    → (pointwise same_item s t ≡ true) ↔ AlikeAfter alphabet table start u v
 told_apart alphabet table start u v s t p q = (
   λ e.
       let is : s ≡ t = (pointwise_decides decides s t).0 e in
@@ -84,10 +84,10 @@ grown old new grows items right = (
   ),
 )
 
-pub behind_grown : (a b : Entries) → GrowsTo a b → (word : List ℕ) (entry : ℕ) (term : Term)
-    → Behind a.alphabet a.terms a.start word entry term
-    ↔ Behind b.alphabet b.terms b.start word entry term
-behind_grown a b g word entry term =
+pub after_grown : (a b : Entries) → GrowsTo a b → (word : List ℕ) (entry : ℕ) (term : Term)
+    → AfterText a.alphabet a.terms a.start word entry term
+    ↔ AfterText b.alphabet b.terms b.start word entry term
+after_grown a b g word entry term =
     let begun : (t : Term) → HasTerm a.terms a.start entry t
     ↔ HasTerm b.terms b.start entry t = λ t.
     subst (λ (s : List EntryTerm). HasTerm a.terms a.start entry t
@@ -105,7 +105,7 @@ leads_grown a b g word items led =
     record {
       right = known.0;
       members = λ entry term.
-          let same = behind_grown a b g word entry term in (
+          let same = after_grown a b g word entry term in (
             λ h. same.0 ((led.members entry term).0 ((known.1 entry term).1 h)),
             λ h. (known.1 entry term).0 ((led.members entry term).1 (same.1 h)),
           );
@@ -120,14 +120,14 @@ kept a b g = record {
   columns = ap (λ (al : Alphabet). al.width) g.alphabet;
   alike = λ u v. (
     λ same entry term.
-        let at_u = behind_grown a b g u entry term in
-        let at_v = behind_grown a b g v entry term in (
+        let at_u = after_grown a b g u entry term in
+        let at_v = after_grown a b g v entry term in (
           λ h. at_v.0 ((same entry term).0 (at_u.1 h)),
           λ h. at_u.0 ((same entry term).1 (at_v.1 h)),
         ),
     λ same entry term.
-        let at_u = behind_grown a b g u entry term in
-        let at_v = behind_grown a b g v entry term in (
+        let at_u = after_grown a b g u entry term in
+        let at_v = after_grown a b g v entry term in (
           λ h. at_v.1 ((same entry term).0 (at_u.0 h)),
           λ h. at_u.1 ((same entry term).1 (at_v.0 h)),
         ),
@@ -183,7 +183,7 @@ stepped alphabet old new start column items next grows begun right exact word le
         ((grown old new grows start begun).1 entry) term
 
     from : (entry : ℕ) (term : Term) → HasTerm new next entry term
-        → Behind alphabet new start (longer word column) entry term
+        → AfterText alphabet new start (longer word column) entry term
     from entry term h =
         let d = derivatives_more (HasTerm old items entry)
         (After (HasTerm old start entry) (text_of alphabet word)) (least_of alphabet column)
@@ -194,7 +194,7 @@ stepped alphabet old new start column items next grows begun right exact word le
         (least_of alphabet column) term).1 d) in
         subst (λ (text : List ℕ). After (HasTerm new start entry) text term) (sym spelled) after
 
-    to : (entry : ℕ) (term : Term) → Behind alphabet new start (longer word column) entry term
+    to : (entry : ℕ) (term : Term) → AfterText alphabet new start (longer word column) entry term
         → HasTerm new next entry term
     to entry term b =
         let after = (same entry (text_of alphabet word ++ least_of alphabet column ∷ []) term).1

@@ -45,7 +45,7 @@ impl Model for Decider {
 
 impl Decider {
     ghost use Rattle.pol_automaton.specs.Automaton.{IsDecider, IsWhole, state_of, first_of};
-    ghost use Rattle.pol_automaton.specs.Pairs.{behind};
+    ghost use Rattle.pol_automaton.specs.Pairs.{state_after};
     ghost use Rattle.pol_automaton.specs.Reaching.{IsFirstState, NoState};
 
     /// The Decider of entries that were collected. It takes time by its states, its columns and the
@@ -195,7 +195,7 @@ impl Decider {
     pub(crate) fn next(&self, state: StateNumber, symbol: u8) -> StateNumber
         requires state { state < count self.now.table }
         requires symbol { IsTrue (is_symbol symbol) }
-        ensures value { result ≡ behind self.now state symbol }
+        ensures value { result ≡ state_after self.now state symbol }
         ensures within { result < count self.now.table }
     {
         self.table.next(state, self.alphabet.column_of(symbol))

@@ -38,11 +38,11 @@ begins_is (put (group terms) rest) h = refl
 begins_is (put (star terms) rest) h = refl
 
 -- the linear form of the first factor is that of its terms
-pub first_linear : (term behind : Term) → IsTrue (begins_with_terms term) → factor_linear (first_factor term) behind ≡ terms_linear (first_terms term) (continuation (first_factor term) behind)
-first_linear empty behind h = absurd (false≢true h)
-first_linear (put (class c) rest) behind h = absurd (false≢true h)
-first_linear (put (group terms) rest) behind h = refl
-first_linear (put (star terms) rest) behind h = refl
+pub first_linear : (term after : Term) → IsTrue (begins_with_terms term) → factor_linear (first_factor term) after ≡ terms_linear (first_terms term) (continuation (first_factor term) after)
+first_linear empty after h = absurd (false≢true h)
+first_linear (put (class c) rest) after h = absurd (false≢true h)
+first_linear (put (group terms) rest) after h = refl
+first_linear (put (star terms) rest) after h = refl
 
 abbrev pub is_star : Kind → Bool
 is_star kinds.Group = false
@@ -58,12 +58,12 @@ first_mark (put (class c) rest) h = absurd (false≢true h)
 first_mark (put (group terms) rest) h = refl
 first_mark (put (star terms) rest) h = refl
 
-pub linear_begins : (term behind : Term) → IsTrue (begins_with_terms term)
-    → linear term behind ≡ factor_linear (first_factor term) (join_term (rest_of term) behind) ++ cond (factor_holds_empty (first_factor term)) (linear (rest_of term) behind) []
-linear_begins empty behind h = absurd (false≢true h)
-linear_begins (put (class c) rest) behind h = absurd (false≢true h)
-linear_begins (put (group terms) rest) behind h = refl
-linear_begins (put (star terms) rest) behind h = refl
+pub linear_begins : (term after : Term) → IsTrue (begins_with_terms term)
+    → linear term after ≡ factor_linear (first_factor term) (join_term (rest_of term) after) ++ cond (factor_holds_empty (first_factor term)) (linear (rest_of term) after) []
+linear_begins empty after h = absurd (false≢true h)
+linear_begins (put (class c) rest) after h = absurd (false≢true h)
+linear_begins (put (group terms) rest) after h = refl
+linear_begins (put (star terms) rest) after h = refl
 
 -- ---- the terms that are left, by the node
 
@@ -91,19 +91,19 @@ none_left_at kinds.Star left rest table (nodes.Alternative first r mark) not e =
 
 -- ---- the terms of a group or a star, so far
 
-pub record TermsSoFar (old new : List Term) (whole behind : Term) (at next : ℕ) (mark : Bool) (form : List Monomial) : Type 0 where
+pub record TermsSoFar (old new : List Term) (whole after : Term) (at next : ℕ) (mark : Bool) (form : List Monomial) : Type 0 where
   pub grows : Grows old new
-  pub goes_on : Means new next behind
+  pub goes_on : Means new next after
   pub left : Terms
   pub here : Means new at (put (of_kind (kind_of whole) left) (rest_of whole))
   pub done : List (Class × Term)
   pub made : IsForm new form done
-  pub pairs : done ++ terms_linear left behind ≡ terms_linear (first_terms whole) behind
+  pub pairs : done ++ terms_linear left after ≡ terms_linear (first_terms whole) after
   pub marked : (mark || terms_hold_empty left) ≡ factor_holds_empty (first_factor whole)
 
-pub terms_first : (old new : List Term) (term next : ℕ) (behind : Term) (mark : Bool) → Grows old new → Means old term (term_at old term) → IsTrue (begins_with_terms (term_at old term))
-    → Means new next behind → mark ≡ is_star (kind_of (term_at old term)) → TermsSoFar old new (term_at old term) behind term next mark []
-terms_first old new term next behind mark grows means begins at_next is_mark = record {
+pub terms_first : (old new : List Term) (term next : ℕ) (after : Term) (mark : Bool) → Grows old new → Means old term (term_at old term) → IsTrue (begins_with_terms (term_at old term))
+    → Means new next after → mark ≡ is_star (kind_of (term_at old term)) → TermsSoFar old new (term_at old term) after term next mark []
+terms_first old new term next after mark grows means begins at_next is_mark = record {
   grows = grows;
   goes_on = at_next;
   left = first_terms (term_at old term);
@@ -114,28 +114,28 @@ terms_first old new term next behind mark grows means begins at_next is_mark = r
   marked = ap (λ (b : Bool). b || terms_hold_empty (first_terms (term_at old term))) is_mark ∙ first_mark (term_at old term) begins;
 }
 
-module _ (old new : List Term) (whole behind : Term) (at next : ℕ) (mark : Bool) (form : List Monomial) (so_far : TermsSoFar old new whole behind at next mark form) where
+module _ (old new : List Term) (whole after : Term) (at next : ℕ) (mark : Bool) (form : List Monomial) (so_far : TermsSoFar old new whole after at next mark form) where
   -- one term more
   pub terms_more : (first rest : ℕ) (own : Bool) (newer : List Term) (begun : List Monomial) → IsTrue (begins_with_terms (term_at new rest))
       → Means new rest (term_at new rest) → Means new at (with_alternative (term_at new first) (term_at new rest)) → Grows new newer
       → IsForm newer begun (linear (term_at new first) (term_at new next)) → own ≡ term_holds_empty (term_at new first)
-      → TermsSoFar old newer whole behind rest next (mark || own) (form ++ begun)
+      → TermsSoFar old newer whole after rest next (mark || own) (form ++ begun)
   terms_more first rest own newer begun begins at_rest at_whole grows is_begun is_own =
       let kind = kind_of whole in
       let w = alternative_left kind so_far.left (term_at new first) (term_at new rest) (rest_of whole) begins
       (means_one new at (with_alternative (term_at new first) (term_at new rest)) (put (of_kind kind so_far.left) (rest_of whole)) at_whole so_far.here) in
-      let same_next = term_means new next behind so_far.goes_on in
-      let own_pairs = linear (term_at new first) behind in
+      let same_next = term_means new next after so_far.goes_on in
+      let own_pairs = linear (term_at new first) after in
       record {
         grows = grows_on so_far.grows grows;
-        goes_on = grows.kept next behind so_far.goes_on;
+        goes_on = grows.kept next after so_far.goes_on;
         left = w.0;
         here = grows.kept rest _ (subst (Means new rest) w.2 at_rest);
         done = so_far.done ++ own_pairs;
         made = form_append newer form begun so_far.done own_pairs (form_kept new newer grows.kept form so_far.done so_far.made)
             (subst (λ (b : Term). IsForm newer begun (linear (term_at new first) b)) same_next is_begun);
-        pairs = append_assoc so_far.done own_pairs (terms_linear w.0 behind)
-            ∙ ap (λ (t : Terms). so_far.done ++ terms_linear t behind) (sym w.1) ∙ so_far.pairs;
+        pairs = append_assoc so_far.done own_pairs (terms_linear w.0 after)
+            ∙ ap (λ (t : Terms). so_far.done ++ terms_linear t after) (sym w.1) ∙ so_far.pairs;
         marked = or_assoc mark own (terms_hold_empty w.0)
             ∙ ap (λ (b : Bool). mark || (b || terms_hold_empty w.0)) is_own
             ∙ ap (λ (t : Terms). mark || terms_hold_empty t) (sym w.1) ∙ so_far.marked;
@@ -150,10 +150,10 @@ module _ (old new : List Term) (whole behind : Term) (at next : ℕ) (mark : Boo
   none_left node not at_node =
       none_left_at (kind_of whole) so_far.left (rest_of whole) new node not (means_one new at (node_term new node) (put (of_kind (kind_of whole) so_far.left) (rest_of whole)) at_node so_far.here)
 
-  pub terms_end : (node : Node) → ((first r : ℕ) (m : Bool) → node ≡ nodes.Alternative first r m → ⊥) → Means new at (node_term new node) → IsForm new form (terms_linear (first_terms whole) behind)
+  pub terms_end : (node : Node) → ((first r : ℕ) (m : Bool) → node ≡ nodes.Alternative first r m → ⊥) → Means new at (node_term new node) → IsForm new form (terms_linear (first_terms whole) after)
   terms_end node not at_node =
       let e = none_left node not at_node in
-      subst (IsForm new form) (sym (append-nil so_far.done) ∙ ap (λ (t : Terms). so_far.done ++ terms_linear t behind) (sym e) ∙ so_far.pairs) so_far.made
+      subst (IsForm new form) (sym (append-nil so_far.done) ∙ ap (λ (t : Terms). so_far.done ++ terms_linear t after) (sym e) ∙ so_far.pairs) so_far.made
 
   pub mark_end : (node : Node) → ((first r : ℕ) (m : Bool) → node ≡ nodes.Alternative first r m → ⊥) → Means new at (node_term new node) → mark ≡ factor_holds_empty (first_factor whole)
   mark_end node not at_node =
@@ -166,61 +166,61 @@ module _ (old new : List Term) (whole behind : Term) (at next : ℕ) (mark : Boo
 
 -- ---- the factors of a term, so far
 
-pub record FactorsSoFar (old new : List Term) (whole behind : Term) (at : ℕ) (form : List Monomial) : Type 0 where
+pub record FactorsSoFar (old new : List Term) (whole after : Term) (at : ℕ) (form : List Monomial) : Type 0 where
   pub keeps : Keeps old new
   pub left : Term
   pub here : Means new at left
   pub done : List (Class × Term)
   pub made : IsForm new form done
-  pub pairs : done ++ linear left behind ≡ linear whole behind
+  pub pairs : done ++ linear left after ≡ linear whole after
 
 -- what follows the whole still has its number
-pub behind_same : (old new : List Term) → Keeps old new → (number : ℕ) → number < length old → term_at new number ≡ term_at old number
-behind_same old new keeps number lt = term_means new number (term_at old number) (keeps number (term_at old number) (at_means old number lt))
+pub after_same : (old new : List Term) → Keeps old new → (number : ℕ) → number < length old → term_at new number ≡ term_at old number
+after_same old new keeps number lt = term_means new number (term_at old number) (keeps number (term_at old number) (at_means old number lt))
 
-module _ (old new : List Term) (whole behind : Term) (at : ℕ) (form : List Monomial) (so_far : FactorsSoFar old new whole behind at form) where
+module _ (old new : List Term) (whole after : Term) (at : ℕ) (form : List Monomial) (so_far : FactorsSoFar old new whole after at form) where
   left_is : (term : Term) → Means new at term → so_far.left ≡ term
   left_is term means = means_one new at so_far.left term so_far.here means
 
   -- a class is left, and what follows it
-  pub class_end : (c : Class) (rest : Term) (newer : List Term) (next : ℕ) → Means new at (put (class c) rest) → Keeps new newer → Means newer next (join_term rest behind)
-      → IsForm newer (form ++ record { class = c; next = next } ∷ []) (linear whole behind)
+  pub class_end : (c : Class) (rest : Term) (newer : List Term) (next : ℕ) → Means new at (put (class c) rest) → Keeps new newer → Means newer next (join_term rest after)
+      → IsForm newer (form ++ record { class = c; next = next } ∷ []) (linear whole after)
   class_end c rest newer next means keeps at_next =
-      subst (IsForm newer (form ++ record { class = c; next = next } ∷ [])) (ap (λ (t : Term). so_far.done ++ linear t behind) (sym (left_is (put (class c) rest) means)) ∙ so_far.pairs)
-      (form_append newer form (record { class = c; next = next } ∷ []) so_far.done ((c, join_term rest behind) ∷ []) (form_kept new newer keeps form so_far.done so_far.made) ((refl, at_next), tt))
+      subst (IsForm newer (form ++ record { class = c; next = next } ∷ [])) (ap (λ (t : Term). so_far.done ++ linear t after) (sym (left_is (put (class c) rest) means)) ∙ so_far.pairs)
+      (form_append newer form (record { class = c; next = next } ∷ []) so_far.done ((c, join_term rest after) ∷ []) (form_kept new newer keeps form so_far.done so_far.made) ((refl, at_next), tt))
 
   module _ (newer : List Term) (begun : List Monomial) (means : Means new at (term_at new at)) (begins : IsTrue (begins_with_terms (term_at new at))) (keeps : Keeps new newer)
-      (is_begun : IsForm newer begun (factor_linear (first_factor (term_at new at)) (join_term (rest_of (term_at new at)) behind))) where
+      (is_begun : IsForm newer begun (factor_linear (first_factor (term_at new at)) (join_term (rest_of (term_at new at)) after))) where
     first_pairs : List (Class × Term)
-    first_pairs = factor_linear (first_factor (term_at new at)) (join_term (rest_of (term_at new at)) behind)
+    first_pairs = factor_linear (first_factor (term_at new at)) (join_term (rest_of (term_at new at)) after)
 
     both : IsForm newer (form ++ begun) (so_far.done ++ first_pairs)
     unfolding first_pairs
     both = form_append newer form begun so_far.done first_pairs (form_kept new newer keeps form so_far.done so_far.made) is_begun
 
-    whole_pairs : (so_far.done ++ first_pairs) ++ cond (factor_holds_empty (first_factor (term_at new at))) (linear (rest_of (term_at new at)) behind) [] ≡ linear whole behind
+    whole_pairs : (so_far.done ++ first_pairs) ++ cond (factor_holds_empty (first_factor (term_at new at))) (linear (rest_of (term_at new at)) after) [] ≡ linear whole after
     unfolding first_pairs
     whole_pairs =
-        append_assoc so_far.done first_pairs (cond (factor_holds_empty (first_factor (term_at new at))) (linear (rest_of (term_at new at)) behind) [])
-        ∙ ap (λ (l : List (Class × Term)). so_far.done ++ l) (sym (linear_begins (term_at new at) behind begins))
-        ∙ ap (λ (t : Term). so_far.done ++ linear t behind) (sym (left_is (term_at new at) means)) ∙ so_far.pairs
+        append_assoc so_far.done first_pairs (cond (factor_holds_empty (first_factor (term_at new at))) (linear (rest_of (term_at new at)) after) [])
+        ∙ ap (λ (l : List (Class × Term)). so_far.done ++ l) (sym (linear_begins (term_at new at) after begins))
+        ∙ ap (λ (t : Term). so_far.done ++ linear t after) (sym (left_is (term_at new at) means)) ∙ so_far.pairs
 
     -- a group or a star that holds the empty text, and then the rest
-    pub factors_more : (rest : ℕ) → factor_holds_empty (first_factor (term_at new at)) ≡ true → Means newer rest (rest_of (term_at new at)) → FactorsSoFar old newer whole behind rest (form ++ begun)
+    pub factors_more : (rest : ℕ) → factor_holds_empty (first_factor (term_at new at)) ≡ true → Means newer rest (rest_of (term_at new at)) → FactorsSoFar old newer whole after rest (form ++ begun)
     factors_more rest holds at_rest = record {
       keeps = λ number t m. keeps number t (so_far.keeps number t m);
       left = rest_of (term_at new at);
       here = at_rest;
       done = so_far.done ++ first_pairs;
       made = both;
-      pairs = ap (λ (b : Bool). (so_far.done ++ first_pairs) ++ cond b (linear (rest_of (term_at new at)) behind) []) (sym holds) ∙ whole_pairs;
+      pairs = ap (λ (b : Bool). (so_far.done ++ first_pairs) ++ cond b (linear (rest_of (term_at new at)) after) []) (sym holds) ∙ whole_pairs;
     }
 
     -- a group that doesn't
-    pub factors_end : factor_holds_empty (first_factor (term_at new at)) ≡ false → IsForm newer (form ++ begun) (linear whole behind)
+    pub factors_end : factor_holds_empty (first_factor (term_at new at)) ≡ false → IsForm newer (form ++ begun) (linear whole after)
     factors_end holds =
         subst (IsForm newer (form ++ begun))
-        (sym (append-nil (so_far.done ++ first_pairs)) ∙ ap (λ (b : Bool). (so_far.done ++ first_pairs) ++ cond b (linear (rest_of (term_at new at)) behind) []) (sym holds) ∙ whole_pairs) both
+        (sym (append-nil (so_far.done ++ first_pairs)) ∙ ap (λ (b : Bool). (so_far.done ++ first_pairs) ++ cond b (linear (rest_of (term_at new at)) after) []) (sym holds) ∙ whole_pairs) both
 
 -- ---- what the nodes say
 
@@ -248,7 +248,7 @@ begins_at table at node h right means =
     subst (λ (t : Term). IsTrue (begins_with_terms t)) (sym (term_means table at (node_term table node) means)) (node_begins table at node h right)
 
 -- the rest, where the factor holds the empty text
-pub rest_if : (holds : Bool) (rest term : ℕ) (table : List Term) (behind : Term) → rest < term → Means table rest behind
-    → MatchOption (then_some holds rest) (holds ≡ false) (λ n. (holds ≡ true) × (n < term) × Means table n behind)
-rest_if true rest term table behind lt means = (refl, lt, means)
-rest_if false rest term table behind lt means = refl
+pub rest_if : (holds : Bool) (rest term : ℕ) (table : List Term) (after : Term) → rest < term → Means table rest after
+    → MatchOption (then_some holds rest) (holds ≡ false) (λ n. (holds ≡ true) × (n < term) × Means table n after)
+rest_if true rest term table after lt means = (refl, lt, means)
+rest_if false rest term table after lt means = refl

@@ -1,7 +1,7 @@
 -- What a derivative of a term is, by the term's first factor.
 use Rattle.std.proofs.Common.{◌≡◌, ◌⊎◌, ℕ, IsTrue, refl, inl, inr}
 use Rattle.pol_pattern.specs.Flat.{Class, holds_symbol, class, group, star, Term, empty, put, Terms, join_term}
-use Rattle.pol_residual.specs.Derivative.{IsAmong, Derivative, of_class, of_group, of_star, behind_star}
+use Rattle.pol_residual.specs.Derivative.{IsAmong, Derivative, of_class, of_group, of_star, after_star}
 
 pub derivative-empty : {symbol : ℕ} {next : Term} → Derivative symbol empty next → ⊥
 derivative-empty h = elim h [ ]
@@ -26,4 +26,4 @@ pub record OfStar (symbol : ℕ) (terms : Terms) (rest next : Term) : Type 0 whe
 
 pub derivative-star : {symbol : ℕ} {terms : Terms} {rest next : Term} → Derivative symbol (put (star terms) rest) next → OfStar symbol terms rest next ⊎ Derivative symbol rest next
 derivative-star (of_star {alternative} {next} among h) = inl (record { alternative = alternative; inner = next; among = among; derivative = h; joined = refl })
-derivative-star (behind_star h) = inr h
+derivative-star (after_star h) = inr h

@@ -9,21 +9,21 @@ use Rattle.pol_deriv.proofs.Tables.{get-append, get-last, get_cases, term_means}
 
 -- ---- one part
 
-pub join-part : (term behind : Term) → part_before term (join_term (without_part term) behind) ≡ join_term term behind
-join-part empty behind = refl
-join-part (put (class c) rest) behind = refl
-join-part (put (group none) rest) behind = refl
-join-part (put (group (alt first terms)) rest) behind = refl
-join-part (put (star none) rest) behind = refl
-join-part (put (star (alt first terms)) rest) behind = refl
+pub join-part : (term after : Term) → part_before term (join_term (without_part term) after) ≡ join_term term after
+join-part empty after = refl
+join-part (put (class c) rest) after = refl
+join-part (put (group none) rest) after = refl
+join-part (put (group (alt first terms)) rest) after = refl
+join-part (put (star none) rest) after = refl
+join-part (put (star (alt first terms)) rest) after = refl
 
-pub part_fits : (term behind : Term) → IsTrue (is_alternative term) → IsTrue (begins_with_terms (join_term (without_part term) behind))
-part_fits empty behind h = absurd (false≢true h)
-part_fits (put (class c) rest) behind h = absurd (false≢true h)
-part_fits (put (group none) rest) behind h = absurd (false≢true h)
-part_fits (put (group (alt first terms)) rest) behind h = refl
-part_fits (put (star none) rest) behind h = absurd (false≢true h)
-part_fits (put (star (alt first terms)) rest) behind h = refl
+pub part_fits : (term after : Term) → IsTrue (is_alternative term) → IsTrue (begins_with_terms (join_term (without_part term) after))
+part_fits empty after h = absurd (false≢true h)
+part_fits (put (class c) rest) after h = absurd (false≢true h)
+part_fits (put (group none) rest) after h = absurd (false≢true h)
+part_fits (put (group (alt first terms)) rest) after h = refl
+part_fits (put (star none) rest) after h = absurd (false≢true h)
+part_fits (put (star (alt first terms)) rest) after h = refl
 
 -- ---- the parts that were passed
 

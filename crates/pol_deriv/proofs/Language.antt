@@ -3,7 +3,7 @@ use Rattle.std.proofs.Common.{◌≡◌, ℕ, IsTrue, List, [], ◌∷◌, ◌++
 use Rattle.std.specs.List.{AllByRecursion, concat}
 use Rattle.pol_pattern.specs.Flat.{holds_symbol, class, group, star, Term, empty, put, Terms, none, alt, join_term}
 use Rattle.pol_pattern.specs.Sets.{InFactor, InTerm, InTerms}
-use Rattle.pol_residual.specs.Derivative.{IsAmong, Derivative, of_class, of_group, of_star, behind_star, DerivativeLaw}
+use Rattle.pol_residual.specs.Derivative.{IsAmong, Derivative, of_class, of_group, of_star, after_star, DerivativeLaw}
 
 -- ---- terms one after another
 
@@ -81,7 +81,7 @@ module _ (symbol : ℕ) where
       (s.front, s.back, s.whole, among_holds terms alternative s.front among s.first, s.second)
   derivative_holds text (of_star {terms} {alternative} {rest} {next} among d) held =
       derivative_star terms alternative rest next text among (λ front h. derivative_holds front d h) held
-  derivative_holds text (behind_star d) held = ([], symbol ∷ text, refl, ([], tt, refl), derivative_holds text d held)
+  derivative_holds text (after_star d) held = ([], symbol ∷ text, refl, ([], tt, refl), derivative_holds text d held)
 
   -- ---- a derivative for each text
 
@@ -102,11 +102,11 @@ module _ (symbol : ℕ) where
       → ((front : List ℕ) → InTerms terms (symbol ∷ front) → (alternative : Term) × IsAmong terms alternative × Goes alternative front)
       → (InTerm rest (symbol ∷ text) → Goes rest text)
       → (parts : List (List ℕ)) (back : List ℕ) → AllByRecursion (InTerms terms) parts → symbol ∷ text ≡ concat parts ++ back → InTerm rest back → Goes (put (star terms) rest) text
-  star_goes terms rest text inner behind [] back all whole held =
-      let g = behind (subst (InTerm rest) (sym whole) held) in
-      record { next = g.next; derivative = behind_star g.derivative; held = g.held }
-  star_goes terms rest text inner behind ([] ∷ parts) back all whole held = star_goes terms rest text inner behind parts back all.1 whole held
-  star_goes terms rest text inner behind ((byte ∷ part) ∷ parts) back all whole held =
+  star_goes terms rest text inner after [] back all whole held =
+      let g = after (subst (InTerm rest) (sym whole) held) in
+      record { next = g.next; derivative = after_star g.derivative; held = g.held }
+  star_goes terms rest text inner after ([] ∷ parts) back all whole held = star_goes terms rest text inner after parts back all.1 whole held
+  star_goes terms rest text inner after ((byte ∷ part) ∷ parts) back all whole held =
       let same : byte ≡ symbol = cc in
       let tail : text ≡ (part ++ concat parts) ++ back = cc in
       let w = inner part (subst (λ (n : ℕ). InTerms terms (n ∷ part)) same all.0) in
@@ -127,24 +127,24 @@ module _ (symbol : ℕ) where
 
   mutual
     term_goes : (term rest : Term) (text : List ℕ) → (InTerm rest (symbol ∷ text) → Goes rest text) → InTerm (join_term term rest) (symbol ∷ text) → Goes (join_term term rest) text
-    term_goes empty rest text behind held = behind held
-    term_goes (put (class c) term) rest text behind (front, back, whole, h, held) = class_goes c (join_term term rest) text front back whole h held
-    term_goes (put (group terms) term) rest text behind (front, back, whole, h, held) =
-        let w = terms_go terms (join_term term rest) text front back (λ k. term_goes term rest text behind k) whole h held in
+    term_goes empty rest text after held = after held
+    term_goes (put (class c) term) rest text after (front, back, whole, h, held) = class_goes c (join_term term rest) text front back whole h held
+    term_goes (put (group terms) term) rest text after (front, back, whole, h, held) =
+        let w = terms_go terms (join_term term rest) text front back (λ k. term_goes term rest text after k) whole h held in
         record { next = w.2.next; derivative = of_group w.0 w.1 w.2.derivative; held = w.2.held }
-    term_goes (put (star terms) term) rest text behind (front, back, whole, h, held) =
+    term_goes (put (star terms) term) rest text after (front, back, whole, h, held) =
         star_goes terms (join_term term rest) text
         (λ inner k. alone terms inner (terms_go terms empty inner (symbol ∷ inner) [] (nothing_goes inner) (sym (append-nil (symbol ∷ inner))) k refl))
-        (λ k. term_goes term rest text behind k)
+        (λ k. term_goes term rest text after k)
         h.0 back h.1 (whole ∙ ap (λ (f : List ℕ). f ++ back) h.2) held
 
     terms_go : (terms : Terms) (rest : Term) (text front back : List ℕ) → (InTerm rest (symbol ∷ text) → Goes rest text) → symbol ∷ text ≡ front ++ back → InTerms terms front → InTerm rest back
         → (alternative : Term) × IsAmong terms alternative × Goes (join_term alternative rest) text
-    terms_go none rest text front back behind whole h held = absurd h
-    terms_go (alt first others) rest text front back behind whole (inl h) held =
-        (first, inl refl, term_goes first rest text behind (subst (InTerm (join_term first rest)) (sym whole) (joined_holds first rest front back h held)))
-    terms_go (alt first others) rest text front back behind whole (inr h) held =
-        let w = terms_go others rest text front back behind whole h held in
+    terms_go none rest text front back after whole h held = absurd h
+    terms_go (alt first others) rest text front back after whole (inl h) held =
+        (first, inl refl, term_goes first rest text after (subst (InTerm (join_term first rest)) (sym whole) (joined_holds first rest front back h held)))
+    terms_go (alt first others) rest text front back after whole (inr h) held =
+        let w = terms_go others rest text front back after whole h held in
         (w.0, inr w.1, w.2)
 
   pub holds_goes : (term : Term) (text : List ℕ) → InTerm term (symbol ∷ text) → Goes term text

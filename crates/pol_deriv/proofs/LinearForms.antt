@@ -5,7 +5,7 @@ use Rattle.std.proofs.lemmas.List.{map-append}
 use Rattle.basics.specs.Symbol.{is_symbol}
 use Rattle.pol_pattern.specs.Flat.{Class, holds_symbol, Factor, class, group, star, Term, empty, put, Terms, none, alt, join_term}
 use Rattle.pol_pattern.specs.Sets.{InFactor, InTerm, InTerms}
-use Rattle.pol_residual.specs.Derivative.{IsAmong, Derivative, of_class, of_group, of_star, behind_star}
+use Rattle.pol_residual.specs.Derivative.{IsAmong, Derivative, of_class, of_group, of_star, after_star}
 use Rattle.pol_deriv.specs.Linear.{factor_holds_empty, term_holds_empty, terms_hold_empty, factor_linear, linear, terms_linear, Leads}
 use Rattle.pol_deriv.proofs.Inversion.{derivative-empty, derivative-class, derivative-group, derivative-star}
 use Rattle.pol_deriv.proofs.Language.{join-empty, join_assoc}
@@ -47,34 +47,34 @@ mutual
 
 -- a pair, with more after its term
 abbrev pub followed_by : Term → Class × Term → Class × Term
-followed_by behind pair = (pair.0, join_term pair.1 behind)
+followed_by after pair = (pair.0, join_term pair.1 after)
 
 map_cond : (f : Class × Term → Class × Term) (b : Bool) (pairs : List (Class × Term)) → cond b (map f pairs) [] ≡ map f (cond b pairs [])
 map_cond f true pairs = refl
 map_cond f false pairs = refl
 
-module _ (behind : Term) where
+module _ (after : Term) where
   mutual
-    pub factor_linear-join : (factor : Factor) (m : Term) → factor_linear factor (join_term m behind) ≡ map (followed_by behind) (factor_linear factor m)
+    pub factor_linear-join : (factor : Factor) (m : Term) → factor_linear factor (join_term m after) ≡ map (followed_by after) (factor_linear factor m)
     factor_linear-join (class c) m = refl
     factor_linear-join (group terms) m = terms_linear-join terms m
     factor_linear-join (star terms) m = terms_linear-join terms (put (star terms) m)
 
-    pub linear-join : (term m : Term) → linear term (join_term m behind) ≡ map (followed_by behind) (linear term m)
+    pub linear-join : (term m : Term) → linear term (join_term m after) ≡ map (followed_by after) (linear term m)
     linear-join empty m = refl
     linear-join (put factor rest) m =
-        ap (λ (k : Term). factor_linear factor k ++ cond (factor_holds_empty factor) (linear rest (join_term m behind)) []) (sym (join_assoc rest m behind))
-        ∙ ap (λ (l : List (Class × Term)). l ++ cond (factor_holds_empty factor) (linear rest (join_term m behind)) []) (factor_linear-join factor (join_term rest m))
-        ∙ ap (λ (l : List (Class × Term)). map (followed_by behind) (factor_linear factor (join_term rest m)) ++ l)
-        (ap (λ (l : List (Class × Term)). cond (factor_holds_empty factor) l []) (linear-join rest m) ∙ map_cond (followed_by behind) (factor_holds_empty factor) (linear rest m))
-        ∙ sym (map-append (followed_by behind) (factor_linear factor (join_term rest m)) (cond (factor_holds_empty factor) (linear rest m) []))
+        ap (λ (k : Term). factor_linear factor k ++ cond (factor_holds_empty factor) (linear rest (join_term m after)) []) (sym (join_assoc rest m after))
+        ∙ ap (λ (l : List (Class × Term)). l ++ cond (factor_holds_empty factor) (linear rest (join_term m after)) []) (factor_linear-join factor (join_term rest m))
+        ∙ ap (λ (l : List (Class × Term)). map (followed_by after) (factor_linear factor (join_term rest m)) ++ l)
+        (ap (λ (l : List (Class × Term)). cond (factor_holds_empty factor) l []) (linear-join rest m) ∙ map_cond (followed_by after) (factor_holds_empty factor) (linear rest m))
+        ∙ sym (map-append (followed_by after) (factor_linear factor (join_term rest m)) (cond (factor_holds_empty factor) (linear rest m) []))
 
-    pub terms_linear-join : (terms : Terms) (m : Term) → terms_linear terms (join_term m behind) ≡ map (followed_by behind) (terms_linear terms m)
+    pub terms_linear-join : (terms : Terms) (m : Term) → terms_linear terms (join_term m after) ≡ map (followed_by after) (terms_linear terms m)
     terms_linear-join none m = refl
     terms_linear-join (alt first others) m =
-        ap (λ (l : List (Class × Term)). l ++ terms_linear others (join_term m behind)) (linear-join first m)
-        ∙ ap (λ (l : List (Class × Term)). map (followed_by behind) (linear first m) ++ l) (terms_linear-join others m)
-        ∙ sym (map-append (followed_by behind) (linear first m) (terms_linear others m))
+        ap (λ (l : List (Class × Term)). l ++ terms_linear others (join_term m after)) (linear-join first m)
+        ∙ ap (λ (l : List (Class × Term)). map (followed_by after) (linear first m) ++ l) (terms_linear-join others m)
+        ∙ sym (map-append (followed_by after) (linear first m) (terms_linear others m))
 
 -- ---- what pairs say of a symbol
 
@@ -93,16 +93,16 @@ module _ (symbol : ℕ) where
   leads_cases (pair ∷ front) back next (inl h) = inl (inl h)
   leads_cases (pair ∷ front) back next (inr h) = elim (leads_cases front back next h) [ inl p ↦ inl (inr p) | inr q ↦ inr q ]
 
-  leads_followed : (behind : Term) (pairs : List (Class × Term)) (next : Term) → Leads symbol pairs next → Leads symbol (map (followed_by behind) pairs) (join_term next behind)
-  leads_followed behind [] next h = absurd h
-  leads_followed behind (pair ∷ pairs) next (inl h) = inl (h.0, ap (λ (t : Term). join_term t behind) h.1)
-  leads_followed behind (pair ∷ pairs) next (inr h) = inr (leads_followed behind pairs next h)
+  leads_followed : (after : Term) (pairs : List (Class × Term)) (next : Term) → Leads symbol pairs next → Leads symbol (map (followed_by after) pairs) (join_term next after)
+  leads_followed after [] next h = absurd h
+  leads_followed after (pair ∷ pairs) next (inl h) = inl (h.0, ap (λ (t : Term). join_term t after) h.1)
+  leads_followed after (pair ∷ pairs) next (inr h) = inr (leads_followed after pairs next h)
 
-  followed_leads : (behind : Term) (pairs : List (Class × Term)) (next : Term) → Leads symbol (map (followed_by behind) pairs) next → (inner : Term) × Leads symbol pairs inner × (next ≡ join_term inner behind)
-  followed_leads behind [] next h = absurd h
-  followed_leads behind (pair ∷ pairs) next (inl h) = (pair.1, inl (h.0, refl), h.1)
-  followed_leads behind (pair ∷ pairs) next (inr h) =
-      let w = followed_leads behind pairs next h in
+  followed_leads : (after : Term) (pairs : List (Class × Term)) (next : Term) → Leads symbol (map (followed_by after) pairs) next → (inner : Term) × Leads symbol pairs inner × (next ≡ join_term inner after)
+  followed_leads after [] next h = absurd h
+  followed_leads after (pair ∷ pairs) next (inl h) = (pair.1, inl (h.0, refl), h.1)
+  followed_leads after (pair ∷ pairs) next (inr h) =
+      let w = followed_leads after pairs next h in
       (w.0, inr w.1, w.2)
 
   -- ---- what holds the empty text is passed over
@@ -113,7 +113,7 @@ module _ (symbol : ℕ) where
     factor_passed (group terms) rest next e d =
         let w = terms_passed terms rest next e d in
         of_group w.0 w.1 w.2
-    factor_passed (star terms) rest next e d = behind_star d
+    factor_passed (star terms) rest next e d = after_star d
 
     term_passed : (term rest next : Term) → IsTrue (term_holds_empty term) → Derivative symbol rest next → Derivative symbol (join_term term rest) next
     term_passed empty rest next e d = d
@@ -174,16 +174,16 @@ module _ (symbol : ℕ) where
               (w.0, inr w.1, w.2)
         ]
 
-    star_derives : (terms : Terms) (behind next : Term) → Leads symbol (terms_linear terms behind) next
-        → (alternative inner : Term) × IsAmong terms alternative × Derivative symbol alternative inner × (next ≡ join_term inner behind)
-    star_derives none behind next h = absurd h
-    star_derives (alt first others) behind next h =
-        elim (leads_cases (linear first behind) (terms_linear others behind) next h) [
+    star_derives : (terms : Terms) (after next : Term) → Leads symbol (terms_linear terms after) next
+        → (alternative inner : Term) × IsAmong terms alternative × Derivative symbol alternative inner × (next ≡ join_term inner after)
+    star_derives none after next h = absurd h
+    star_derives (alt first others) after next h =
+        elim (leads_cases (linear first after) (terms_linear others after) next h) [
           | inl p ↦
-              let w = followed_leads behind (linear first empty) next (subst (λ (l : List (Class × Term)). Leads symbol l next) (linear-join behind first empty) p) in
+              let w = followed_leads after (linear first empty) next (subst (λ (l : List (Class × Term)). Leads symbol l next) (linear-join after first empty) p) in
               (first, w.0, inl refl, subst (λ (t : Term). Derivative symbol t w.0) (join-empty first) (linear_derives first empty w.0 w.1), w.2)
           | inr q ↦
-              let w = star_derives others behind next q in
+              let w = star_derives others after next q in
               (w.0, w.1, inr w.2, w.3, w.4)
         ]
 
@@ -204,13 +204,13 @@ module _ (symbol : ℕ) where
               ]
         ]
     derives_linear (put (star terms) term) rest next d =
-        let star_behind = put (star terms) (join_term term rest) in
+        let star_after = put (star terms) (join_term term rest) in
         elim (derivative-star d) [
-          | inl w ↦ inl (leads_left (terms_linear terms star_behind) (linear term rest) next
-              (subst (Leads symbol (terms_linear terms star_behind)) (sym w.joined) (star_linear_has terms w.alternative star_behind w.inner w.among w.derivative)))
+          | inl w ↦ inl (leads_left (terms_linear terms star_after) (linear term rest) next
+              (subst (Leads symbol (terms_linear terms star_after)) (sym w.joined) (star_linear_has terms w.alternative star_after w.inner w.among w.derivative)))
           | inr e ↦
               elim (derives_linear term rest next e) [
-                | inl p ↦ inl (leads_right (terms_linear terms star_behind) (linear term rest) next p)
+                | inl p ↦ inl (leads_right (terms_linear terms star_after) (linear term rest) next p)
                 | inr k ↦ inr k
               ]
         ]
@@ -229,18 +229,18 @@ module _ (symbol : ℕ) where
           | inr k ↦ inr (or_right (term_holds_empty first) (terms_hold_empty others) k.0, k.1)
         ]
 
-    star_linear_has : (terms : Terms) (alternative behind inner : Term) → IsAmong terms alternative → Derivative symbol alternative inner
-        → Leads symbol (terms_linear terms behind) (join_term inner behind)
-    star_linear_has none alternative behind inner among d = absurd among
-    star_linear_has (alt first others) alternative behind inner (inl same) d =
+    star_linear_has : (terms : Terms) (alternative after inner : Term) → IsAmong terms alternative → Derivative symbol alternative inner
+        → Leads symbol (terms_linear terms after) (join_term inner after)
+    star_linear_has none alternative after inner among d = absurd among
+    star_linear_has (alt first others) alternative after inner (inl same) d =
         elim (derives_linear first empty inner (subst (λ (t : Term). Derivative symbol t inner) (same ∙ sym (join-empty first)) d)) [
           | inl p ↦
-              leads_left (linear first behind) (terms_linear others behind) (join_term inner behind)
-              (subst (λ (l : List (Class × Term)). Leads symbol l (join_term inner behind)) (sym (linear-join behind first empty)) (leads_followed behind (linear first empty) inner p))
+              leads_left (linear first after) (terms_linear others after) (join_term inner after)
+              (subst (λ (l : List (Class × Term)). Leads symbol l (join_term inner after)) (sym (linear-join after first empty)) (leads_followed after (linear first empty) inner p))
           | inr k ↦ absurd (derivative-empty k.1)
         ]
-    star_linear_has (alt first others) alternative behind inner (inr among) d =
-        leads_right (linear first behind) (terms_linear others behind) (join_term inner behind) (star_linear_has others alternative behind inner among d)
+    star_linear_has (alt first others) alternative after inner (inr among) d =
+        leads_right (linear first after) (terms_linear others after) (join_term inner after) (star_linear_has others alternative after inner among d)
 
   -- the derivatives of a term are those that its linear form says
   pub linear_is : (term next : Term) → Derivative symbol term next ↔ Leads symbol (linear term empty) next

@@ -310,11 +310,11 @@ pub begins_of : (kind : Kind) (terms : Terms) (rest : Term) → IsTrue (begins_w
 begins_of kinds.Group terms rest = refl
 begins_of kinds.Star terms rest = refl
 
-pub alternative_means : (kind : Kind) (table new : List Term) (first rest number : ℕ) (term : Term) (terms : Terms) (behind : Term) → Means table first term → Means table rest (put (of_kind kind terms) behind)
-    → Means new number (with_alternative (term_at table first) (term_at table rest)) → Means new number (put (of_kind kind (alt term terms)) behind)
-alternative_means kind table new first rest number term terms behind p q own =
-    let parts : with_alternative (term_at table first) (term_at table rest) ≡ put (of_kind kind (alt term terms)) behind =
+pub alternative_means : (kind : Kind) (table new : List Term) (first rest number : ℕ) (term : Term) (terms : Terms) (after : Term) → Means table first term → Means table rest (put (of_kind kind terms) after)
+    → Means new number (with_alternative (term_at table first) (term_at table rest)) → Means new number (put (of_kind kind (alt term terms)) after)
+alternative_means kind table new first rest number term terms after p q own =
+    let parts : with_alternative (term_at table first) (term_at table rest) ≡ put (of_kind kind (alt term terms)) after =
     ap (λ (t : Term). with_alternative t (term_at table rest)) (term_means table first term p)
-    ∙ ap (with_alternative term) (term_means table rest (put (of_kind kind terms) behind) q)
-    ∙ with_alternative_of kind term terms behind in
+    ∙ ap (with_alternative term) (term_means table rest (put (of_kind kind terms) after) q)
+    ∙ with_alternative_of kind term terms after in
     subst (Means new number) parts own

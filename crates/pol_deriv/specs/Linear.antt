@@ -23,27 +23,27 @@ abbrev mutual
 
 -- what follows each term of a group or a star, where this follows the whole: a star goes on
 abbrev pub continuation : Factor → Term → Term
-continuation (class c) behind = behind
-continuation (group terms) behind = behind
-continuation (star terms) behind = put (star terms) behind
+continuation (class c) after = after
+continuation (group terms) after = after
+continuation (star terms) after = put (star terms) after
 
 -- what a part begins with, where this term follows it
 abbrev mutual
   pub factor_linear : Factor → Term → List (Class × Term)
-  factor_linear (class c) behind = (c, behind) ∷ []
-  factor_linear (group terms) behind = terms_linear terms (continuation (group terms) behind)
-  factor_linear (star terms) behind = terms_linear terms (continuation (star terms) behind)
+  factor_linear (class c) after = (c, after) ∷ []
+  factor_linear (group terms) after = terms_linear terms (continuation (group terms) after)
+  factor_linear (star terms) after = terms_linear terms (continuation (star terms) after)
 
   -- what follows a factor counts as a beginning only where the factor holds the empty text
   pub linear : Term → Term → List (Class × Term)
-  linear empty behind = []
-  linear (put factor rest) behind =
-      factor_linear factor (join_term rest behind)
-      ++ (if factor_holds_empty factor then linear rest behind else [])
+  linear empty after = []
+  linear (put factor rest) after =
+      factor_linear factor (join_term rest after)
+      ++ (if factor_holds_empty factor then linear rest after else [])
 
   pub terms_linear : Terms → Term → List (Class × Term)
-  terms_linear none behind = []
-  terms_linear (alt first others) behind = linear first behind ++ terms_linear others behind
+  terms_linear none after = []
+  terms_linear (alt first others) after = linear first after ++ terms_linear others after
 
 -- the term is that of a pair whose class holds the symbol
 abbrev pub Leads : ℕ → List (Class × Term) → Term → Type 0

@@ -28,12 +28,12 @@ impl Table {
     pub(crate) fn linear(
         &mut self,
         term: Number,
-        behind: Number,
+        after: Number,
     ) -> Result<Vec<Monomial>, AllocError>
         requires term { term < length self.old }
-        requires behind { behind < length self.old }
+        requires after { after < length self.old }
         ensures grows { Grows self.old self.new }
-        ensures exact { let pairs = spec.linear (term_at self.old term) (term_at self.old behind) in
+        ensures exact { let pairs = spec.linear (term_at self.old term) (term_at self.old after) in
             IfOk result (λ form. IsForm self.new form.items pairs) }
     {
         let mut form = Vec::new(self.alloc());
@@ -42,12 +42,12 @@ impl Table {
             match self.node(at) {
                 Node::Empty => return Ok(form),
                 Node::Class { class, rest } => {
-                    let next = self.join(rest, behind)?;
+                    let next = self.join(rest, after)?;
                     form.push(Monomial { class, next })?;
                     return Ok(form);
                 }
                 Node::Group { .. } | Node::Star { .. } | Node::Alternative { .. } => {
-                    let (mut begun, rest) = self.linear_terms(at, behind)?;
+                    let (mut begun, rest) = self.linear_terms(at, after)?;
                     form.append(&mut begun)?;
                     match rest {
                         Some(rest) => at = rest,
@@ -60,19 +60,19 @@ impl Table {
 
     /// What follows each term of the group or star that a term begins with, where another follows
     /// the whole.
-    fn continuation(&mut self, term: Number, behind: Number) -> Result<Number, AllocError>
+    fn continuation(&mut self, term: Number, after: Number) -> Result<Number, AllocError>
         requires term { term < length self.old }
-        requires behind { behind < length self.old }
+        requires after { after < length self.old }
         requires begins { IsTrue (begins_with_terms (term_at self.old term)) }
         ensures grows { Grows self.old self.new }
         ensures meant { let whole = term_at self.old term in
-            let rest = flat.join_term (rest_of whole) (term_at self.old behind) in
+            let rest = flat.join_term (rest_of whole) (term_at self.old after) in
             IfOk result (λ n. Means self.new n (spec.continuation (first_factor whole) rest)) }
     {
         let (kind, rest) = self.end(term);
         match kind {
-            Kind::Group => self.join(rest, behind),
-            Kind::Star => self.join(term, behind),
+            Kind::Group => self.join(rest, after),
+            Kind::Star => self.join(term, after),
         }
     }
 
@@ -82,14 +82,14 @@ impl Table {
     fn linear_terms(
         &mut self,
         term: Number,
-        behind: Number,
+        after: Number,
     ) -> Result<(Vec<Monomial>, Option<Number>), AllocError>
         requires term { term < length self.old }
-        requires behind { behind < length self.old }
+        requires after { after < length self.old }
         requires begins { IsTrue (begins_with_terms (term_at self.old term)) }
         ensures grows { Grows self.old self.new }
         ensures exact { let whole = term_at self.old term in
-            let rest = flat.join_term (rest_of whole) (term_at self.old behind) in
+            let rest = flat.join_term (rest_of whole) (term_at self.old after) in
             let pairs = spec.factor_linear (first_factor whole) rest in
             IfOk result (λ begun. IsForm self.new begun.0.items pairs) }
         ensures rest { let whole = term_at self.old term in
@@ -98,7 +98,7 @@ impl Table {
             (λ n. (holds_empty ≡ true) × (n < term) × Means self.new n (rest_of whole))) }
     {
         let (kind, rest) = self.end(term);
-        let next = self.continuation(term, behind)?;
+        let next = self.continuation(term, after)?;
         let mut holds_empty = matches!(kind, Kind::Star);
         let mut form = Vec::new(self.alloc());
         let mut at = term;

@@ -155,9 +155,9 @@ impl Table {
         ensures meant { let term = term_at self.old in
             IfOk result (λ n. Means self.new n (with_alternative (term first) (term rest))) }
     {
-        let (_, behind) = self.end(rest);
+        let (_, after) = self.end(rest);
         let holds_empty = self.holds_empty(rest)
-            || self.holds_empty(first) && self.holds_empty(behind);
+            || self.holds_empty(first) && self.holds_empty(after);
         self.add(Node::Alternative {
             first,
             rest,

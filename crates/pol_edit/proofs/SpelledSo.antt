@@ -245,10 +245,10 @@ insert_found rest edit e =
     let made : Edit = InsertRule front.0.0 at.0 verdict.0 ruled.0.1 in
     let subject : List ℕ = subject_text front.0.0 in
     let rule : placed.0.1 ≡ verdict_word verdict.0 ++ ruled.0.1 = parted_at placed.0.1 ruled.0 ruled.1 ∙ verdict_found ruled.0.0 ruled.0.1 verdict.0 verdict.1 in
-    let behind : front.0.1 ≡ placed.0.0 ++ 32 ∷ (verdict_word verdict.0 ++ ruled.0.1) =
+    let after : front.0.1 ≡ placed.0.0 ++ 32 ∷ (verdict_word verdict.0 ++ ruled.0.1) =
     parted_at front.0.1 placed.0 placed.1 ∙ ap (λ (t : List ℕ). placed.0.0 ++ 32 ∷ t) rule in
     respell _ (codes "insert " ++ (subject ++ 32 ∷ (placed.0.0 ++ 32 ∷ (verdict_word verdict.0 ++ ruled.0.1)))) edit made
-    (ap (λ (t : List ℕ). codes "insert " ++ t) (named.0 ∙ ap (λ (t : List ℕ). subject ++ 32 ∷ t) behind)) (done_is made edit verdict.2)
+    (ap (λ (t : List ℕ). codes "insert " ++ t) (named.0 ∙ ap (λ (t : List ℕ). subject ++ 32 ∷ t) after)) (done_is made edit verdict.2)
     (placed.0.0, sym (joined_7 (codes "insert ") subject (codes " ") placed.0.0 (codes " ") (verdict_word verdict.0) ruled.0.1), named.1, at.1)
 
 shift_found : (rest : List ℕ) (edit : Edit) → shift_of rest ≡ Some edit → SpellsWords (codes "shift " ++ rest) edit

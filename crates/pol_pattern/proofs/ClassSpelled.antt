@@ -147,8 +147,8 @@ item_length (range (plain x) final) = (suc (length (class_symbol_bytes final)), 
 item_length (range (quoted x) final) = (suc (suc (length (class_symbol_bytes final))), refl)
 
 -- what follows an item
-behind_item : (byte : ℕ) (rest back : List ℕ) (tree : Item) → byte ∷ rest ≡ item_bytes tree ++ back → drop (length (item_bytes tree) - 1) rest ≡ back
-behind_item byte rest back tree whole =
+after_item : (byte : ℕ) (rest back : List ℕ) (tree : Item) → byte ∷ rest ≡ item_bytes tree ++ back → drop (length (item_bytes tree) - 1) rest ≡ back
+after_item byte rest back tree whole =
     let size = item_length tree in
     let less : length (item_bytes tree) - 1 ≡ size.0 = let e : length (item_bytes tree) ≡ suc size.0 = size.1 in omega arith in
     ap (λ (n : ℕ). drop n rest) less ∙ ap (drop (suc size.0)) whole ∙ drop_at (item_bytes tree) back (suc size.0) size.1
@@ -185,7 +185,7 @@ items_spelled (byte ∷ rest) place zero found text e =
           (items_joined place (byte ∷ rest) item.1 item.0 found b.0 item.2 item.4
           (ap (λ (f : (ℕ × ℕ) × ℕ). (f.0 ∷ b.0.0, b.0.1)) item.3 ∙ b.2)
           (subst (λ (d : List ℕ). ItemsSpelled (place + length (item_bytes item.0)) d b.0)
-          (ap (λ (n : ℕ). drop (n - 1) rest) (sym size) ∙ behind_item byte rest item.1 item.0 item.4)
+          (ap (λ (n : ℕ). drop (n - 1) rest) (sym size) ∙ after_item byte rest item.1 item.0 item.4)
           (items_later (place + 1 + (a.0.1 - 1)) (place + length (item_bytes item.0)) (drop (a.0.1 - 1) rest) b.0 (omega arith) more)))
     ]
 

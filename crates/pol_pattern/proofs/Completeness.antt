@@ -42,7 +42,7 @@ bracket_read version negated first others place rest opened flag level outer rig
     ∙ bracket_token version flag place _ _ _ (class_taken negated first others rest right caret)
     ∙ ap (λ (n : ℕ). Ok (tokens.Atom (bracket_class negated (first ∷ others)), n)) size)
 
--- a suffix, behind an atom
+-- a suffix, after an atom
 pub suffix_read : (version : Version) (suffix : Suffix) (place : ℕ) (rest opened : List ℕ) (level : Level) (outer : List Level) → is_right_suffix version suffix ≡ true
     → read_on version place 0 opened true level outer (suffix_bytes suffix ++ rest)
     ≡ read_on version (place + length (suffix_bytes suffix)) 0 opened true (with_repeat level (suffix_repeat suffix)) outer rest
@@ -58,16 +58,16 @@ suffix_read version suffix place rest opened level outer right =
 
 -- ---- trees
 
-abbrev pub flag_behind : Bool → Sequence → Bool
-flag_behind flag nothing = flag
-flag_behind flag (next first others) = true
+abbrev pub flag_after : Bool → Sequence → Bool
+flag_after flag nothing = flag
+flag_after flag (next first others) = true
 
-still_behind : (tree : Sequence) → flag_behind true tree ≡ true
-still_behind nothing = refl
-still_behind (next first others) = refl
+still_after : (tree : Sequence) → flag_after true tree ≡ true
+still_after nothing = refl
+still_after (next first others) = refl
 
 abbrev pub last_flag : Bool → Alternatives → Bool
-last_flag flag (single sequence) = flag_behind flag sequence
+last_flag flag (single sequence) = flag_after flag sequence
 last_flag flag (or sequence others) = last_flag false others
 
 mutual
@@ -79,13 +79,13 @@ mutual
       let level1 : Level = sequence_level level sequence in
       ap (read_on version place 0 opened flag level outer) (append_assoc (sequence_bytes sequence) (124 ∷ alternatives_bytes others) rest)
       ∙ sequence_read version sequence place (124 ∷ alternatives_bytes others ++ rest) opened flag level outer parts.0 (omega arith)
-      ∙ read_bar version (place + length (sequence_bytes sequence)) (alternatives_bytes others ++ rest) opened (flag_behind flag sequence) level1 outer
+      ∙ read_bar version (place + length (sequence_bytes sequence)) (alternatives_bytes others ++ rest) opened (flag_after flag sequence) level1 outer
       ∙ alternatives_read version others (place + length (sequence_bytes sequence) + 1) rest opened false (with_bar level1) outer parts.1 (omega arith)
       ∙ ap (λ (p : ℕ). read_on version p 0 opened (last_flag false others) (alternatives_level (with_bar level1) others) outer rest)
       (omega (arith, length-append (sequence_bytes sequence) (124 ∷ alternatives_bytes others)))
 
   pub sequence_read : (version : Version) (tree : Sequence) (place : ℕ) (rest opened : List ℕ) (flag : Bool) (level : Level) (outer : List Level) → is_right_sequence version tree ≡ true → length opened + sequence_depth tree ≤ 32
-      → read_on version place 0 opened flag level outer (sequence_bytes tree ++ rest) ≡ read_on version (place + length (sequence_bytes tree)) 0 opened (flag_behind flag tree) (sequence_level level tree) outer rest
+      → read_on version place 0 opened flag level outer (sequence_bytes tree ++ rest) ≡ read_on version (place + length (sequence_bytes tree)) 0 opened (flag_after flag tree) (sequence_level level tree) outer rest
   sequence_read version nothing place rest opened flag level outer right few = ap (λ (p : ℕ). read_on version p 0 opened flag level outer rest) (omega arith)
   sequence_read version (next first others) place rest opened flag level outer right few =
       let parts = and_parts (is_right_repetition version first) (is_right_sequence version others) right in
@@ -93,7 +93,7 @@ mutual
       ∙ repetition_read version first place (sequence_bytes others ++ rest) opened flag level outer parts.0 (omega arith)
       ∙ sequence_read version others (place + length (repetition_bytes first)) rest opened true (repetition_level level first) outer parts.1 (omega arith)
       ∙ ap₂ (λ (p : ℕ) (f : Bool). read_on version p 0 opened f (sequence_level (repetition_level level first) others) outer rest)
-      (omega (arith, length-append (repetition_bytes first) (sequence_bytes others))) (still_behind others)
+      (omega (arith, length-append (repetition_bytes first) (sequence_bytes others))) (still_after others)
 
   pub repetition_read : (version : Version) (tree : Repetition) (place : ℕ) (rest opened : List ℕ) (flag : Bool) (level : Level) (outer : List Level) → is_right_repetition version tree ≡ true → length opened + repetition_depth tree ≤ 32
       → read_on version place 0 opened flag level outer (repetition_bytes tree ++ rest) ≡ read_on version (place + length (repetition_bytes tree)) 0 opened true (repetition_level level tree) outer rest

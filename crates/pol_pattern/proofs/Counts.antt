@@ -24,12 +24,12 @@ size-star (put (star terms) factors) = omega arith
 size-star (put (group terms) empty) = omega arith
 size-star (put (group terms) (put factor factors)) = omega arith
 
-pub no_group_behind : (factors : Term) (terms : Terms) → is_one_group (join_term factors (put (star terms) empty)) ≡ false
-no_group_behind empty terms = refl
-no_group_behind (put (class c) factors) terms = refl
-no_group_behind (put (star inner) factors) terms = refl
-no_group_behind (put (group inner) empty) terms = refl
-no_group_behind (put (group inner) (put factor factors)) terms = refl
+pub no_group_after : (factors : Term) (terms : Terms) → is_one_group (join_term factors (put (star terms) empty)) ≡ false
+no_group_after empty terms = refl
+no_group_after (put (class c) factors) terms = refl
+no_group_after (put (star inner) factors) terms = refl
+no_group_after (put (group inner) empty) terms = refl
+no_group_after (put (group inner) (put factor factors)) terms = refl
 
 pub same_sizes : (done done' before before' last last' : ℕ) (one one' : Bool) → done ≡ done' → before ≡ before' → last ≡ last' → one ≡ one'
     → ◌≡◌ {A = Sizes} (record { done = done; before = before; last = last; last_is_group = one }) (record { done = done'; before = before'; last = last'; last_is_group = one' })
@@ -57,7 +57,7 @@ plus_sizes s level extra sum both is e total more =
     let bit : extra ≡ extra_of (is_one_group level.last) = e ∙ ap (λ (t : Sizes). extra_of t.last_is_group) is in
     same_sizes _ _ _ _ _ _ _ _ (ap (λ (t : Sizes). t.done) is) (ap (λ (t : Sizes). t.before) is)
     (omega (arith, ap (λ (t : Sizes). t.last) is, size-star level.last, size-join_term level.last (put (star (alternatives_of level.last)) empty)))
-    (sym (no_group_behind level.last (alternatives_of level.last)))
+    (sym (no_group_after level.last (alternatives_of level.last)))
 
 pub question_sizes : (s : Sizes) (level : Level) (sum : ℕ) → s ≡ size_of level → sum ≡ min 401 (s.last + 1)
     → ◌≡◌ {A = Sizes} (record { done = s.done; before = s.before; last = sum; last_is_group = true }) (size_of (with_repeat level Question))

@@ -12,7 +12,7 @@ use Rattle.pol_pattern.specs.Reading.{◌>>=◌, tokens_from, Level, fresh, with
 use Rattle.pol_pattern.proofs.TreeLevels.{repetition_level, sequence_level}
 use Rattle.pol_pattern.proofs.ReadOn.{context_of, read_on, read_bar, read_open, read_too_deep}
 use Rattle.pol_pattern.proofs.TreeTexts.{alternatives_text}
-use Rattle.pol_pattern.proofs.Completeness.{flag_behind, sequence_read, repetition_read, tree_read, no_place, sized_after}
+use Rattle.pol_pattern.proofs.Completeness.{flag_after, sequence_read, repetition_read, tree_read, no_place, sized_after}
 use Rattle.pol_pattern.proofs.Steps.{ok_is, refused}
 use Rattle.pol_pattern.proofs.Soundness.{reading_spells}
 
@@ -30,7 +30,7 @@ mutual
         | inl deep ↦ sequence_deep version sequence place (124 ∷ alternatives_bytes others ++ rest) opened flag level outer parts.0 few deep
         | inr flat ↦
             sequence_read version sequence place (124 ∷ alternatives_bytes others ++ rest) opened flag level outer parts.0 flat
-            ∙ read_bar version (place + length (sequence_bytes sequence)) (alternatives_bytes others ++ rest) opened (flag_behind flag sequence) (sequence_level level sequence) outer
+            ∙ read_bar version (place + length (sequence_bytes sequence)) (alternatives_bytes others ++ rest) opened (flag_after flag sequence) (sequence_level level sequence) outer
             ∙ alternatives_deep version others (place + length (sequence_bytes sequence) + 1) rest opened false (with_bar (sequence_level level sequence)) outer parts.1 few (omega arith)
       ]
 

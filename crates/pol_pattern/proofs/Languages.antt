@@ -102,12 +102,12 @@ concatenation_law p q text hp hq whole =
   where
     both_in : (p q text : List ℕ) (a : Pattern p) (b : Pattern q) → InTerms (alt (put (group (alternatives_terms a.tree)) (put (group (alternatives_terms b.tree)) empty)) none) text → Concatenation (Holds p) (Holds q) text
     both_in p q text a b (inr h) = absurd h
-    both_in p q text a b (inl (front, back, split, first, behind)) =
-        (front, back, split, in_holds p front _ a.read first, in_holds q back _ b.read (one_in (group (alternatives_terms b.tree)) back (inl behind)))
+    both_in p q text a b (inl (front, back, split, first, after)) =
+        (front, back, split, in_holds p front _ a.read first, in_holds q back _ b.read (one_in (group (alternatives_terms b.tree)) back (inl after)))
 
     in_both : (p q text : List ℕ) (a : Pattern p) (b : Pattern q) → Concatenation (Holds p) (Holds q) text → InTerms (alt (put (group (alternatives_terms a.tree)) (put (group (alternatives_terms b.tree)) empty)) none) text
-    in_both p q text a b (front, back, split, first, behind) =
-        inl (front, back, split, holds_in p front _ a.read first, (back, [], sym (append-nil back), holds_in q back _ b.read behind, refl))
+    in_both p q text a b (front, back, split, first, after) =
+        inl (front, back, split, holds_in p front _ a.read first, (back, [], sym (append-nil back), holds_in q back _ b.read after, refl))
 
 -- ---- (p)*
 
@@ -139,22 +139,22 @@ plus_law p text hp whole =
   where
     both_in : (p text : List ℕ) (a : Pattern p) → InTerms (alt (put (group (alternatives_terms a.tree)) (put (star (alternatives_terms a.tree)) empty)) none) text → Concatenation (Holds p) (Star (Holds p)) text
     both_in p text a (inr h) = absurd h
-    both_in p text a (inl (front, back, split, first, behind)) = (
+    both_in p text a (inl (front, back, split, first, after)) = (
       front,
       back,
       split,
       in_holds p front _ a.read first,
-      joins_map (InTerms (alternatives_terms a.tree)) (Holds p) (λ t h. in_holds p t _ a.read h) back (one_in (star (alternatives_terms a.tree)) back (inl behind)),
+      joins_map (InTerms (alternatives_terms a.tree)) (Holds p) (λ t h. in_holds p t _ a.read h) back (one_in (star (alternatives_terms a.tree)) back (inl after)),
     )
 
     in_both : (p text : List ℕ) (a : Pattern p) → Concatenation (Holds p) (Star (Holds p)) text → InTerms (alt (put (group (alternatives_terms a.tree)) (put (star (alternatives_terms a.tree)) empty)) none) text
-    in_both p text a (front, back, split, first, behind) =
+    in_both p text a (front, back, split, first, after) =
         inl (
           front,
           back,
           split,
           holds_in p front _ a.read first,
-          (back, [], sym (append-nil back), joins_map (Holds p) (InTerms (alternatives_terms a.tree)) (λ t h. holds_in p t _ a.read h) back behind, refl),
+          (back, [], sym (append-nil back), joins_map (Holds p) (InTerms (alternatives_terms a.tree)) (λ t h. holds_in p t _ a.read h) back after, refl),
         )
 
 pub question_law : QuestionLaw

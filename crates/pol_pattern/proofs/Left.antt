@@ -266,14 +266,14 @@ mutual
       let n = factor_positions factor in
       let front = take n marks in
       let back = drop n marks in
-      let behind = factor_ends factor before front in
+      let after = factor_ends factor before front in
       let first = factor_moved factor before symbol front in
-      let others = term_moved term behind symbol back in
+      let others = term_moved term after symbol back in
       let wide : length first ≡ n = length-factor_moved factor before symbol front in
       rw (take_at first others n wide, drop_at first others n wide)
-      (put_moved symbol text (IsTrue before) (IsTrue behind) (InFactor factor) (LeftFactor factor front) (LeftFactor factor first) (InTerm term)
+      (put_moved symbol text (IsTrue before) (IsTrue after) (InFactor factor) (LeftFactor factor front) (LeftFactor factor first) (InTerm term)
       (LeftTerm term back (symbol ∷ text)) (LeftTerm term others text) (factor_ends-left factor before front)
-      (λ rest. factor_moved-left factor before symbol front rest) (term_moved-left term behind symbol back text))
+      (λ rest. factor_moved-left factor before symbol front rest) (term_moved-left term after symbol back text))
 
   pub terms_moved-left : (terms : Terms) (before : Bool) (symbol : ℕ) (marks : List Bool) (text : List ℕ)
       → LeftTerms terms (terms_moved terms before symbol marks) text

@@ -60,13 +60,13 @@ star_first : reading (codes "*a") ≡ Err (faults.NothingToRepeat 0)
 unfolding reading_by class_symbol_at item_at items_from class_at counts_at counted_at token_at context_after tokens_from build copies class_where numbers_from
 star_first = refl
 
-star_behind_bar : reading (codes "a|*") ≡ Err (faults.NothingToRepeat 2)
+star_after_bar : reading (codes "a|*") ≡ Err (faults.NothingToRepeat 2)
 unfolding reading_by class_symbol_at item_at items_from class_at counts_at counted_at token_at context_after tokens_from build copies class_where numbers_from
-star_behind_bar = refl
+star_after_bar = refl
 
-star_behind_open : reading (codes "(*a)") ≡ Err (faults.NothingToRepeat 1)
+star_after_open : reading (codes "(*a)") ≡ Err (faults.NothingToRepeat 1)
 unfolding reading_by class_symbol_at item_at items_from class_at counts_at counted_at token_at context_after tokens_from build copies class_where numbers_from
-star_behind_open = refl
+star_after_open = refl
 
 open_at_depth_32 : reading (codes "((((((((((((((((((((((((((((((((") ≡ Err (faults.Unclosed 31)
 unfolding reading_by class_symbol_at item_at items_from class_at counts_at counted_at token_at context_after tokens_from build copies class_where numbers_from

@@ -151,7 +151,7 @@ abbrev pub SuffixSpelled : Version → ℕ → List ℕ → Repeat → ℕ → T
 SuffixSpelled version byte rest repeat size =
     (suffix : Suffix) × (is_right_suffix version suffix ≡ true) × (suffix_repeat suffix ≡ repeat) × (byte ∷ rest ≡ suffix_bytes suffix ++ drop (size - 1) rest)
 
--- the bytes of counts, and what stands behind them
+-- the bytes of counts, and what stands after them
 pub record CountsSpelled (bytes : List ℕ) (counts : ℕ × ℕ) (size : ℕ) : Type 0 where
   pub suffix : Suffix
   pub right : is_right_suffix Two suffix ≡ true
@@ -161,15 +161,15 @@ pub record CountsSpelled (bytes : List ℕ) (counts : ℕ × ℕ) (size : ℕ) :
 braced_spelled : (text rest bytes : List ℕ) (counts : ℕ × ℕ) (numbers : Option (List ℕ × List ℕ)) → bytes ≡ text ++ 125 ∷ rest → drop (length text + 1) bytes ≡ rest
     → split_at_first 44 text ≡ numbers → option_map_or (λ (parts : List ℕ × List ℕ). range_counts parts.0 parts.1) numbers (exact_counts text) ≡ Some counts
     → CountsSpelled bytes counts (length text + 1)
-braced_spelled text rest bytes counts None whole behind split e = record {
+braced_spelled text rest bytes counts None whole after split e = record {
   suffix = exactly text;
   right = ap is_some e;
   repeat = ap counted e;
   whole =
       ap (λ (b : List ℕ). 123 ∷ b) (whole ∙ sym (append_assoc text (125 ∷ []) rest))
-      ∙ ap (λ (b : List ℕ). 123 ∷ ((text ++ 125 ∷ []) ++ b)) (sym behind);
+      ∙ ap (λ (b : List ℕ). 123 ∷ ((text ++ 125 ∷ []) ++ b)) (sym after);
 }
-braced_spelled text rest bytes counts (Some (low, high)) whole behind split e =
+braced_spelled text rest bytes counts (Some (low, high)) whole after split e =
     let joined : text ≡ low ++ 44 ∷ high = parts_joined 44 text low high split in
     let lined : (low ++ 44 ∷ high) ++ 125 ∷ rest ≡ (low ++ 44 ∷ (high ++ 125 ∷ [])) ++ rest = simp append_assoc in
     record {
@@ -178,7 +178,7 @@ braced_spelled text rest bytes counts (Some (low, high)) whole behind split e =
       repeat = ap counted e;
       whole =
           ap (λ (b : List ℕ). 123 ∷ b) (whole ∙ ap (λ (t : List ℕ). t ++ 125 ∷ rest) joined ∙ lined)
-          ∙ ap (λ (b : List ℕ). 123 ∷ ((low ++ 44 ∷ (high ++ 125 ∷ [])) ++ b)) (sym behind);
+          ∙ ap (λ (b : List ℕ). 123 ∷ ((low ++ 44 ∷ (high ++ 125 ∷ [])) ++ b)) (sym after);
     }
 
 counts_spelled : (bytes : List ℕ) (counts : ℕ × ℕ) (size : ℕ) → counts_at bytes ≡ Some (counts, size) → CountsSpelled bytes counts size
@@ -190,10 +190,10 @@ counts_spelled bytes counts size e =
     let whole : bytes ≡ text ++ 125 ∷ a.0.1 = parts_joined 125 bytes text a.0.1 a.1 in
     let lined : text ++ 125 ∷ a.0.1 ≡ (text ++ 125 ∷ []) ++ a.0.1 = sym (append_assoc text (125 ∷ []) a.0.1) in
     let long : length (text ++ 125 ∷ []) ≡ length text + 1 = length-append text (125 ∷ []) in
-    let behind : drop (length text + 1) bytes ≡ a.0.1 =
+    let after : drop (length text + 1) bytes ≡ a.0.1 =
     ap (drop (length text + 1)) (whole ∙ lined) ∙ drop_at (text ++ 125 ∷ []) a.0.1 (length text + 1) long in
     subst (λ (n : ℕ). CountsSpelled bytes counts n) b.1
-    (braced_spelled text a.0.1 bytes counts (split_at_first 44 text) whole behind refl b.0)
+    (braced_spelled text a.0.1 bytes counts (split_at_first 44 text) whole after refl b.0)
   where
     mapped : (o : Option (ℕ × ℕ)) (n : ℕ) (y : (ℕ × ℕ) × ℕ) → option_map (λ (c : ℕ × ℕ). (c, n)) o ≡ Some y → (o ≡ Some y.0) × (n ≡ y.1)
     mapped None n y e = absurd cc

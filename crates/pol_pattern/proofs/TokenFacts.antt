@@ -93,13 +93,13 @@ bracket_size negated first others rest back whole =
 
 bracket_spelled : (version : Version) (byte : ℕ) (rest : List ℕ) (found : Class × ℕ) → byte ≡ 91 → ClassSpelled rest found → AtomSpelled version byte rest found.0 (found.1 + 1)
 bracket_spelled version byte rest found same (negated, first, others, back, right, caret, is, whole) =
-    let behind : drop (found.1 + 1 - 1) rest ≡ back = ap (λ (f : Class × ℕ). drop (f.1 + 1 - 1) rest) (sym is) ∙ bracket_size negated first others rest back whole in
+    let after : drop (found.1 + 1 - 1) rest ≡ back = ap (λ (f : Class × ℕ). drop (f.1 + 1 - 1) rest) (sym is) ∙ bracket_size negated first others rest back whole in
     let split : rest ≡ negation_bytes negated ++ item_bytes first ++ items_bytes others ++ 93 ∷ [] ++ back = whole ∙ simp append_assoc in (
       bracket negated first others,
       and_from (list_all is_right_item (first ∷ others)) (negated || not (begins_with_caret first)) right caret,
       refl,
       ap (λ (f : Class × ℕ). put (class f.0) empty) is,
-      ap₂ (λ (b : ℕ) (r : List ℕ). b ∷ r) same (split ∙ ap (λ (r : List ℕ). negation_bytes negated ++ item_bytes first ++ items_bytes others ++ 93 ∷ [] ++ r) (sym behind)),
+      ap₂ (λ (b : ℕ) (r : List ℕ). b ∷ r) same (split ∙ ap (λ (r : List ℕ). negation_bytes negated ++ item_bytes first ++ items_bytes others ++ 93 ∷ [] ++ r) (sym after)),
     )
 
 escaped_spelled : (version : Version) (byte : ℕ) (rest : List ℕ) (symbol : ℕ) → byte ≡ 92 → is_text rest ≡ true → slice_get rest 0 ≡ Some symbol → AtomSpelled version byte rest (only symbol) 2

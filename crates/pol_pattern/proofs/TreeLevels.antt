@@ -49,27 +49,27 @@ sequence_present level (next first others) =
     ∙ join_term_assoc (present level) (repetition_factors first) (sequence_factors others)
 
 -- the terms, the first of which begins with these factors
-abbrev behind : Term → Terms → Terms
-behind term none = none
-behind term (alt first others) = alt (join_term term first) others
+abbrev after : Term → Terms → Terms
+after term none = none
+after term (alt first others) = alt (join_term term first) others
 
-behind-empty : (terms : Terms) → behind empty terms ≡ terms
-behind-empty none = refl
-behind-empty (alt first others) = refl
+after-empty : (terms : Terms) → after empty terms ≡ terms
+after-empty none = refl
+after-empty (alt first others) = refl
 
 sequence_finished : (level : Level) (tree : Sequence) → finished (sequence_level level tree) ≡ join_terms level.done (alt (join_term (present level) (sequence_factors tree)) none)
 sequence_finished level tree =
     ap (λ (d : Terms). join_terms d (alt (present (sequence_level level tree)) none)) (sequence_done level tree)
     ∙ ap (λ (t : Term). join_terms level.done (alt t none)) (sequence_present level tree)
 
-alternatives_finished : (level : Level) (tree : Alternatives) → finished (alternatives_level level tree) ≡ join_terms level.done (behind (present level) (alternatives_terms tree))
+alternatives_finished : (level : Level) (tree : Alternatives) → finished (alternatives_level level tree) ≡ join_terms level.done (after (present level) (alternatives_terms tree))
 alternatives_finished level (single sequence) = sequence_finished level sequence
 alternatives_finished level (or sequence others) =
     alternatives_finished (with_bar (sequence_level level sequence)) others
-    ∙ ap (λ (t : Terms). join_terms (finished (sequence_level level sequence)) t) (behind-empty (alternatives_terms others))
+    ∙ ap (λ (t : Terms). join_terms (finished (sequence_level level sequence)) t) (after-empty (alternatives_terms others))
     ∙ ap (λ (d : Terms). join_terms d (alternatives_terms others)) (sequence_finished level sequence)
     ∙ join_terms_assoc level.done (alt (join_term (present level) (sequence_factors sequence)) none) (alternatives_terms others)
 
 -- a level that begins with a tree ends with the tree's flat form
 pub fresh_finished : (tree : Alternatives) → finished (alternatives_level fresh tree) ≡ alternatives_terms tree
-fresh_finished tree = alternatives_finished fresh tree ∙ behind-empty (alternatives_terms tree)
+fresh_finished tree = alternatives_finished fresh tree ∙ after-empty (alternatives_terms tree)

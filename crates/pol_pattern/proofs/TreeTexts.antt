@@ -13,7 +13,7 @@ use Rattle.pol_pattern.proofs.Steps.{chosen, none_is}
 use Rattle.pol_pattern.proofs.Suffixes.{both_numbers}
 
 pub text_joined : (xs ys : List ℕ) → is_text xs ≡ true → is_text ys ≡ true → is_text (xs ++ ys) ≡ true
-text_joined xs ys first behind = list_all-append is_symbol xs ys ∙ and_from (is_text xs) (is_text ys) first behind
+text_joined xs ys first after = list_all-append is_symbol xs ys ∙ and_from (is_text xs) (is_text ys) first after
 
 class_symbol_text : (tree : ClassSymbol) → is_right_class_symbol tree ≡ true → is_text (class_symbol_bytes tree) ≡ true
 class_symbol_text (plain symbol) right =

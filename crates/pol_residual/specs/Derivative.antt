@@ -25,7 +25,7 @@ pub data Derivative (symbol : ℕ) : Term → Term → Type 0 where
       → Derivative symbol alternative next
       → Derivative symbol (put (star terms) rest) (join_term next (put (star terms) rest))
   -- .. and those of the rest
-  behind_star : {terms : Terms} {rest next : Term} → Derivative symbol rest next
+  after_star : {terms : Terms} {rest next : Term} → Derivative symbol rest next
       → Derivative symbol (put (star terms) rest) next
 
 -- all derivatives by a symbol of the terms of a set

@@ -9,7 +9,7 @@ use Rattle.basics.specs.TextOrder.{IsBefore}
 use Rattle.pol_scan.proofs.OrderFacts.{before_push, before_transitive}
 use Rattle.pol_scan.specs.Words.{word_at, longer}
 use Rattle.pol_scan.specs.Congruence.{Congruence, HasIndexAbove, Keeps}
-use Rattle.pol_scan.specs.Discovery.{IsCell, AreFound, AreBehind, IsFilled, StandsAt, Advances}
+use Rattle.pol_scan.specs.Discovery.{IsCell, AreFound, AreAfter, IsFilled, StandsAt, Advances}
 use Rattle.pol_scan.proofs.Finding.{cell_known, cell_kept, grown_by}
 
 -- one more cell
@@ -45,16 +45,16 @@ row_end congruence words cells state filled = record {
 }
 
 -- the next row begins after the words of the last
-pub behind_row : (words : List (List ℕ)) (state width : ℕ) → AllPairs IsBefore words → AreBehind words state width → state + 1 < length words → AreBehind words (state + 1) 0
-behind_row words state width rising behind h k d lt =
+pub after_row : (words : List (List ℕ)) (state width : ℕ) → AllPairs IsBefore words → AreAfter words state width → state + 1 < length words → AreAfter words (state + 1) 0
+after_row words state width rising after h k d lt =
     before_transitive (slice_index_or words k d) (longer (word_at words state) width) (longer (word_at words (state + 1)) 0)
-    (behind k d lt) (before_push (word_at words state) (word_at words (state + 1)) width 0 (rising state (state + 1) [] (omega arith) h))
+    (after k d lt) (before_push (word_at words state) (word_at words (state + 1)) width 0 (rising state (state + 1) [] (omega arith) h))
 
 pub stands_at_next_row : {S : Type 0} (congruence : Congruence) (leads : List ℕ → S → Type 0) (words : List (List ℕ)) (states : List S) (cells : List ℕ) (state : ℕ)
     → state < length words → StandsAt congruence leads words states cells state congruence.width → StandsAt congruence leads words states cells (state + 1) 0
 stands_at_next_row congruence leads words states cells state from s = record {
   found = s.found;
-  behind = behind_row words state congruence.width s.found.rising (s.behind from);
+  after = after_row words state congruence.width s.found.rising (s.after from);
   filled = row_end congruence words cells state s.filled;
 }
 
@@ -67,7 +67,7 @@ stands_at_next old new led leads keeps before words states keys cells state colu
     let g = grown_by a in
     record {
       found = a.found;
-      behind = λ _. a.behind;
+      after = λ _. a.after;
       filled = subst (λ w. IsFilled new w (cells ++ next ∷ []) state (column + 1)) (sym g.1)
           (filled_push old new led leads keeps before g.0 cells state column next in_range s.filled (subst (λ w. IsCell new w state column next) g.1 a.cell));
     }

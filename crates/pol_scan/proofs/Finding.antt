@@ -9,7 +9,7 @@ use Rattle.basics.specs.TextOrder.{IsBefore}
 use Rattle.pol_scan.proofs.OrderFacts.{push_before}
 use Rattle.pol_scan.specs.Words.{IsWord, word_at, longer, with_longer}
 use Rattle.pol_scan.specs.Congruence.{Congruence, Keeps}
-use Rattle.pol_scan.specs.Discovery.{IsUpTo, IsCell, AreFound, AreBehind, Advances}
+use Rattle.pol_scan.specs.Discovery.{IsUpTo, IsCell, AreFound, AreAfter, Advances}
 use Rattle.pol_scan.proofs.Lists.{zip_push, zip_weaker, length-zip, zip_at, get_within, get_is}
 use Rattle.pol_scan.proofs.OrderUp.{up_to_before}
 use Rattle.pol_scan.proofs.WordFacts.{word_at-append}
@@ -68,14 +68,14 @@ module _ {S : Type 0} (congruence : Congruence) (leads : List ℕ → S → Type
 
   one_more : (word : List ℕ) (s : S) → IsWord congruence.width word → leads word s → list_any (eq s) states ≡ false → All (λ w. IsBefore w word) words
       → AreFound congruence leads (words ++ word ∷ []) (states ++ s ∷ [])
-  one_more word s is_word led none behind = record {
+  one_more word s is_word led none after = record {
     different = record {
       all_words = All-push (IsWord congruence.width) words word found.different.all_words is_word;
       different = all_pairs_push (λ u v. ¬ (congruence.same u v)) words word found.different.different
           (λ k d h alike. not_same word s led none k h (subst (λ w. congruence.same w word) (get_or_default words k d [] h) alike));
     };
     led = zip_push leads words states word s found.led led;
-    rising = all_pairs_push IsBefore words word found.rising (λ k d h. behind k d h);
+    rising = all_pairs_push IsBefore words word found.rising (λ k d h. after k d h);
     first = (
       omega (arith, found.first.0, length-append words (word ∷ [])),
       word_at-append words (word ∷ []) 0 found.first.0 ∙ found.first.1,
@@ -96,22 +96,22 @@ module _ {S : Type 0} (congruence : Congruence) (leads : List ℕ → S → Type
 
   -- the word of a new state is the last and the greatest
   pub found_new : (state column : ℕ) (s : S) → state < length words → column < congruence.width → leads (longer (word_at words state) column) s → list_any (eq s) states ≡ false
-      → AreBehind words state column → AreFound congruence leads (with_longer words state column) (states ++ s ∷ [])
-  found_new state column s from in_range led none behind =
+      → AreAfter words state column → AreFound congruence leads (with_longer words state column) (states ++ s ∷ [])
+  found_new state column s from in_range led none after =
       one_more (longer (word_at words state) column) s
-      (All-push (λ c. c < congruence.width) (word_at words state) column (found.different.all_words state [] from) in_range) led none behind
+      (All-push (λ c. c < congruence.width) (word_at words state) column (found.different.all_words state [] from) in_range) led none after
 
 -- ---- the place of a scan
 
 pub up_to_old : (words : List (List ℕ)) (word : List ℕ) → All (λ w. IsBefore w word) words → All (λ w. IsUpTo w word) words
-up_to_old words word behind k d h = inr (behind k d h)
+up_to_old words word after k d h = inr (after k d h)
 
 pub up_to_new : (words : List (List ℕ)) (word : List ℕ) → All (λ w. IsBefore w word) words → All (λ w. IsUpTo w word) (words ++ word ∷ [])
-up_to_new words word behind = All-push (λ w. IsUpTo w word) words word (up_to_old words word behind) (inl refl)
+up_to_new words word after = All-push (λ w. IsUpTo w word) words word (up_to_old words word after) (inl refl)
 
 -- the words up to the one at which the scan stands come before the next place of the row
-pub behind_next : (words : List (List ℕ)) (state column : ℕ) → All (λ w. IsUpTo w (longer (word_at words state) column)) words → AreBehind words state (column + 1)
-behind_next words state column up_to k d h =
+pub after_next : (words : List (List ℕ)) (state column : ℕ) → All (λ w. IsUpTo w (longer (word_at words state) column)) words → AreAfter words state (column + 1)
+after_next words state column up_to k d h =
     up_to_before (slice_index_or words k d) (longer (word_at words state) column) (longer (word_at words state) (column + 1))
     (up_to k d h) (push_before (word_at words state) column (column + 1) (omega arith))
 
@@ -123,7 +123,7 @@ pub record Follows {S : Type 0} (old : Congruence) (led : List ℕ → S → Typ
   pub tells : (u v : List ℕ) (s t : S) → leads u s → leads v t → (eq s t ≡ true) ↔ new.same u v
   pub keeps : Keeps old led new leads
   pub found : AreFound old led words states
-  pub behind : AreBehind words number column
+  pub after : AreAfter words number column
   pub from : number < length words
   pub in_range : column < old.width
   pub read : Some state ≡ slice_get states number
@@ -146,8 +146,8 @@ module _ {S : Type 0} {old : Congruence} {led : List ℕ → S → Type 0} {new 
   found_before : AreFound new leads words states
   found_before = found_kept old new led leads words states f.keeps f.found
 
-  led_behind : leads (longer (word_at words number) column) next
-  led_behind = f.step (word_at words number) (led_before number state f.read)
+  led_after : leads (longer (word_at words number) column) next
+  led_after = f.step (word_at words number) (led_before number state f.read)
     where
       led_before : (i : ℕ) (s : S) → Some s ≡ slice_get states i → led (word_at words i) s
       led_before i s e = subst (led (word_at words i)) (get_is states i s s (sym e)) (zip_at led words states i [] s f.found.led (get_within states i s (sym e)))
@@ -157,7 +157,7 @@ module _ {S : Type 0} {old : Congruence} {led : List ℕ → S → Type 0} {new 
       let none : list_any (eq next) states ≡ false = not_there (list_any (eq next) states) is_new f.added t in
       let is : keys ≡ states ++ next ∷ [] = f.inserted ∙ ap (λ b. cond b states (states ++ next ∷ [])) none in
       subst (AreFound new leads (with_longer words number column)) (sym is)
-      (found_new new leads eq f.tells words states found_before number column next f.from (subst (λ w. column < w) (sym f.keeps.columns) f.in_range) led_behind none f.behind)
+      (found_new new leads eq f.tells words states found_before number column next f.from (subst (λ w. column < w) (sym f.keeps.columns) f.in_range) led_after none f.after)
 
   found_if_old : is_new ≡ false → AreFound new leads words keys
   found_if_old t =
@@ -170,22 +170,22 @@ module _ {S : Type 0} {old : Congruence} {led : List ℕ → S → Type 0} {new 
       let word = longer (word_at words number) column in
       let grown = with_longer words number column in
       let same_word : word_at grown number ≡ word_at words number = word_at-append words (word ∷ []) number f.from in
-      let up_to : All (λ w. IsUpTo w (longer (word_at grown number) column)) grown = rw same_word (up_to_new words word f.behind) in
+      let up_to : All (λ w. IsUpTo w (longer (word_at grown number) column)) grown = rw same_word (up_to_new words word f.after) in
       record {
         found = found_if_new t;
-        behind = behind_next grown number column up_to;
+        after = after_next grown number column up_to;
         cell = cell_at new leads eq f.tells grown keys (found_if_new t) number column at next f.stored.0
-            (omega (arith, f.from, length-append words (word ∷ []))) (rw same_word led_behind) f.stored.1 f.stored.2 up_to;
+            (omega (arith, f.from, length-append words (word ∷ []))) (rw same_word led_after) f.stored.1 f.stored.2 up_to;
         grown = sym (ap (λ b. cond b grown words) t);
       }
 
   pub advances_old : is_new ≡ false → Advances new leads words words keys number column at is_new
   advances_old t =
-      let up_to = up_to_old words (longer (word_at words number) column) f.behind in
+      let up_to = up_to_old words (longer (word_at words number) column) f.after in
       record {
         found = found_if_old t;
-        behind = behind_next words number column up_to;
-        cell = cell_at new leads eq f.tells words keys (found_if_old t) number column at next f.stored.0 f.from led_behind f.stored.1 f.stored.2 up_to;
+        after = after_next words number column up_to;
+        cell = cell_at new leads eq f.tells words keys (found_if_old t) number column at next f.stored.0 f.from led_after f.stored.1 f.stored.2 up_to;
         grown = sym (ap (λ b. cond b (with_longer words number column) words) t);
       }
 

@@ -25,14 +25,14 @@ lower_total [] (y ∷ u) e = absurd (omega arith)
 lower_total (x ∷ t) [] e = absurd (omega arith)
 lower_total (x ∷ t) (y ∷ u) e = by (lower_total t u (omega arith)) (cases_lt x y)
   where
-    behind : x ≡ y → IsLower t u ⊎ (t ≡ u) ⊎ IsLower u t → IsLower (x ∷ t) (y ∷ u) ⊎ (x ∷ t ≡ y ∷ u) ⊎ IsLower (y ∷ u) (x ∷ t)
-    behind q (inl h) = inl (inr (q, h))
-    behind q (inr (inl h)) = inr (inl cc)
-    behind q (inr (inr h)) = inr (inr (inr (sym q, h)))
+    after : x ≡ y → IsLower t u ⊎ (t ≡ u) ⊎ IsLower u t → IsLower (x ∷ t) (y ∷ u) ⊎ (x ∷ t ≡ y ∷ u) ⊎ IsLower (y ∷ u) (x ∷ t)
+    after q (inl h) = inl (inr (q, h))
+    after q (inr (inl h)) = inr (inl cc)
+    after q (inr (inr h)) = inr (inr (inr (sym q, h)))
 
     other : IsLower t u ⊎ (t ≡ u) ⊎ IsLower u t → y ≤ x → (y < x) ⊎ (x ≤ y) → IsLower (x ∷ t) (y ∷ u) ⊎ (x ∷ t ≡ y ∷ u) ⊎ IsLower (y ∷ u) (x ∷ t)
     other rest k (inl h) = inr (inr (inl h))
-    other rest k (inr h) = behind (omega arith) rest
+    other rest k (inr h) = after (omega arith) rest
 
     by : IsLower t u ⊎ (t ≡ u) ⊎ IsLower u t → (x < y) ⊎ (y ≤ x) → IsLower (x ∷ t) (y ∷ u) ⊎ (x ∷ t ≡ y ∷ u) ⊎ IsLower (y ∷ u) (x ∷ t)
     by rest (inl h) = inl (inl h)

@@ -7,13 +7,13 @@ use Rattle.basics.specs.TextOrder.{IsBefore, IsLeast}
 use Rattle.pol_scan.proofs.OrderFacts.{before_irreflexive, before_transitive, before_pushed}
 use Rattle.pol_scan.specs.Words.{IsWord, IsWordThat, word_at, longer, with_longer}
 use Rattle.pol_scan.specs.Congruence.{Congruence, Keeps}
-use Rattle.pol_scan.specs.Discovery.{IsCell, AreFound, AreBehind, Advances, IsEarlier, SeeksAt}
+use Rattle.pol_scan.specs.Discovery.{IsCell, AreFound, AreAfter, Advances, IsEarlier, SeeksAt}
 use Rattle.pol_scan.proofs.OrderUp.{up_to_before, up_to_longer}
 use Rattle.pol_scan.proofs.WordFacts.{word_at-append, word_at-with_longer, length-with_longer}
 use Rattle.pol_scan.proofs.Classes.{one_place}
 use Rattle.pol_scan.proofs.Reaching.{Stands, stands_on}
 use Rattle.pol_scan.proofs.Finding.{cell_known, cell_kept, grown_by}
-use Rattle.pol_scan.proofs.Filling.{behind_row}
+use Rattle.pol_scan.proofs.Filling.{after_row}
 
 -- ---- the order of the words is that of their numbers
 
@@ -90,7 +90,7 @@ module _ {S : Type 0} (congruence : Congruence) (leads : List ℕ → S → Type
   pub seeks_next_row : state < length words → column ≡ congruence.width → SeeksAt congruence leads accepted words states (state + 1) 0
   seeks_next_row from end = record {
     found = seeks.found;
-    behind = behind_row words state column seeks.found.rising (seeks.behind from);
+    after = after_row words state column seeks.found.rising (seeks.after from);
     followed = λ i c in_range earlier. seeks.followed i c in_range (by i c in_range earlier (cases_lt i state));
     none = seeks.none;
   }
@@ -134,7 +134,7 @@ module _ {S : Type 0} (old new : Congruence) (led leads : List ℕ → S → Typ
   pub seeks_next : state < length before → (is_new ≡ true → ¬ (accepted (word_at words next))) → SeeksAt new leads accepted words keys state (column + 1)
   seeks_next from not_new = record {
     found = a.found;
-    behind = λ _. a.behind;
+    after = λ _. a.after;
     followed = λ i c in_range earlier. followed i c (subst (λ w. c < w) keeps.columns in_range) earlier (cases_lt i state) (cases_lt c column);
     none = none is_new refl;
   }
@@ -171,10 +171,10 @@ pub least_empty : (congruence : Congruence) (accepted : List ℕ → Type 0) →
 least_empty congruence accepted yields = ((All-nil (λ c. c < congruence.width), yields), λ word _. nothing_before word)
 
 pub seeks_first : {S : Type 0} (congruence : Congruence) (leads : List ℕ → S → Type 0) (accepted : List ℕ → Type 0) (words : List (List ℕ)) (states : List S)
-    → AreFound congruence leads words states → AreBehind words 0 0 → words ≡ [] ∷ [] → ¬ (accepted []) → SeeksAt congruence leads accepted words states 0 0
-seeks_first congruence leads accepted words states found behind e not_first = record {
+    → AreFound congruence leads words states → AreAfter words 0 0 → words ≡ [] ∷ [] → ¬ (accepted []) → SeeksAt congruence leads accepted words states 0 0
+seeks_first congruence leads accepted words states found after e not_first = record {
   found = found;
-  behind = λ _. behind;
+  after = λ _. after;
   followed = λ i c in_range earlier. absurd (elim earlier [ inl h ↦ omega arith | inr h ↦ omega (arith, h.1) ]);
   none = subst (All (λ w. ¬ (accepted w))) (sym e) (All-push (λ w. ¬ (accepted w)) [] [] (All-nil (λ w. ¬ (accepted w))) not_first);
 }

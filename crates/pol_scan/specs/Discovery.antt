@@ -27,8 +27,8 @@ pub record AreFound {S : Type 0} (congruence : Congruence) (leads : List ℕ →
   pub first : (0 < length words) × (word_at words 0 ≡ [])
 
 -- each found word comes before the one at which the scan stands
-abbrev pub AreBehind : List (List ℕ) → ℕ → ℕ → Type 0
-AreBehind words state column =
+abbrev pub AreAfter : List (List ℕ) → ℕ → ℕ → Type 0
+AreAfter words state column =
     All (λ word. IsBefore word (longer (word_at words state) column)) words
 
 -- A column was followed from a found state: the scan stands at the next place of the row. A new
@@ -37,7 +37,7 @@ pub record Advances {S : Type 0} (congruence : Congruence) (leads : List ℕ →
     → Type 0) (before words : List (List ℕ)) (states : List S)
     (state column next : ℕ) (is_new : Bool) : Type 0 where
   pub found : AreFound congruence leads words states
-  pub behind : AreBehind words state (column + 1)
+  pub after : AreAfter words state (column + 1)
   pub cell : IsCell congruence words state column next
   pub grown : words ≡ (if is_new then with_longer before state column else before)
 
@@ -55,7 +55,7 @@ pub record StandsAt {S : Type 0} (congruence : Congruence) (leads : List ℕ →
     → Type 0) (words : List (List ℕ)) (states : List S)
     (cells : List ℕ) (state column : ℕ) : Type 0 where
   pub found : AreFound congruence leads words states
-  pub behind : state < length words → AreBehind words state column
+  pub after : state < length words → AreAfter words state column
   pub filled : IsFilled congruence words cells state column
 
 -- the place of a row and a column comes before another
@@ -68,7 +68,7 @@ pub record SeeksAt {S : Type 0} (congruence : Congruence) (leads : List ℕ → 
     → Type 0) (accepted : List ℕ → Type 0)
     (words : List (List ℕ)) (states : List S) (state column : ℕ) : Type 0 where
   pub found : AreFound congruence leads words states
-  pub behind : state < length words → AreBehind words state column
+  pub after : state < length words → AreAfter words state column
   pub followed : (i c : ℕ) → c < congruence.width → IsEarlier i c state column → (next : ℕ)
       × IsCell congruence words i c next
   pub none : All (λ word. ¬ (accepted word)) words

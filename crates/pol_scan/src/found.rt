@@ -1,7 +1,7 @@
 //! The states that a scan has found.
 
 ghost use Rattle.std.specs.Prelude.{◌≡◌, ◌<◌, [], ◌∷◌, length, slice_get, Some, IfOk};
-ghost use Rattle.pol_scan.specs.Discovery.{AreFound, AreBehind, Advances};
+ghost use Rattle.pol_scan.specs.Discovery.{AreFound, AreAfter, Advances};
 
 use crate::machine::{Column, Machine};
 use crate::words::Words;
@@ -37,7 +37,7 @@ pub(crate) fn begin<M: Machine>(
     ensures found { IfOk result (λ found. AreFound (M.congruence machine.new) (M.leads machine.new)
         found.words found.states.keys) }
     ensures first { IfOk result (λ found. found.words ≡ [] ∷ []) }
-    ensures behind { IfOk result (λ found. AreBehind found.words 0 0) }
+    ensures after { IfOk result (λ found. AreAfter found.words 0 0) }
     ensures grows { M.grows machine.old machine.new }
 {
     let start = machine.start()?;
@@ -60,7 +60,7 @@ pub(crate) fn follow<M: Machine>(
     requires column { column < (M.congruence machine.old).width }
     requires found { AreFound (M.congruence machine.old) (M.leads machine.old)
         found.old.words found.old.states.keys }
-    requires behind { AreBehind found.old.words number column }
+    requires after { AreAfter found.old.words number column }
     ensures advances { IfOk result (λ r. Advances (M.congruence machine.new) (M.leads machine.new)
         found.old.words found.new.words found.new.states.keys number column r.0 r.1) }
     ensures grows { M.grows machine.old machine.new }

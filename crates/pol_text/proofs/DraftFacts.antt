@@ -14,7 +14,7 @@ use Rattle.pol_text.specs.declared.fault.LineFault.TheVariants as lines
 use Rattle.pol_names.specs.SubjectId.{same_id}
 use Rattle.pol_text.specs.Policy.{id_of, find_subject}
 use Rattle.pol_text.specs.Draft.{LineFails, at_place, place_given}
-use Rattle.pol_text.specs.Text.{Draft, subjects_of, new_subject, with_subject, with_present, behind_first, split_last, ◌>>=◌, with_line, with_lines, FailsUnlessMemory}
+use Rattle.pol_text.specs.Text.{Draft, subjects_of, new_subject, with_subject, with_present, after_first, split_last, ◌>>=◌, with_line, with_lines, FailsUnlessMemory}
 
 any_found : (id : SubjectId) (subjects : List Subject) → list_any (same_id id) (map id_of subjects) ≡ is_some (find_subject id subjects)
 any_found id [] = refl
@@ -59,7 +59,7 @@ module _ (line : ℕ) (kind : Kind) (name : List ℕ) (parent : Option (List ℕ
 
 pub split_last-push : {A : Type 0} (front : List A) (x : A) → split_last (front ++ x ∷ []) ≡ Some (front, x)
 split_last-push [] x = refl
-split_last-push (y ∷ front) x = ap (behind_first y) (split_last-push front x)
+split_last-push (y ∷ front) x = ap (after_first y) (split_last-push front x)
 
 pub present_is : (change : Subject → Result Subject PolicyRefusal) (front : Draft) (line : ℕ) (subject : Subject)
     → with_present change (front ++ (line, subject) ∷ []) ≡ (change subject >>= λ next. Ok (front ++ (line, next) ∷ []))

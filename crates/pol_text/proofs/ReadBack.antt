@@ -19,12 +19,12 @@ use Rattle.pol_pattern.specs.declared.version.Version.{Version}
 use Rattle.pol_text.specs.declared.subject.Subject.{Subject}
 use Rattle.pol_text.specs.declared.fault.PolicyRefusal.{PolicyRefusal}
 use Rattle.pol_text.specs.Policy.{find_subject, all_of}
-use Rattle.pol_text.specs.Text.{◌>>=◌, Draft, subjects_of, is_field, heading, new_subject, with_subject, behind_first, split_last, with_present, with_login, with_enable, level_of, with_priv, with_rule, with_words, is_blank, with_trimmed, with_line, with_lines, policy_of, body_of}
+use Rattle.pol_text.specs.Text.{◌>>=◌, Draft, subjects_of, is_field, heading, new_subject, with_subject, after_first, split_last, with_present, with_login, with_enable, level_of, with_priv, with_rule, with_words, is_blank, with_trimmed, with_line, with_lines, policy_of, body_of}
 use Rattle.pol_text.specs.Spelling.{Sets, login, enable, level, rule, Adds, begins, sets, Extends, meaningful, Spells}
 use Rattle.pol_text.proofs.SettingFacts.{and_left, and_right, rule_read}
 use Rattle.pol_text.proofs.DraftFacts.{split_last-push, present_is}
 use Rattle.pol_text.proofs.RightFacts.{split_back, subjects-push}
-use Rattle.pol_text.proofs.RoundFacts.{behind_name, heading_is, subject_new, chains_read}
+use Rattle.pol_text.proofs.RoundFacts.{after_name, heading_is, subject_new, chains_read}
 
 -- ---- the line that begins a subject
 
@@ -40,11 +40,11 @@ user_begins version number rest draft = refl
 
 begun : (version : Version) (number : ℕ) (kind : Kind) (name : List ℕ) (parent : Option (List ℕ)) (draft : Draft) → is_name name ≡ true → all_of is_name parent ≡ true
     → is_some (find_subject (record { kind = kind; name = name }) (subjects_of draft)) ≡ false → length draft < 1024
-    → with_trimmed version number (kind_word kind ++ (name ++ behind_name parent)) draft ≡ Ok (draft ++ (number, new_subject kind name parent) ∷ [])
+    → with_trimmed version number (kind_word kind ++ (name ++ after_name parent)) draft ≡ Ok (draft ++ (number, new_subject kind name parent) ∷ [])
 begun version number Group name parent draft h k none room =
-    group_begins version number (name ++ behind_name parent) draft ∙ rw (heading_is name parent h k) (subject_new number Group name parent draft none room)
+    group_begins version number (name ++ after_name parent) draft ∙ rw (heading_is name parent h k) (subject_new number Group name parent draft none room)
 begun version number User name parent draft h k none room =
-    user_begins version number (name ++ behind_name parent) draft ∙ rw (heading_is name parent h k) (subject_new number User name parent draft none room)
+    user_begins version number (name ++ after_name parent) draft ∙ rw (heading_is name parent h k) (subject_new number User name parent draft none room)
 
 -- ---- settings
 
@@ -129,7 +129,7 @@ record LastIs (draft : Draft) (front : List Subject) (old : Subject) : Type 0 wh
 some_last : {A : Type 0} (x : A) (xs : List A) → (parts : List A × A) × (split_last (x ∷ xs) ≡ Some parts)
 some_last {A = A} x xs = by (split_last xs)
   where
-    by : (o : Option (List A × A)) → (parts : List A × A) × (behind_first x o ≡ Some parts)
+    by : (o : Option (List A × A)) → (parts : List A × A) × (after_first x o ≡ Some parts)
     by None = (([], x), refl)
     by (Some p) = ((x ∷ p.0, p.1), refl)
 
@@ -161,7 +161,7 @@ record Reads (version : Version) (number : ℕ) (draft : Draft) (line : List ℕ
 adds_read : (version : Version) (number : ℕ) (draft : Draft) (line : List ℕ) (after : List Subject) → Adds version (subjects_of draft) line after → Reads version number draft line after
 adds_read version number draft line after (begins kind name parent right belongs spelled none room is) =
     let sizes : length (subjects_of draft) ≡ length draft = length-map draft (λ (entry : ℕ × Subject). entry.1) in
-    let whole : line ≡ kind_word kind ++ (name ++ behind_name parent) = spelled ∙ append_assoc (kind_word kind) name (behind_name parent) in
+    let whole : line ≡ kind_word kind ++ (name ++ after_name parent) = spelled ∙ append_assoc (kind_word kind) name (after_name parent) in
     record {
       next = draft ++ (number, new_subject kind name parent) ∷ [];
       goes = ap (λ (l : List ℕ). with_trimmed version number l draft) whole ∙ begun version number kind name parent draft right belongs (ap is_some none) (omega arith);

@@ -6,7 +6,7 @@ use Rattle.std.specs.Str.{bytes_eq}
 use Rattle.basics.specs.Symbol.{is_text}
 use Rattle.basics.specs.Lines.{lines_of, onto_first, split_at_first, without_leading_spaces}
 use Rattle.pol_text.specs.Policy.{has_parent, ends_within}
-use Rattle.pol_text.specs.Text.{◌>>=◌, Draft, subjects_of, heading, is_blank, new_subject, with_subject, split_last, behind_first, with_present, with_login, with_enable, with_priv, with_rule, with_words, with_trimmed, with_line, with_lines, at_line, checked, with_right_chains, policy_of, IsUnlessMemory, version_line, Body, body_of, with_body}
+use Rattle.pol_text.specs.Text.{◌>>=◌, Draft, subjects_of, heading, is_blank, new_subject, with_subject, split_last, after_first, with_present, with_login, with_enable, with_priv, with_rule, with_words, with_trimmed, with_line, with_lines, at_line, checked, with_right_chains, policy_of, IsUnlessMemory, version_line, Body, body_of, with_body}
 use Rattle.pol_pattern.specs.declared.version.Version.{Version}
 use Rattle.pol_pattern.specs.declared.version.Version.TheVariants.{One, Two}
 use Rattle.pol_names.specs.declared.subject_id.Kind.{Kind}
@@ -36,13 +36,13 @@ abbrev PartsBefore : ℕ → Option (Draft × (ℕ × Subject)) → Type 0
 PartsBefore n None = Unit {0}
 PartsBefore n (Some parts) = AllBefore n parts.0 × (parts.1.0 < n)
 
-behind_before : (n : ℕ) (entry : ℕ × Subject) (parts : Option (Draft × (ℕ × Subject))) → entry.0 < n → PartsBefore n parts → PartsBefore n (behind_first entry parts)
-behind_before n entry None lt h = (tt, lt)
-behind_before n entry (Some parts) lt h = ((lt, h.0), h.1)
+after_before : (n : ℕ) (entry : ℕ × Subject) (parts : Option (Draft × (ℕ × Subject))) → entry.0 < n → PartsBefore n parts → PartsBefore n (after_first entry parts)
+after_before n entry None lt h = (tt, lt)
+after_before n entry (Some parts) lt h = ((lt, h.0), h.1)
 
 split_before : (n : ℕ) (draft : Draft) → AllBefore n draft → PartsBefore n (split_last draft)
 split_before n [] h = tt
-split_before n (entry ∷ rest) h = behind_before n entry (split_last rest) h.0 (split_before n rest h.1)
+split_before n (entry ∷ rest) h = after_before n entry (split_last rest) h.0 (split_before n rest h.1)
 
 -- ---- what a line makes of a draft
 

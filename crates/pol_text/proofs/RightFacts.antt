@@ -22,7 +22,7 @@ use Rattle.pol_text.specs.Draft.{RightDraft}
 use Rattle.pol_names.specs.Name.{is_name, name_of}
 use Rattle.pol_names.specs.SubjectId.{same_kind, same_id}
 use Rattle.pol_text.specs.Policy.{id_of, find_subject, all_distinct, all_of, is_right_subject, has_parent, ends_within, WellFormed}
-use Rattle.pol_text.specs.Text.{◌>>=◌, Draft, subjects_of, named, is_field, with_parent, heading, new_subject, with_subject, behind_first, split_last, with_present, with_login, with_enable, with_priv, with_rule, with_words, is_blank, with_trimmed, with_line, at_line, with_lines, checked, with_right_chains, body_of, with_body, policy_of}
+use Rattle.pol_text.specs.Text.{◌>>=◌, Draft, subjects_of, named, is_field, with_parent, heading, new_subject, with_subject, after_first, split_last, with_present, with_login, with_enable, with_priv, with_rule, with_words, is_blank, with_trimmed, with_line, at_line, with_lines, checked, with_right_chains, body_of, with_body, policy_of}
 use Rattle.pol_text.proofs.SettingFacts.{and_left, and_right, right_parts, right_whole, Kept, login_kept, enable_kept, priv_kept, rule_kept}
 
 -- ---- steps that go well
@@ -122,7 +122,7 @@ pub split_back : {A : Type 0} (xs : List A) (parts : List A × A) → split_last
 split_back [] parts h = absurd cc
 split_back {A = A} (x ∷ xs) parts h = by (split_last xs) refl (λ p e. split_back xs p e) h
   where
-    by : (o : Option (List A × A)) → split_last xs ≡ o → ((p : List A × A) → split_last xs ≡ Some p → xs ≡ p.0 ++ p.1 ∷ []) → behind_first x o ≡ Some parts → x ∷ xs ≡ parts.0 ++ parts.1 ∷ []
+    by : (o : Option (List A × A)) → split_last xs ≡ o → ((p : List A × A) → split_last xs ≡ Some p → xs ≡ p.0 ++ p.1 ∷ []) → after_first x o ≡ Some parts → x ∷ xs ≡ parts.0 ++ parts.1 ∷ []
     by None e below k =
         let is : parts ≡ ([], x) = cc in
         let none : xs ≡ [] = empty xs e in
@@ -132,7 +132,7 @@ split_back {A = A} (x ∷ xs) parts h = by (split_last xs) refl (λ p e. split_b
         empty [] n = refl
         empty (y ∷ ys) n = absurd (never (split_last ys) n)
           where
-            never : (o : Option (List A × A)) → behind_first y o ≡ None → ⊥
+            never : (o : Option (List A × A)) → after_first y o ≡ None → ⊥
             never None m = cc
             never (Some p) m = cc
     by (Some p) e below k =

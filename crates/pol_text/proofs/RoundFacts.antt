@@ -115,17 +115,17 @@ user_line : (number : ℕ) (rest : List ℕ) (draft : Draft) → is_text rest �
 unfolding with_line with_trimmed with_words
 user_line number rest draft h = rw h refl
 
-abbrev pub behind_name : Option (List ℕ) → List ℕ
-behind_name parent = option_map_or (λ parent. codes " in " ++ parent) parent []
+abbrev pub after_name : Option (List ℕ) → List ℕ
+after_name parent = option_map_or (λ parent. codes " in " ++ parent) parent []
 
 pub heading_is : (name : List ℕ) (parent : Option (List ℕ)) → is_name name ≡ true → all_of is_name parent ≡ true
-    → heading (name ++ behind_name parent) (split_at_first 32 (name ++ behind_name parent)) ≡ Ok (name, parent)
+    → heading (name ++ after_name parent) (split_at_first 32 (name ++ after_name parent)) ≡ Ok (name, parent)
 unfolding heading with_parent
 heading_is name None h k = rw (append-nil name, name_field name (bytes_of name h), h) refl
 heading_is name (Some parent) h k =
     rw (name_split name (105 ∷ 110 ∷ 32 ∷ parent) (bytes_of name h), name_field parent (bytes_of parent k), h, k) refl
 
-heading_text : (name : List ℕ) (parent : Option (List ℕ)) → is_name name ≡ true → all_of is_name parent ≡ true → is_text (name ++ behind_name parent) ≡ true
+heading_text : (name : List ℕ) (parent : Option (List ℕ)) → is_name name ≡ true → all_of is_name parent ≡ true → is_text (name ++ after_name parent) ≡ true
 heading_text name None h k = rw (append-nil name) (name_text name (bytes_of name h))
 heading_text name (Some parent) h k =
     rw (list_all-append is_symbol name (codes " in " ++ parent), name_text name (bytes_of name h), name_text parent (bytes_of parent k)) refl
@@ -139,11 +139,11 @@ subject_new number kind name parent draft none room =
 
 begun : (number : ℕ) (kind : Kind) (name : List ℕ) (parent : Option (List ℕ)) (draft : Draft) → is_name name ≡ true → all_of is_name parent ≡ true
     → is_some (find_subject (record { kind = kind; name = name }) (subjects_of draft)) ≡ false → length draft < 1024
-    → with_line Two number (kind_word kind ++ name ++ behind_name parent) draft ≡ Ok (draft ++ (number, new_subject kind name parent) ∷ [])
+    → with_line Two number (kind_word kind ++ name ++ after_name parent) draft ≡ Ok (draft ++ (number, new_subject kind name parent) ∷ [])
 begun number Group name parent draft h k none room =
-    group_line number (name ++ behind_name parent) draft (heading_text name parent h k) ∙ rw (heading_is name parent h k) (subject_new number Group name parent draft none room)
+    group_line number (name ++ after_name parent) draft (heading_text name parent h k) ∙ rw (heading_is name parent h k) (subject_new number Group name parent draft none room)
 begun number User name parent draft h k none room =
-    user_line number (name ++ behind_name parent) draft (heading_text name parent h k) ∙ rw (heading_is name parent h k) (subject_new number User name parent draft none room)
+    user_line number (name ++ after_name parent) draft (heading_text name parent h k) ∙ rw (heading_is name parent h k) (subject_new number User name parent draft none room)
 
 -- ---- settings
 

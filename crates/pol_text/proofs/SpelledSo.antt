@@ -26,7 +26,7 @@ use Rattle.pol_text.specs.Text.{◌>>=◌, Draft, subjects_of, named, is_field, 
 use Rattle.pol_text.specs.Spelling.{Sets, login, enable, level, rule, Adds, begins, sets, Extends, meaningful, Spells}
 use Rattle.pol_text.proofs.SettingFacts.{and_left, rule_read, rule_refused}
 use Rattle.pol_text.proofs.RightFacts.{bind_ok, some_of, first_ok, second_ok, placed_ok, heading_right, split_back, subjects-push, chains_same, read_well_formed}
-use Rattle.pol_text.proofs.RoundFacts.{behind_name, read_text}
+use Rattle.pol_text.proofs.RoundFacts.{after_name, read_text}
 
 -- ---- words and fields
 
@@ -60,10 +60,10 @@ named_same text name h = by (is_name text) (some_of (name_of text) BadName name 
 
 -- ---- the line that begins a subject
 
-abbrev behind : List ℕ × Option (List ℕ) → List ℕ
-behind ids = ids.0 ++ behind_name ids.1
+abbrev after : List ℕ × Option (List ℕ) → List ℕ
+after ids = ids.0 ++ after_name ids.1
 
-parent_spelled : (name rest : List ℕ) (ids : List ℕ × Option (List ℕ)) → with_parent name rest ≡ Ok ids → name ++ 32 ∷ rest ≡ behind ids
+parent_spelled : (name rest : List ℕ) (ids : List ℕ × Option (List ℕ)) → with_parent name rest ≡ Ok ids → name ++ 32 ∷ rest ≡ after ids
 unfolding with_parent
 parent_spelled name rest ids h =
     let p = bind_ok (ok_or (split_at_first 32 rest) BadLine) _ ids h in
@@ -76,14 +76,14 @@ parent_spelled name rest ids h =
     ap (λ (r : List ℕ). name ++ 32 ∷ r) (whole ∙ ap (λ (w : List ℕ). w ++ 32 ∷ p.0.1) word)
     ∙ ap (λ (n : List ℕ). n ++ 32 ∷ (codes "in" ++ 32 ∷ p.0.1)) (named_same name s.0 s.1)
     ∙ ap (λ (n : List ℕ). s.0 ++ 32 ∷ (codes "in" ++ 32 ∷ n)) (named_same p.0.1 t.0 t.1)
-    ∙ sym (ap behind is)
+    ∙ sym (ap after is)
 
-heading_spelled : (rest : List ℕ) (parts : Option (List ℕ × List ℕ)) (ids : List ℕ × Option (List ℕ)) → split_at_first 32 rest ≡ parts → heading rest parts ≡ Ok ids → rest ≡ behind ids
+heading_spelled : (rest : List ℕ) (parts : Option (List ℕ × List ℕ)) (ids : List ℕ × Option (List ℕ)) → split_at_first 32 rest ≡ parts → heading rest parts ≡ Ok ids → rest ≡ after ids
 unfolding heading
 heading_spelled rest None ids e h =
     let p = bind_ok (named rest) _ ids h in
     let is : ids ≡ (p.0, None) = cc in
-    named_same rest p.0 p.1 ∙ sym (append-nil p.0) ∙ sym (ap behind is)
+    named_same rest p.0 p.1 ∙ sym (append-nil p.0) ∙ sym (ap after is)
 heading_spelled rest (Some parts) ids e h = joined rest parts e ∙ parent_spelled parts.0 parts.1 ids h
 
 none_found : {A : Type 0} (o : Option A) → is_some o ≡ false → o ≡ None
@@ -104,7 +104,7 @@ begun_adds version number kind line rest draft next spelled h =
     let room : length (subjects_of draft) < 1024 = grind (arith, nat_tests) in
     let whole = heading_spelled rest (split_at_first 32 rest) p.0 refl p.1 in
     begins kind p.0.0 p.0.1 right.0 right.1
-    (spelled ∙ ap (λ (t : List ℕ). kind_word kind ++ t) whole ∙ sym (append_assoc (kind_word kind) p.0.0 (behind_name p.0.1)))
+    (spelled ∙ ap (λ (t : List ℕ). kind_word kind ++ t) whole ∙ sym (append_assoc (kind_word kind) p.0.0 (after_name p.0.1)))
     (none_found (find_subject (record { kind = kind; name = p.0.0 }) (subjects_of draft)) a.0) room
     (ap subjects_of is ∙ subjects-push draft number (new_subject kind p.0.0 p.0.1))
 
@@ -172,20 +172,20 @@ set_adds version line change draft next each h =
 
 -- ---- lines
 
-abbrev behind_word : List ℕ → List ℕ → List ℕ
-behind_word rest word = word ++ 32 ∷ rest
+abbrev after_word : List ℕ → List ℕ → List ℕ
+after_word rest word = word ++ 32 ∷ rest
 
 words_add : (version : Version) (number : ℕ) (word rest : List ℕ) (draft next : Draft) → with_words version number word rest draft ≡ Ok next → Adds version (subjects_of draft) (word ++ 32 ∷ rest) (subjects_of next)
 unfolding with_words
 words_add version number word rest draft next h =
-    either (bytes_eq word (codes "group")) _ _ next (λ w k. begun_adds version number Group (word ++ 32 ∷ rest) rest draft next (ap (behind_word rest) (word_is word (codes "group") w)) k) (λ k.
-    either (bytes_eq word (codes "user")) _ _ next (λ w k. begun_adds version number User (word ++ 32 ∷ rest) rest draft next (ap (behind_word rest) (word_is word (codes "user") w)) k) (λ k.
-    either (bytes_eq word (codes "login")) _ _ next (λ w k. set_adds version (word ++ 32 ∷ rest) (with_login rest) draft next (λ old new. login_sets version (word ++ 32 ∷ rest) rest old new (ap (behind_word rest) (word_is word (codes "login") w))) k) (λ k.
-    either (bytes_eq word (codes "enable")) _ _ next (λ w k. set_adds version (word ++ 32 ∷ rest) (with_enable rest) draft next (λ old new. enable_sets version (word ++ 32 ∷ rest) rest old new (ap (behind_word rest) (word_is word (codes "enable") w))) k) (λ k.
-    either (bytes_eq word (codes "priv")) _ _ next (λ w k. set_adds version (word ++ 32 ∷ rest) (with_priv rest) draft next (λ old new. level_sets version (word ++ 32 ∷ rest) rest old new (ap (behind_word rest) (word_is word (codes "priv") w))) (first_ok (is_field rest) _ BadLine next k).1) (λ k.
-    either (bytes_eq word (codes "permit")) _ _ next (λ w k. set_adds version (word ++ 32 ∷ rest) (with_rule version Permit rest) draft next (λ old new. rule_sets version Permit (word ++ 32 ∷ rest) rest old new (ap (behind_word rest) (word_is word (codes "permit") w))) k) (λ k.
+    either (bytes_eq word (codes "group")) _ _ next (λ w k. begun_adds version number Group (word ++ 32 ∷ rest) rest draft next (ap (after_word rest) (word_is word (codes "group") w)) k) (λ k.
+    either (bytes_eq word (codes "user")) _ _ next (λ w k. begun_adds version number User (word ++ 32 ∷ rest) rest draft next (ap (after_word rest) (word_is word (codes "user") w)) k) (λ k.
+    either (bytes_eq word (codes "login")) _ _ next (λ w k. set_adds version (word ++ 32 ∷ rest) (with_login rest) draft next (λ old new. login_sets version (word ++ 32 ∷ rest) rest old new (ap (after_word rest) (word_is word (codes "login") w))) k) (λ k.
+    either (bytes_eq word (codes "enable")) _ _ next (λ w k. set_adds version (word ++ 32 ∷ rest) (with_enable rest) draft next (λ old new. enable_sets version (word ++ 32 ∷ rest) rest old new (ap (after_word rest) (word_is word (codes "enable") w))) k) (λ k.
+    either (bytes_eq word (codes "priv")) _ _ next (λ w k. set_adds version (word ++ 32 ∷ rest) (with_priv rest) draft next (λ old new. level_sets version (word ++ 32 ∷ rest) rest old new (ap (after_word rest) (word_is word (codes "priv") w))) (first_ok (is_field rest) _ BadLine next k).1) (λ k.
+    either (bytes_eq word (codes "permit")) _ _ next (λ w k. set_adds version (word ++ 32 ∷ rest) (with_rule version Permit rest) draft next (λ old new. rule_sets version Permit (word ++ 32 ∷ rest) rest old new (ap (after_word rest) (word_is word (codes "permit") w))) k) (λ k.
     let q = first_ok (bytes_eq word (codes "deny")) _ BadLine next k in
-    set_adds version (word ++ 32 ∷ rest) (with_rule version Deny rest) draft next (λ old new. rule_sets version Deny (word ++ 32 ∷ rest) rest old new (ap (behind_word rest) (word_is word (codes "deny") q.0))) q.1) k) k) k) k) k) h
+    set_adds version (word ++ 32 ∷ rest) (with_rule version Deny rest) draft next (λ old new. rule_sets version Deny (word ++ 32 ∷ rest) rest old new (ap (after_word rest) (word_is word (codes "deny") q.0))) q.1) k) k) k) k) k) h
 
 trimmed_adds : (version : Version) (number : ℕ) (line : List ℕ) (draft next : Draft) → is_blank line ≡ false → with_trimmed version number line draft ≡ Ok next → Adds version (subjects_of draft) line (subjects_of next)
 unfolding with_trimmed

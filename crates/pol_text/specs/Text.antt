@@ -93,14 +93,14 @@ with_subject line kind name parent draft =
 -- ---- a line of the present subject, which is the last
 
 -- one more before the first of those
-abbrev pub behind_first : {A : Type 0} → A → Option (List A × A) → Option (List A × A)
-behind_first x None = Some ([], x)
-behind_first x (Some parts) = Some (x ∷ parts.0, parts.1)
+abbrev pub after_first : {A : Type 0} → A → Option (List A × A) → Option (List A × A)
+after_first x None = Some ([], x)
+after_first x (Some parts) = Some (x ∷ parts.0, parts.1)
 
 -- the last of a list, and those before it
 abbrev pub split_last : {A : Type 0} → List A → Option (List A × A)
 split_last [] = None
-split_last (x ∷ xs) = behind_first x (split_last xs)
+split_last (x ∷ xs) = after_first x (split_last xs)
 
 -- what a line makes of the present subject
 unfoldable pub with_present : (Subject → Result Subject PolicyRefusal) → Draft

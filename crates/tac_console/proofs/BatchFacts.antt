@@ -6,11 +6,11 @@ use Rattle.std.proofs.lemmas.Bool.Decides.{nat_tests}
 use Rattle.pol_edit.specs.declared.edit.Edit.{Edit}
 use Rattle.tac_console.specs.declared.asked.Asked.{Asked}
 use Rattle.tac_console.specs.declared.asked.Asked.TheVariants as asks
-use Rattle.tac_console.specs.Batching.{most, has_room, batch_behind, edits_in, goes_on, HasFirst}
+use Rattle.tac_console.specs.Batching.{most, has_room, batch_after_lines, edits_in, goes_on, HasFirst}
 
 -- a batch after these lines, whatever it had kept before
 HasThen : List Asked → Type 0
-HasThen lines = (kept : List Edit) → length kept ≤ most → batch_behind (Some kept) lines ≡ Some (take most (kept ++ edits_in lines))
+HasThen lines = (kept : List Edit) → length kept ≤ most → batch_after_lines (Some kept) lines ≡ Some (take most (kept ++ edits_in lines))
 
 room_is : (kept : List Edit) → has_room kept ≡ true → length kept < most
 room_is kept room = grind (arith, nat_tests)
@@ -20,7 +20,7 @@ full_is kept full = grind (arith, nat_tests)
 
 -- an edit more is kept if there is room
 edit_then : (room : Bool) (edit : Edit) (rest : List Asked) (kept : List Edit) → has_room kept ≡ room → length kept ≤ most → HasThen rest
-    → batch_behind (Some (cond room (kept ++ edit ∷ []) kept)) rest ≡ Some (take most (kept ++ edit ∷ edits_in rest))
+    → batch_after_lines (Some (cond room (kept ++ edit ∷ []) kept)) rest ≡ Some (take most (kept ++ edit ∷ edits_in rest))
 unfolding HasThen
 edit_then true edit rest kept room fits later =
     let one : length (kept ++ edit ∷ []) ≡ length kept + 1 = length-append kept (edit ∷ []) in

@@ -77,9 +77,9 @@ keeps _ _ = false
 -- ---- one line after another
 
 -- the batch that the lines leave which ask these
-abbrev pub batch_behind : Option (List Edit) → List Asked → Option (List Edit)
-batch_behind batch [] = batch
-batch_behind batch (asked ∷ rest) = batch_behind (batch_after batch asked) rest
+abbrev pub batch_after_lines : Option (List Edit) → List Asked → Option (List Edit)
+batch_after_lines batch [] = batch
+batch_after_lines batch (asked ∷ rest) = batch_after_lines (batch_after batch asked) rest
 
 abbrev pub edits_in : List Asked → List Edit
 edits_in [] = []
@@ -96,4 +96,4 @@ goes_on asked = true
 abbrev pub HasFirst : List Asked → Type 0
 HasFirst lines =
     IsTrue (list_all goes_on lines)
-    → batch_behind (Some []) lines ≡ Some (take most (edits_in lines))
+    → batch_after_lines (Some []) lines ≡ Some (take most (edits_in lines))

@@ -27,12 +27,12 @@ unless_closed-true said f e = rw e refl
 pub unless_closed-false : (said : Said) (f : Meaning → Said) → said.closes ≡ false → unless_closed said f ≡ sent_before said.sent (f said.meaning)
 unless_closed-false said f e = rw e refl
 
-pub behind_behind : (first second : List Packet) (said : Said) → sent_before first (sent_before second said) ≡ sent_before (first ++ second) said
-behind_behind first second said = ap (λ (sent : List Packet). record said { sent = sent }) (sym (append_assoc first second said.sent))
+pub after_after : (first second : List Packet) (said : Said) → sent_before first (sent_before second said) ≡ sent_before (first ++ second) said
+after_after first second said = ap (λ (sent : List Packet). record said { sent = sent }) (sym (append_assoc first second said.sent))
 
 joined_open : (b : Bool) (sent : List Packet) (next : Said) (last : Meaning → Said) → next.closes ≡ b → sent_before sent (unless_closed next last) ≡ unless_closed (sent_before sent next) last
 joined_open true sent next last e = rw e refl
-joined_open false sent next last e = rw e (behind_behind sent next.sent (last next.meaning))
+joined_open false sent next last e = rw e (after_after sent next.sent (last next.meaning))
 
 joined : (b : Bool) (said : Said) (next last : Meaning → Said) → said.closes ≡ b → unless_closed said (λ meaning. unless_closed (next meaning) last) ≡ unless_closed (unless_closed said next) last
 joined true said next last e =

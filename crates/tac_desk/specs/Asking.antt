@@ -127,7 +127,7 @@ stores meaning (Authenticate user service proof) = false
 stores meaning (Authorise user line) = false
 stores meaning (Account item) = not (is_full meaning)
 
--- the answer to a login says that the user is the one named
+-- the desk answers that the user is the one named
 abbrev pub Passes : Meaning → Ask → Type 0
 Passes meaning (Authenticate user service proof) = LogsIn meaning.policy user service proof
 Passes meaning (Authorise user line) = ⊥

@@ -12,19 +12,19 @@ or_false : (b : Bool) → (b || false) ≡ b
 or_false true = refl
 or_false false = refl
 
-behind : (first rest whole last : Bool) → (first || rest) ≡ false → (rest ≡ false → whole ≡ last) → (first || whole) ≡ last
-behind true rest whole last h k = cc
-behind false rest whole last h k = k h
+after : (first rest whole last : Bool) → (first || rest) ≡ false → (rest ≡ false → whole ≡ last) → (first || whole) ≡ last
+after true rest whole last h k = cc
+after false rest whole last h k = k h
 
 -- a log without a Stop has one after one more call exactly if that call is a Stop
-pub closed_behind : (log : List Entry) (entry : Entry) → is_closed log ≡ false → is_closed (log ++ entry ∷ []) ≡ is_stop entry.call
-closed_behind [] entry h = or_false (is_stop entry.call)
-closed_behind (first ∷ log) entry h = behind (is_stop first.call) (is_closed log) (is_closed (log ++ entry ∷ [])) (is_stop entry.call) h (closed_behind log entry)
+pub closed_after : (log : List Entry) (entry : Entry) → is_closed log ≡ false → is_closed (log ++ entry ∷ []) ≡ is_stop entry.call
+closed_after [] entry h = or_false (is_stop entry.call)
+closed_after (first ∷ log) entry h = after (is_stop first.call) (is_closed log) (is_closed (log ++ entry ∷ [])) (is_stop entry.call) h (closed_after log entry)
 
 -- the room is lawful with the call after its log
-pub lawful_behind : (number : ℕ) (base : Meaning) (log : List Entry) (was now : Meaning) (limit seats : ℕ) (entry : Entry) → IsLawful (contents number base log was limit seats)
+pub lawful_after : (number : ℕ) (base : Meaning) (log : List Entry) (was now : Meaning) (limit seats : ℕ) (entry : Entry) → IsLawful (contents number base log was limit seats)
     → is_closed log ≡ false → length log < limit → Answers was entry.call entry.answer now → IsLawful (contents number base (log ++ entry ∷ []) now limit seats)
-lawful_behind number base log was now limit seats entry lawful goes_on room answers =
+lawful_after number base log was now limit seats entry lawful goes_on room answers =
     record {
       legal = and_then entry lawful.legal goes_on answers;
       numbered = lawful.numbered;
@@ -40,15 +40,15 @@ pub lawful_called : (number : ℕ) (base : Meaning) (log reserved pushed : List 
 lawful_called number base log reserved pushed was now limit seats closed stop entry call answer h goes_on room same added is_call is_answer answers stops =
     let stays : is_closed log ≡ false = sym h.1 ∙ goes_on in
     rw (added, same) (
-      lawful_behind number base log was now limit seats entry h.0 stays room (rw (is_call, is_answer) answers),
-      stops ∙ ap is_stop (sym is_call) ∙ sym (closed_behind log entry stays),
+      lawful_after number base log was now limit seats entry h.0 stays room (rw (is_call, is_answer) answers),
+      stops ∙ ap is_stop (sym is_call) ∙ sym (closed_after log entry stays),
     )
 
 -- ---- two logs, one after the other
 
 closed_joined : (one two : List Entry) → is_closed one ≡ false → is_closed two ≡ false → is_closed (one ++ two) ≡ false
 closed_joined [] two h k = k
-closed_joined (entry ∷ one) two h k = behind (is_stop entry.call) (is_closed one) (is_closed (one ++ two)) false h (λ rest. closed_joined one two rest k)
+closed_joined (entry ∷ one) two h k = after (is_stop entry.call) (is_closed one) (is_closed (one ++ two)) false h (λ rest. closed_joined one two rest k)
 
 pub legal_joined : {base : Meaning} (one : List Entry) {middle end : Meaning} {two : List Entry} → Legal base one middle → is_closed one ≡ false → Legal middle two end → Legal base (one ++ two) end
 legal_joined one first h at_first = rw append-nil first

@@ -20,9 +20,9 @@ pub record IsLeft (list whole left part : List Made) : Type 0 where
 pub all_left : (list whole : List Made) → IsLeft list whole list whole
 all_left list whole = record { to = λ rest h. h; back = λ rest h. h }
 
--- both go on behind the same
-pub left_behind : (list whole left part same more : List Made) → IsLeft list whole left (same ++ part) → left ≡ same ++ more → IsLeft list whole more part
-left_behind list whole left part same more h split = record {
+-- both go on after the same
+pub left_after : (list whole left part same more : List Made) → IsLeft list whole left (same ++ part) → left ≡ same ++ more → IsLeft list whole more part
+left_after list whole left part same more h split = record {
   to = λ rest e. append_cancel_left same more (part ++ rest) (sym split ∙ h.to rest e ∙ append_assoc same part rest);
   back = λ rest e. h.back rest (split ∙ ap (λ (m : List Made). same ++ m) e ∙ sym (append_assoc same part rest));
 }
@@ -60,7 +60,7 @@ pub own_next : (list whole view : List Made) (log : List Entry) (segment number 
     → slice_get view at ≡ Some (made_at segment place entry) → IsLeft list whole (drop at view) (view_of segment number place (drop place log))
     → IsLeft list whole (drop (at + 1) view) (view_of segment number (place + 1) (drop (place + 1) log))
 own_next list whole view log segment number place at entry is within own next left =
-    left_behind list whole (drop at view) (view_of segment number (place + 1) (drop (place + 1) log)) (made_at segment place entry ∷ []) (drop (at + 1) view)
+    left_after list whole (drop at view) (view_of segment number (place + 1) (drop (place + 1) log)) (made_at segment place entry ∷ []) (drop (at + 1) view)
     (rw (own_here log segment number place entry is within own) at left) (kept_next view at (made_at segment place entry) next)
 
 -- the next call is another's
@@ -102,7 +102,7 @@ pub part_next : (list whole left more : List Made) (logs : List (List Entry)) (s
     → left ≡ view_of segment number 0 log ++ more → IsLeft list whole left (view_along segment number (drop segment logs))
     → IsLeft list whole more (view_along (segment + 1) number (drop (segment + 1) logs))
 part_next list whole left more logs segment number log is within split h =
-    left_behind list whole left (view_along (segment + 1) number (drop (segment + 1) logs)) (view_of segment number 0 log) more (rw (along_next logs segment number log is within) at h) split
+    left_after list whole left (view_along (segment + 1) number (drop (segment + 1) logs)) (view_of segment number 0 log) more (rw (along_next logs segment number log is within) at h) split
 
 -- it isn't
 pub part_missed : (list whole left : List Made) (logs : List (List Entry)) (segment number : ℕ) (log : List Entry) → log ≡ get_or logs segment log → segment < length logs

@@ -30,17 +30,17 @@ below_more (made ∷ view) segment next present place h b =
       below_more view segment next present place h b.1,
     )
 
-below_behind : (view : List Made) (made : Made) (segment place : ℕ) → AreBelow segment place view → IsBelow segment place made → AreBelow segment place (view ++ made ∷ [])
-below_behind [] made segment place b h = (h, tt)
-below_behind (first ∷ view) made segment place b h = (b.0, below_behind view made segment place b.1 h)
+below_after : (view : List Made) (made : Made) (segment place : ℕ) → AreBelow segment place view → IsBelow segment place made → AreBelow segment place (view ++ made ∷ [])
+below_after [] made segment place b h = (h, tt)
+below_after (first ∷ view) made segment place b h = (b.0, below_after view made segment place b.1 h)
 
-from_behind : (view : List Made) (made : Made) (low : ℕ) → AreFrom low view → low ≤ made.segment → AreFrom low (view ++ made ∷ [])
-from_behind [] made low f h = (h, tt)
-from_behind (first ∷ view) made low f h = (f.0, from_behind view made low f.1 h)
+from_after : (view : List Made) (made : Made) (low : ℕ) → AreFrom low view → low ≤ made.segment → AreFrom low (view ++ made ∷ [])
+from_after [] made low f h = (h, tt)
+from_after (first ∷ view) made low f h = (f.0, from_after view made low f.1 h)
 
-rises_behind : (view : List Made) (made : Made) → Rises view → AreBelow made.segment made.place view → Rises (view ++ made ∷ [])
-rises_behind [] made r b = (tt, tt)
-rises_behind (first ∷ view) made r b = (from_behind view made first.segment r.0 b.0.0, rises_behind view made r.1 b.1)
+rises_after : (view : List Made) (made : Made) → Rises view → AreBelow made.segment made.place view → Rises (view ++ made ∷ [])
+rises_after [] made r b = (tt, tt)
+rises_after (first ∷ view) made r b = (from_after view made first.segment r.0 b.0.0, rises_after view made r.1 b.1)
 
 -- the view has the call that was handed in, with the answer that is given
 pub view_made : (view reserved pushed : List Made) (segment place : ℕ) (mine call : Call) (kept given : CallAnswer)
@@ -57,8 +57,8 @@ placed_pushed view reserved pushed made segment next later h reached after same 
     let more : IsReached made.segment made.place made.segment later = (omega arith, λ _. omega arith) in
     let itself : IsBelow made.segment later made = (omega arith, λ _. omega arith) in
     rw (added, same) (
-      below_behind view made made.segment later (below_more view made.segment made.place made.segment later more below) itself,
-      rises_behind view made h.1 below,
+      below_after view made made.segment later (below_more view made.segment made.place made.segment later more below) itself,
+      rises_after view made h.1 below,
     )
 
 -- the refusal of a call is that of the same call

@@ -25,15 +25,15 @@ use Rattle.tac_hall_console.specs.Commands.{is_rotate}
 use Rattle.tac_hall_console.specs.Operating.{Comes, Tells, Adds, IsUntold, SendsUnlessMemory, Stops}
 use Rattle.tac_hall_console.proofs.GoingFacts.{makes_none}
 
-behind_all : {X : Type 0} (before : List X) (last : X) → slice_get (before ++ last ∷ []) (length before) ≡ Some last
-behind_all [] last = refl
-behind_all (x ∷ before) last = behind_all before last
+after_all : {X : Type 0} (before : List X) (last : X) → slice_get (before ++ last ∷ []) (length before) ≡ Some last
+after_all [] last = refl
+after_all (x ∷ before) last = after_all before last
 
 -- the last of a list
 pub last_of : {X : Type 0} (before : List X) (last : X) → slice_get (before ++ last ∷ []) (length (before ++ last ∷ []) - 1) ≡ Some last
 last_of before last =
     let at : length (before ++ last ∷ []) - 1 ≡ length before = omega (arith, length-append before (last ∷ [])) in
-    ap (λ (n : ℕ). slice_get (before ++ last ∷ []) n) at ∙ behind_all before last
+    ap (λ (n : ℕ). slice_get (before ++ last ∷ []) n) at ∙ after_all before last
 
 -- ---- what came of it
 

@@ -28,10 +28,10 @@ came_append batch [] (outcome ∷ outcomes) later others a b = absurd a
 came_append batch (line ∷ lines) [] later others a b = absurd a
 came_append batch (line ∷ lines) (outcome ∷ outcomes) later others a b = (a.0, came_append (batch_by batch line) lines outcomes later others a.1 b)
 
--- the same, where this batch is found behind the first lines
-came_behind : (batch between : Option (List Edit)) (lines : List (List ℕ)) (outcomes : List Outcome) (later : List (List ℕ)) (others : List Outcome)
+-- the same, where this batch is found after the first lines
+came_after : (batch between : Option (List Edit)) (lines : List (List ℕ)) (outcomes : List Outcome) (later : List (List ℕ)) (others : List Outcome)
     → CameTo batch lines outcomes → between ≡ batch_left batch lines → CameTo between later others → CameTo batch (lines ++ later) (outcomes ++ others)
-came_behind batch between lines outcomes later others a is b = came_append batch lines outcomes later others a (rw is at b)
+came_after batch between lines outcomes later others a is b = came_append batch lines outcomes later others a (rw is at b)
 
 pub makes_none : (was : ConsoleSeat) → Makes was was [] []
 makes_none was = record { number = refl; view = sym (append-nil was.seat.view); rotations = sym (append-nil was.rotations) }
@@ -94,7 +94,7 @@ module _ (bytes left : List ℕ) (was mid : Console) (old between : Option (List
     quitting = λ more. g.quitting more ∙ h.quitting more;
     within = (let a = g.within in let b = h.within in omega arith);
     outcomes = g.outcomes ++ h.outcomes;
-    came = came_behind was.batch mid.batch g.answered g.outcomes h.answered h.outcomes g.came g.batch h.came;
+    came = came_after was.batch mid.batch g.answered g.outcomes h.answered h.outcomes g.came g.batch h.came;
     batch = h.batch ∙ ap (λ (b : Option (List Edit)). batch_left b h.answered) g.batch ∙ sym (batch_append was.batch g.answered h.answered);
     makes = makes_then was.seat mid.seat now.seat g.outcomes h.outcomes g.makes h.makes;
     written = written_then g.outcomes h.outcomes old between new g.written h.written;
@@ -215,13 +215,13 @@ ends_before faults.Memory lines later was now old new read e = record {
 }
 
 -- after lines whose answers were written
-writes_behind : (end : Result (Unit {0}) OperatorFault) (outcomes others : List Outcome) (old mid new : Option (List ℕ)) → Appends old mid (text_of outcomes)
+writes_after : (end : Result (Unit {0}) OperatorFault) (outcomes others : List Outcome) (old mid new : Option (List ℕ)) → Appends old mid (text_of outcomes)
     → WritesTo end others mid new → WritesTo end (outcomes ++ others) old new
-writes_behind (Ok _) outcomes others old mid new a b = written_then outcomes others old mid new a b
-writes_behind (Err faults.ReadFault) outcomes others old mid new a b = written_then outcomes others old mid new a b
-writes_behind (Err faults.WriteFault) outcomes others old mid new a b =
+writes_after (Ok _) outcomes others old mid new a b = written_then outcomes others old mid new a b
+writes_after (Err faults.ReadFault) outcomes others old mid new a b = written_then outcomes others old mid new a b
+writes_after (Err faults.WriteFault) outcomes others old mid new a b =
     subst (λ (t : List ℕ). WritesBeginning t old new) (sym (text_append outcomes others)) (beginning_then outcomes (text_of others) old mid new a b)
-writes_behind (Err faults.Memory) outcomes others old mid new a b = record {
+writes_after (Err faults.Memory) outcomes others old mid new a b = record {
   first = outcomes ++ b.first;
   untold = b.untold;
   parts = ap (λ (o : List Outcome). outcomes ++ o) b.parts ∙ sym (append_assoc outcomes b.first b.untold);
@@ -238,21 +238,21 @@ ends_after end answered lines outcomes was mid now old between new came batch ma
   parts = ap (λ (l : List (List ℕ)). answered ++ l) e.parts ∙ sym (append_assoc answered e.answered e.left);
   leaves = e.leaves;
   outcomes = outcomes ++ e.outcomes;
-  came = came_behind was.batch mid.batch answered outcomes e.answered e.outcomes came batch e.came;
+  came = came_after was.batch mid.batch answered outcomes e.answered e.outcomes came batch e.came;
   makes = makes_then was.seat mid.seat now.seat outcomes e.outcomes makes e.makes;
-  writes = writes_behind end outcomes e.outcomes old between new written e.writes;
+  writes = writes_after end outcomes e.outcomes old between new written e.writes;
 }
 
 module _ (bytes left : List ℕ) (was mid : Console) (old between : Option (List ℕ)) (g : GoesOn bytes left was mid old between) where
   -- it ends at what was left
-  pub ends_behind : (end : Result (Unit {0}) OperatorFault) (now : Console) (new : Option (List ℕ)) → EndsAt end (commands (lines_of left)) mid now between new
+  pub ends_after_lines : (end : Result (Unit {0}) OperatorFault) (now : Console) (new : Option (List ℕ)) → EndsAt end (commands (lines_of left)) mid now between new
       → EndsAt end (commands (lines_of bytes)) was now old new
-  ends_behind end now new e =
+  ends_after_lines end now new e =
       subst (λ (l : List (List ℕ)). EndsAt end l was now old new) (sym (commands_now bytes left was mid old between g))
       (ends_after end g.answered (commands (lines_of left)) g.outcomes was mid now old between new g.came g.batch g.makes g.written e)
 
-  pub ends_behind_ended : (end : Result (Unit {0}) OperatorFault) (now : Console) (new : Option (List ℕ)) → EndsAt end (commands (ended_lines left)) mid now between new
+  pub ends_after_ended : (end : Result (Unit {0}) OperatorFault) (now : Console) (new : Option (List ℕ)) → EndsAt end (commands (ended_lines left)) mid now between new
       → EndsAt end (commands (ended_lines bytes)) was now old new
-  ends_behind_ended end now new e =
+  ends_after_ended end now new e =
       subst (λ (l : List (List ℕ)). EndsAt end l was now old new) (sym (ended_now bytes left was mid old between g))
       (ends_after end g.answered (commands (ended_lines left)) g.outcomes was mid now old between new g.came g.batch g.makes g.written e)

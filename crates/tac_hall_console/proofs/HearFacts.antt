@@ -10,7 +10,7 @@ use Rattle.tac_hall_console.specs.declared.operator.Went.TheVariants.{On, Quits}
 use Rattle.tac_hall_console.specs.Commands.{ended_lines, commands, quits}
 use Rattle.tac_hall_console.specs.Operating.{IsRead, EndsAt, EndsWhole, Took, Listens, IsHeard}
 use Rattle.tac_hall_console.proofs.LineFacts.{ended_open, commands_last, commands_quit}
-use Rattle.tac_hall_console.proofs.GoingFacts.{goes_none, goes_then, goes_more, quits_now, ends_unread, ends_behind, ends_behind_ended}
+use Rattle.tac_hall_console.proofs.GoingFacts.{goes_none, goes_then, goes_more, quits_now, ends_unread, ends_after_lines, ends_after_ended}
 
 -- of commands that ended the first were answered
 ends_whole : (fault : OperatorFault) (input : List ℕ) (was now : Console) (old new : Option (List ℕ)) → IsRead (Err fault) → EndsAt (Err fault) (commands (ended_lines input)) was now old new
@@ -85,7 +85,7 @@ module _ (begun : List ℕ) (was mid : Console) (before after old between : Opti
   pub heard_unread : (left : Option (List ℕ)) → Keeps after left → IsHeard (Err faults.ReadFault) was mid before left old between
   heard_unread left kept =
       let ends : EndsAt (Err faults.ReadFault) (commands (ended_lines s.input)) was mid old between =
-      ends_behind_ended s.input begun was mid old between s.goes (Err faults.ReadFault) mid between
+      ends_after_ended s.input begun was mid old between s.goes (Err faults.ReadFault) mid between
       (subst (λ (l : List (List ℕ)). EndsAt (Err faults.ReadFault) l mid mid between between) (sym (ap commands (ended_open begun s.opens))) (ends_unread mid between)) in
       record {
         input = s.input;
@@ -111,7 +111,7 @@ module _ (begun : List ℕ) (was mid : Console) (before after old between : Opti
     heard_quit next t =
         let more = goes_more s.input begun was mid old between s.goes piece in
         let quit : quits (ended_lines (s.input ++ piece)) ≡ true = quits_now (s.input ++ piece) (begun ++ piece) was mid old between more ∙ t.0 in
-        let ends = ends_quit (s.input ++ piece) was now old new quit (ends_behind_ended (s.input ++ piece) (begun ++ piece) was mid old between more (Ok tt) now new t.1) in
+        let ends = ends_quit (s.input ++ piece) was now old new quit (ends_after_ended (s.input ++ piece) (begun ++ piece) was mid old between more (Ok tt) now new t.1) in
         record {
           input = s.input ++ piece;
           read = Consumes-trans before after left s.input piece s.read read;
@@ -125,7 +125,7 @@ module _ (begun : List ℕ) (was mid : Console) (before after old between : Opti
     ends_there : (fault : OperatorFault) → IsRead (Err fault) → EndsAt (Err fault) (commands (ended_lines (begun ++ piece))) mid now between new → EndsWhole (Err fault) (s.input ++ piece) was now old new
     ends_there fault is e =
         ends_whole fault (s.input ++ piece) was now old new is
-        (ends_behind_ended (s.input ++ piece) (begun ++ piece) was mid old between (goes_more s.input begun was mid old between s.goes piece) (Err fault) now new e)
+        (ends_after_ended (s.input ++ piece) (begun ++ piece) was mid old between (goes_more s.input begun was mid old between s.goes piece) (Err fault) now new e)
 
     pub heard_fault : (fault : OperatorFault) (next : List ℕ) → 0 < length piece → Took (Err fault) begun piece next mid now between new → IsHeard (Err fault) was now before left old new
     heard_fault faults.ReadFault next some t = absurd t.0
@@ -163,7 +163,7 @@ module _ (begun : List ℕ) (was mid : Console) (before after old between : Opti
       read = read_all;
       finishes = λ no. at_end;
       wants = λ e. absurd cc;
-      ends = ends_behind s.input begun was mid old between s.goes (Ok u) now new e;
+      ends = ends_after_lines s.input begun was mid old between s.goes (Ok u) now new e;
       whole = inr at_end;
     }
     heard_last (Err faults.ReadFault) is some e = absurd is
@@ -172,7 +172,7 @@ module _ (begun : List ℕ) (was mid : Console) (before after old between : Opti
       read = read_all;
       finishes = tt;
       wants = λ e. absurd cc;
-      ends = ends_behind s.input begun was mid old between s.goes (Err faults.WriteFault) now new e;
+      ends = ends_after_lines s.input begun was mid old between s.goes (Err faults.WriteFault) now new e;
       whole = inr at_end;
     }
     heard_last (Err faults.Memory) is some e = record {
@@ -180,6 +180,6 @@ module _ (begun : List ℕ) (was mid : Console) (before after old between : Opti
       read = read_all;
       finishes = tt;
       wants = λ e. (let least = some refl in let within = s.goes.within in omega arith);
-      ends = ends_behind s.input begun was mid old between s.goes (Err faults.Memory) now new e;
+      ends = ends_after_lines s.input begun was mid old between s.goes (Err faults.Memory) now new e;
       whole = inr at_end;
     }

@@ -36,18 +36,18 @@ split_more (byte ∷ a) b x y h =
 
 -- ---- bytes before
 
-behind_case : (here : Bool) (byte : ℕ) (a all x y : List ℕ) (parts later : Option (List ℕ × List ℕ))
+after_case : (here : Bool) (byte : ℕ) (a all x y : List ℕ) (parts later : Option (List ℕ × List ℕ))
     → (parts ≡ None → later ≡ Some (a ++ x, y))
     → split_if here byte a parts ≡ None → split_if here byte all later ≡ Some (byte ∷ a ++ x, y)
-behind_case true byte a all x y parts later below h = absurd cc
-behind_case false byte a all x y None later below h = ap (onto_parts byte) (below refl)
-behind_case false byte a all x y (Some p) later below h = absurd cc
+after_case true byte a all x y parts later below h = absurd cc
+after_case false byte a all x y None later below h = ap (onto_parts byte) (below refl)
+after_case false byte a all x y (Some p) later below h = absurd cc
 
 -- what had begun of a line is its front
-pub split_behind : (a b x y : List ℕ) → split_at_first 10 a ≡ None → split_at_first 10 b ≡ Some (x, y) → split_at_first 10 (a ++ b) ≡ Some (a ++ x, y)
-split_behind [] b x y e h = h
-split_behind (byte ∷ a) b x y e h =
-    behind_case (eqb byte 10) byte a (a ++ b) x y (split_at_first 10 a) (split_at_first 10 (a ++ b)) (λ none. split_behind a b x y none h) e
+pub split_after : (a b x y : List ℕ) → split_at_first 10 a ≡ None → split_at_first 10 b ≡ Some (x, y) → split_at_first 10 (a ++ b) ≡ Some (a ++ x, y)
+split_after [] b x y e h = h
+split_after (byte ∷ a) b x y e h =
+    after_case (eqb byte 10) byte a (a ++ b) x y (split_at_first 10 a) (split_at_first 10 (a ++ b)) (λ none. split_after a b x y none h) e
 
 open_case : (here : Bool) (byte : ℕ) (a all : List ℕ) (parts later : Option (List ℕ × List ℕ))
     → (parts ≡ None → later ≡ None) → split_if here byte a parts ≡ None → split_if here byte all later ≡ None

@@ -8,8 +8,8 @@ use Rattle.tac_hall_console.specs.declared.operator.Went.{Went}
 use Rattle.tac_hall_console.specs.declared.operator.Went.TheVariants.{On, Quits}
 use Rattle.tac_hall_console.specs.Commands.{ended_lines, is_quit, commands, quits}
 use Rattle.tac_hall_console.specs.Operating.{IsOpen, GoesOn, EndsAt, Answers, Took}
-use Rattle.tac_hall_console.proofs.LineFacts.{split_behind, open_more, ended_split, lines_open, command_first, no_command, quits_here}
-use Rattle.tac_hall_console.proofs.GoingFacts.{goes_then, goes_line, quits_now, ends_none, ends_memory, ends_before, ends_behind_ended}
+use Rattle.tac_hall_console.proofs.LineFacts.{split_after, open_more, ended_split, lines_open, command_first, no_command, quits_here}
+use Rattle.tac_hall_console.proofs.GoingFacts.{goes_then, goes_line, quits_now, ends_none, ends_memory, ends_before, ends_after_ended}
 
 -- what of a piece was gone through, where this has begun of a line and this is the rest
 module _ (start piece begun rest : List ℕ) (was mid : Console) (old between : Option (List ℕ)) (g : GoesOn (start ++ piece) (begun ++ rest) was mid old between) where
@@ -17,40 +17,40 @@ module _ (start piece begun rest : List ℕ) (was mid : Console) (old between : 
   pub took_memory : (result : Result Went OperatorFault) (next : List ℕ) → IsErrAnd result (λ fault. fault ≡ faults.Memory) → Took result start piece next was mid old between
   took_memory (Ok went) next is = absurd is
   took_memory (Err fault) next is =
-      rw is (tt, ends_behind_ended (start ++ piece) (begun ++ rest) was mid old between g (Err faults.Memory) mid between (ends_memory (commands (ended_lines (begun ++ rest))) mid between))
+      rw is (tt, ends_after_ended (start ++ piece) (begun ++ rest) was mid old between g (Err faults.Memory) mid between (ends_memory (commands (ended_lines (begun ++ rest))) mid between))
 
   -- no line ends in the rest
   pub took_on : (next : List ℕ) → next ≡ begun ++ rest → IsOpen begun → split_at_first 10 rest ≡ None → Took (Ok On) start piece next was mid old between
   took_on next is opens none = rw is (open_more begun rest opens none, g)
 
-  module _ (front behind : List ℕ) (opens : IsOpen begun) (parts : split_at_first 10 rest ≡ Some (front, behind)) where
-    whole : split_at_first 10 (begun ++ rest) ≡ Some (begun ++ front, behind)
-    whole = split_behind begun rest front behind opens parts
+  module _ (front after : List ℕ) (opens : IsOpen begun) (parts : split_at_first 10 rest ≡ Some (front, after)) where
+    whole : split_at_first 10 (begun ++ rest) ≡ Some (begun ++ front, after)
+    whole = split_after begun rest front after opens parts
 
     -- the line that ends there is `quit`
     pub took_quit : (next : List ℕ) → is_quit (begun ++ front) ≡ true → Took (Ok Quits) start piece next was mid old between
     took_quit next quit = (
-      quits_now (start ++ piece) (begun ++ rest) was mid old between g ∙ ap quits (ended_split (begun ++ rest) (begun ++ front) behind whole) ∙ quits_here (begun ++ front) (ended_lines behind) quit,
-      ends_behind_ended (start ++ piece) (begun ++ rest) was mid old between g (Ok tt) mid between
+      quits_now (start ++ piece) (begun ++ rest) was mid old between g ∙ ap quits (ended_split (begun ++ rest) (begun ++ front) after whole) ∙ quits_here (begun ++ front) (ended_lines after) quit,
+      ends_after_ended (start ++ piece) (begun ++ rest) was mid old between g (Ok tt) mid between
           (subst (λ (l : List (List ℕ)). EndsAt (Ok tt) l mid mid between between)
-          (sym (ap commands (ended_split (begun ++ rest) (begun ++ front) behind whole) ∙ no_command (begun ++ front) (ended_lines behind) quit))
+          (sym (ap commands (ended_split (begun ++ rest) (begun ++ front) after whole) ∙ no_command (begun ++ front) (ended_lines after) quit))
           (ends_none mid between)),
     )
 
     module _ (other : is_quit (begun ++ front) ≡ false) (now : Console) (new : Option (List ℕ)) where
       -- it is answered
-      pub took_line : Answers (Ok tt) (begun ++ front) mid now between new → GoesOn (start ++ piece) behind was now old new
+      pub took_line : Answers (Ok tt) (begun ++ front) mid now between new → GoesOn (start ++ piece) after was now old new
       took_line a =
-          goes_then (start ++ piece) (begun ++ rest) was mid old between g behind now new (goes_line (begun ++ rest) (begun ++ front) behind mid now between new whole other a.1 a.2)
+          goes_then (start ++ piece) (begun ++ rest) was mid old between g after now new (goes_line (begun ++ rest) (begun ++ front) after mid now between new whole other a.1 a.2)
 
       -- it fails there
       pub took_fault : (fault : OperatorFault) (next : List ℕ) → Answers (Err fault) (begun ++ front) mid now between new → Took (Err fault) start piece next was now old new
       took_fault fault next a = (
         a.0,
-        ends_behind_ended (start ++ piece) (begun ++ rest) was mid old between g (Err fault) now new
+        ends_after_ended (start ++ piece) (begun ++ rest) was mid old between g (Err fault) now new
             (subst (λ (l : List (List ℕ)). EndsAt (Err fault) l mid now between new)
-            (sym (ap commands (ended_split (begun ++ rest) (begun ++ front) behind whole) ∙ command_first (begun ++ front) (ended_lines behind) other))
-            (ends_before fault ((begun ++ front) ∷ []) (commands (ended_lines behind)) mid now between new a.0 a.2)),
+            (sym (ap commands (ended_split (begun ++ rest) (begun ++ front) after whole) ∙ command_first (begun ++ front) (ended_lines after) other))
+            (ends_before fault ((begun ++ front) ∷ []) (commands (ended_lines after)) mid now between new a.0 a.2)),
       )
 
       pub took_fault_as : (result : Result Went OperatorFault) (fault : OperatorFault) (next : List ℕ) → IsErrAnd result (λ end. end ≡ fault) → Answers (Err fault) (begun ++ front) mid now between new

@@ -38,12 +38,12 @@ absorbed false all h = refl
 -- ---- one packet, and those after it
 
 module _ (asks : List Ask) (say : Meaning → List Meaning → Said) (later : Bool) where
-  behind_close : (said : Said) (ask : Ask) (meanings : List Meaning) (single : Bool)
+  after_close : (said : Said) (ask : Ask) (meanings : List Meaning) (single : Bool)
       → (not single ≡ false → (next : Meaning) (others : List Meaning) → length asks ≤ length others → (say next others).closes ≡ later)
       → length (cond single asks []) ≤ length meanings
       → (unless_closed (record said { closes = not single }) (λ next. say next meanings)).closes ≡ (not single || later)
-  behind_close said ask meanings true same enough = same refl said.meaning meanings enough
-  behind_close said ask meanings false same enough = refl
+  after_close said ask meanings true same enough = same refl said.meaning meanings enough
+  after_close said ask meanings false same enough = refl
 
   close_for : (now : Meaning) (comes : Outcome) (meanings : List Meaning)
       → (outcome_closes comes ≡ false → (next : Meaning) (others : List Meaning) → length asks ≤ length others → (say next others).closes ≡ later)
@@ -52,7 +52,7 @@ module _ (asks : List Ask) (say : Meaning → List Meaning → Said) (later : Bo
   close_for now (Reply reply true) meanings same enough = refl
   close_for now (Reply reply false) meanings same enough = same refl now meanings enough
   close_for now (Asks ask slot) [] same enough = absurd (omega (arith, enough))
-  close_for now (Asks ask slot) (meaning ∷ meanings) same enough = behind_close (says meaning (Asks ask slot)) ask meanings slot.single same (omega (arith, enough))
+  close_for now (Asks ask slot) (meaning ∷ meanings) same enough = after_close (says meaning (Asks ask slot)) ask meanings slot.single same (omega (arith, enough))
   close_for now Silent meanings same enough = same refl now meanings enough
   close_for now Close meanings same enough = refl
 

@@ -24,18 +24,18 @@ Answered base first [] = Unit {0}
 Answered base first (entry ∷ log) =
     ((was : Meaning) × (now : Meaning) × Legal base first was × Answers was entry.call entry.answer now) × Answered base (first ++ entry ∷ []) log
 
-answered_behind : (base was now : Meaning) (entry : Entry) (log first : List Entry) → Answered base first log → Legal base (first ++ log) was → Answers was entry.call entry.answer now
+answered_after : (base was now : Meaning) (entry : Entry) (log first : List Entry) → Answered base first log → Legal base (first ++ log) was → Answers was entry.call entry.answer now
     → Answered base first (log ++ entry ∷ [])
-answered_behind base was now entry [] first h legal answers = ((was, now, subst (λ (l : List Entry). Legal base l was) (append-nil first) legal, answers), tt)
-answered_behind base was now entry (next ∷ log) first h legal answers = (
+answered_after base was now entry [] first h legal answers = ((was, now, subst (λ (l : List Entry). Legal base l was) (append-nil first) legal, answers), tt)
+answered_after base was now entry (next ∷ log) first h legal answers = (
   h.0,
-  answered_behind base was now entry log (first ++ next ∷ []) h.1 (subst (λ (l : List Entry). Legal base l was) (sym (append_assoc first (next ∷ []) log)) legal) answers,
+  answered_after base was now entry log (first ++ next ∷ []) h.1 (subst (λ (l : List Entry). Legal base l was) (sym (append_assoc first (next ∷ []) log)) legal) answers,
 )
 
 answered : (base : Meaning) (log : List Entry) (last : Meaning) → Legal base log last → Answered base [] log
 answered base log last (at_first) = tt
 answered base log last (and_then {log = before} {was = was} {now = now} entry legal goes_on answers) =
-    answered_behind base was now entry before [] (answered base before was legal) legal answers
+    answered_after base was now entry before [] (answered base before was legal) legal answers
 
 -- those of a log, and those that come after it
 answered_parts : (base : Meaning) (log more first : List Entry) → Answered base first (log ++ more) → Answered base first log × Answered base (first ++ log) more
@@ -96,9 +96,9 @@ module _ (base : Meaning) (number : ℕ) (whole : List (List Entry)) where
       (viewed_along logs (earlier ++ log ∷ []) (suc segment) (append_assoc earlier (log ∷ []) logs ∙ parts) (omega (arith, is, length-append earlier (log ∷ [])))
       (subst (λ (l : List Entry). Answered base l (joined logs)) (sym (joined_last earlier log)) both.1))
 
-viewed_behind : (base : Meaning) (logs : List (List Entry)) (first view : List Made) → Viewed base logs (first ++ view) → Viewed base logs view
-viewed_behind base logs [] view h = h
-viewed_behind base logs (made ∷ first) view h = viewed_behind base logs first view h.1
+viewed_after : (base : Meaning) (logs : List (List Entry)) (first view : List Made) → Viewed base logs (first ++ view) → Viewed base logs view
+viewed_after base logs [] view h = h
+viewed_after base logs (made ∷ first) view h = viewed_after base logs first view h.1
 
 -- ---- exchanges
 
@@ -124,7 +124,7 @@ said_at : (key bytes : List ℕ) (base last : Meaning) (logs : List (List Entry)
 said_at key bytes base last logs number before after made left legal view asks_them =
     let all : Viewed base logs (before ++ (map in_view made ++ after)) =
     subst (λ (l : List Made). Viewed base logs l) view (viewed_along base number logs logs [] 0 refl refl (answered base (joined logs) last legal)) in
-    let s = stood_at base logs after left made (viewed_behind base logs before (map in_view made ++ after) all) in
+    let s = stood_at base logs after left made (viewed_after base logs before (map in_view made ++ after) all) in
     let answers : answers_of made ≡ answers_by s.meanings (asks key bytes) = s.answers ∙ ap (λ (l : List Ask). answers_by s.meanings l) (sym asks_them) in
     record {
       meanings = s.meanings;

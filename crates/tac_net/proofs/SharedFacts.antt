@@ -24,12 +24,12 @@ use Rattle.tac_net.specs.Shared.{says_shared, said_shared, answers_by, along, pa
 
 module _ (asks : List Ask) (sends : List Answer → List Sending) (say : Meaning → List Meaning → Said)
     (same : (next : Meaning) (meanings : List Meaning) → packets_in (sends (answers_by meanings asks)) ≡ (say next meanings).sent) where
-  behind_answer : (slot : Slot) (ask : Ask) (meaning : Meaning) (meanings : List Meaning) (single : Bool)
+  after_answer : (slot : Slot) (ask : Ask) (meaning : Meaning) (meanings : List Meaning) (single : Bool)
       → packets_in (carrying slot (asked meaning ask).answer ∷ (cond single (sends (answers_by meanings (cond single asks []))) []))
       ≡ (unless_closed (record { sent = packet_of (reply_in slot (answer_body (asked meaning ask).answer)) ∷ []; closes = not single; meaning = (asked meaning ask).meaning }) (λ next. say next meanings)).sent
-  behind_answer slot ask meaning meanings true =
+  after_answer slot ask meaning meanings true =
       ap (λ (l : List Packet). packet_of (reply_in slot (answer_body (asked meaning ask).answer)) ∷ l) (same (asked meaning ask).meaning meanings)
-  behind_answer slot ask meaning meanings false = refl
+  after_answer slot ask meaning meanings false = refl
 
   pub sent_for : (now : Meaning) (comes : Outcome) (meanings : List Meaning)
       → packets_in (served_for comes (answers_by meanings (asked_by comes asks)) sends) ≡ (says_shared now comes meanings say).sent
@@ -37,21 +37,21 @@ module _ (asks : List Ask) (sends : List Answer → List Sending) (say : Meaning
   sent_for now (Reply reply true) meanings = refl
   sent_for now (Reply reply false) meanings = ap (λ (l : List Packet). packet_of reply ∷ l) (same now meanings)
   sent_for now (Asks ask slot) [] = refl
-  sent_for now (Asks ask slot) (meaning ∷ meanings) = behind_answer slot ask meaning meanings slot.single
+  sent_for now (Asks ask slot) (meaning ∷ meanings) = after_answer slot ask meaning meanings slot.single
   sent_for now Silent meanings = same now meanings
   sent_for now Close meanings = refl
 
 module _ (asks : List Ask) (say : Meaning → List Meaning → Said) (others : List Meaning) (said : Meaning → Said) (same : (meaning : Meaning) → say meaning (along meaning asks ++ others) ≡ said meaning) where
-  behind_said : (now : Said) (single : Bool)
+  after_said : (now : Said) (single : Bool)
       → unless_closed (record now { closes = not single }) (λ next. say next (along now.meaning (cond single asks []) ++ others)) ≡ unless_closed (record now { closes = not single }) said
-  behind_said now true = ap (sent_before now.sent) (same now.meaning)
-  behind_said now false = refl
+  after_said now true = ap (sent_before now.sent) (same now.meaning)
+  after_said now false = refl
 
   pub said_for : (meaning : Meaning) (comes : Outcome) → says_shared meaning comes (along meaning (asked_by comes asks) ++ others) say ≡ unless_closed (says meaning comes) said
   said_for meaning (Question reply session) = ap (sent_before (packet_of reply ∷ [])) (same meaning)
   said_for meaning (Reply reply true) = refl
   said_for meaning (Reply reply false) = ap (sent_before (packet_of reply ∷ [])) (same meaning)
-  said_for meaning (Asks ask slot) = behind_said (says meaning (Asks ask slot)) slot.single
+  said_for meaning (Asks ask slot) = after_said (says meaning (Asks ask slot)) slot.single
   said_for meaning Silent = ap (sent_before []) (same meaning)
   said_for meaning Close = refl
 

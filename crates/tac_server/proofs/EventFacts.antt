@@ -40,33 +40,33 @@ fields_of-whole (byte ∷ bytes) h = whole_case byte bytes (eqb byte 32) (split_
 -- ---- packets
 
 -- what packets spell after these
-abbrev pub behind : List ℕ → Option (List ℕ) → Option (List ℕ)
-behind front packets = option_map (λ more. front ++ more) packets
+abbrev pub after : List ℕ → Option (List ℕ) → Option (List ℕ)
+after front packets = option_map (λ more. front ++ more) packets
 
-behind_joined : (front packet : List ℕ) (packets : Option (List ℕ)) → behind front (behind packet packets) ≡ behind (front ++ packet) packets
-behind_joined front packet None = refl
-behind_joined front packet (Some more) = ap (λ (t : List ℕ). Some t) (sym (append_assoc front packet more))
+after_joined : (front packet : List ℕ) (packets : Option (List ℕ)) → after front (after packet packets) ≡ after (front ++ packet) packets
+after_joined front packet None = refl
+after_joined front packet (Some more) = ap (λ (t : List ℕ). Some t) (sym (append_assoc front packet more))
 
-module _ (key : List ℕ) (front : List ℕ) (fields : List (List ℕ)) (whole : Option (List ℕ)) (told : behind front (wire_packets key fields) ≡ whole) where
+module _ (key : List ℕ) (front : List ℕ) (fields : List (List ℕ)) (whole : Option (List ℕ)) (told : after front (wire_packets key fields) ≡ whole) where
   -- no field is left
   pub packets_end : fields ≡ [] → Some front ≡ whole
   unfolding wire_packets
-  packets_end e = ap (λ (t : List ℕ). Some t) (sym (append-nil front)) ∙ ap (λ (fs : List (List ℕ)). behind front (wire_packets key fs)) (sym e) ∙ told
+  packets_end e = ap (λ (t : List ℕ). Some t) (sym (append-nil front)) ∙ ap (λ (fs : List (List ℕ)). after front (wire_packets key fs)) (sym e) ∙ told
 
   module _ (field : List ℕ) (rest : List (List ℕ)) (split : fields ≡ field ∷ rest) where
-    first_told : behind front (wire_packets key (field ∷ rest)) ≡ whole
-    first_told = ap (λ (fs : List (List ℕ)). behind front (wire_packets key fs)) (sym split) ∙ told
+    first_told : after front (wire_packets key (field ∷ rest)) ≡ whole
+    first_told = ap (λ (fs : List (List ℕ)). after front (wire_packets key fs)) (sym split) ∙ told
 
     -- the next field spells no packet
     pub packets_none : None ≡ option_and_then (wire_packet key) (bytes_of field) → None ≡ whole
     unfolding wire_packets
     packets_none none =
         let here : wire_packets key (field ∷ rest) ≡ None = rw (← none) refl in
-        sym (ap (behind front) here) ∙ first_told
+        sym (ap (after front) here) ∙ first_told
 
     -- the next field spells a packet
-    pub packets_more : (packet : List ℕ) → Some packet ≡ option_and_then (wire_packet key) (bytes_of field) → behind (front ++ packet) (wire_packets key rest) ≡ whole
+    pub packets_more : (packet : List ℕ) → Some packet ≡ option_and_then (wire_packet key) (bytes_of field) → after (front ++ packet) (wire_packets key rest) ≡ whole
     unfolding wire_packets
     packets_more packet some =
-        let here : wire_packets key (field ∷ rest) ≡ behind packet (wire_packets key rest) = rw (← some) refl in
-        sym (behind_joined front packet (wire_packets key rest)) ∙ sym (ap (behind front) here) ∙ first_told
+        let here : wire_packets key (field ∷ rest) ≡ after packet (wire_packets key rest) = rw (← some) refl in
+        sym (after_joined front packet (wire_packets key rest)) ∙ sym (ap (after front) here) ∙ first_told

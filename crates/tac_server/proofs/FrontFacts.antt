@@ -7,7 +7,7 @@ use Rattle.tac_wire.specs.declared.header.Header.{Header}
 use Rattle.tac_wire.specs.declared.frame.Frame.{Frame}
 use Rattle.tac_wire.specs.declared.frame.FrameFault.{FrameFault}
 use Rattle.tac_wire.specs.Header.{header_of}
-use Rattle.tac_wire.specs.Stream.{Tail, open_end, Parts, only, behind as before_parts, parts_by, cut_within, cut, resumed, Item, whole, refused, unfinished, header_fault, packet_item, header_item, first_item}
+use Rattle.tac_wire.specs.Stream.{Tail, open_end, Parts, only, before_parts, parts_by, cut_within, cut, resumed, Item, whole, refused, unfinished, header_fault, packet_item, header_item, first_item}
 use Rattle.tac_wire.proofs.StreamFacts.{first_item-whole, cut-items, cut-append}
 use Rattle.tac_stream.specs.Turns.{packets_of}
 use Rattle.tac_desk.specs.Meaning.{Meaning}

@@ -280,13 +280,13 @@ hand_found spelled rest event e =
     let parts = bound _ (split_at_first 32 rest) front.0 front.1 in
     let number = mapped (λ (number : ℕ). (number, parts.0.1)) (connection_number_of parts.0.0) front.0 parts.2 in
     let same : number.0 ≡ front.0.0 = ap (λ (p : ℕ × List ℕ). p.0) number.2 in
-    let behind : parts.0.1 ≡ front.0.1 = ap (λ (p : ℕ × List ℕ). p.1) number.2 in
+    let after : parts.0.1 ≡ front.0.1 = ap (λ (p : ℕ × List ℕ). p.1) number.2 in
     record {
       number = front.0.0;
       bytes = bytes.0;
       digits = parts.0.0;
       text = front.0.1;
-      split = parts_joined 32 rest parts.0.0 parts.0.1 parts.1 ∙ ap (λ (t : List ℕ). parts.0.0 ++ 32 ∷ t) behind;
+      split = parts_joined 32 rest parts.0.0 parts.0.1 parts.1 ∙ ap (λ (t : List ℕ). parts.0.0 ++ 32 ∷ t) after;
       numbers = subst (SpellsNumber parts.0.0) same (number_found parts.0.0 number.0 number.1);
       spells = bytes.1;
       is = bytes.2;

@@ -10,7 +10,7 @@ use Rattle.tac_server.specs.declared.server.ServerFault.{ServerFault}
 use Rattle.tac_server.specs.declared.server.ServerFault.TheVariants as faults
 
 -- an event after what came earlier
-pub record Behind (earlier : List Given → State → Type 0) (event : Happening)
+pub record After (earlier : List Given → State → Type 0) (event : Happening)
     (outs : List Given) (after : State) : Type 0 where
   pub before : State
   pub rest : List Given
@@ -23,7 +23,7 @@ pub record Behind (earlier : List Given → State → Type 0) (event : Happening
 -- state that they leave
 abbrev pub Course : State → List Happening → List Given → State → Type 0
 Course start [] outs after = (outs ≡ []) × (after ≡ start)
-Course start (event ∷ earlier) outs after = Behind (Course start earlier) event outs after
+Course start (event ∷ earlier) outs after = After (Course start earlier) event outs after
 
 -- the server is the one that these events leave, and gave out this; nothing else is right
 pub record HasRun {D : Type 0} (meaning : D → Meaning) (server : Server D) (start : State)

@@ -6,7 +6,7 @@ use Rattle.tac_wire.specs.declared.frame.Frame.{Frame}
 use Rattle.tac_wire.specs.declared.frame.FrameFault.{FrameFault}
 use Rattle.tac_wire.specs.declared.framer.Next.{Next}
 use Rattle.tac_wire.specs.declared.framer.Next.TheVariants as nexts
-use Rattle.tac_wire.specs.Stream.{Parts, Tail, open_end, fault, Pending, unread, Item, whole, refused, unfinished, cut, cut_within, only, behind, first_item, parts_by, told as told_by, next_of, left_of, left_by, fed, continued}
+use Rattle.tac_wire.specs.Stream.{Parts, Tail, open_end, fault, Pending, unread, Item, whole, refused, unfinished, cut, cut_within, only, before_parts, first_item, parts_by, told as told_by, next_of, left_of, left_by, fed, continued}
 use Rattle.tac_wire.proofs.StreamFacts.{cut-items, cut-append, left-packet}
 use Rattle.tac_conn.specs.Packet.{clear}
 use Rattle.tac_conn.specs.History.{trail_of, outcome}
@@ -50,16 +50,16 @@ stands_came (Ok done) key bytes piece told left old new s reads same over e = re
 }
 stands_came (Err error) key bytes piece told left old new s reads same over e = tt
 
-continued_behind : (told : List Frame) (packets : List Frame) (tail : Tail) (piece : List ℕ)
-    → continued (behind told (record { packets = packets; tail = tail })) piece ≡ behind told (continued (record { packets = packets; tail = tail }) piece)
-continued_behind told packets (open_end bytes) piece =
+continued_after : (told : List Frame) (packets : List Frame) (tail : Tail) (piece : List ℕ)
+    → continued (before_parts told (record { packets = packets; tail = tail })) piece ≡ before_parts told (continued (record { packets = packets; tail = tail }) piece)
+continued_after told packets (open_end bytes) piece =
     ap (λ (frames : List Frame). record { packets = frames; tail = (cut (bytes ++ piece)).tail }) (append_assoc told packets (cut (bytes ++ piece)).packets)
-continued_behind told packets (fault reason) piece = refl
+continued_after told packets (fault reason) piece = refl
 
 pub reads_more : (key bytes piece : List ℕ) (told : List Frame) (left : Parts) (old new : Trail) → Reads key bytes told left old
     → new.framer ≡ fed old.framer piece → new.ahead.items ≡ old.ahead.items ++ piece → new.shadow ≡ old.shadow → Reads key (bytes ++ piece) told (continued left piece) new
 reads_more key bytes piece told left old new r framer ahead shadow = record {
-  whole = cut-append bytes piece ∙ ap (λ (p : Parts). continued p piece) r.whole ∙ continued_behind told left.packets left.tail piece;
+  whole = cut-append bytes piece ∙ ap (λ (p : Parts). continued p piece) r.whole ∙ continued_after told left.packets left.tail piece;
   framer = framer ∙ ap (λ (p : Pending). fed p piece) r.framer ∙ ap unread (sym ahead);
   parts = ap cut ahead ∙ cut-append old.ahead.items piece ∙ ap (λ (p : Parts). continued p piece) r.parts;
   shadow = rw shadow r.shadow;
@@ -115,10 +115,10 @@ module _ (key bytes : List ℕ) (done : List Frame) (left : Parts) (old : Trail)
       let found = packet_told (first_item ahead) frame it in
       let rest : List ℕ = found.0 in
       let first_is : first_item ahead ≡ whole frame rest = found.1 in
-      let parts : left ≡ behind (frame ∷ []) (cut rest) = left_is (whole frame rest) first_is in
+      let parts : left ≡ before_parts (frame ∷ []) (cut rest) = left_is (whole frame rest) first_is in
       let packets : left.packets ≡ frame ∷ (cut rest).packets = ap (λ (p : Parts). p.packets) parts in
       let tail : left.tail ≡ (cut rest).tail = ap (λ (p : Parts). p.tail) parts in
-      let behind_it : unread (drop (12 + length frame.body) ahead) ≡ unread rest = left-packet ahead frame it ∙ ap (λ (i : Item). left_by i ahead) first_is in
+      let after_it : unread (drop (12 + length frame.body) ahead) ≡ unread rest = left-packet ahead frame it ∙ ap (λ (i : Item). left_by i ahead) first_is in
       let rest_is : drop (12 + length frame.body) ahead ≡ rest = cc in
       record {
         frame = frame;

@@ -2,7 +2,7 @@
 use Rattle.std.specs.Prelude.{◌≡◌, ℕ, List, [], ◌∷◌, ◌++◌, length, Bool, true, false, Option, Some}
 use Rattle.std.specs.Prelude.{None}
 use Rattle.tac_wire.specs.declared.frame.Frame.{Frame}
-use Rattle.tac_wire.specs.Stream.{Parts, Tail, open_end, fault, Pending, unread, ended, cut, behind}
+use Rattle.tac_wire.specs.Stream.{Parts, Tail, open_end, fault, Pending, unread, ended, cut, before_parts}
 use Rattle.tac_conn.specs.declared.packet.Packet.{Packet}
 use Rattle.tac_conn.specs.Packet.{clear}
 use Rattle.tac_conn.specs.History.{trail_of, outcome}
@@ -31,7 +31,7 @@ Knows logins packets = (session : ℕ) → asker_at logins session ≡ asker_of 
 -- of the bytes that came these packets were taken, and these parts are left
 pub record Reads (key bytes : List ℕ) (told : List Frame) (left : Parts) (trail : Trail)
     : Type 0 where
-  pub whole : cut bytes ≡ behind told left
+  pub whole : cut bytes ≡ before_parts told left
   pub framer : trail.framer ≡ unread trail.ahead.items
   pub parts : cut trail.ahead.items ≡ left
   pub shadow : conns.Stands trail.shadow (packets_of key told)

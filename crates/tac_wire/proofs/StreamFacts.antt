@@ -10,7 +10,7 @@ use Rattle.tac_wire.specs.declared.frame.FrameFault.{FrameFault}
 use Rattle.tac_wire.specs.Header.{header_bytes, header_of}
 use Rattle.tac_wire.specs.declared.framer.Next.{Next}
 use Rattle.tac_wire.specs.declared.framer.Next.TheVariants.{Packet, Fault}
-use Rattle.tac_wire.specs.Stream.{unread, ended, left_by, told, Tail, open_end, fault, Parts, only, behind as before_parts, parts_by, cut_within, cut, resumed, continued, Item, whole, refused, unfinished, header_fault, packet_item, header_item, first_item, frame_bytes, IsTaken}
+use Rattle.tac_wire.specs.Stream.{unread, ended, left_by, told, Tail, open_end, fault, Parts, only, before_parts, parts_by, cut_within, cut, resumed, continued, Item, whole, refused, unfinished, header_fault, packet_item, header_item, first_item, frame_bytes, IsTaken}
 
 -- ---- one item
 
@@ -31,7 +31,7 @@ first_item-short bytes h = rw (lt-leb 12 (length bytes) h) refl
 -- what a whole item says of the bytes
 pub record IsWhole (bytes : List ℕ) (frame : Frame) (rest : List ℕ) : Type 0 where
   pub long : 12 + length frame.body ≤ length bytes
-  pub behind : rest ≡ drop (12 + length frame.body) bytes
+  pub after : rest ≡ drop (12 + length frame.body) bytes
 
 packet_item-whole : (header : Header) (tail : List ℕ) (frame : Frame) (rest : List ℕ) → packet_item header tail ≡ whole frame rest → (length frame.body ≤ length tail) × (rest ≡ drop (length frame.body) tail)
 packet_item-whole header tail frame rest e =
@@ -44,8 +44,8 @@ packet_item-whole header tail frame rest e =
           let frames : made ≡ frame = cc in
           let body : take header.length tail ≡ frame.body = ap (λ (f : Frame). f.body) frames in
           let size : length frame.body ≡ header.length = ap length (sym body) ∙ len in
-          let behind : rest ≡ drop header.length tail = cc in
-          (omega arith, rw size behind)
+          let after : rest ≡ drop header.length tail = cc in
+          (omega arith, rw size after)
     ]
 
 -- a refused header is no packet
@@ -60,7 +60,7 @@ first_item-whole bytes frame rest e =
       | inr le ↦
           let parts = header_item-whole (header_fault (header_of (take 12 bytes))) (header_of (take 12 bytes)) (drop 12 bytes) frame rest (sym (first_item-enough bytes le) ∙ e) in
           let at : drop (length frame.body) (drop 12 bytes) ≡ drop (12 + length frame.body) bytes = drop-drop (length frame.body) 12 bytes in
-          record { long = omega (arith, length-drop 12 bytes, parts.0); behind = parts.1 ∙ at }
+          record { long = omega (arith, length-drop 12 bytes, parts.0); after = parts.1 ∙ at }
     ]
 
 -- ---- more bytes after an item
@@ -73,9 +73,9 @@ packet_item-append header tail more frame rest e =
           let made : Frame = record { header = header; body = take header.length tail } in
           let same : whole made (drop header.length tail) ≡ whole frame rest = sym (packet_item-enough header tail le) ∙ e in
           let frames : made ≡ frame = cc in
-          let behind : drop header.length tail ≡ rest = cc in
+          let after : drop header.length tail ≡ rest = cc in
           packet_item-enough header (tail ++ more) (omega (arith, length-append tail more))
-          ∙ rw (take-append-le, drop-append-le) (ap (λ (f : Frame). whole f (drop header.length tail ++ more)) frames ∙ ap (λ (r : List ℕ). whole frame (r ++ more)) behind)
+          ∙ rw (take-append-le, drop-append-le) (ap (λ (f : Frame). whole f (drop header.length tail ++ more)) frames ∙ ap (λ (r : List ℕ). whole frame (r ++ more)) after)
     ]
 
 header_item-append_whole : (reason : Option FrameFault) (header : Header) (tail more : List ℕ) (frame : Frame) (rest : List ℕ) → header_item reason header tail ≡ whole frame rest → header_item reason header (tail ++ more) ≡ whole frame (rest ++ more)
@@ -96,10 +96,10 @@ header_item-append_refused None header tail more reason e = absurd (packet_item-
 first_item-append : (bytes more : List ℕ) → 12 ≤ length bytes → first_item (bytes ++ more) ≡ header_item (header_fault (header_of (take 12 bytes))) (header_of (take 12 bytes)) (drop 12 bytes ++ more)
 first_item-append bytes more h =
     let fixed : take 12 (bytes ++ more) ≡ take 12 bytes = take-append-le 12 bytes more h in
-    let behind : drop 12 (bytes ++ more) ≡ drop 12 bytes ++ more = drop-append-le 12 bytes more h in
+    let after : drop 12 (bytes ++ more) ≡ drop 12 bytes ++ more = drop-append-le 12 bytes more h in
     first_item-enough (bytes ++ more) (omega (arith, length-append bytes more))
     ∙ ap (λ (front : List ℕ). header_item (header_fault (header_of front)) (header_of front) (drop 12 (bytes ++ more))) fixed
-    ∙ ap (header_item (header_fault (header_of (take 12 bytes))) (header_of (take 12 bytes))) behind
+    ∙ ap (header_item (header_fault (header_of (take 12 bytes))) (header_of (take 12 bytes))) after
 
 pub first_item-append_whole : (bytes more : List ℕ) (frame : Frame) (rest : List ℕ) → first_item bytes ≡ whole frame rest → first_item (bytes ++ more) ≡ whole frame (rest ++ more)
 first_item-append_whole bytes more frame rest e =
@@ -137,7 +137,7 @@ enough_room (suc most) (suc other) bytes h k =
     parts_by_same (cut_within most) (cut_within other) bytes (first_item bytes) refl
     (λ frame rest e.
     let it = first_item-whole bytes frame rest e in
-    let fewer : length rest + 12 ≤ length bytes = omega (arith, ap length it.behind, it.long, length-drop (12 + length frame.body) bytes) in
+    let fewer : length rest + 12 ≤ length bytes = omega (arith, ap length it.after, it.long, length-drop (12 + length frame.body) bytes) in
     enough_room most other rest (omega arith) (omega arith))
 
 cut_within-cut : (most : ℕ) (bytes : List ℕ) → length bytes ≤ most → cut_within most bytes ≡ cut bytes
@@ -152,18 +152,18 @@ cut-items bytes =
     ∙ parts_by_same (cut_within (length bytes)) cut bytes (first_item bytes) refl
     (λ frame rest e.
     let it = first_item-whole bytes frame rest e in
-    cut_within-cut (length bytes) rest (omega (arith, ap length it.behind, length-drop (12 + length frame.body) bytes)))
+    cut_within-cut (length bytes) rest (omega (arith, ap length it.after, length-drop (12 + length frame.body) bytes)))
 
-continued-behind : (frame : Frame) (packets : List Frame) (tail : Tail) (more : List ℕ) → resumed (frame ∷ packets) tail more ≡ before_parts (frame ∷ []) (resumed packets tail more)
-continued-behind frame packets (open_end bytes) more = refl
-continued-behind frame packets (fault reason) more = refl
+continued-after : (frame : Frame) (packets : List Frame) (tail : Tail) (more : List ℕ) → resumed (frame ∷ packets) tail more ≡ before_parts (frame ∷ []) (resumed packets tail more)
+continued-after frame packets (open_end bytes) more = refl
+continued-after frame packets (fault reason) more = refl
 
 -- the parts of the whole stream, where those of what follows the first item are so
 continued_by : (bytes more : List ℕ) (item : Item) → first_item bytes ≡ item → ((frame : Frame) (rest : List ℕ) → first_item bytes ≡ whole frame rest → cut (rest ++ more) ≡ continued (cut rest) more) → cut (bytes ++ more) ≡ continued (cut bytes) more
 continued_by bytes more (whole frame rest) e h =
     let one : cut bytes ≡ before_parts (frame ∷ []) (cut rest) = cut-items bytes ∙ ap (λ (it : Item). parts_by cut it bytes) e in
     let all : cut (bytes ++ more) ≡ before_parts (frame ∷ []) (cut (rest ++ more)) = cut-items (bytes ++ more) ∙ ap (λ (it : Item). parts_by cut it (bytes ++ more)) (first_item-append_whole bytes more frame rest e) in
-    all ∙ ap (before_parts (frame ∷ [])) (h frame rest e) ∙ sym (continued-behind frame (cut rest).packets (cut rest).tail more) ∙ ap (λ (parts : Parts). continued parts more) (sym one)
+    all ∙ ap (before_parts (frame ∷ [])) (h frame rest e) ∙ sym (continued-after frame (cut rest).packets (cut rest).tail more) ∙ ap (λ (parts : Parts). continued parts more) (sym one)
 continued_by bytes more (refused reason) e h =
     let one : cut bytes ≡ only (fault reason) = cut-items bytes ∙ ap (λ (it : Item). parts_by cut it bytes) e in
     let all : cut (bytes ++ more) ≡ only (fault reason) = cut-items (bytes ++ more) ∙ ap (λ (it : Item). parts_by cut it (bytes ++ more)) (first_item-append_refused bytes more reason e) in
@@ -180,7 +180,7 @@ cut-append_within (suc most) bytes more h =
     continued_by bytes more (first_item bytes) refl
     (λ frame rest e.
     let it = first_item-whole bytes frame rest e in
-    cut-append_within most rest more (omega (arith, it.long, ap length it.behind, length-drop (12 + length frame.body) bytes)))
+    cut-append_within most rest more (omega (arith, it.long, ap length it.after, length-drop (12 + length frame.body) bytes)))
 
 -- however a stream is cut into pieces, its parts are the same
 pub cut-append : (bytes more : List ℕ) → cut (bytes ++ more) ≡ continued (cut bytes) more
@@ -197,7 +197,7 @@ told-packet unfinished frame e = cc
 pub left-packet : (bytes : List ℕ) (frame : Frame) → Packet frame ≡ told (first_item bytes) → unread (drop (12 + length frame.body) bytes) ≡ left_by (first_item bytes) bytes
 left-packet bytes frame e =
     let it = told-packet (first_item bytes) frame (sym e) in
-    ap unread (sym (first_item-whole bytes frame it.0 it.1).behind) ∙ ap (λ (item : Item). left_by item bytes) (sym it.1)
+    ap unread (sym (first_item-whole bytes frame it.0 it.1).after) ∙ ap (λ (item : Item). left_by item bytes) (sym it.1)
 
 pub left-fault : (item : Item) (bytes : List ℕ) (reason : FrameFault) → Fault reason ≡ told item → ended ≡ left_by item bytes
 left-fault (whole frame rest) bytes reason e = cc

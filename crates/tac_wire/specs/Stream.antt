@@ -95,12 +95,12 @@ abbrev pub only : Tail → Parts
 only tail = record { packets = []; tail = tail }
 
 -- these packets before the others
-abbrev pub behind : List Frame → Parts → Parts
-behind packets parts = record parts { packets = packets ++ parts.packets }
+abbrev pub before_parts : List Frame → Parts → Parts
+before_parts packets parts = record parts { packets = packets ++ parts.packets }
 
 -- the parts of bytes that begin with this item, by the parts of what follows it
 abbrev pub parts_by : (List ℕ → Parts) → Item → List ℕ → Parts
-parts_by parts_of (whole frame rest) bytes = behind (frame ∷ []) (parts_of rest)
+parts_by parts_of (whole frame rest) bytes = before_parts (frame ∷ []) (parts_of rest)
 parts_by parts_of (refused reason) bytes = only (fault reason)
 parts_by parts_of unfinished bytes = only (open_end bytes)
 
@@ -115,7 +115,7 @@ cut bytes = cut_within (length bytes) bytes
 
 -- what more bytes make of the parts so far: an open end goes on, and a fault stays
 abbrev pub resumed : List Frame → Tail → List ℕ → Parts
-resumed packets (open_end bytes) more = behind packets (cut (bytes ++ more))
+resumed packets (open_end bytes) more = before_parts packets (cut (bytes ++ more))
 resumed packets (fault reason) more = record { packets = packets; tail = fault reason }
 
 abbrev pub continued : Parts → List ℕ → Parts

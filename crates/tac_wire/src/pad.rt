@@ -40,7 +40,7 @@ fn xor_at(body: &mut [u8], start: usize, digest: &[u8; DIGEST])
         get_or body.new k 0
         ≡ bit_xor (get_or body.old k 0) (get_or digest.now (k - start) 0) }
     ensures before { (k : ℕ) → k < start → get_or body.new k 0 ≡ get_or body.old k 0 }
-    ensures behind { (k : ℕ) → start + 16 ≤ k → get_or body.new k 0 ≡ get_or body.old k 0 }
+    ensures after { (k : ℕ) → start + 16 ≤ k → get_or body.new k 0 ≡ get_or body.old k 0 }
 {
     let end = body.len().min(start + DIGEST);
     for i in start..end {

@@ -78,37 +78,37 @@ module _ (key : List ℕ) (earlier : List Packet) (first : List Frame) (made : L
       ∙ ap (λ (l : List Answer). served_to key earlier (first ++ second) l) (append_assoc (answers_of made) (answers_of others) later)
       ∙ f.served second (answers_of others ++ later)
 
-  pub served_behind : (second : List Frame) (others : List Exchange)
+  pub served_after : (second : List Frame) (others : List Exchange)
       → served_to key earlier (first ++ second) (answers_of (made ++ others)) ≡ sendings ++ served_to key (packets_of key first ++ earlier) second (answers_of others)
-  served_behind second others =
+  served_after second others =
       ap (λ (l : List Answer). served_to key earlier (first ++ second) l) (sym (append-nil (answers_of (made ++ others))))
       ∙ served_more second others []
       ∙ ap (λ (l : List Answer). sendings ++ served_to key (packets_of key first ++ earlier) second l) (append-nil (answers_of others))
 
-  pub carries_behind : (others : List Exchange) (behind : List Sending) → carried behind ≡ answers_of others → carried (sendings ++ behind) ≡ answers_of (made ++ others)
-  carries_behind others behind e =
-      carried-append sendings behind ∙ ap (λ (l : List Answer). l ++ carried behind) f.carries ∙ ap (λ (l : List Answer). answers_of made ++ l) e ∙ sym (answers_of-append made others)
+  pub carries_after : (others : List Exchange) (after : List Sending) → carried after ≡ answers_of others → carried (sendings ++ after) ≡ answers_of (made ++ others)
+  carries_after others after e =
+      carried-append sendings after ∙ ap (λ (l : List Answer). l ++ carried after) f.carries ∙ ap (λ (l : List Answer). answers_of made ++ l) e ∙ sym (answers_of-append made others)
 
-  pub asks_behind : (second : List Frame) (others : List Exchange) (left : List Ask) → asks_in key (packets_of key first ++ earlier) second ≡ asks_of others ++ left
+  pub asks_after : (second : List Frame) (others : List Exchange) (left : List Ask) → asks_in key (packets_of key first ++ earlier) second ≡ asks_of others ++ left
       → asks_in key earlier (first ++ second) ≡ asks_of (made ++ others) ++ left
-  asks_behind second others left e =
+  asks_after second others left e =
       f.asks second ∙ ap (λ (l : List Ask). asks_of made ++ l) e ∙ sym (append_assoc (asks_of made) (asks_of others) left)
       ∙ ap (λ (l : List Ask). l ++ left) (sym (asks_of-append made others))
 
-  handled-then : (second : List Frame) (others : List Exchange) (behind : List Sending) → Handled key (packets_of key first ++ earlier) second others behind
-      → Handled key earlier (first ++ second) (made ++ others) (sendings ++ behind)
-  handled-then second others behind s = record {
+  handled-then : (second : List Frame) (others : List Exchange) (after : List Sending) → Handled key (packets_of key first ++ earlier) second others after
+      → Handled key earlier (first ++ second) (made ++ others) (sendings ++ after)
+  handled-then second others after s = record {
     served = λ more later.
         ap (λ (l : List Frame). served_to key earlier l (answers_of (made ++ others) ++ later)) (append_assoc first second more)
         ∙ served_more (second ++ more) others later
         ∙ ap (λ (l : List Sending). sendings ++ l) (s.served more later)
-        ∙ sym (append_assoc sendings behind (served_to key (packets_of key second ++ (packets_of key first ++ earlier)) more later))
-        ∙ ap (λ (h : List Packet). (sendings ++ behind) ++ served_to key h more later) (history key first second earlier);
+        ∙ sym (append_assoc sendings after (served_to key (packets_of key second ++ (packets_of key first ++ earlier)) more later))
+        ∙ ap (λ (h : List Packet). (sendings ++ after) ++ served_to key h more later) (history key first second earlier);
     asks = λ more.
         ap (λ (l : List Frame). asks_in key earlier l) (append_assoc first second more)
-        ∙ asks_behind (second ++ more) others (asks_in key (packets_of key second ++ (packets_of key first ++ earlier)) more) (s.asks more)
+        ∙ asks_after (second ++ more) others (asks_in key (packets_of key second ++ (packets_of key first ++ earlier)) more) (s.asks more)
         ∙ ap (λ (h : List Packet). asks_of (made ++ others) ++ asks_in key h more) (history key first second earlier);
-    carries = carries_behind others behind s.carries;
+    carries = carries_after others after s.carries;
   }
 
 -- ---- and written
@@ -127,53 +127,53 @@ module _ (key : List ℕ) (earlier : List Packet) (first : List Frame) (was mid 
     written = rw (bytes_sent-append key g.sendings s.sendings) (Appends-trans old between new (bytes_sent key g.sendings) (bytes_sent key s.sendings) g.written s.written);
   }
 
-  module _ (new : Option (List ℕ)) (others : List Exchange) (behind all : List Sending) (whole : all ≡ g.sendings ++ behind) where
+  module _ (new : Option (List ℕ)) (others : List Exchange) (after all : List Sending) (whole : all ≡ g.sendings ++ after) where
     -- all of it was written
-    all_behind : Appends between new (bytes_sent key behind) → Appends old new (bytes_sent key all)
-    all_behind w =
-        rw (whole, bytes_sent-append key g.sendings behind) (Appends-trans old between new (bytes_sent key g.sendings) (bytes_sent key behind) g.written w)
+    all_after : Appends between new (bytes_sent key after) → Appends old new (bytes_sent key all)
+    all_after w =
+        rw (whole, bytes_sent-append key g.sendings after) (Appends-trans old between new (bytes_sent key g.sendings) (bytes_sent key after) g.written w)
 
-    some_behind : WritesSome key behind (answers_of others) between new → WritesSome key all (answers_of (g.made ++ others)) old new
-    some_behind w = record {
+    some_after : WritesSome key after (answers_of others) between new → WritesSome key all (answers_of (g.made ++ others)) old new
+    some_after w = record {
       first = g.sendings ++ w.first;
       others = w.others;
       parts = whole ∙ ap (λ (l : List Sending). g.sendings ++ l) w.parts ∙ sym (append_assoc g.sendings w.first w.others);
-      carries = carries_behind key earlier first g.made g.sendings g.handled others w.first w.carries;
+      carries = carries_after key earlier first g.made g.sendings g.handled others w.first w.carries;
       written = rw (bytes_sent-append key g.sendings w.first) (Appends-trans old between new (bytes_sent key g.sendings) (bytes_sent key w.first) g.written w.written);
     }
 
-    beginning_behind : WritesBeginning key behind between new → WritesBeginning key all old new
-    beginning_behind w = record {
+    beginning_after : WritesBeginning key after between new → WritesBeginning key all old new
+    beginning_after w = record {
       first = bytes_sent key g.sendings ++ w.first;
       others = w.others;
       some_left = w.some_left;
-      parts = ap (bytes_sent key) whole ∙ bytes_sent-append key g.sendings behind ∙ ap (λ (l : List ℕ). bytes_sent key g.sendings ++ l) w.parts
+      parts = ap (bytes_sent key) whole ∙ bytes_sent-append key g.sendings after ∙ ap (λ (l : List ℕ). bytes_sent key g.sendings ++ l) w.parts
           ∙ sym (append_assoc (bytes_sent key g.sendings) w.first w.others);
       written = Appends-trans old between new (bytes_sent key g.sendings) w.first g.written w.written;
     }
 
-    writes_behind : (end : End) → Writes end key behind (answers_of others) between new → Writes end key all (answers_of (g.made ++ others)) old new
-    writes_behind Finished w = all_behind w
-    writes_behind ByProtocol w = all_behind w
-    writes_behind Stopped w = all_behind w
-    writes_behind LogFull w = all_behind w
-    writes_behind Memory w = some_behind w
-    writes_behind ReadFault w = all_behind w
-    writes_behind WriteFault w = beginning_behind w
-    writes_behind Held w = all_behind w
-    writes_behind NoSeat w = all_behind w
+    writes_after : (end : End) → Writes end key after (answers_of others) between new → Writes end key all (answers_of (g.made ++ others)) old new
+    writes_after Finished w = all_after w
+    writes_after ByProtocol w = all_after w
+    writes_after Stopped w = all_after w
+    writes_after LogFull w = all_after w
+    writes_after Memory w = some_after w
+    writes_after ReadFault w = all_after w
+    writes_after WriteFault w = beginning_after w
+    writes_after Held w = all_after w
+    writes_after NoSeat w = all_after w
 
   -- the others end the connection
-  pub ends-behind : (end : End) (second : List Frame) (now : Calling) (new : Option (List ℕ))
+  pub ends-after : (end : End) (second : List Frame) (now : Calling) (new : Option (List ℕ))
       → Ends end key (asks_in key (packets_of key first ++ earlier) second) (served_to key (packets_of key first ++ earlier) second) mid now between new
       → Ends end key (asks_in key earlier (first ++ second)) (served_to key earlier (first ++ second)) was now old new
-  ends-behind end second now new e = record {
+  ends-after end second now new e = record {
     made = g.made ++ e.made;
     makes = makes-then was mid now g.made e.made g.makes e.makes;
     left = e.left;
-    asks = asks_behind key earlier first g.made g.sendings g.handled second e.made e.left e.asks;
+    asks = asks_after key earlier first g.made g.sendings g.handled second e.made e.left e.asks;
     leaves = e.leaves;
-    writes = writes_behind new e.made (served_to key (packets_of key first ++ earlier) second (answers_of e.made))
+    writes = writes_after new e.made (served_to key (packets_of key first ++ earlier) second (answers_of e.made))
         (served_to key earlier (first ++ second) (answers_of (g.made ++ e.made)))
-        (served_behind key earlier first g.made g.sendings g.handled second e.made) end e.writes;
+        (served_after key earlier first g.made g.sendings g.handled second e.made) end e.writes;
   }

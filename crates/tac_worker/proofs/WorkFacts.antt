@@ -15,7 +15,7 @@ use Rattle.tac_worker.specs.declared.worked.End.TheVariants.{Finished, ByProtoco
 use Rattle.tac_worker.specs.Served.{served_to, asks_in, closes}
 use Rattle.tac_worker.specs.Worked.{Calling, Leaves, Closes, Writes, Ends, IsServed}
 use Rattle.tac_worker.specs.Working.{GoesOn, TakesOne, IsAtRest, EndsAt, HearsMore, Heard, Serving}
-use Rattle.tac_worker.proofs.ServedFacts.{packets_of-append, goes_none, goes-then, ends-behind}
+use Rattle.tac_worker.proofs.ServedFacts.{packets_of-append, goes_none, goes-then, ends-after}
 use Rattle.tac_worker.proofs.TurnFacts.{served_at_end, asks_at_end, ends_memory, ends_none}
 
 next_of_list : (n : ℕ) (xs : List Frame) (x : Frame) (more : List Frame) → drop n xs ≡ x ∷ more → take (suc n) xs ≡ take n xs ++ x ∷ []
@@ -42,8 +42,8 @@ serving_first key was before old stream ready stands = record {
 
 module _ (key : List ℕ) (was now : Calling) (before after old mid : Option (List ℕ)) (stream : Stream) (s : Serving key was now before after old mid stream) where
   -- what is done after the packets that were taken
-  behind_front : (T : List Packet → Type 0) → T (packets_of key (take s.taken (cut s.input).packets)) → T (packets_of key (take s.taken (cut s.input).packets) ++ [])
-  behind_front T t = subst T (sym (append-nil (packets_of key (take s.taken (cut s.input).packets)))) t
+  after_front : (T : List Packet → Type 0) → T (packets_of key (take s.taken (cut s.input).packets)) → T (packets_of key (take s.taken (cut s.input).packets) ++ [])
+  after_front T t = subst T (sym (append-nil (packets_of key (take s.taken (cut s.input).packets)))) t
 
   -- one more packet was taken
   pub serving_on : (next : Calling) (new : Option (List ℕ)) (then : Stream) → TakesOne key s.input s.taken now next mid new then → Serving key was next before after old new then
@@ -53,7 +53,7 @@ module _ (key : List ℕ) (was now : Calling) (before after old mid : Option (Li
     read = s.read;
     goes = rw (next_of_list s.taken (cut s.input).packets t.frame t.more t.left)
         (goes-then key [] (take s.taken (cut s.input).packets) was now old mid s.goes (t.frame ∷ []) next new
-        (behind_front (λ h. GoesOn key h (t.frame ∷ []) now next mid new) t.goes));
+        (after_front (λ h. GoesOn key h (t.frame ∷ []) now next mid new) t.goes));
     stays = rw (next_of_list s.taken (cut s.input).packets t.frame t.more t.left, packets_of-append key (take s.taken (cut s.input).packets) (t.frame ∷ [])) (t.stays s.stays);
     ready = t.ready;
     stands = t.stands;
@@ -68,8 +68,8 @@ module _ (key : List ℕ) (was now : Calling) (before after old mid : Option (Li
     memory = t.memory;
     closing = t.closing;
     ends = subst (λ (fs : List Frame). Ends end key (asks_in key [] fs) (served_to key [] fs) was next old new) (take-append-drop s.taken (cut s.input).packets)
-        (ends-behind key [] (take s.taken (cut s.input).packets) was now old mid s.goes end (drop s.taken (cut s.input).packets) next new
-        (behind_front (λ h. Ends end key (asks_in key h (drop s.taken (cut s.input).packets)) (served_to key h (drop s.taken (cut s.input).packets)) now next mid new) t.ends));
+        (ends-after key [] (take s.taken (cut s.input).packets) was now old mid s.goes end (drop s.taken (cut s.input).packets) next new
+        (after_front (λ h. Ends end key (asks_in key h (drop s.taken (cut s.input).packets)) (served_to key h (drop s.taken (cut s.input).packets)) now next mid new) t.ends));
   }
 
   module _ (next : Calling) (new : Option (List ℕ)) (rested : Stream) (r : IsAtRest key s.input s.taken now next mid new rested) where
@@ -116,7 +116,7 @@ module _ (key : List ℕ) (was now : Calling) (before after old mid : Option (Li
       memory = λ e. absurd (enough e);
       closing = rw all_open closing;
       ends = subst (λ (fs : List Frame). Ends end key (asks_in key [] fs) (served_to key [] fs) was next old new) (append-nil (take s.taken (cut s.input).packets) ∙ sym all_taken)
-          (ends-behind key [] (take s.taken (cut s.input).packets) was next old new rests end [] next new
+          (ends-after key [] (take s.taken (cut s.input).packets) was next old new rests end [] next new
           (ends_none end key _ _ next new new (asks_at_end key _) (served_at_end key _ []) (Appends-nil new) leaves writes));
     }
 
@@ -136,7 +136,7 @@ module _ (key : List ℕ) (was now : Calling) (before after old mid : Option (Li
           closing = tt;
           ends = subst (λ (fs : List Frame). Ends Memory key (asks_in key [] fs) (served_to key [] fs) was next old new)
               (ap (λ (l : List Frame). l ++ more.0) (sym all_taken) ∙ sym more.1)
-              (ends-behind key [] (take s.taken (cut s.input).packets) was next old new rests Memory more.0 next new (ends_memory key _ _ next new));
+              (ends-after key [] (take s.taken (cut s.input).packets) was next old new rests Memory more.0 next new (ends_memory key _ _ next new));
         }
     served_read ReadFault left then h = served_whole ReadFault left h (λ e. absurd cc) (λ e. cc) refl refl (λ w. w)
     served_read WriteFault left then h = absurd h

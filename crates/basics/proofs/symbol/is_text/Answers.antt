@@ -1,6 +1,6 @@
 use Rattle.std.proofs.Common.{◌≡◌, ◌≤◌, ◌∙◌, sym, ap, ◌+◌, ◌-◌, length, take, drop, arith}
 use Rattle.basics.specs.Symbol.{is_text as text_test}
-use Rattle.basics.proofs.SymbolFacts.{longer, no_text, behind}
+use Rattle.basics.proofs.SymbolFacts.{longer, no_text, after}
 use Rattle.basics.proofs.symbol.is_text.Goals as goal
 
 pub returns-then-not-are_symbols : goal.returns-then-not-are_symbols
@@ -27,4 +27,4 @@ returns c =
     let bytes = c.args.bytes.now in
     let from : length bytes - 16 ≤ c.rest.start = omega (arith, c.rest-test.false) in
     c.are_symbols-2.ensures ∙ ap text_test c.in-Some.ensures.cases.1.same
-    ∙ behind (length bytes - 16) c.rest.start bytes from c.rest.invariant.front
+    ∙ after (length bytes - 16) c.rest.start bytes from c.rest.invariant.front

@@ -45,7 +45,7 @@ follow-requires g c = record {
   number = c.columns.invariant.number;
   column = subst (λ w. c.columns.column < w) c.columns.invariant.width c.columns-test.true;
   found = c.columns.invariant.stands.found;
-  behind = c.columns.invariant.stands.behind c.columns.invariant.number;
+  after = c.columns.invariant.stands.after c.columns.invariant.number;
 }
 
 pub returns-in_err-next-clause-width : goal.returns-in_err-next-clause-width

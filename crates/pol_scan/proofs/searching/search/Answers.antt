@@ -42,7 +42,7 @@ seek-requires-clause-seeks g c =
     let now = c.begin.new.machine in
     let known = c.in_ok-found.ensures in
     let there = led_at _ _ _ (g.met.A.Machine.tells now) _ _ known.found 0 c.state.result.now c.state.ensures in
-    seeks_first _ _ (g.A.Acceptor.accepted now) _ _ known.found known.behind known.first
+    seeks_first _ _ (g.A.Acceptor.accepted now) _ _ known.found known.after known.first
     (λ h. true≢false (sym ((c.accepts.ensures (word_at c.in_ok-found.found.words 0) there).1
     (subst (λ ws. g.A.Acceptor.accepted now (word_at ws 0)) (sym known.first) h)) ∙ c.if-accepts.false))
 

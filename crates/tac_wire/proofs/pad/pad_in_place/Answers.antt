@@ -42,7 +42,7 @@ digests-preserved c =
         | inl below ↦ c.xor_at.ensures.before k below ∙ inv.done k lt below
         | inr from ↦ masked s c.args.body.now c.digests.body c.digests.digest n k _ lt from (omega arith) now (inv.rest k from) (c.xor_at.ensures.inside k from (omega arith) (omega arith))
       ];
-      rest = λ k h. c.xor_at.ensures.behind k (omega arith) ∙ inv.rest k (omega arith);
+      rest = λ k h. c.xor_at.ensures.after k (omega arith) ∙ inv.rest k (omega arith);
       present = λ h. elim c.if-n-len.branch [
         | then-n-len w ↦ w.digest-is ∙ w.digest_after-digest-then-n-len.ensures _ c.seeded-seeded.ensures ∙ next_digest s c.digests.digest n now
         | else-n-len w ↦ absurd (omega (arith, h, w.if-n-len.false))

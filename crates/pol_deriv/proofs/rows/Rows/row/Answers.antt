@@ -22,8 +22,8 @@ returns-in_err-empty-clause-rows c =
 pub linear-requires-clause-term : goal.linear-requires-clause-term
 linear-requires-clause-term c = means_within c.empty.new.self c.args.number _ (c.empty.ensures.grows.kept _ _ (at_means c.args.table.now c.args.number c.requires.number))
 
-pub linear-requires-clause-behind : goal.linear-requires-clause-behind
-linear-requires-clause-behind c = means_within c.empty.new.self c.in_ok-empty.empty empty c.in_ok-empty.ensures.meant
+pub linear-requires-clause-after : goal.linear-requires-clause-after
+linear-requires-clause-after c = means_within c.empty.new.self c.in_ok-empty.empty empty c.in_ok-empty.ensures.meant
 
 pub returns-in_err-form-clause-rows : goal.returns-in_err-form-clause-rows
 returns-in_err-form-clause-rows c =

@@ -47,10 +47,10 @@ add_terms-put_alternative-requires-clause-begins t c =
 
 pub add_terms-terms-preserved : goal.add_terms-terms-preserved
 add_terms-terms-preserved t c =
-    let behind = term_at c.args.self.now c.args.rest in
+    let after = term_at c.args.self.now c.args.rest in
     let terms = flat.terms_value (drop c.terms.i c.args.terms.now) in
     let more = terms_value-before c.args.terms.now c.terms.i c.index-terms-i.result (omega arith) (omega arith) c.index-terms-i.is in
-    let own = alternative_means c.args.kind c.add_term.new.self c.put_alternative.new.self c.in_ok-first.first c.terms.number c.in_ok-number-2.number (flat.term_value c.deref.result.now) terms behind
+    let own = alternative_means c.args.kind c.add_term.new.self c.put_alternative.new.self c.in_ok-first.first c.terms.number c.in_ok-number-2.number (flat.term_value c.deref.result.now) terms after
     c.in_ok-first.ensures.meant (c.add_term.ensures.grows.kept _ _ c.terms.invariant.meant) c.in_ok-number-2.ensures.meant in
     record {
       grows = grows_on c.terms.invariant.grows (grows_on c.add_term.ensures.grows c.put_alternative.ensures.grows);

@@ -34,18 +34,18 @@ after_some set (symbol ∷ text) term h = let w = after_some (Derivatives symbol
 
 -- ---- of an entry
 
-pub behind_is : (e : Entries) (entries : List (List ℕ)) → AreEntries e entries → (entry : ℕ) → entry < length entries → (text : List ℕ) (term : Term)
+pub after_is : (e : Entries) (entries : List (List ℕ)) → AreEntries e entries → (entry : ℕ) → entry < length entries → (text : List ℕ) (term : Term)
     → After (HasTerm e.terms e.start entry) text term ↔ InResidual (entry_at entries entry) text term
-behind_is e entries are entry lt text term = (
+after_is e entries are entry lt text term = (
   λ h.
       let own = are.spelled entry lt in
       (own.0, own.1, after_residual own.0 [] text term ((after_same (HasTerm e.terms e.start entry) (Residual own.0 []) text (are.first entry own.0 lt own.1) term).0 h)),
   λ r. (after_same (HasTerm e.terms e.start entry) (Residual r.0 []) text (are.first entry r.0 lt r.1) term).1 (residual_after r.0 text term r.2),
 )
 
-pub behind_none : (e : Entries) (entries : List (List ℕ)) → AreWhole e → AreEntries e entries → (entry : ℕ) → length entries ≤ entry → (text : List ℕ) (term : Term)
+pub after_none : (e : Entries) (entries : List (List ℕ)) → AreWhole e → AreEntries e entries → (entry : ℕ) → length entries ≤ entry → (text : List ℕ) (term : Term)
     → ¬ (After (HasTerm e.terms e.start entry) text term)
-behind_none e entries whole are entry le text term h =
+after_none e entries whole are entry le text term h =
     let w = after_some (HasTerm e.terms e.start entry) text term h in
     let lt : entry < e.count = All-contains (λ (x : EntryTerm). x.entry < e.count) e.start (item_of entry w.1.0) whole.below w.1.1 in
     absurd (omega (arith, are.many))
@@ -60,8 +60,8 @@ same_after e entries whole are text other = (to, from)
     to : SameAfter e text other → SameResiduals entries text other
     to same entry d lt term =
         let at : entry_at entries entry ≡ slice_index_or entries entry d = get_or_default entries entry [] d lt in
-        let now = behind_is e entries are entry lt text term in
-        let then = behind_is e entries are entry lt other term in
+        let now = after_is e entries are entry lt text term in
+        let then = after_is e entries are entry lt other term in
         subst (λ (s : List ℕ). InResidual s text term ↔ InResidual s other term) at
         (λ h. then.0 ((same entry term).0 (now.1 h)), λ h. now.0 ((same entry term).1 (then.1 h)))
 
@@ -70,10 +70,10 @@ same_after e entries whole are text other = (to, from)
       where
         by : (entry < length entries) ⊎ (length entries ≤ entry) → After (HasTerm e.terms e.start entry) text term ↔ After (HasTerm e.terms e.start entry) other term
         by (inl lt) =
-            let now = behind_is e entries are entry lt text term in
-            let then = behind_is e entries are entry lt other term in
+            let now = after_is e entries are entry lt text term in
+            let then = after_is e entries are entry lt other term in
             (λ h. then.1 ((same entry [] lt term).0 (now.0 h)), λ h. now.1 ((same entry [] lt term).1 (then.0 h)))
-        by (inr le) = (λ h. absurd (behind_none e entries whole are entry le text term h), λ h. absurd (behind_none e entries whole are entry le other term h))
+        by (inr le) = (λ h. absurd (after_none e entries whole are entry le text term h), λ h. absurd (after_none e entries whole are entry le other term h))
 
 -- ---- which texts an entry holds
 
@@ -81,7 +81,7 @@ pub holds_after : (e : Entries) (entries : List (List ℕ)) → AreEntries e ent
     → Holds (entry_at entries entry) text ↔ ((term : Term) × After (HasTerm e.terms e.start entry) text term × InTerm term [])
 holds_after e entries are entry lt text =
     let told = are.told entry [] lt text in
-    let behind = behind_is e entries are entry lt text in (
-      λ h. let w = told.0 h in (w.0, (behind w.0).1 w.1, w.2),
-      λ w. told.1 (w.0, (behind w.0).0 w.1, w.2),
+    let after = after_is e entries are entry lt text in (
+      λ h. let w = told.0 h in (w.0, (after w.0).1 w.1, w.2),
+      λ w. told.1 (w.0, (after w.0).0 w.1, w.2),
     )
