@@ -1,15 +1,8 @@
-//! Tests of patterns, policies and edits, against answers that were worked out by hand.
+//! Tests of policies, of patterns, and of the automata that stand for them.
 #![tactic(auto)]
 
 #[cfg(test)]
-mod edits;
+mod automaton;
 #[cfg(test)]
-mod large;
-#[cfg(test)]
-mod patterns;
-#[cfg(test)]
-mod policies;
-#[cfg(test)]
-mod sizes;
-#[cfg(test)]
-mod support;
+mod policy;
+pub mod scan;

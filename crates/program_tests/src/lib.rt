@@ -1,14 +1,7 @@
-//! Tests of the program: what it prints, and how it ends, over words, files and streams of the tests'
-//! own.
+//! Tests of the program: of what it prints and how it ends, and of its reviews of policies.
 #![tactic(auto)]
 
 #[cfg(test)]
-mod devices;
+mod program;
 #[cfg(test)]
-mod fake;
-#[cfg(test)]
-mod help;
-#[cfg(test)]
-mod reviews;
-#[cfg(test)]
-mod running;
+mod review;

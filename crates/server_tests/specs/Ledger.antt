@@ -1,7 +1,7 @@
 -- What a desk that keeps its records backwards represents.
 use Rattle.std.specs.Prelude.{[], reverse}
 use Rattle.tac_desk.specs.Meaning.{Meaning}
-use Rattle.server_tests.specs.declared.ledger.Ledger.{Ledger}
+use Rattle.server_tests.specs.declared.server.ledger.Ledger.{Ledger}
 
 -- it knows nobody
 abbrev pub kept_by : Ledger → Meaning

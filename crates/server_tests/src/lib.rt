@@ -1,12 +1,6 @@
-//! Tests of the server over desks of its own and of others.
+//! Tests of desks, and of the server of scripts over desks of its own and of others.
 #![tactic(auto)]
 
 #[cfg(test)]
-mod conversing;
-#[cfg(test)]
-mod faltering;
-mod ledger;
-#[cfg(test)]
-mod limits;
-#[cfg(test)]
-mod support;
+mod desk;
+mod server;

@@ -1,16 +1,14 @@
-//! Tests of packets and their bodies, against bytes that were worked out elsewhere: by hand from the
-//! layouts of RFC 8907, or by another program.
+//! Tests of what devices send, of what is sent back, and of what is kept of it.
 #![tactic(auto)]
 
 #[cfg(test)]
-mod accounting;
+mod conn;
 #[cfg(test)]
-mod authentication;
+mod io;
 #[cfg(test)]
-mod cases;
+mod journal;
+pub mod tally;
 #[cfg(test)]
-mod frames;
-#[cfg(test)]
-mod requests;
+mod trail;
 #[cfg(test)]
 mod wire;

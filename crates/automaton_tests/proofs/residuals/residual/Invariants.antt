@@ -1,5 +1,0 @@
-use Rattle.pol_deriv.specs.Table.{AreNumbers}
-use Rattle.automaton_tests.proofs.residuals.residual.Given as goal
-
-abbrev pub invariant-loop-symbol : goal.invariant-loop-symbol
-invariant-loop-symbol l = AreNumbers l.terms l.set

@@ -1,0 +1,8 @@
+//! Tests of patterns, policies and edits, against answers that were worked out by hand.
+
+mod edits;
+mod large;
+mod patterns;
+mod policies;
+mod sizes;
+mod support;

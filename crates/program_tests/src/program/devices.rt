@@ -1,0 +1,350 @@
+//! A server that the program starts, with devices that call it over loopback. The packets are under
+//! the key `k `, which ends in a blank.
+
+use crate::program::fake::Fake;
+use std::alloc::Global;
+use std::env::temp_dir;
+use std::fs;
+use std::io::{self, ErrorKind, Read, Write};
+use std::net::{Ipv4Addr, Net, SocketAddr, TcpListener, TcpStream};
+use std::process::{self, ExitCode};
+use std::sync::Wait;
+use std::sync::atomic::{AtomicBool, Ordering};
+use std::test::Fail;
+use std::thread::{Threads, join, sleep};
+use std::time::{Clock, Duration, Instant};
+use tac_journal::LogFiles;
+use tac_program::run;
+
+// Bob asks for `show version`, on a connection of its own.
+const ASK: &str =
+    "c00201000000000100000036d7cc6454be5ba68bc9f210f557d7ae8b726b5381a695029602c4b878ff8e59e05e4fc5c65065c4c62f3074105889424c197670190298";
+
+// He is permitted.
+const PERMITTED: &str = "c00202000000000100000006d549912637db";
+
+// The same on a connection that is kept open.
+const ASK_AGAIN: &str =
+    "c00201040000000100000036d7cc6454be5ba68bc9f210f557d7ae8b726b5381a695029602c4b878ff8e59e05e4fc5c65065c4c62f3074105889424c197670190298";
+
+// What that is answered.
+const PERMITTED_AGAIN: &str = "c00202040000000100000006d549912637db";
+
+// A login without a name.
+const LOGIN: &str = "c0010100000000010000000cd0cc6454bd5ba688b08e66a7";
+
+// The question for the name, after which the connection stays open.
+const NAME_WANTED: &str = "c00102000000000100000010d049912c37db4f2b7d26db3c07a2abf5";
+
+/// What devices do at the server.
+#[derive(Clone, Copy, Debug, PartialEq, Eq)]
+enum Visit {
+    /// So many are connected at once, and each is asked for a name.
+    AtOnce(u32),
+    /// One connection is kept open, and bob asks on it ten times.
+    TenTimes,
+    /// Bob asks on a connection that is silent afterwards, and asks on another one, where he is
+    /// answered within five seconds.
+    AfterASilentOne,
+    /// Each on a connection of its own: one is cut off in the middle of a packet, bob asks, one is
+    /// reset after its first reply, bob asks, another is cut off, bob asks, another is reset, bob
+    /// asks, and then nobody is served any more.
+    EightAndNoMore,
+}
+
+fn decoded(alloc: Global, digits: &str) -> io::Result<Vec<u8>> {
+    match hex::decode(alloc, digits.as_bytes()) {
+        Ok(bytes) => Ok(bytes),
+        Err(_) => Err(io::Error::from(ErrorKind::InvalidInput)),
+    }
+}
+
+// A connection to the server, as soon as it listens.
+fn connect<R>(rt: &R, address: SocketAddr) -> io::Result<TcpStream>
+where
+    R: Clock + Net<Listener = TcpListener, Stream = TcpStream>,
+{
+    for _ in 0..4_000 {
+        if let Ok(stream) = TcpStream::connect(rt, address) {
+            stream.set_read_timeout(Some(Duration::from_secs(20)))?;
+            return Ok(stream);
+        }
+        sleep(rt, Duration::from_millis(5));
+    }
+    Err(io::Error::from(ErrorKind::TimedOut))
+}
+
+// Whether this is answered so. Nothing more is read.
+fn is_answered(alloc: Global, stream: &TcpStream, sent: &str, wanted: &str) -> io::Result<bool> {
+    let sent = decoded(alloc, sent)?;
+    let wanted = decoded(alloc, wanted)?;
+    let mut answer = vec![in alloc; 0; wanted.len()]?;
+    let mut stream = stream;
+    stream.write_all(sent.as_slice())?;
+    stream.read_exact(answer.as_mut_slice())?;
+    Ok(answer == wanted)
+}
+
+fn asks_once<R>(rt: &R, address: SocketAddr) -> io::Result<bool>
+where
+    R: Clock + AllocGlobal + Net<Listener = TcpListener, Stream = TcpStream>,
+{
+    let stream = connect(rt, address)?;
+    is_answered(rt.alloc(), &stream, ASK, PERMITTED)
+}
+
+fn breaks_off<R>(rt: &R, address: SocketAddr) -> io::Result<()>
+where
+    R: Clock + Net<Listener = TcpListener, Stream = TcpStream>,
+{
+    let mut stream = connect(rt, address)?;
+    stream.write_all(b"\xc0\x02\x01\0\0")
+}
+
+// Most of the reply isn't read, so the system resets the connection when it is dropped.
+fn resets<R>(rt: &R, address: SocketAddr) -> io::Result<()>
+where
+    R: Clock + AllocGlobal + Net<Listener = TcpListener, Stream = TcpStream>,
+{
+    let sent = decoded(rt.alloc(), ASK_AGAIN)?;
+    let mut stream = connect(rt, address)?;
+    stream.write_all(sent.as_slice())?;
+    stream.read_exact(&mut [0])
+}
+
+fn at_once<R>(rt: &R, address: SocketAddr, count: u32) -> io::Result<bool>
+where
+    R: Clock + AllocGlobal + Net<Listener = TcpListener, Stream = TcpStream>,
+{
+    let mut open = Vec::new(rt.alloc());
+    for _ in 0..count {
+        let stream = connect(rt, address)?;
+        let is_asked = is_answered(rt.alloc(), &stream, LOGIN, NAME_WANTED)?;
+        open.push(stream)?;
+        if !is_asked {
+            return Ok(false);
+        }
+    }
+    Ok(true)
+}
+
+fn ten_times<R>(rt: &R, address: SocketAddr) -> io::Result<bool>
+where
+    R: Clock + AllocGlobal + Net<Listener = TcpListener, Stream = TcpStream>,
+{
+    let stream = connect(rt, address)?;
+    for _ in 0..10 {
+        if !is_answered(rt.alloc(), &stream, ASK_AGAIN, PERMITTED_AGAIN)? {
+            return Ok(false);
+        }
+    }
+    Ok(true)
+}
+
+// Whether bob is permitted, and waits for less than five seconds.
+fn asks_in_time<R>(rt: &R, address: SocketAddr) -> io::Result<bool>
+where
+    R: Clock + AllocGlobal + Net<Listener = TcpListener, Stream = TcpStream>,
+{
+    let since = Instant::now(rt)?;
+    let is_asked = asks_once(rt, address)?;
+    let passed = since.elapsed(rt)?;
+    Ok(is_asked && passed < Duration::from_secs(5))
+}
+
+// The silent connection is closed by the end.
+fn after_a_silent_one<R>(rt: &R, address: SocketAddr) -> io::Result<bool>
+where
+    R: Clock + AllocGlobal + Net<Listener = TcpListener, Stream = TcpStream>,
+{
+    let mut silent = connect(rt, address)?;
+    let is_first = is_answered(rt.alloc(), &silent, ASK_AGAIN, PERMITTED_AGAIN)?;
+    let is_second = asks_in_time(rt, address)?;
+    let left = silent.read(&mut [0])?;
+    Ok(is_first && is_second && left == 0)
+}
+
+fn eight_and_no_more<R>(rt: &R, address: SocketAddr) -> io::Result<bool>
+where
+    R: Clock + AllocGlobal + Net<Listener = TcpListener, Stream = TcpStream>,
+{
+    for _ in 0..2 {
+        breaks_off(rt, address)?;
+        let is_asked = asks_once(rt, address)?;
+        resets(rt, address)?;
+        if !is_asked || !asks_once(rt, address)? {
+            return Ok(false);
+        }
+    }
+    let ninth = connect(rt, address)?;
+    ninth.set_read_timeout(Some(Duration::from_millis(500)))?;
+    Ok(is_answered(rt.alloc(), &ninth, ASK, PERMITTED).is_err())
+}
+
+impl Visit {
+    // Whether all went as it is to go.
+    fn make<R>(self, rt: &R, address: SocketAddr) -> bool
+    where
+        R: Clock + AllocGlobal + Net<Listener = TcpListener, Stream = TcpStream>,
+    {
+        let went = match self {
+            Visit::AtOnce(count) => at_once(rt, address, count),
+            Visit::TenTimes => ten_times(rt, address),
+            Visit::AfterASilentOne => after_a_silent_one(rt, address),
+            Visit::EightAndNoMore => eight_and_no_more(rt, address),
+        };
+        went.unwrap_or(false)
+    }
+}
+
+fn free_port<R: Net<Listener = TcpListener, Stream = TcpStream>>(rt: &R) -> Result<u16, Fail> {
+    let listener = TcpListener::bind(rt, "0.0.0.0:0")?;
+    Ok(listener.local_addr()?.port())
+}
+
+// Devices visit a server, in a thread of their own, and then its operator is to type.
+fn visit_it<R>(
+    rt: &R,
+    fake: &Fake<'_>,
+    is_over: &AtomicBool,
+    address: SocketAddr,
+    visit: Visit,
+) -> (bool, ExitCode)
+where
+    R: Threads + Wait + Clock + Sync + AllocGlobal + LogFiles + Eprint,
+    R: Net<Listener = TcpListener, Stream = TcpStream>,
+{
+    join(
+        rt,
+        || -> bool {
+            let went = visit.make(rt, address);
+            is_over.store(true, Ordering::SeqCst);
+            went
+        },
+        || -> ExitCode { run(fake, rt) },
+    )
+}
+
+// Whether all went as it is to go at the server that these words start, at whose console this is
+// typed, and whether it printed that.
+fn serves<R>(
+    rt: &R,
+    words: &str,
+    address: SocketAddr,
+    visit: Visit,
+    types: &'static str,
+    printed: &str,
+) -> bool
+where
+    R: Threads + Wait + Clock + Sync + AllocGlobal + LogFiles + Eprint,
+    R: Net<Listener = TcpListener, Stream = TcpStream>,
+{
+    let is_over = AtomicBool::new(false);
+    let policy = "group ops\npermit show .*\nuser bob in ops\n";
+    let fake = Fake::typing(rt.alloc(), words, policy, types, &is_over);
+    let (went, status) = visit_it(rt, &fake, &is_over, address, visit);
+    went && status == ExitCode::from(0) && fake.output.holds(printed)
+}
+
+// The program serves at this port, devices visit it at this address, and then its operator types
+// lines, of which `quit` is the last. It prints the port and these answers.
+fn operated<R>(
+    rt: &R,
+    options: &str,
+    address: SocketAddr,
+    visit: Visit,
+    types: &'static str,
+    answers: &str,
+) -> Result<(), Fail>
+where
+    R: Threads + Wait + Clock + Sync + AllocGlobal + LogFiles + Eprint,
+    R: Net<Listener = TcpListener, Stream = TcpStream>,
+{
+    let port = address.port();
+    let words = format!(in rt.alloc(); "tacd serve --port {port} --key-file key {options} policy")?;
+    let printed = format!(in rt.alloc(); "listening {port}\n{answers}")?;
+    if serves(rt, words.as_str(), address, visit, types, printed.as_str()) {
+        return Ok(());
+    }
+    Err(Fail::from("a device was served otherwise, or the console"))
+}
+
+// The same at any port of this host, where the operator only quits.
+fn visited<R>(rt: &R, options: &str, host: [u8; 4], visit: Visit) -> Result<(), Fail>
+where
+    R: Threads + Wait + Clock + Sync + AllocGlobal + LogFiles + Eprint,
+    R: Net<Listener = TcpListener, Stream = TcpStream>,
+{
+    let port = free_port(rt)?;
+    let address = SocketAddr::from((Ipv4Addr::from(host), port));
+    operated(rt, options, address, visit, "quit\n", "")
+}
+
+const HERE: [u8; 4] = [127, 0, 0, 1];
+
+const THERE: [u8; 4] = [127, 0, 0, 2];
+
+#[test]
+fn so_many_are_served_at_once(rt: HostRuntime) -> Result<(), Fail> {
+    visited(&rt, "--workers 6", HERE, Visit::AtOnce(6))?;
+    visited(&rt, "--workers 63", HERE, Visit::AtOnce(63))?;
+    visited(&rt, "--idle 0", HERE, Visit::AtOnce(4))
+}
+
+// Without the option a server has its port at each address of the machine. With it the port may be
+// another's at each other address.
+#[test]
+fn at_an_address(rt: HostRuntime) -> Result<(), Fail> {
+    visited(&rt, "--workers 1", THERE, Visit::TenTimes)?;
+    let other = TcpListener::bind(&rt, "127.0.0.1:0")?;
+    let port = other.local_addr()?.port();
+    let address = SocketAddr::from((Ipv4Addr::from(THERE), port));
+    let options = "--address 127.0.0.2 --workers 1";
+    operated(&rt, options, address, Visit::TenTimes, "quit\n", "")
+}
+
+// Each log takes two of the ten calls, so the operator finds two in the fifth.
+#[test]
+fn a_log_that_is_put_away(rt: HostRuntime) -> Result<(), Fail> {
+    let port = free_port(&rt)?;
+    let address = SocketAddr::from((Ipv4Addr::LOCALHOST, port));
+    let options = "--workers 1 --rotate-at 3";
+    let lines = "rotate\nquit\n";
+    let answers = "rotated 4 entries 2\n";
+    operated(&rt, options, address, Visit::TenTimes, lines, answers)
+}
+
+// The one worker gives the silent device up a second after its reply, and then serves the other one.
+#[test]
+fn a_silent_device_is_given_up(rt: HostRuntime) -> Result<(), Fail> {
+    let options = "--idle 1 --workers 1";
+    visited(&rt, options, HERE, Visit::AfterASilentOne)
+}
+
+// Each request has a line in the file, and so has what is typed.
+#[test]
+fn lines_in_a_log(rt: HostRuntime) -> Result<(), Fail> {
+    let (folder, id) = (temp_dir(&rt)?, process::id(rt.process()));
+    let path = format!(in rt.alloc(); "{}/tacd-{id}-lines.log", folder.as_str())?;
+    // where a run has failed before, its file may be there
+    let _ = fs::remove_file(&rt, path.as_str());
+    let options = format!(in rt.alloc(); "--sync --log {path} --workers 1")?;
+    visited(&rt, options.as_str(), HERE, Visit::TenTimes)?;
+    let text = fs::read_to_string(&rt, path.as_str())?;
+    fs::remove_file(&rt, path.as_str())?;
+    let permitted = "\"line\":\"show version\",\"status\":\"PASS_ADD\",\"text\":\"\"}";
+    let told = text
+        .lines()
+        .filter(|line| line.ends_with(permitted))
+        .count();
+    assert_eq!(rt; told, 10);
+    assert_eq!(rt; text.lines().count(), 11);
+    assert!(rt; text.ends_with(",\"console\":\"quit\",\"answer\":[]}\n"));
+    Ok(())
+}
+
+#[test]
+fn so_many_connections_each(rt: HostRuntime) -> Result<(), Fail> {
+    let options = "--workers 1 --connections 8";
+    visited(&rt, options, HERE, Visit::EightAndNoMore)
+}

@@ -1,0 +1,242 @@
+//! The edits that make a new policy of an old one, typed at a console.
+
+use crate::review::chance::edits;
+use crate::review::inputs::{reviewed, reviews};
+use pol_edit::{apply, apply_all, read_edit};
+use pol_text::Policy;
+use std::alloc::Global;
+use std::process::Abort;
+use std::test::Fail;
+use tac_console::{Action, Batch, Notice, read_console};
+use tac_review::Review;
+
+// A line of the console is taken: no edit of a batch is refused.
+fn types<R: Abort + AllocGlobal>(
+    rt: &R,
+    policy: &mut Policy,
+    batch: &mut Batch,
+    line: &str,
+) -> Result<(), Fail> {
+    let alloc = rt.alloc();
+    let asked = read_console(alloc, line.as_bytes())?;
+    let action = batch.take(alloc, asked)?;
+    match &action {
+        Action::Commit(edits) => apply_all(alloc, policy, edits.as_slice())?,
+        Action::Tell(Notice::Done | Notice::Kept(_)) => {}
+        _ => assert!(rt; false, "{line} isn't of a batch"),
+    }
+    Ok(())
+}
+
+// The edits that are printed make a policy of which none are left to the new one.
+fn loads<R: Abort + AllocGlobal>(rt: &R, old: &str, new: &str) -> Result<(), Fail> {
+    let alloc = rt.alloc();
+    let found = reviewed(alloc, Review::Edits, old, new)?;
+    let mut policy = Policy::read(alloc, old.as_bytes())?;
+    let mut batch = Batch::closed();
+    // the first line says how the review ended
+    for line in found.lines().skip(1) {
+        types(rt, &mut policy, &mut batch, line)?;
+    }
+    let made = policy.print(alloc)?;
+    reviews(
+        rt,
+        Review::Edits,
+        str::from_utf8(made.as_slice())?,
+        new,
+        "done\n",
+    )
+}
+
+// The policy that edits by chance make, printed. Refused ones are passed over.
+fn drawn(alloc: Global, seed: u32) -> Result<String, Fail> {
+    let mut policy = Policy::new(alloc);
+    for line in edits(alloc, seed, 60)?.lines() {
+        let edit = read_edit(alloc, line.as_bytes())?;
+        let _ = apply(alloc, &mut policy, &edit);
+    }
+    let text = policy.print(alloc)?;
+    let mut printed = String::new(alloc);
+    printed.push_str(str::from_utf8(text.as_slice())?)?;
+    Ok(printed)
+}
+
+#[test]
+fn pairs_by_chance(rt: HostRuntime) -> Result<(), Fail> {
+    let mut old = drawn(rt.alloc(), 1)?;
+    for seed in 2..60 {
+        let new = drawn(rt.alloc(), seed)?;
+        loads(&rt, old.as_str(), new.as_str())?;
+        old = new;
+    }
+    Ok(())
+}
+
+// One batch, of these edits.
+fn makes<R: Abort + AllocGlobal>(rt: &R, old: &str, new: &str, edits: &str) -> Result<(), Fail> {
+    let wanted = format!(in rt.alloc(); "batches 1\nbegin\n{edits}commit\n")?;
+    reviews(rt, Review::Edits, old, new, wanted.as_str())
+}
+
+const RULES: &str = "group ops
+permit a
+deny b
+permit c
+permit d
+deny e
+";
+
+#[test]
+fn rules(rt: HostRuntime) -> Result<(), Fail> {
+    reviews(&rt, Review::Edits, RULES, RULES, "done\n")?;
+    let turned = "group ops\ndeny b\npermit c\npermit d\ndeny e\npermit a\n";
+    makes(&rt, RULES, turned, "shift group ops 1 5\n")?;
+    makes(&rt, turned, RULES, "shift group ops 5 1\n")?;
+    let crossed = "group ops\npermit d\npermit c\ndeny b\npermit a\ndeny e\n";
+    let shifts = "shift group ops 4 1\nshift group ops 4 2\nshift group ops 4 3\n";
+    makes(&rt, RULES, crossed, shifts)?;
+    let mixed = "group ops\ndeny e\npermit a\npermit b\npermit c\npermit c\n";
+    let changes = "drop group ops 4
+drop group ops 2
+shift group ops 3 1
+insert group ops 3 permit b
+insert group ops 5 permit c
+";
+    makes(&rt, RULES, mixed, changes)
+}
+
+const SUBJECTS: &str = "group a
+group b in a
+permit x
+user b in b
+login one
+user gone in a
+group left
+user eve in left
+priv 3
+";
+
+#[test]
+fn subjects(rt: HostRuntime) -> Result<(), Fail> {
+    let swapped = "group b
+permit x
+group a in b
+user b in a
+enable two
+user eve
+group new in a
+user left in new
+priv 15
+deny y
+";
+    let edits = "remove user gone
+move group b out
+move user eve out
+move group a in b
+move user b in a
+add group new in a
+add user left in new
+remove group left
+clear login b
+enable b two
+clear priv user eve
+priv user left 15
+insert user left 1 deny y
+";
+    makes(&rt, SUBJECTS, swapped, edits)?;
+    let other_order =
+        "user eve in left\npriv 3\ngroup left\nuser gone in a\nuser b in b\nlogin one\ngroup b in a\npermit x\ngroup a\n";
+    reviews(&rt, Review::Edits, SUBJECTS, other_order, "done\n")
+}
+
+const CHAINS: &str = "group a
+group b in a
+group c in b
+group d in c
+group e in d
+group p
+group q in p
+group r in q
+group s in r
+group t in s
+group k
+group l in k
+group m in l
+group n in m
+";
+
+// If `k` moved first, the chain of `n` would have nine subjects for a while.
+#[test]
+fn deep_chains(rt: HostRuntime) -> Result<(), Fail> {
+    let new = "group k in e
+group l in t
+group m in l
+group n in m
+group a
+group b in a
+group c in b
+group d in c
+group e in d
+group p
+group q in p
+group r in q
+group s in r
+group t in s
+";
+    makes(&rt, CHAINS, new, "move group l in t\nmove group k in e\n")?;
+    loads(&rt, new, CHAINS)
+}
+
+// The text of a group and as many users of it as there may be.
+fn full(alloc: Global, group: &str) -> Result<String, Fail> {
+    let mut text = format!(in alloc; "group {group}\n")?;
+    for user in 1..1024_u32 {
+        text.push_str(format!(in alloc; "user u{user} in {group}\n")?.as_str())?;
+    }
+    Ok(text)
+}
+
+// There is no room for the new group before the old one goes, which all users have to leave.
+#[test]
+fn a_full_policy(rt: HostRuntime) -> Result<(), Fail> {
+    let old = full(rt.alloc(), "old")?;
+    let new = full(rt.alloc(), "new")?;
+    loads(&rt, old.as_str(), new.as_str())
+}
+
+// A group with as many rules as it may have, which begin so.
+fn ruled(alloc: Global, word: &str) -> Result<String, Fail> {
+    let mut text = format!(in alloc; "group g\n")?;
+    for rule in 0..256_u32 {
+        text.push_str(format!(in alloc; "permit {word} {rule}\n")?.as_str())?;
+    }
+    Ok(text)
+}
+
+#[test]
+fn all_rules_of_a_group(rt: HostRuntime) -> Result<(), Fail> {
+    let old = ruled(rt.alloc(), "show")?;
+    let new = ruled(rt.alloc(), "ping")?;
+    loads(&rt, old.as_str(), new.as_str())
+}
+
+// Below `heavy`, after the first batch, `low` has the rules of `far` above it and of `here`, which
+// neither policy puts together.
+#[test]
+fn too_large_in_between(rt: HostRuntime) -> Result<(), Fail> {
+    let alloc = rt.alloc();
+    let mut old = String::new(alloc);
+    old.push_str(
+        "group q\ndeny .*b........\ngroup o\ngroup x\ngroup y in x\ngroup z in y\ngroup s in o\nuser t in s\ndeny .*a........\n",
+    )?;
+    let mut new = String::new(alloc);
+    new.push_str(
+        "group q\ndeny .*b........\ngroup o\ngroup x\ngroup y in x\ngroup z in y\ngroup s in q\nuser t in z\ndeny .*a........\n",
+    )?;
+    for user in 0..80_u32 {
+        old.push_str(format!(in alloc; "user u{user} in o\n")?.as_str())?;
+        new.push_str(format!(in alloc; "user u{user} in y\n")?.as_str())?;
+    }
+    let wanted = "refused\nbatch 1: refused 11 TooManyStates user t\n";
+    reviews(&rt, Review::Edits, old.as_str(), new.as_str(), wanted)
+}

@@ -1,8 +1,0 @@
-//! Tests of the breadth-first scan, on a machine whose tables can be worked out by hand.
-#![tactic(auto)]
-
-mod remainders;
-#[cfg(test)]
-mod tests;
-
-pub use remainders::{Numerals, Remainders};

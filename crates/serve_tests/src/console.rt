@@ -1,0 +1,8 @@
+//! Tests of the console of a hall: conversations with it, the order of its reads and writes, and
+//! inputs and outputs that fail.
+
+mod ends;
+mod lines;
+mod streams;
+mod support;
+mod turns;

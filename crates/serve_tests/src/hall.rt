@@ -1,0 +1,8 @@
+//! Tests of the hall: calls of several seats.
+
+mod calls;
+mod rotation;
+mod seats;
+mod starved;
+mod support;
+mod threads;

@@ -1,0 +1,452 @@
+//! A server with a console, which ends by itself.
+
+use crate::net::clients::{asks, hall_of, is_answered, key, permission, seats_of, visits};
+use std::alloc::{AllocError, Global};
+use std::io::{self, ErrorKind, Read, Write};
+use std::net::{Ipv4Addr, Net, SocketAddr, TcpListener, TcpStream};
+use std::sync::Wait;
+use std::sync::atomic::{AtomicU64, Ordering};
+use std::test::Fail;
+use std::thread::Threads;
+use std::time::{Clock, Duration, Instant};
+use tac_desks::PlainDesk;
+use tac_hall::Hall;
+use tac_journal::{Log, LogFiles, Refused};
+use tac_net::{Port, ServeFault, Settings, serve};
+
+/// What an operator does, and how many workers his server has.
+#[derive(Clone, Copy)]
+struct Course {
+    workers: u32,
+    /// After so many seconds a device is given up.
+    idle: u32,
+    /// He keeps a silent connection open.
+    keeps: bool,
+    /// So many calls the hall's log takes.
+    limit: usize,
+    /// So many of the hall's 64 seats are others' before the server begins.
+    taken: usize,
+    /// Before this call of a segment the log is taken out.
+    rotate_at: u32,
+    /// He asks as a client does, once for each letter, and goes on if he was permitted at each p,
+    /// and at each x his connection was closed without a byte. At each v he makes a device's visit.
+    asks: &'static str,
+    /// Then he types this.
+    types: &'static str,
+    /// Then his input fails, where it doesn't end.
+    fails: bool,
+    /// His output takes so many bytes after the first line.
+    room: usize,
+    /// His server has a log, which takes the lines of all appends but this one, counted from 0.
+    refused: Option<u64>,
+}
+
+const QUITS: Course = Course {
+    workers: 4,
+    idle: 0,
+    keeps: false,
+    limit: 9,
+    taken: 0,
+    rotate_at: 9,
+    asks: "p",
+    types: "quit\n",
+    fails: false,
+    room: 0,
+    refused: None,
+};
+
+/// A log that takes all lines, but not those of one append. Each append of some has to end with a
+/// line.
+#[derive(Drop)]
+struct Refusing {
+    refused: Option<u64>,
+    appends: AtomicU64,
+}
+
+impl Log for Refusing {
+    fn is_kept(&self) -> bool {
+        self.refused.is_some()
+    }
+
+    fn append<H>(&self, _host: &H, lines: &[u8]) -> Result<(), Refused>
+    where
+        H: Wait + Clock + Eprint + LogFiles,
+    {
+        if lines.is_empty() {
+            return Ok(());
+        }
+        let before = self.appends.fetch_add(1, Ordering::SeqCst);
+        if self.refused == Some(before) || !lines.ends_with(b"}\n") {
+            return Err(Refused);
+        }
+        Ok(())
+    }
+}
+
+// The client was answered as the letter says.
+fn is_answered_so(alloc: Global, client: &TcpStream, letter: u8) -> io::Result<bool> {
+    if letter != b'p' {
+        return is_answered(alloc, client, b"");
+    }
+    let wanted = permission(alloc)?;
+    is_answered(alloc, client, wanted.as_slice())
+}
+
+// A client calls, and is served as the letter says.
+fn is_served_so<R>(rt: &R, address: SocketAddr, letter: u8) -> io::Result<bool>
+where
+    R: AllocGlobal + Net<Listener = TcpListener, Stream = TcpStream>,
+{
+    if letter == b'v' {
+        return visits(rt, address);
+    }
+    let client = asks(rt, address)?;
+    is_answered_so(rt.alloc(), &client, letter)
+}
+
+/// The input of an operator who does so.
+#[derive(Drop)]
+struct Operator<'a, R> {
+    rt: &'a R,
+    address: SocketAddr,
+    course: Course,
+    silent: Option<TcpStream>,
+    is_done: bool,
+}
+
+impl<R> Operator<'_, R>
+where
+    R: AllocGlobal + Net<Listener = TcpListener, Stream = TcpStream>,
+{
+    fn keep(&mut self) -> io::Result<()> {
+        if self.course.keeps {
+            self.silent = Some(TcpStream::connect(self.rt, self.address)?);
+        }
+        Ok(())
+    }
+
+    fn ask(&self) -> io::Result<()> {
+        for letter in self.course.asks.bytes() {
+            if !is_served_so(self.rt, self.address, letter)? {
+                return Err(io::Error::from(ErrorKind::PermissionDenied));
+            }
+        }
+        Ok(())
+    }
+}
+
+impl<R> Read for Operator<'_, R>
+where
+    R: AllocGlobal + Net<Listener = TcpListener, Stream = TcpStream>,
+{
+    fn read(&mut self, buf: &mut [u8]) -> io::Result<usize> {
+        if !self.is_done {
+            self.is_done = true;
+            self.keep()?;
+            self.ask()?;
+            if !self.course.types.is_empty() {
+                return self.course.types.as_bytes().read(buf);
+            }
+        }
+        if self.course.fails {
+            return Err(io::Error::from(ErrorKind::IsADirectory));
+        }
+        Ok(0)
+    }
+}
+
+/// Takes so many bytes, and then fails.
+#[derive(Drop)]
+struct Screen {
+    room: usize,
+    taken: Vec<u8>,
+}
+
+impl Screen {
+    fn new(alloc: Global, room: usize) -> Screen {
+        Screen {
+            room,
+            taken: Vec::new(alloc),
+        }
+    }
+}
+
+impl Write for Screen {
+    fn write(&mut self, buf: &[u8]) -> io::Result<usize> {
+        if self.room == 0 {
+            return Err(io::Error::from(ErrorKind::BrokenPipe));
+        }
+        let n = buf.len().min(self.room);
+        self.taken.extend_from_slice(&buf[..n])?;
+        self.room -= n;
+        Ok(n)
+    }
+
+    fn flush(&mut self) -> io::Result<()> {
+        Ok(())
+    }
+}
+
+// What a server prints before its console begins: its port, or nothing where there aren't enough
+// seats for the console and each worker.
+fn printed_first(alloc: Global, course: &Course, port: u16) -> Result<String, AllocError> {
+    let workers = course.workers as usize;
+    if course.taken.saturating_add(workers) >= 64 {
+        return Ok(String::new(alloc));
+    }
+    format!(in alloc; "listening {port}\n")
+}
+
+// A server on a port that was bound, with this operator: how it ends, and whether it printed its
+// port, if it has its seats, and then this.
+fn serves<R>(
+    rt: &R,
+    port: &Port,
+    hall: Hall<PlainDesk>,
+    settings: &Settings,
+    operator: &mut Operator<'_, R>,
+    printed: &str,
+) -> Result<(Result<(), ServeFault>, bool), AllocError>
+where
+    R: Threads + Wait + Clock + Sync + AllocGlobal + Eprint + LogFiles,
+    R: Net<Listener = TcpListener, Stream = TcpStream>,
+{
+    let first = printed_first(rt.alloc(), &operator.course, settings.port)?;
+    let wanted = format!(in rt.alloc(); "{first}{printed}")?;
+    let mut screen = Screen::new(rt.alloc(), first.len().saturating_add(operator.course.room));
+    let log = Refusing {
+        refused: operator.course.refused,
+        appends: AtomicU64::new(0),
+    };
+    let ended = serve(rt, port, hall, settings, &log, operator, &mut screen);
+    Ok((ended, screen.taken.as_slice() == wanted.as_bytes()))
+}
+
+// The operator's server ends so, though most of its workers wait for clients, and printed this
+// after its port.
+fn ends_at_last<R>(
+    rt: &R,
+    course: Course,
+    printed: &str,
+    wanted: Result<(), ServeFault>,
+) -> Result<(), Fail>
+where
+    R: Threads + Wait + Clock + Sync + AllocGlobal + Eprint + LogFiles,
+    R: Net<Listener = TcpListener, Stream = TcpStream>,
+{
+    let port = Port::bind(rt, SocketAddr::from((Ipv4Addr::LOCALHOST, 0)))?;
+    let address = port.listener().local_addr()?;
+    let settings = Settings {
+        port: address.port(),
+        key: key()?,
+        workers: course.workers,
+        connections: 9,
+        idle: course.idle,
+        rotate_at: course.rotate_at,
+    };
+    let hall = hall_of(rt, course.limit)?;
+    let _taken = seats_of(rt, &hall, course.taken)?;
+    let mut operator = Operator {
+        rt,
+        address,
+        course,
+        silent: None,
+        is_done: false,
+    };
+    let (ended, is_printed) = serves(rt, &port, hall, &settings, &mut operator, printed)?;
+    if ended == wanted && is_printed {
+        return Ok(());
+    }
+    Err(Fail::from("it ended or printed otherwise"))
+}
+
+// The same, all within five seconds. The ten that a device has before its first reply would be too
+// long.
+fn ends<R>(
+    rt: &R,
+    course: Course,
+    printed: &str,
+    wanted: Result<(), ServeFault>,
+) -> Result<(), Fail>
+where
+    R: Threads + Wait + Clock + Sync + AllocGlobal + Eprint + LogFiles,
+    R: Net<Listener = TcpListener, Stream = TcpStream>,
+{
+    let since = Instant::now(rt)?;
+    ends_at_last(rt, course, printed, wanted)?;
+    if since.elapsed(rt)? < Duration::from_secs(5) {
+        return Ok(());
+    }
+    Err(Fail::from("it took too long"))
+}
+
+#[test]
+fn workers_that_wait_end(rt: HostRuntime) -> Result<(), Fail> {
+    ends(&rt, QUITS, "", Ok(()))
+}
+
+// Without an end by force the one worker would wait for its silent device for ever.
+#[test]
+fn a_silent_device_holds_up_no_end(rt: HostRuntime) -> Result<(), Fail> {
+    let course = Course {
+        workers: 1,
+        keeps: true,
+        asks: "",
+        ..QUITS
+    };
+    ends(&rt, course, "", Ok(()))
+}
+
+// The one worker gives the silent device up after a second, and then serves the other one.
+#[test]
+fn a_silent_device_is_given_up(rt: HostRuntime) -> Result<(), Fail> {
+    let course = Course {
+        workers: 1,
+        idle: 1,
+        keeps: true,
+        ..QUITS
+    };
+    ends(&rt, course, "", Ok(()))
+}
+
+// The operator takes the log out in the middle, and finds a full one at his end.
+#[test]
+fn a_log_that_is_taken_out(rt: HostRuntime) -> Result<(), Fail> {
+    let in_the_middle = Course {
+        types: "rotate\nshadow\nquit\n",
+        room: 99,
+        ..QUITS
+    };
+    ends(&rt, in_the_middle, "rotated 0 entries 1\nnone\n", Ok(()))?;
+    let full = Course {
+        limit: 2,
+        asks: "pp",
+        ..QUITS
+    };
+    ends(&rt, full, "", Ok(()))
+}
+
+// Before each second call the log is taken out, so each log has one call. Where it is taken out too
+// late, an ask comes to a full log and isn't answered, and the one worker serves the next.
+#[test]
+fn a_log_that_is_taken_out_by_itself(rt: HostRuntime) -> Result<(), Fail> {
+    let by_itself = Course {
+        limit: 1,
+        rotate_at: 2,
+        asks: "ppppp",
+        types: "rotate\nquit\n",
+        room: 99,
+        ..QUITS
+    };
+    ends(&rt, by_itself, "rotated 4 entries 1\n", Ok(()))?;
+    let too_late = Course {
+        workers: 1,
+        rotate_at: 3,
+        asks: "pxp",
+        ..by_itself
+    };
+    ends(&rt, too_late, "rotated 1 entries 1\n", Ok(()))
+}
+
+// Where the log doesn't take the line of a reply, the device has none, and the one worker serves
+// the next.
+#[test]
+fn a_log_that_refuses(rt: HostRuntime) -> Result<(), Fail> {
+    let the_second = Course {
+        workers: 1,
+        asks: "pxp",
+        types: "shadow\nquit\n",
+        room: 99,
+        refused: Some(1),
+        ..QUITS
+    };
+    ends(&rt, the_second, "none\n", Ok(()))
+}
+
+// Workers end too, one with a silent device and some that wait for one, after a console that can't
+// be read.
+#[test]
+fn an_input_that_fails(rt: HostRuntime) -> Result<(), Fail> {
+    let failing = Course {
+        keeps: true,
+        fails: true,
+        room: 99,
+        ..QUITS
+    };
+    let at_once = Course {
+        types: "",
+        ..failing
+    };
+    ends(&rt, at_once, "", Err(ServeFault::ReadFault))?;
+    let after_a_line = Course {
+        types: "shadow\n",
+        ..failing
+    };
+    ends(&rt, after_a_line, "none\n", Err(ServeFault::ReadFault))
+}
+
+// So they do after one that can't be written.
+#[test]
+fn an_output_that_fails(rt: HostRuntime) -> Result<(), Fail> {
+    let failing = Course {
+        keeps: true,
+        types: "shadow\n",
+        ..QUITS
+    };
+    ends(&rt, failing, "", Err(ServeFault::WriteFault))?;
+    let in_a_line = Course { room: 3, ..failing };
+    ends(&rt, in_a_line, "non", Err(ServeFault::WriteFault))
+}
+
+// One connection has sessions of all kinds. Of their packets four are calls, one of which is a
+// record.
+#[test]
+fn a_visit_of_all_kinds(rt: HostRuntime) -> Result<(), Fail> {
+    let course = Course {
+        workers: 1,
+        asks: "v",
+        types: "rotate\nrecords\nquit\n",
+        room: 99,
+        ..QUITS
+    };
+    let printed = "rotated 0 entries 4\nrecord 1 user bob stop task 7 elapsed 0\n";
+    ends(&rt, course, printed, Ok(()))
+}
+
+// Where another has one of the hall's seats, the hall can't be closed, though that made no call.
+// This is printed too after an input that fails, which is then the fault.
+#[test]
+fn a_seat_that_was_taken(rt: HostRuntime) -> Result<(), Fail> {
+    let refused = "close refused\n";
+    let taken = Course {
+        taken: 1,
+        room: 99,
+        ..QUITS
+    };
+    ends(&rt, taken, refused, Err(ServeFault::CloseRefused))?;
+    let unread = Course {
+        types: "",
+        fails: true,
+        ..taken
+    };
+    ends(&rt, unread, refused, Err(ServeFault::ReadFault))?;
+    let unwritten = Course { room: 3, ..taken };
+    ends(&rt, unwritten, "clo", Err(ServeFault::WriteFault))
+}
+
+// Without a seat for the console, or for one of the workers, no port is printed. The last server
+// has all of its seats, but the hall can't be closed without those of others.
+#[test]
+fn seats_that_are_missing(rt: HostRuntime) -> Result<(), Fail> {
+    let refused = "close refused\n";
+    let none = Course {
+        taken: 64,
+        room: 99,
+        ..QUITS
+    };
+    ends(&rt, none, refused, Err(ServeFault::CloseRefused))?;
+    let one_too_few = Course { taken: 60, ..none };
+    ends(&rt, one_too_few, refused, Err(ServeFault::CloseRefused))?;
+    let all = Course { taken: 59, ..none };
+    ends(&rt, all, refused, Err(ServeFault::CloseRefused))
+}

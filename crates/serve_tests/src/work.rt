@@ -1,0 +1,9 @@
+//! Tests of workers: how connections end, over readers, writers and gates of the tests' own.
+
+mod ends;
+mod gates;
+mod packets;
+mod starved;
+mod streams;
+mod support;
+mod transport;

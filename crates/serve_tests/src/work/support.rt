@@ -1,0 +1,190 @@
+//! What the tests share: halls, and a worker at one.
+
+use crate::work::packets::{FIRST_PERMISSION, FIRST_QUESTION, RECORD};
+use crate::work::streams::{Counting, Scripted, Sink, WHOLE};
+use pol_text::{Policy, PolicyFault};
+use std::alloc::Global;
+use std::sync::Wait;
+use std::sync::atomic::{AtomicU64, Ordering};
+use std::test::Fail;
+use tac_desk::Desk;
+use tac_desks::PlainDesk;
+use tac_hall::{Hall, Seat};
+use tac_wire::Key;
+use tac_worker::{End, Worked, work};
+
+pub(crate) fn key() -> Result<Key, Fail> {
+    match Key::read(b"k") {
+        Some(key) => Ok(key),
+        None => Err(Fail::from("no key")),
+    }
+}
+
+/// A policy under which bob may show things, and log in.
+pub(crate) fn bob(alloc: Global) -> Result<Policy, PolicyFault> {
+    Policy::read(alloc, b"user bob\nlogin secret\npermit show .*\n")
+}
+
+/// A hall round a desk of bob's policy, whose log takes so many calls.
+pub(crate) fn hall_of<R: AllocGlobal>(rt: &R, limit: usize) -> Result<Hall<PlainDesk>, Fail> {
+    let policy = bob(rt.alloc())?;
+    let desk = PlainDesk::new(rt.alloc(), policy, 9)?;
+    Ok(Hall::new(rt, desk, limit)?)
+}
+
+// The packets that letters represent, and the key.
+#[derive(Drop)]
+struct Packets {
+    key: Key,
+    question: Vec<u8>,
+    record: Vec<u8>,
+}
+
+fn read_packets(alloc: Global) -> Result<Packets, Fail> {
+    Ok(Packets {
+        key: key()?,
+        question: hex::decode(alloc, FIRST_QUESTION.as_bytes())?,
+        record: hex::decode(alloc, RECORD.as_bytes())?,
+    })
+}
+
+// How a connection ended, how many receipts there are, what was written, and how many replies the
+// gate heard of.
+#[derive(Drop)]
+struct Seen {
+    end: End,
+    receipts: usize,
+    written: Vec<u8>,
+    heard: u64,
+}
+
+// Serves what these letters represent, to a writer with so much room, by a gate that lets so many
+// calls pass.
+fn serves<D: Desk, R: Wait + AllocGlobal>(
+    rt: &R,
+    hall: &Hall<D>,
+    packets: &Packets,
+    seat: Seat,
+    letters: &str,
+    room: usize,
+    calls: u64,
+) -> (Seat, Seen) {
+    let mut reader = Scripted {
+        letters: letters.as_bytes(),
+        question: packets.question.as_slice(),
+        record: packets.record.as_slice(),
+    };
+    let mut writer = Sink::new(rt.alloc(), room, WHOLE);
+    let gate = Counting {
+        calls: AtomicU64::new(calls),
+        replies: AtomicU64::new(0),
+    };
+    let Worked {
+        seat,
+        receipts,
+        end,
+    } = work(
+        rt,
+        hall,
+        &packets.key,
+        seat,
+        &mut reader,
+        &mut writer,
+        &gate,
+    );
+    let seen = Seen {
+        end,
+        receipts: receipts.len(),
+        written: writer.taken,
+        heard: gate.replies.load(Ordering::SeqCst),
+    };
+    (seat, seen)
+}
+
+// Whether these are replies to the question, each but the last whole.
+fn are_replies(alloc: Global, written: &[u8]) -> Result<bool, Fail> {
+    let reply = hex::decode(alloc, FIRST_PERMISSION.as_bytes())?;
+    for part in written.chunks(18) {
+        if !reply.as_slice().starts_with(part) {
+            return Ok(false);
+        }
+    }
+    Ok(true)
+}
+
+// The end, how many receipts there are, how many bytes of replies were written, and of how many
+// the gate heard.
+fn shown(alloc: Global, seen: &Seen) -> Result<String, Fail> {
+    if !are_replies(alloc, seen.written.as_slice())? {
+        return Err(Fail::from("other bytes"));
+    }
+    let Seen {
+        end,
+        receipts,
+        written,
+        heard,
+    } = seen;
+    Ok(format!(in alloc; "{end:?} {receipts} {} {heard}", written.len())?)
+}
+
+/// A worker at this hall, as a line `LETTERS ROOM CALLS = END RECEIPTS BYTES REPLIES` says; `-`
+/// means no letters. The seat comes back.
+pub(crate) fn ends<D: Desk, R: Wait + AllocGlobal>(
+    rt: &R,
+    hall: &Hall<D>,
+    seat: Seat,
+    line: &str,
+) -> Result<Seat, Fail> {
+    let (asked, wanted) = line.split_once(" = ").unwrap_or((line, ""));
+    let (letters, rest) = asked.split_once(' ').unwrap_or((asked, ""));
+    let (room, calls) = rest.split_once(' ').unwrap_or((rest, ""));
+    let letters = if letters == "-" { "" } else { letters };
+    let room = room.parse::<usize>()?;
+    let calls = calls.parse::<u64>()?;
+    let packets = read_packets(rt.alloc())?;
+    let (seat, seen) = serves(rt, hall, &packets, seat, letters, room, calls);
+    let told = shown(rt.alloc(), &seen)?;
+    if told.as_str() == wanted {
+        Ok(seat)
+    } else {
+        Err(Fail::from(told))
+    }
+}
+
+/// The same for each line, at a new hall whose log takes so many calls.
+pub(crate) fn all_end<R: Wait + AllocGlobal>(
+    rt: &R,
+    limit: usize,
+    lines: &str,
+) -> Result<(), Fail> {
+    for line in lines.lines() {
+        let line = line.trim();
+        if !line.is_empty() {
+            let hall = hall_of(rt, limit)?;
+            let seat = hall.seat(rt)?;
+            ends(rt, &hall, seat, line)?;
+        }
+    }
+    Ok(())
+}
+
+/// The hall is closed with its one seat, and its log has so many calls.
+pub(crate) fn closes<D: Desk>(
+    alloc: Global,
+    hall: Hall<D>,
+    seat: Seat,
+    logged: usize,
+) -> Result<(), Fail> {
+    let mut seats = Vec::new(alloc);
+    seats.push(seat)?;
+    match hall.close(seats) {
+        Ok(settled) => {
+            if settled.log.len() == logged {
+                Ok(())
+            } else {
+                Err(Fail::from("another number of calls"))
+            }
+        }
+        Err(_) => Err(Fail::from("close refused")),
+    }
+}

@@ -1,0 +1,11 @@
+//! Tests of the desk and its console, against answers that were worked out by hand.
+
+mod asks;
+mod batches;
+mod both;
+mod chance;
+mod edits;
+mod questions;
+mod rules;
+mod sizes;
+mod support;

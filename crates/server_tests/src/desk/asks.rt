@@ -1,0 +1,73 @@
+//! What connections ask, and what edits between the asks change.
+
+use crate::desk::support::converses;
+use std::test::Fail;
+
+#[test]
+fn logins_and_lines(rt: HostRuntime) -> Result<(), Fail> {
+    converses(
+        &rt,
+        "group ops\npermit show .*\nuser bob in ops\nlogin secret\nenable more\n",
+        1,
+        "
+        ? login bob secret
+        pass
+        ? login bob more
+        fail
+        ? enable bob more
+        pass
+        ? enable bob secret
+        fail
+        ? login eve secret
+        fail
+        ? login b,b secret
+        fail
+        ? login  
+        fail
+        ? run bob show version
+        permitted
+        ? run bob ping
+        denied
+        ? run eve show version
+        unknown user
+        ? run bob show\u{7f}
+        unprintable
+        ? run eve show\u{7f}
+        unknown user
+        # Edits count at once.
+        > insert group ops 1 deny show .*
+        ok
+        user bob now denies: show 
+        ? run bob show version
+        denied
+        > clear login bob
+        ok
+        ? login bob secret
+        fail
+        > remove user bob
+        ok
+        ? enable bob more
+        fail
+        ? run bob show version
+        unknown user
+        ",
+    )
+}
+
+#[test]
+fn responses(rt: HostRuntime) -> Result<(), Fail> {
+    // MD5 of `abc`, which RFC 1321 gives, and another.
+    converses(
+        &rt,
+        "user bob\nlogin b\n",
+        1,
+        "
+        ? chap bob 900150983cd24fb0d6963f7d28e17f72
+        pass
+        ? chap bob 900150983cd24fb0d6963f7d28e17f73
+        fail
+        ? chap eve 900150983cd24fb0d6963f7d28e17f72
+        fail
+        ",
+    )
+}

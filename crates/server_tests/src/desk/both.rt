@@ -1,0 +1,257 @@
+//! The desk that keeps automata, tallies and decisions answers as the one that works out each
+//! answer anew.
+
+use crate::desk::chance::calls;
+use crate::desk::support::{ask, console};
+use pol_names::By;
+use pol_text::Policy;
+use std::alloc::{AllocError, Global};
+use std::fmt::Write;
+use std::process::Abort;
+use std::test::Fail;
+use tac_conn::Answer;
+use tac_console::Batch;
+use tac_desk::Desk;
+use tac_desks::{LiveDesk, PlainDesk};
+
+// An answer to a connection, whole.
+fn push_answer(text: &mut String, answer: Answer) -> Result<(), AllocError> {
+    match answer {
+        Answer::Pass => writeln!(text, "pass"),
+        Answer::Fail => writeln!(text, "fail"),
+        Answer::UnknownUser => writeln!(text, "unknown user"),
+        Answer::Unprintable => writeln!(text, "unprintable"),
+        Answer::Denied(By::Rule(owner, number)) => writeln!(
+            text,
+            "denied by {owner} rule {number}"
+        ),
+        Answer::Denied(By::Default) => writeln!(text, "denied by default"),
+        Answer::Permitted(Some(level)) => writeln!(text, "permitted at {level}"),
+        Answer::Permitted(None) => writeln!(text, "permitted"),
+        Answer::Stored => writeln!(text, "stored"),
+        Answer::BookFull => writeln!(text, "full"),
+    }
+}
+
+fn asks<D: Desk>(alloc: Global, desk: &mut D, words: &str, out: &mut Vec<u8>) -> Result<(), Fail> {
+    let ask = ask(alloc, words)?;
+    let mut text = String::new(alloc);
+    match desk.ask(&ask) {
+        Ok(answer) => push_answer(&mut text, answer)?,
+        Err(error) => return Err(Fail::from(error)),
+    }
+    out.extend_from_slice(text.as_bytes())?;
+    Ok(())
+}
+
+// A call of a conversation, and what it is answered.
+fn call<D: Desk>(
+    alloc: Global,
+    desk: &mut D,
+    batch: &mut Batch,
+    line: &str,
+    out: &mut Vec<u8>,
+) -> Result<(), Fail> {
+    out.extend_from_slice(line.as_bytes())?;
+    out.push(b'\n')?;
+    if let Some(words) = line.strip_prefix("? ") {
+        return asks(alloc, desk, words, out);
+    }
+    let line = line.strip_prefix("> ").unwrap_or(line);
+    console(alloc, desk, batch, line.as_bytes(), out)?;
+    Ok(())
+}
+
+fn talk<D: Desk>(alloc: Global, desk: &mut D, lines: &str, out: &mut Vec<u8>) -> Result<(), Fail> {
+    let mut batch = Batch::closed();
+    for line in lines.lines() {
+        call(alloc, desk, &mut batch, line, out)?;
+    }
+    Ok(())
+}
+
+const LIMIT: usize = 9;
+
+const POLICY: &str = "group ops
+permit a.*
+group net in ops
+priv 1
+deny ab
+permit b
+user bob in ops
+login x
+user eve in net
+enable more
+user ann in ops
+priv 7
+permit .*
+login more
+";
+
+// What a desk that keeps nothing is asked, and answers.
+fn plain(alloc: Global, lines: &str) -> Result<Vec<u8>, Fail> {
+    let policy = Policy::read(alloc, POLICY.as_bytes())?;
+    let mut desk = PlainDesk::new(alloc, policy, LIMIT)?;
+    let mut out = Vec::new(alloc);
+    talk(alloc, &mut desk, lines, &mut out)?;
+    Ok(out)
+}
+
+// What a desk that keeps automata is asked, and answers.
+fn live(alloc: Global, lines: &str) -> Result<Vec<u8>, Fail> {
+    let policy = Policy::read(alloc, POLICY.as_bytes())?;
+    let mut desk = LiveDesk::new(alloc, policy, LIMIT)?;
+    let mut out = Vec::new(alloc);
+    talk(alloc, &mut desk, lines, &mut out)?;
+    Ok(out)
+}
+
+// Beginnings of lines of which each is met, so that the calls aren't all refused.
+const MET: &str = "pass
+fail
+unknown user
+unprintable
+denied by group
+denied by default
+permitted at 7
+permitted
+stored
+full
+ok
+user bob now permits: 
+user eve now denies: 
+refused 2 NoSuch
+refused 3 Exists
+refused 4 InUse
+refused 5 Cycle
+refused 7 BadIndex
+refused 8 BadPattern
+refused 9 BadValue
+kept 3
+refused at edit 1: 
+refused at edit 2: 
+group ops
+record 9 
+shadowed in group 
+shadowed in user 
+none
+group ops rule 1 first reached by: 
+group ops rule 2 never reached
+tally group 
+tally user 
+permitted by 
+";
+
+fn is_met(printed: &str, start: &str) -> bool {
+    printed.lines().any(|line| line.starts_with(start))
+}
+
+fn all_met<R: Abort>(rt: &R, printed: &str) {
+    for start in MET.lines() {
+        assert!(rt; is_met(printed, start), "no line is '{start}'");
+    }
+}
+
+fn alike<R: Abort>(rt: &R, plain: &[u8], live: &[u8]) -> Result<(), Fail> {
+    let plain = str::from_utf8(plain)?;
+    let live = str::from_utf8(live)?;
+    assert!(rt; plain == live, "plain\n{plain}live\n{live}");
+    all_met(rt, plain);
+    Ok(())
+}
+
+#[test]
+fn three_hundred_calls(rt: HostRuntime) -> Result<(), Fail> {
+    let alloc = rt.alloc();
+    let lines = calls(alloc, 8907, 300)?;
+    let plain = plain(alloc, lines.as_str())?;
+    let live = live(alloc, lines.as_str())?;
+    alike(&rt, plain.as_slice(), live.as_slice())
+}
+
+// What is told of the meter of automata at the desk that keeps them: before each call, and at last.
+fn metered(alloc: Global, desk: &mut LiveDesk, lines: &str) -> Result<Vec<u8>, Fail> {
+    let mut out = Vec::new(alloc);
+    let mut batch = Batch::closed();
+    for line in lines.lines() {
+        push_meter(alloc, desk.meter(), &mut out)?;
+        call(alloc, desk, &mut batch, line, &mut out)?;
+    }
+    push_meter(alloc, desk.meter(), &mut out)?;
+    Ok(out)
+}
+
+fn push_meter(alloc: Global, states: u128, out: &mut Vec<u8>) -> Result<(), Fail> {
+    let mut text = String::new(alloc);
+    writeln!(text, "meter {states}")?;
+    out.extend_from_slice(text.as_bytes())?;
+    Ok(())
+}
+
+fn opened(alloc: Global, lines: &str) -> Result<Vec<u8>, Fail> {
+    let policy = b"group ops\npermit show .*\nuser bob in ops\n";
+    let policy = Policy::read(alloc, policy.as_slice())?;
+    let mut desk = LiveDesk::new(alloc, policy, LIMIT)?;
+    metered(alloc, &mut desk, lines)
+}
+
+// Only an edit of rules builds automata: for the group and for the user below it.
+#[test]
+fn automata_are_built_once(rt: HostRuntime) -> Result<(), Fail> {
+    let lines = "? run bob show version\n> insert group ops 1 deny show .*\n\
+        ? run bob show version\n> shadow\n> login bob x\n";
+    let printed = opened(rt.alloc(), lines)?;
+    assert_eq!(rt;
+        str::from_utf8(printed.as_slice())?,
+        "meter 7\n\
+         ? run bob show version\n\
+         permitted\n\
+         meter 7\n\
+         > insert group ops 1 deny show .*\n\
+         ok\n\
+         user bob now denies: show \n\
+         meter 14\n\
+         ? run bob show version\n\
+         denied by group ops rule 1\n\
+         meter 14\n\
+         > shadow\n\
+         shadowed in group ops: group ops rule 2\n\
+         shadowed in user bob: group ops rule 2\n\
+         meter 14\n\
+         > login bob x\n\
+         ok\n\
+         meter 14\n"
+    );
+    Ok(())
+}
+
+// The edits of a batch build automata together, once it is committed: for the new group alone,
+// since bob has no rules of his own.
+#[test]
+fn automata_are_built_for_a_batch(rt: HostRuntime) -> Result<(), Fail> {
+    let lines = "> begin\n> add group net\n> insert group net 1 permit ping\n\
+        > move user bob in net\n> commit\n";
+    let printed = opened(rt.alloc(), lines)?;
+    assert_eq!(rt;
+        str::from_utf8(printed.as_slice())?,
+        "meter 7\n\
+         > begin\n\
+         ok\n\
+         meter 7\n\
+         > add group net\n\
+         kept 1\n\
+         meter 7\n\
+         > insert group net 1 permit ping\n\
+         kept 2\n\
+         meter 7\n\
+         > move user bob in net\n\
+         kept 3\n\
+         meter 7\n\
+         > commit\n\
+         ok\n\
+         user bob now permits: ping\n\
+         user bob now denies: show \n\
+         meter 13\n"
+    );
+    Ok(())
+}
