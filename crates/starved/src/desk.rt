@@ -24,7 +24,7 @@ const BOB: &[u8] = b"bob";
 
 const NO_NAME: Trouble = Trouble::Wrong("the name is invalid");
 
-// Says what is wrong with an answer, which has to be this one.
+// Asks for a record to be stored. Any answer but `Stored` is wrong.
 fn store_record(desk: &mut LiveDesk, ask: &Ask) -> Result<Finding, Trouble> {
     match desk.ask(ask) {
         Ok(Answer::Stored) => Ok(Finding::Made),
