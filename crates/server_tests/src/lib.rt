@@ -4,3 +4,5 @@
 #[cfg(test)]
 mod desk;
 mod server;
+#[cfg(test)]
+mod starved;

@@ -237,14 +237,8 @@ impl Conversation {
     }
 }
 
-// One conversation, and what it ends with.
-fn holds<R: Abort + AllocGlobal>(
-    rt: &R,
-    policy: &str,
-    limit: usize,
-    paragraph: &str,
-) -> Result<(), Fail> {
-    let mut conversation = Conversation::new(rt.alloc(), policy, limit)?;
+// The whole conversation, and what it ends with.
+fn holds<R: Abort>(rt: &R, conversation: &mut Conversation, paragraph: &str) -> Result<(), Fail> {
     for line in paragraph.lines() {
         let line = line.trim_start();
         if !line.is_empty() {
@@ -265,7 +259,8 @@ pub(crate) fn converses<R: Abort + AllocGlobal>(
     text: &str,
 ) -> Result<(), Fail> {
     for paragraph in text.split("\n\n") {
-        holds(rt, policy, limit, paragraph)?;
+        let mut conversation = Conversation::new(rt.alloc(), policy, limit)?;
+        holds(rt, &mut conversation, paragraph)?;
     }
     Ok(())
 }

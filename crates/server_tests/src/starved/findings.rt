@@ -1,7 +1,6 @@
 //! The result of a case.
 
 use std::alloc::{AllocError, AllocFailed};
-use std::{fmt, io};
 
 /// The result of the call, where all that stands after it is right.
 #[derive(Clone, Copy, Debug, PartialEq, Eq)]
@@ -16,47 +15,25 @@ pub(crate) enum Finding {
     Served(u8),
 }
 
-impl fmt::Display for Finding {
-    fn fmt<W: fmt::Write>(&self, f: &mut fmt::Formatter<W>) -> fmt::Result {
+impl Finding {
+    /// What the case tells of it: success where the call did what was asked.
+    pub(crate) fn told(self) -> Result<(), Trouble> {
         match self {
-            Finding::Made => write!(f, "made"),
-            Finding::Memory => write!(f, "memory"),
-            Finding::Accepted => write!(f, "accepted"),
-            Finding::Served(packets) => write!(f, "served {packets}"),
+            Finding::Made => Ok(()),
+            Finding::Memory | Finding::Accepted | Finding::Served(_) => Err(Trouble::Found(self)),
         }
     }
 }
 
-/// Why nothing was found.
+/// Why a case has no success.
 #[derive(Clone, Copy, Debug, PartialEq, Eq)]
 pub(crate) enum Trouble {
+    /// Memory ran out in the call, and what stands after it is right.
+    Found(Finding),
     /// Memory ran out before the call, or in what judges it.
     Memory,
     /// This is wrong after the call.
     Wrong(&'static str),
-    /// The command line could not be had, or nothing be printed.
-    Failed,
-}
-
-impl Trouble {
-    /// The status that tells it.
-    pub(crate) fn status(self) -> u8 {
-        match self {
-            Trouble::Memory => 3,
-            Trouble::Wrong(_) => 1,
-            Trouble::Failed => 4,
-        }
-    }
-}
-
-impl fmt::Display for Trouble {
-    fn fmt<W: fmt::Write>(&self, f: &mut fmt::Formatter<W>) -> fmt::Result {
-        match self {
-            Trouble::Memory => write!(f, "memory ran out"),
-            Trouble::Wrong(what) => write!(f, "{what}"),
-            Trouble::Failed => write!(f, "its words could not be read or written"),
-        }
-    }
 }
 
 impl From<AllocError> for Trouble {
@@ -68,15 +45,6 @@ impl From<AllocError> for Trouble {
 impl<T: Drop> From<AllocFailed<T>> for Trouble {
     fn from(_error: AllocFailed<T>) -> Trouble {
         Trouble::Memory
-    }
-}
-
-impl From<io::Error> for Trouble {
-    fn from(error: io::Error) -> Trouble {
-        match error.kind() {
-            io::ErrorKind::OutOfMemory => Trouble::Memory,
-            _ => Trouble::Failed,
-        }
     }
 }
 

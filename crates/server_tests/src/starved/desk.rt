@@ -1,7 +1,7 @@
 //! Asks, edits and questions at the desk that keeps automata.
 
-use crate::findings::{Finding, Trouble, must, must_be_made};
-use crate::scene::{
+use crate::starved::findings::{Finding, Trouble, must, must_be_made};
+use crate::starved::scene::{
     AFTER, BATCH, BEFORE, INSERT, INSERT_ANSWER, POLICY, RECORDS, Told, edits_of, policy_of, record,
 };
 use basics::Bytes;
@@ -33,18 +33,26 @@ fn store_record(desk: &mut LiveDesk, ask: &Ask) -> Result<Finding, Trouble> {
     }
 }
 
+// The desk has room for the record.
+fn store_plainly(desk: &mut LiveDesk, ask: &Ask) -> Result<(), Trouble> {
+    must_be_made(store_record(desk, ask)?)
+}
+
+// A desk without records.
+fn built(alloc: Global) -> Result<LiveDesk, Trouble> {
+    let policy = policy_of(alloc, POLICY)?;
+    match LiveDesk::new(alloc, policy, LIMIT) {
+        Ok(desk) => Ok(desk),
+        Err(BuildFault::Memory) => Err(Trouble::Memory),
+        Err(BuildFault::TooManyStates(_)) => Err(Trouble::Wrong("the policy is too large")),
+    }
+}
+
 // A desk with one record.
 fn opened(alloc: Global) -> Result<LiveDesk, Trouble> {
-    let policy = policy_of(alloc, POLICY)?;
-    let mut desk = match LiveDesk::new(alloc, policy, LIMIT) {
-        Ok(desk) => desk,
-        Err(BuildFault::Memory) => return Err(Trouble::Memory),
-        Err(BuildFault::TooManyStates(_)) => {
-            return Err(Trouble::Wrong("the policy is too large"));
-        }
-    };
     let ask = Ask::Account(record(alloc, AcctKind::Stop, "7")?);
-    must_be_made(store_record(&mut desk, &ask)?)?;
+    let mut desk = built(alloc)?;
+    store_plainly(&mut desk, &ask)?;
     Ok(desk)
 }
 
@@ -93,35 +101,33 @@ fn login(alloc: Global) -> Result<Ask, Trouble> {
 }
 
 // The call, which is never refused, and what stands after it: all is as before.
-fn asked(
-    alloc: Global,
-    desk: &mut LiveDesk,
-    ask: &Ask,
-    wanted: Answer,
-) -> Result<Finding, Trouble> {
+fn asked(alloc: Global, desk: &mut LiveDesk, ask: &Ask, wanted: Answer) -> Result<(), Trouble> {
     let states = desk.meter();
     match desk.ask(ask) {
         Ok(answer) => must(answer == wanted, "the ask is answered otherwise")?,
         Err(_) => return Err(Trouble::Wrong("an ask that takes no memory is refused")),
     }
     must(desk.meter() == states, "the meter has changed")?;
-    tells(alloc, desk, &BEFORE)?;
-    Ok(Finding::Made)
+    tells(alloc, desk, &BEFORE)
 }
 
-fn ask_surely(alloc: Global, ask: &Ask, wanted: Answer) -> Result<Finding, Trouble> {
+fn ask_surely(alloc: Global, ask: &Ask, wanted: Answer) -> Result<(), Trouble> {
     let mut desk = opened(alloc)?;
     asked(alloc, &mut desk, ask, wanted)
 }
 
-/// Asks for a login.
-pub(crate) fn ask_login(alloc: Global) -> Result<Finding, Trouble> {
+// Asks for a login.
+#[test]
+fn ask_login(rt: HostRuntime) -> Result<(), Trouble> {
+    let alloc = rt.alloc();
     let ask = login(alloc)?;
     ask_surely(alloc, &ask, Answer::Pass)
 }
 
-/// Asks for a command line.
-pub(crate) fn ask_line(alloc: Global) -> Result<Finding, Trouble> {
+// Asks for a command line.
+#[test]
+fn ask_line(rt: HostRuntime) -> Result<(), Trouble> {
+    let alloc = rt.alloc();
     let ask = Ask::Authorise {
         user: Bytes::from_slice(alloc, b"bob")?,
         line: Bytes::from_slice(alloc, b"show version")?,
@@ -150,16 +156,18 @@ fn recorded(alloc: Global, desk: &mut LiveDesk, ask: &Ask) -> Result<Finding, Tr
 }
 
 // A record that found no memory can be stored later.
-fn recorded_at_last(alloc: Global, desk: &mut LiveDesk, ask: &Ask) -> Result<Finding, Trouble> {
+fn recorded_at_last(alloc: Global, desk: &mut LiveDesk, ask: &Ask) -> Result<(), Trouble> {
     let finding = recorded(alloc, desk, ask)?;
     if finding == Finding::Memory {
         must_be_made(recorded(alloc, desk, ask)?)?;
     }
-    Ok(finding)
+    finding.told()
 }
 
-/// Asks for a record.
-pub(crate) fn ask_record(alloc: Global) -> Result<Finding, Trouble> {
+// Asks for a record.
+#[test]
+fn ask_record(rt: HostRuntime) -> Result<(), Trouble> {
+    let alloc = rt.alloc();
     let ask = Ask::Account(record(alloc, AcctKind::Begin, "8")?);
     let mut desk = opened(alloc)?;
     recorded_at_last(alloc, &mut desk, &ask)
@@ -238,14 +246,16 @@ fn edit_by(alloc: Global, lines: &str) -> Result<Finding, Trouble> {
     edited_at_last(alloc, &mut desk, edits.as_slice())
 }
 
-/// Makes an edit.
-pub(crate) fn edit(alloc: Global) -> Result<Finding, Trouble> {
-    edit_by(alloc, INSERT)
+// Makes an edit.
+#[test]
+fn edit(rt: HostRuntime) -> Result<(), Trouble> {
+    edit_by(rt.alloc(), INSERT)?.told()
 }
 
-/// Makes several edits together.
-pub(crate) fn edit_all(alloc: Global) -> Result<Finding, Trouble> {
-    edit_by(alloc, BATCH)
+// Makes several edits together.
+#[test]
+fn edit_all(rt: HostRuntime) -> Result<(), Trouble> {
+    edit_by(rt.alloc(), BATCH)?.told()
 }
 
 // The call, and what stands after it. A question that found no memory can be asked later.
@@ -270,36 +280,47 @@ fn query(alloc: Global, query: &Query, wanted: &str) -> Result<Finding, Trouble>
     answered_at_last(alloc, &mut desk, query, wanted)
 }
 
-/// Asks for the policy.
-pub(crate) fn query_policy(alloc: Global) -> Result<Finding, Trouble> {
-    query(alloc, &Query::Policy, BEFORE.policy)
+// Asks for the policy.
+#[test]
+fn query_policy(rt: HostRuntime) -> Result<(), Trouble> {
+    query(rt.alloc(), &Query::Policy, BEFORE.policy)?.told()
 }
 
-/// Asks which rules decide nothing.
-pub(crate) fn query_shadow(alloc: Global) -> Result<Finding, Trouble> {
-    query(alloc, &Query::Shadow, "none\n")
+// Asks which rules decide nothing.
+#[test]
+fn query_shadow(rt: HostRuntime) -> Result<(), Trouble> {
+    query(rt.alloc(), &Query::Shadow, "none\n")?.told()
 }
 
-/// Asks by which lines the rules along bob's chain are reached.
-pub(crate) fn query_reach(alloc: Global) -> Result<Finding, Trouble> {
+// Asks by which lines the rules along bob's chain are reached.
+#[test]
+fn query_reach(rt: HostRuntime) -> Result<(), Trouble> {
     let Some(bob) = Name::read(BOB) else {
         return Err(NO_NAME);
     };
     let reach = Query::Reach(SubjectId::user(bob));
-    query(alloc, &reach, "group ops rule 1 first reached by: show \n")
+    query(
+        rt.alloc(),
+        &reach,
+        "group ops rule 1 first reached by: show \n",
+    )?
+    .told()
 }
 
-/// Asks for bob's tally.
-pub(crate) fn query_tally(alloc: Global) -> Result<Finding, Trouble> {
+// Asks for bob's tally.
+#[test]
+fn query_tally(rt: HostRuntime) -> Result<(), Trouble> {
     let Some(bob) = Name::read(BOB) else {
         return Err(NO_NAME);
     };
     let tally = Query::Tally(SubjectId::user(bob));
-    query(alloc, &tally, BEFORE.tally)
+    query(rt.alloc(), &tally, BEFORE.tally)?.told()
 }
 
-/// Asks what the policy says of a line.
-pub(crate) fn query_why(alloc: Global) -> Result<Finding, Trouble> {
+// Asks what the policy says of a line.
+#[test]
+fn query_why(rt: HostRuntime) -> Result<(), Trouble> {
+    let alloc = rt.alloc();
     let Some(bob) = Name::read(BOB) else {
         return Err(NO_NAME);
     };
@@ -307,10 +328,11 @@ pub(crate) fn query_why(alloc: Global) -> Result<Finding, Trouble> {
         user: bob,
         line: Bytes::from_slice(alloc, b"show version")?,
     };
-    query(alloc, &why, "permitted by group ops rule 1\n")
+    query(alloc, &why, "permitted by group ops rule 1\n")?.told()
 }
 
-/// Asks for the records.
-pub(crate) fn query_records(alloc: Global) -> Result<Finding, Trouble> {
-    query(alloc, &Query::Records, RECORDS)
+// Asks for the records.
+#[test]
+fn query_records(rt: HostRuntime) -> Result<(), Trouble> {
+    query(rt.alloc(), &Query::Records, RECORDS)?.told()
 }

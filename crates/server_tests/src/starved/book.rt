@@ -1,8 +1,8 @@
 //! Storing records in a book, and working out their marks anew.
 
-use crate::findings::{Finding, Trouble, must, must_be_made};
-use crate::scene::record;
-use basics::{Bytes, Sequence};
+use crate::starved::findings::{Finding, Trouble, must, must_be_made};
+use crate::starved::scene::record;
+use basics::Bytes;
 use std::alloc::Global;
 use tac_tally::{AcctKind, Book, Record, StoreFault, Tally};
 
@@ -75,29 +75,44 @@ fn stored(alloc: Global, book: &mut Book, records: &[Record]) -> Result<Finding,
     }
 }
 
-// Stores the last of these records after the others. One that found no memory can be stored later.
-fn store_last(alloc: Global, records: &[Record]) -> Result<Finding, Trouble> {
-    let mut book = Book::new(alloc, LIMIT);
-    if let [before @ .., _] = records {
-        for record in before {
-            store_plainly(&mut book, record.copy(alloc)?)?;
-        }
+// Stores copies of these records.
+fn store_all(alloc: Global, book: &mut Book, records: &[Record]) -> Result<(), Trouble> {
+    for record in records {
+        let copy = record.copy(alloc)?;
+        store_plainly(book, copy)?;
     }
-    let finding = stored(alloc, &mut book, records)?;
-    if finding == Finding::Memory {
-        must_be_made(stored(alloc, &mut book, records)?)?;
-    }
-    Ok(finding)
+    Ok(())
 }
 
-/// Stores the first record of a book.
-pub(crate) fn store_first(alloc: Global) -> Result<Finding, Trouble> {
+// Stores the last of these records after the others. One that found no memory can be stored later.
+fn stored_at_last(alloc: Global, book: &mut Book, records: &[Record]) -> Result<(), Trouble> {
+    if let [before @ .., _] = records {
+        store_all(alloc, book, before)?;
+    }
+    let finding = stored(alloc, book, records)?;
+    if finding == Finding::Memory {
+        must_be_made(stored(alloc, book, records)?)?;
+    }
+    finding.told()
+}
+
+fn store_last(alloc: Global, records: &[Record]) -> Result<(), Trouble> {
+    let mut book = Book::new(alloc, LIMIT);
+    stored_at_last(alloc, &mut book, records)
+}
+
+// Stores the first record of a book.
+#[test]
+fn store_first(rt: HostRuntime) -> Result<(), Trouble> {
+    let alloc = rt.alloc();
     let first = record(alloc, AcctKind::Begin, "7")?;
     store_last(alloc, &[first])
 }
 
-/// Stores a record that begins a task, of a user with an open one.
-pub(crate) fn store_open(alloc: Global) -> Result<Finding, Trouble> {
+// Stores a record that begins a task, of a user with an open one.
+#[test]
+fn store_open(rt: HostRuntime) -> Result<(), Trouble> {
+    let alloc = rt.alloc();
     let first = record(alloc, AcctKind::Begin, "7")?;
     let second = record(alloc, AcctKind::Begin, "8")?;
     store_last(alloc, &[first, second])
@@ -130,16 +145,27 @@ fn recounted(
     }
 }
 
-/// Works out the marks of bob's records anew. A recount that found no memory can be made later.
-pub(crate) fn recount(alloc: Global) -> Result<Finding, Trouble> {
-    let records = [record(alloc, AcctKind::Stop, "7")?];
-    let mut users = Sequence::new(alloc);
-    users.push(Bytes::from_slice(alloc, b"bob")?)?;
-    let mut book = Book::new(alloc, LIMIT);
-    store_plainly(&mut book, record(alloc, AcctKind::Stop, "7")?)?;
-    let finding = recounted(alloc, &mut book, users.as_slice(), &records)?;
+// A recount that found no memory can be made later.
+fn recounted_at_last(
+    alloc: Global,
+    book: &mut Book,
+    users: &[Bytes],
+    records: &[Record],
+) -> Result<(), Trouble> {
+    store_all(alloc, book, records)?;
+    let finding = recounted(alloc, book, users, records)?;
     if finding == Finding::Memory {
-        must_be_made(recounted(alloc, &mut book, users.as_slice(), &records)?)?;
+        must_be_made(recounted(alloc, book, users, records)?)?;
     }
-    Ok(finding)
+    finding.told()
+}
+
+// Works out the marks of bob's records anew.
+#[test]
+fn recount(rt: HostRuntime) -> Result<(), Trouble> {
+    let alloc = rt.alloc();
+    let records = [record(alloc, AcctKind::Stop, "7")?];
+    let users = [Bytes::from_slice(alloc, b"bob")?];
+    let mut book = Book::new(alloc, LIMIT);
+    recounted_at_last(alloc, &mut book, &users, &records)
 }

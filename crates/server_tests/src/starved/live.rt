@@ -1,23 +1,22 @@
 //! Preparing an edit of a policy with its automata.
 
-use crate::findings::{Finding, Trouble, must, must_be_made};
-use crate::scene::{POLICY, edit_of, policy_of};
+use crate::starved::findings::{Finding, Trouble, must, must_be_made};
+use crate::starved::scene::{INSERT, INSERTED, POLICY, edit_of, policy_of};
 use basics::StructuralEq;
 use pol_automaton::Meter;
 use pol_edit::{Edit, EditFault};
-use pol_live::{BuildFault, Live};
+use pol_live::{BuildFault, Live, Prepared};
 use pol_text::Policy;
 use std::alloc::Global;
 
 /// The policy with one more user.
-pub(crate) const ADDED: &str =
-    "group ops\npermit show .*\nuser bob in ops\nlogin secret\nuser eve in ops\n";
+const ADDED: &str = "group ops\npermit show .*\nuser bob in ops\nlogin secret\nuser eve in ops\n";
 
 /// The policy with another secret.
-pub(crate) const CHANGED: &str = "group ops\npermit show .*\nuser bob in ops\nlogin other\n";
+const CHANGED: &str = "group ops\npermit show .*\nuser bob in ops\nlogin other\n";
 
 /// The policy in which bob has no group.
-pub(crate) const MOVED: &str = "group ops\npermit show .*\nuser bob\nlogin secret\n";
+const MOVED: &str = "group ops\npermit show .*\nuser bob\nlogin secret\n";
 
 fn built(alloc: Global, meter: &mut Meter) -> Result<Live, Trouble> {
     let policy = policy_of(alloc, POLICY)?;
@@ -36,6 +35,29 @@ struct Wanted {
     before: Policy,
 }
 
+// The edit makes the policy that is wanted.
+fn judged(prepared: &Prepared, wanted: &Wanted) -> Result<Finding, Trouble> {
+    must(
+        prepared.policy().same(&wanted.after),
+        "the edit makes another policy",
+    )?;
+    Ok(Finding::Made)
+}
+
+// The call.
+fn found(
+    alloc: Global,
+    live: &Live,
+    meter: &mut Meter,
+    wanted: &Wanted,
+) -> Result<Finding, Trouble> {
+    match live.prepare(alloc, &wanted.edit, meter) {
+        Ok(prepared) => judged(&prepared, wanted),
+        Err(EditFault::Memory) => Ok(Finding::Memory),
+        Err(_) => Err(Trouble::Wrong("the edit is refused")),
+    }
+}
+
 // The call, and what stands after it.
 fn prepared(
     alloc: Global,
@@ -44,17 +66,7 @@ fn prepared(
     wanted: &Wanted,
 ) -> Result<Finding, Trouble> {
     let states = meter.total();
-    let finding = match live.prepare(alloc, &wanted.edit, meter) {
-        Ok(prepared) => {
-            must(
-                prepared.policy().same(&wanted.after),
-                "the edit makes another policy",
-            )?;
-            Finding::Made
-        }
-        Err(EditFault::Memory) => Finding::Memory,
-        Err(_) => return Err(Trouble::Wrong("the edit is refused")),
-    };
+    let finding = found(alloc, live, meter, wanted)?;
     must(live.policy().same(&wanted.before), "the policy has changed")?;
     must(meter.total() >= states, "the meter has fallen")?;
     Ok(finding)
@@ -66,12 +78,12 @@ fn prepared_at_last(
     live: &Live,
     meter: &mut Meter,
     wanted: &Wanted,
-) -> Result<Finding, Trouble> {
+) -> Result<(), Trouble> {
     let finding = prepared(alloc, live, meter, wanted)?;
     if finding == Finding::Memory {
         must_be_made(prepared(alloc, live, meter, wanted)?)?;
     }
-    Ok(finding)
+    finding.told()
 }
 
 fn wanted_of(alloc: Global, line: &str, after: &str) -> Result<Wanted, Trouble> {
@@ -85,10 +97,30 @@ fn wanted_of(alloc: Global, line: &str, after: &str) -> Result<Wanted, Trouble> 
     })
 }
 
-/// Prepares the edit of this line, which makes this policy.
-pub(crate) fn prepare(alloc: Global, line: &str, after: &str) -> Result<Finding, Trouble> {
+// Prepares the edit of this line, which makes this policy.
+fn prepare(alloc: Global, line: &str, after: &str) -> Result<(), Trouble> {
     let wanted = wanted_of(alloc, line, after)?;
     let mut meter = Meter::new();
     let live = built(alloc, &mut meter)?;
     prepared_at_last(alloc, &live, &mut meter, &wanted)
+}
+
+#[test]
+fn prepare_insert(rt: HostRuntime) -> Result<(), Trouble> {
+    prepare(rt.alloc(), INSERT, INSERTED)
+}
+
+#[test]
+fn prepare_add(rt: HostRuntime) -> Result<(), Trouble> {
+    prepare(rt.alloc(), "add user eve in ops", ADDED)
+}
+
+#[test]
+fn prepare_login(rt: HostRuntime) -> Result<(), Trouble> {
+    prepare(rt.alloc(), "login bob other", CHANGED)
+}
+
+#[test]
+fn prepare_move(rt: HostRuntime) -> Result<(), Trouble> {
+    prepare(rt.alloc(), "move user bob out", MOVED)
 }

@@ -1,6 +1,6 @@
 //! What the cases share: a policy and an edit of it, a record, and what a console answers.
 
-use crate::findings::Trouble;
+use crate::starved::findings::Trouble;
 use basics::Bytes;
 use pol_edit::{Edit, EditFault, read_edit};
 use pol_text::{Policy, PolicyFault};

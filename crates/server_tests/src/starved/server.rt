@@ -1,7 +1,9 @@
 //! A server's connections and its console.
 
-use crate::findings::{Finding, Trouble, must, must_be_made};
-use crate::scene::{AFTER, BATCH, BEFORE, INSERT, INSERT_ANSWER, POLICY, RECORDS, Told, policy_of};
+use crate::starved::findings::{Finding, Trouble, must, must_be_made};
+use crate::starved::scene::{
+    AFTER, BATCH, BEFORE, INSERT, INSERT_ANSWER, POLICY, RECORDS, Told, policy_of,
+};
 use hex::FromHexError;
 use pol_live::BuildFault;
 use std::alloc::Global;
@@ -109,7 +111,7 @@ fn tells(
 }
 
 // If memory ran out, the connection isn't open, and can be opened later.
-fn opened_at_last(alloc: Global, server: &mut Server<LiveDesk>) -> Result<Finding, Trouble> {
+fn opened_at_last(alloc: Global, server: &mut Server<LiveDesk>) -> Result<(), Trouble> {
     let finding = opened(server, 1)?;
     if finding == Finding::Memory {
         must(is_gone(alloc, server, 1), "a refused connection is open")?;
@@ -117,11 +119,13 @@ fn opened_at_last(alloc: Global, server: &mut Server<LiveDesk>) -> Result<Findin
     }
     hears(alloc, server, 1, LINE, PERMITTED)?;
     tells(alloc, server, "policy", POLICY)?;
-    Ok(finding)
+    finding.told()
 }
 
-/// Opens the first connection of a server.
-pub(crate) fn open(alloc: Global) -> Result<Finding, Trouble> {
+// Opens the first connection of a server.
+#[test]
+fn open(rt: HostRuntime) -> Result<(), Trouble> {
+    let alloc = rt.alloc();
     let mut server = started(alloc)?;
     opened_at_last(alloc, &mut server)
 }
@@ -171,11 +175,7 @@ fn has_heard(
 }
 
 // If memory ran out, the connection is gone and can be opened again; another one answers as before.
-fn fed_beside(
-    alloc: Global,
-    server: &mut Server<LiveDesk>,
-    piece: &[u8],
-) -> Result<Finding, Trouble> {
+fn fed_beside(alloc: Global, server: &mut Server<LiveDesk>, piece: &[u8]) -> Result<(), Trouble> {
     must_be_made(opened(server, 1)?)?;
     must_be_made(opened(server, 2)?)?;
     let finding = fed(alloc, server, piece)?;
@@ -185,11 +185,13 @@ fn fed_beside(
         must_be_made(opened(server, 1)?)?;
         hears(alloc, server, 1, LINE, PERMITTED)?;
     }
-    Ok(finding)
+    finding.told()
 }
 
-/// Hands in a piece of three packets on a connection, beside another one.
-pub(crate) fn feed(alloc: Global) -> Result<Finding, Trouble> {
+// Hands in a piece of three packets on a connection, beside another one.
+#[test]
+fn feed(rt: HostRuntime) -> Result<(), Trouble> {
+    let alloc = rt.alloc();
     let piece = packets(alloc, &[RECORD, LINE, LOGIN])?;
     let mut server = started(alloc)?;
     fed_beside(alloc, &mut server, piece.as_slice())
@@ -267,15 +269,16 @@ fn console(alloc: Global, line: &Exchange) -> Result<Finding, Trouble> {
     typed_at_last(alloc, &mut server, line)
 }
 
-/// Types an edit after which the record is drift.
-pub(crate) fn console_edit(alloc: Global) -> Result<Finding, Trouble> {
+// Types an edit after which the record is drift.
+#[test]
+fn console_edit(rt: HostRuntime) -> Result<(), Trouble> {
     let line = Exchange {
         line: INSERT,
         answer: INSERT_ANSWER,
         before: BEFORE,
         after: AFTER,
     };
-    console(alloc, &line)
+    console(rt.alloc(), &line)?.told()
 }
 
 // The edits are kept, for a batch.
@@ -304,18 +307,20 @@ fn committed(alloc: Global, server: &mut Server<LiveDesk>) -> Result<Finding, Tr
 }
 
 // If memory ran out before the batch was accepted, it can be typed later.
-fn committed_at_last(alloc: Global, server: &mut Server<LiveDesk>) -> Result<Finding, Trouble> {
+fn committed_at_last(alloc: Global, server: &mut Server<LiveDesk>) -> Result<(), Trouble> {
     must_be_made(opened(server, 1)?)?;
     hears(alloc, server, 1, RECORD, STORED)?;
     let finding = committed(alloc, server)?;
     if finding == Finding::Memory {
         must_be_made(committed(alloc, server)?)?;
     }
-    Ok(finding)
+    finding.told()
 }
 
-/// Types a batch after which the record is drift.
-pub(crate) fn console_commit(alloc: Global) -> Result<Finding, Trouble> {
+// Types a batch after which the record is drift.
+#[test]
+fn console_commit(rt: HostRuntime) -> Result<(), Trouble> {
+    let alloc = rt.alloc();
     let mut server = started(alloc)?;
     committed_at_last(alloc, &mut server)
 }
@@ -336,16 +341,19 @@ fn unchanging(alloc: Global, line: &'static str, answer: &'static str) -> Result
     Ok(finding)
 }
 
-/// Types an edit that is refused.
-pub(crate) fn console_refused(alloc: Global) -> Result<Finding, Trouble> {
-    unchanging(alloc, "drop group ops 2", "refused 7 BadIndex\n")
+// Types an edit that is refused.
+#[test]
+fn console_refused(rt: HostRuntime) -> Result<(), Trouble> {
+    unchanging(rt.alloc(), "drop group ops 2", "refused 7 BadIndex\n")?.told()
 }
 
-/// Types a question.
-pub(crate) fn console_question(alloc: Global) -> Result<Finding, Trouble> {
+// Types a question.
+#[test]
+fn console_question(rt: HostRuntime) -> Result<(), Trouble> {
     unchanging(
-        alloc,
+        rt.alloc(),
         "why bob show version",
         "permitted by group ops rule 1\n",
-    )
+    )?
+    .told()
 }

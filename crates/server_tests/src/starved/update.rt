@@ -1,7 +1,7 @@
 //! The edits between two policies.
 
-use crate::findings::{Finding, Trouble, must_be_made};
-use crate::scene::{POLICY, policy_of};
+use crate::starved::findings::{Finding, Trouble, must_be_made};
+use crate::starved::scene::{POLICY, policy_of};
 use pol_edit::Edit;
 use pol_text::Policy;
 use pol_update::{UpdateFault, edits_between, write_edit};
@@ -55,16 +55,18 @@ fn updated(alloc: Global, old: &Policy, new: &Policy) -> Result<Finding, Trouble
 }
 
 // The same, and those that found no memory are found later.
-fn updated_at_last(alloc: Global, old: &Policy, new: &Policy) -> Result<Finding, Trouble> {
+fn updated_at_last(alloc: Global, old: &Policy, new: &Policy) -> Result<(), Trouble> {
     let finding = updated(alloc, old, new)?;
     if finding == Finding::Memory {
         must_be_made(updated(alloc, old, new)?)?;
     }
-    Ok(finding)
+    finding.told()
 }
 
-/// Asks for the edits between two policies.
-pub(crate) fn update(alloc: Global) -> Result<Finding, Trouble> {
+// Asks for the edits between two policies.
+#[test]
+fn update(rt: HostRuntime) -> Result<(), Trouble> {
+    let alloc = rt.alloc();
     let old = policy_of(alloc, POLICY)?;
     let new = policy_of(alloc, NEXT)?;
     updated_at_last(alloc, &old, &new)
