@@ -23,15 +23,12 @@ fn rise(alloc: Global, live: &Live, line: &str) -> Result<u128, Fail> {
 }
 
 impl Metered {
-    // What the meter shows once the edit is made, if it fits.
-    fn total(&mut self, alloc: Global, line: &str) -> Result<Option<u128>, Fail> {
+    // What the meter shows once the edit is made.
+    fn total(&mut self, alloc: Global, line: &str) -> Result<u128, Fail> {
         let edit = read_edit(alloc, line.as_bytes())?;
         let prepared = self.live.prepare(alloc, &edit, &mut self.meter)?;
-        if !prepared.fits(&self.live) {
-            return Ok(None);
-        }
         self.live.commit(prepared);
-        Ok(Some(self.meter.total()))
+        Ok(self.meter.total())
     }
 }
 
@@ -42,10 +39,7 @@ impl Judge for Metered {
         let (number, words) = line.split_once(' ').unwrap_or((line, ""));
         match number.strip_prefix('+') {
             Some(number) => Ok(number.parse() == Ok(rise(alloc, &self.live, words)?)),
-            None => {
-                let total = self.total(alloc, words)?;
-                Ok(total.is_some() && number.parse().ok() == total)
-            }
+            None => Ok(number.parse() == Ok(self.total(alloc, words)?)),
         }
     }
 }

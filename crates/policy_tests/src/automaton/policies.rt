@@ -1,7 +1,7 @@
 //! Policies that decide by automata: what they decide, edits of them, and sizes.
 
 use crate::automaton::support::{
-    Judge, build, converses, judges, name, prepare, push_decision, subject,
+    Judge, build, converses, edits, judges, name, prepare, push_decision, subject,
 };
 use pol_automaton::Meter;
 use pol_live::{BuildFault, Live, Prepared};
@@ -239,22 +239,18 @@ fn edits_that_are_ready(rt: HostRuntime) -> Result<(), Fail> {
 }
 
 // Whether both fit, and the second no longer does once the first is made.
-fn is_stale(live: &mut Live, first: Prepared, second: &Prepared) -> bool {
-    if !first.fits(live) || !second.fits(live) {
-        return false;
-    }
-    live.commit(first);
-    !second.fits(live)
-}
-
 fn is_stale_after(
     alloc: Global,
     live: &mut Live,
     first: &str,
     second: &Prepared,
 ) -> Result<bool, Fail> {
-    let first = prepare(alloc, live, first)?;
-    Ok(is_stale(live, first, second))
+    let edits = edits(alloc, first)?;
+    let mut meter = Meter::new();
+    let first = live.prepare_all(alloc, edits.as_slice(), &mut meter)?;
+    let fit = first.fits(live) && second.fits(live);
+    live.commit(first);
+    Ok(fit && !second.fits(live))
 }
 
 fn becomes_stale(alloc: Global, live: &mut Live, first: &str, second: &str) -> Result<bool, Fail> {

@@ -8,7 +8,7 @@ use pol_meaning::{Changes, Reached, Shadowed};
 use pol_names::{By, Decision, Name, SubjectId};
 use pol_report::{changes, reach, shadows};
 use pol_text::Policy;
-use std::alloc::Global;
+use std::alloc::{AllocError, Global};
 use std::fmt::Write;
 use std::process::Abort;
 use std::test::Fail;
@@ -173,31 +173,21 @@ fn tell_policy(alloc: Global, live: &Live, out: &mut String) -> Result<(), Fail>
 
 // ---- edits
 
-// What the edit changes, and makes it; nothing where it was prepared on another policy.
-fn made(alloc: Global, live: &mut Live, prepared: Prepared) -> Result<Option<Changes>, Fail> {
-    if !prepared.fits(live) {
-        return Ok(None);
-    }
-    let found = changes(alloc, live, &prepared)?;
-    live.commit(prepared);
-    Ok(Some(found))
-}
-
-fn make(alloc: Global, live: &mut Live, prepared: Prepared, out: &mut String) -> Result<(), Fail> {
-    match made(alloc, live, prepared)? {
-        Some(found) => {
-            out.push_str("ok\n")?;
-            push_changes(out, &found)
-        }
-        None => Err(Fail::from("it doesn't fit")),
-    }
+fn push_found(out: &mut String, found: Result<Changes, AllocError>) -> Result<(), Fail> {
+    let changes = found?;
+    out.push_str("ok\n")?;
+    push_changes(out, &changes)
 }
 
 // Makes the edit, or prints its refusal.
 fn apply(alloc: Global, live: &mut Live, edit: &Edit, out: &mut String) -> Result<(), Fail> {
     let mut meter = Meter::new();
     match live.prepare(alloc, edit, &mut meter) {
-        Ok(prepared) => make(alloc, live, prepared, out),
+        Ok(prepared) => {
+            let found = changes(alloc, live, &prepared);
+            live.commit(prepared);
+            push_found(out, found)
+        }
         Err(fault) => Ok(writeln!(out, "refused {fault}")?),
     }
 }
@@ -206,7 +196,11 @@ fn apply(alloc: Global, live: &mut Live, edit: &Edit, out: &mut String) -> Resul
 fn apply_all(alloc: Global, live: &mut Live, edits: &[Edit], out: &mut String) -> Result<(), Fail> {
     let mut meter = Meter::new();
     match live.prepare_all(alloc, edits, &mut meter) {
-        Ok(prepared) => make(alloc, live, prepared, out),
+        Ok(prepared) => {
+            let found = changes(alloc, live, &prepared);
+            live.commit(prepared);
+            push_found(out, found)
+        }
         Err(fault) => Ok(writeln!(out, "refused {fault}")?),
     }
 }
