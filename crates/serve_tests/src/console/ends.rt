@@ -1,9 +1,11 @@
 //! How a console ends: the Stop is made in any case.
 
 use crate::console::streams::Manner;
-use crate::console::support::{WHOLE, ends, hall_of, run};
+use crate::console::support::{Seen, WHOLE, ends, fail, hall_of, run};
+use std::sync::Wait;
 use std::test::Fail;
-use tac_hall::Call;
+use tac_desks::PlainDesk;
+use tac_hall::{Call, Hall};
 
 #[test]
 fn by_the_end_of_the_input(rt: HostRuntime) -> Result<(), Fail> {
@@ -156,24 +158,36 @@ refused 1 BadEdit
 hall 3 Closed
 ";
 
+// The hall is stopped by a seat.
+fn stops<R: Wait>(rt: &R, hall: &Hall<PlainDesk>) -> Result<(), Fail> {
+    let mut other = hall.seat(rt)?;
+    if hall.call(rt, &mut other, Call::Stop).is_err() {
+        Err(Fail::from("no stop"))
+    } else {
+        Ok(())
+    }
+}
+
+// The console wrote that, made no call, and ended well.
+fn is_refused(seen: &Seen) -> bool {
+    let written = seen.written.as_slice() == AFTER_A_STOP.as_bytes();
+    written && seen.end.is_ok() && seen.seat.seat.view().is_empty()
+}
+
+// The console of a hall that was stopped.
+fn runs_after_a_stop<R: Wait + AllocGlobal>(rt: &R, hall: &Hall<PlainDesk>) -> Result<(), Fail> {
+    let text = b"begin\nshadow\nrotate\ncommit\ncommit\n";
+    let seen = run(rt, hall, text, WHOLE, 99)?;
+    if is_refused(&seen) {
+        Ok(())
+    } else {
+        Err(fail(rt, "after a stop", &seen))
+    }
+}
+
 #[test]
 fn after_a_stop(rt: HostRuntime) -> Result<(), Fail> {
     let hall = hall_of(&rt, 9)?;
-    let mut other = hall.seat(&rt)?;
-    if hall.call(&rt, &mut other, Call::Stop).is_err() {
-        return Err(Fail::from("no stop"));
-    }
-    let seen = run(
-        &rt,
-        &hall,
-        b"begin\nshadow\nrotate\ncommit\ncommit\n",
-        WHOLE,
-        99,
-    )?;
-    let written = seen.written.as_slice() == AFTER_A_STOP.as_bytes();
-    if written && seen.end.as_str() == "Ok(())" && seen.seat.seat.view().is_empty() {
-        Ok(())
-    } else {
-        Err(Fail::from(seen.end))
-    }
+    stops(&rt, &hall)?;
+    runs_after_a_stop(&rt, &hall)
 }

@@ -7,8 +7,8 @@ use std::sync::Wait;
 use std::test::Fail;
 use tac_chain::{Archive, Chain};
 use tac_desks::PlainDesk;
-use tac_hall::{Call, Hall, HallFault};
-use tac_hall_console::{ConsoleSeat, operate};
+use tac_hall::{Call, Hall, HallFault, Seat};
+use tac_hall_console::{ConsoleSeat, OperatorFault, operate};
 
 /// The whole input at once.
 pub(crate) const WHOLE: Manner = Manner {
@@ -28,7 +28,7 @@ pub(crate) fn hall_of<R: AllocGlobal>(rt: &R, limit: usize) -> Result<Hall<Plain
 #[derive(Drop)]
 pub(crate) struct Seen {
     pub(crate) written: Vec<u8>,
-    pub(crate) end: String,
+    pub(crate) end: Result<(), OperatorFault>,
     pub(crate) seat: ConsoleSeat,
     pub(crate) chain: Chain,
 }
@@ -64,7 +64,7 @@ pub(crate) fn run<R: Wait + AllocGlobal>(
     );
     Ok(Seen {
         written: writer.taken,
-        end: format!(in rt.alloc(); "{end:?}")?,
+        end,
         seat,
         chain: archive.into_chain(),
     })
@@ -76,28 +76,35 @@ fn push_line(out: &mut Vec<u8>, line: &str) -> Result<(), AllocError> {
     Ok(())
 }
 
-// The lines after `> `, and all others: what is typed, and what is printed.
-fn parts<R: AllocGlobal>(rt: &R, talk: &str) -> Result<(Vec<u8>, Vec<u8>), Fail> {
-    let mut typed = Vec::new(rt.alloc());
-    let mut printed = Vec::new(rt.alloc());
+// Adds the lines after `> ` to what is typed, and all others to what is printed.
+fn push_parts(typed: &mut Vec<u8>, printed: &mut Vec<u8>, talk: &str) -> Result<(), AllocError> {
     for line in talk.lines() {
         let line = line.trim_start();
         match line.strip_prefix("> ") {
-            Some(command) => push_line(&mut typed, command)?,
+            Some(command) => push_line(typed, command)?,
             None => {
                 if !line.is_empty() {
-                    push_line(&mut printed, line)?;
+                    push_line(printed, line)?;
                 }
             }
         }
     }
+    Ok(())
+}
+
+// The lines after `> `, and all others: what is typed, and what is printed.
+fn parts<R: AllocGlobal>(rt: &R, talk: &str) -> Result<(Vec<u8>, Vec<u8>), Fail> {
+    let mut typed = Vec::new(rt.alloc());
+    let mut printed = Vec::new(rt.alloc());
+    push_parts(&mut typed, &mut printed, talk)?;
     Ok((typed, printed))
 }
 
-fn fail<R: AllocGlobal>(rt: &R, what: &str, seen: &Seen) -> Fail {
+/// A failure that says what was seen.
+pub(crate) fn fail<R: AllocGlobal>(rt: &R, what: &str, seen: &Seen) -> Fail {
     let written = String::from_utf8_lossy(rt.alloc(), seen.written.as_slice());
     match written {
-        Ok(written) => match format!(in rt.alloc(); "{what}: {written}{}", seen.end.as_str()) {
+        Ok(written) => match format!(in rt.alloc(); "{what}: {written}{:?}", seen.end) {
             Ok(text) => Fail::from(text),
             Err(error) => Fail::from(error),
         },
@@ -137,6 +144,59 @@ fn closes_with(alloc: Global, hall: Hall<PlainDesk>, seen: Seen) -> Result<(), F
     }
 }
 
+// What a console has to write, how it has to end, and how many calls it has to make.
+#[derive(Clone, Copy)]
+struct Wanted<'a> {
+    written: &'a [u8],
+    end: &'a str,
+    made: usize,
+}
+
+// Whether this is how the console ended.
+fn is_end(alloc: Global, seen: &Seen, end: &str) -> Result<bool, AllocError> {
+    let shown = format!(in alloc; "{:?}", seen.end)?;
+    Ok(shown.as_str() == end)
+}
+
+// This is what was seen.
+fn is_wanted<R: AllocGlobal>(rt: &R, seen: &Seen, wanted: Wanted<'_>) -> Result<(), Fail> {
+    let is_end = is_end(rt.alloc(), seen, wanted.end)?;
+    if seen.written.as_slice() != wanted.written || !is_end {
+        return Err(fail(rt, "written", seen));
+    }
+    if seen.seat.seat.view().len() != wanted.made {
+        return Err(fail(rt, "another number of calls", seen));
+    }
+    Ok(())
+}
+
+// Runs the console of a hall, of which this has to be seen.
+fn run_so<R: Wait + AllocGlobal>(
+    rt: &R,
+    hall: &Hall<PlainDesk>,
+    text: &[u8],
+    manner: Manner,
+    room: usize,
+    wanted: Wanted<'_>,
+) -> Result<Seen, Fail> {
+    let seen = run(rt, hall, text, manner, room)?;
+    is_wanted(rt, &seen, wanted)?;
+    Ok(seen)
+}
+
+// The console of a new hall, on these bytes.
+fn types<R: Wait + AllocGlobal>(
+    rt: &R,
+    limit: usize,
+    typed: &[u8],
+    manner: Manner,
+    wanted: Wanted<'_>,
+) -> Result<(), Fail> {
+    let hall = hall_of(rt, limit)?;
+    let seen = run_so(rt, &hall, typed, manner, 9999, wanted)?;
+    closes_with(rt.alloc(), hall, seen)
+}
+
 // One conversation at a new hall, in one manner.
 fn talks<R: Wait + AllocGlobal>(
     rt: &R,
@@ -146,15 +206,12 @@ fn talks<R: Wait + AllocGlobal>(
     manner: Manner,
 ) -> Result<(), Fail> {
     let (typed, printed) = parts(rt, talk)?;
-    let hall = hall_of(rt, limit)?;
-    let seen = run(rt, &hall, typed.as_slice(), manner, 9999)?;
-    if seen.written.as_slice() != printed.as_slice() {
-        return Err(fail(rt, "written", &seen));
-    }
-    if seen.end.as_str() != "Ok(())" || seen.seat.seat.view().len() != made {
-        return Err(fail(rt, "another end or number of calls", &seen));
-    }
-    closes_with(rt.alloc(), hall, seen)
+    let wanted = Wanted {
+        written: printed.as_slice(),
+        end: "Ok(())",
+        made,
+    };
+    types(rt, limit, typed.as_slice(), manner, wanted)
 }
 
 /// The lines after `> ` are typed at the console of a hall whose log takes so many calls; then all
@@ -177,6 +234,28 @@ pub(crate) fn converses<R: Wait + AllocGlobal>(
     Ok(())
 }
 
+// The hall takes no more.
+fn is_closed<R: Wait>(rt: &R, hall: &Hall<PlainDesk>, seat: &mut Seat) -> Result<(), Fail> {
+    match hall.call(rt, seat, Call::Stop) {
+        Err(HallFault::Closed) => Ok(()),
+        _ => Err(Fail::from("the hall takes more")),
+    }
+}
+
+// Runs the console of a hall, of which this has to be seen; then the hall takes no more.
+fn run_to_end<R: Wait + AllocGlobal>(
+    rt: &R,
+    hall: &Hall<PlainDesk>,
+    text: &[u8],
+    manner: Manner,
+    room: usize,
+    wanted: Wanted<'_>,
+) -> Result<Seen, Fail> {
+    let mut seen = run_so(rt, hall, text, manner, room, wanted)?;
+    is_closed(rt, hall, &mut seen.seat.seat)?;
+    Ok(seen)
+}
+
 /// On these bytes in this manner, with so much room, the console of a hall whose log takes two
 /// calls writes this, ends so, and made so many calls; then the hall takes no more, and is closed
 /// with all that was taken out of its log.
@@ -188,16 +267,12 @@ pub(crate) fn ends<R: Wait + AllocGlobal>(
     wanted: (&str, &str, usize),
 ) -> Result<(), Fail> {
     let hall = hall_of(rt, 2)?;
-    let mut seen = run(rt, &hall, text.as_bytes(), manner, room)?;
     let (written, end, made) = wanted;
-    if seen.written.as_slice() != written.as_bytes() || seen.end.as_str() != end {
-        return Err(fail(rt, "written", &seen));
-    }
-    if seen.seat.seat.view().len() != made {
-        return Err(fail(rt, "another number of calls", &seen));
-    }
-    match hall.call(rt, &mut seen.seat.seat, Call::Stop) {
-        Err(HallFault::Closed) => closes_with(rt.alloc(), hall, seen),
-        _ => Err(Fail::from("the hall takes more")),
-    }
+    let wanted = Wanted {
+        written: written.as_bytes(),
+        end,
+        made,
+    };
+    let seen = run_to_end(rt, &hall, text.as_bytes(), manner, room, wanted)?;
+    closes_with(rt.alloc(), hall, seen)
 }

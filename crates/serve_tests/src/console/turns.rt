@@ -74,10 +74,33 @@ impl Read for Typist<'_> {
     }
 }
 
-// The console takes these turns, one after another.
-fn takes_turns<R: Wait + AllocGlobal>(rt: &R, turns: &[Turn]) -> Result<(), Fail> {
+// All lines were typed in time and are answered, and the console ended well.
+fn is_done(typist: &Typist<'_>, ends_well: bool) -> Result<(), Fail> {
+    if typist.early {
+        return Err(Fail::from("a line is waited for before the last is answered"));
+    }
+    if ends_well && typist.turns.is_empty() && shows(typist.written, typist.due.as_slice()) {
+        Ok(())
+    } else {
+        Err(Fail::from("another end, or other answers"))
+    }
+}
+
+// Whether the console of a new hall, with this typist, ends well.
+fn operates<R: Wait + AllocGlobal>(
+    rt: &R,
+    typist: &mut Typist<'_>,
+    screen: &mut Screen<'_>,
+) -> Result<bool, Fail> {
     let hall = hall_of(rt, 9)?;
     let seat = hall.seat(rt)?;
+    let archive = Archive::new(rt.alloc());
+    let (_, end) = operate(rt, rt.alloc(), &hall, &archive, seat, typist, screen);
+    Ok(end.is_ok())
+}
+
+// The console takes these turns, one after another.
+fn takes_turns<R: Wait + AllocGlobal>(rt: &R, turns: &[Turn]) -> Result<(), Fail> {
     let written = RefCell::new(Vec::new(rt.alloc()));
     let mut typist = Typist {
         written: &written,
@@ -86,24 +109,8 @@ fn takes_turns<R: Wait + AllocGlobal>(rt: &R, turns: &[Turn]) -> Result<(), Fail
         early: false,
     };
     let mut screen = Screen { written: &written };
-    let archive = Archive::new(rt.alloc());
-    let (_, end) = operate(
-        rt,
-        rt.alloc(),
-        &hall,
-        &archive,
-        seat,
-        &mut typist,
-        &mut screen,
-    );
-    if typist.early {
-        return Err(Fail::from("a line is waited for before the last is answered"));
-    }
-    if end.is_ok() && typist.turns.is_empty() && shows(&written, typist.due.as_slice()) {
-        Ok(())
-    } else {
-        Err(Fail::from("another end, or other answers"))
-    }
+    let ends_well = operates(rt, &mut typist, &mut screen)?;
+    is_done(&typist, ends_well)
 }
 
 #[test]

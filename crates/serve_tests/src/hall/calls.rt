@@ -1,6 +1,6 @@
 //! What calls are answered, and when they are refused.
 
-use crate::hall::support::{DENYING, Kept, OPS, closes_with, converses, hall_of, seats_of, talks};
+use crate::hall::support::{DENYING, Kept, OPS, closes_with, converses, hall_of, seats_after};
 use std::sync::Wait;
 use std::test::Fail;
 
@@ -19,8 +19,7 @@ fn keeps<R: Wait + AllocGlobal>(
         policy: DENYING,
     };
     let hall = hall_of(rt, OPS, limit)?;
-    let mut seats = seats_of(rt, &hall, 2)?;
-    talks(rt, &hall, seats.as_mut_slice(), talk)?;
+    let seats = seats_after(rt, &hall, 2, talk)?;
     closes_with(rt.alloc(), hall, seats, &kept)
 }
 

@@ -3,7 +3,10 @@
 use crate::hall::support::{
     DENYING, Kept, OPS, closes_with, converses, hall_of, refused, seats_of, talks_on,
 };
+use std::sync::Wait;
 use std::test::Fail;
+use tac_desks::PlainDesk;
+use tac_hall::{Hall, Seat, Segment};
 
 const SHED_BY_BOTH: &str = "
     0 shed 0 = true
@@ -19,25 +22,39 @@ const LAST: Kept = Kept {
     policy: DENYING,
 };
 
+const FULL: &str = "
+    1 run bob show version = 0:0 permitted
+    0 insert group ops 1 deny show .* = 0:1 changes 1
+    1 run bob show version = 1 LogFull
+    0 rotate = 0 of 2
+    1 run bob show version = 1:0 denied by group ops rule 1
+";
+
+// The two seats of a hall, whose log was full and is rotated.
+fn seats_after_full<R: Wait + AllocGlobal>(
+    rt: &R,
+    hall: &Hall<PlainDesk>,
+    segments: &mut Vec<Segment>,
+) -> Result<Vec<Seat>, Fail> {
+    let mut seats = seats_of(rt, hall, 2)?;
+    talks_on(rt, hall, seats.as_mut_slice(), segments, FULL)?;
+    Ok(seats)
+}
+
+// Such a hall, which isn't closed before the seats have shed the segment.
+fn full_and_refused<R: Wait + AllocGlobal>(
+    rt: &R,
+    segments: &mut Vec<Segment>,
+) -> Result<(Hall<PlainDesk>, Vec<Seat>), Fail> {
+    let hall = hall_of(rt, OPS, 2)?;
+    let seats = seats_after_full(rt, &hall, segments)?;
+    refused(hall, seats)
+}
+
 #[test]
 fn a_full_log_is_rotated(rt: HostRuntime) -> Result<(), Fail> {
-    let hall = hall_of(&rt, OPS, 2)?;
-    let mut seats = seats_of(&rt, &hall, 2)?;
     let mut segments = Vec::new(rt.alloc());
-    talks_on(
-        &rt,
-        &hall,
-        seats.as_mut_slice(),
-        &mut segments,
-        "
-        1 run bob show version = 0:0 permitted
-        0 insert group ops 1 deny show .* = 0:1 changes 1
-        1 run bob show version = 1 LogFull
-        0 rotate = 0 of 2
-        1 run bob show version = 1:0 denied by group ops rule 1
-        ",
-    )?;
-    let (hall, mut seats) = refused(hall, seats)?;
+    let (hall, mut seats) = full_and_refused(&rt, &mut segments)?;
     talks_on(
         &rt,
         &hall,

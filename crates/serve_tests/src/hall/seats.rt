@@ -1,12 +1,13 @@
 //! Seats that there are no more of, that are another hall's, and that are missing.
 
 use crate::hall::support::{
-    Kept, OPS, closes, closes_with, hall_of, refused, seats_of, show_version, talks,
+    Kept, OPS, closes, closes_with, hall_of, refused, seats_after, seats_of, show_version, talks,
 };
+use std::mem;
 use std::sync::Wait;
 use std::test::Fail;
 use tac_desks::PlainDesk;
-use tac_hall::{Hall, HallFault, Seat};
+use tac_hall::{Call, Hall, HallFault, Seat};
 
 #[test]
 fn sixty_four_seats(rt: HostRuntime) -> Result<(), Fail> {
@@ -19,34 +20,45 @@ fn sixty_four_seats(rt: HostRuntime) -> Result<(), Fail> {
 // The last of so many seats of a hall of its own, after this was said there.
 fn last_seat<R: Wait + AllocGlobal>(rt: &R, count: usize, talk: &str) -> Result<Seat, Fail> {
     let hall = hall_of(rt, OPS, 9)?;
-    let mut seats = seats_of(rt, &hall, count)?;
-    talks(rt, &hall, seats.as_mut_slice(), talk)?;
+    let mut seats = seats_after(rt, &hall, count, talk)?;
     match seats.pop() {
         Some(seat) => Ok(seat),
         None => Err(Fail::from("no seat")),
     }
 }
 
-// The hall, which has two seats, doesn't know this one.
+// Whether the hall doesn't know this seat, which calls.
+fn is_unknown<R: Wait>(rt: &R, hall: &Hall<PlainDesk>, seat: &mut Seat, call: Call) -> bool {
+    let made = seat.view().len();
+    let told = hall.call(rt, seat, call);
+    matches!(told, Err(HallFault::NoSeat)) && seat.view().len() == made
+}
+
+// The hall doesn't know this seat.
 fn is_refused<R: Wait + AllocGlobal>(
     rt: &R,
     hall: &Hall<PlainDesk>,
-    mut seat: Seat,
+    seat: &mut Seat,
 ) -> Result<(), Fail> {
     let call = show_version(rt.alloc())?;
-    let made = seat.view().len();
-    match hall.call(rt, &mut seat, call) {
-        Err(HallFault::NoSeat) if seat.view().len() == made => Ok(()),
-        _ => Err(Fail::from("taken")),
+    if is_unknown(rt, hall, seat, call) {
+        Ok(())
+    } else {
+        Err(Fail::from("taken"))
     }
+}
+
+// A hall, which has two seats, doesn't know this one.
+fn is_refused_beside_two<R: Wait + AllocGlobal>(rt: &R, seat: &mut Seat) -> Result<(), Fail> {
+    let hall = hall_of(rt, OPS, 9)?;
+    let _seats = seats_of(rt, &hall, 2)?;
+    is_refused(rt, &hall, seat)
 }
 
 #[test]
 fn a_seat_of_another_hall(rt: HostRuntime) -> Result<(), Fail> {
-    let hall = hall_of(&rt, OPS, 9)?;
-    let _seats = seats_of(&rt, &hall, 2)?;
-    let third = last_seat(&rt, 3, "")?;
-    is_refused(&rt, &hall, third)
+    let mut third = last_seat(&rt, 3, "")?;
+    is_refused_beside_two(&rt, &mut third)
 }
 
 const LATER_FIRST: &str = "
@@ -56,10 +68,8 @@ const LATER_FIRST: &str = "
 
 #[test]
 fn a_seat_of_a_later_segment(rt: HostRuntime) -> Result<(), Fail> {
-    let hall = hall_of(&rt, OPS, 9)?;
-    let _seats = seats_of(&rt, &hall, 2)?;
-    let later = last_seat(&rt, 2, LATER_FIRST)?;
-    is_refused(&rt, &hall, later)
+    let mut later = last_seat(&rt, 2, LATER_FIRST)?;
+    is_refused_beside_two(&rt, &mut later)
 }
 
 // The hall isn't closed without its last seat; it comes back with all of them.
@@ -75,19 +85,23 @@ fn refused_without_last(
     Ok((hall, seats))
 }
 
+// Puts this seat in the place of the last, which comes back.
+fn replace_last(seats: &mut [Seat], seat: Seat) -> Result<Seat, Fail> {
+    match seats.last_mut() {
+        Some(last) => Ok(mem::replace(last, seat)),
+        None => Err(Fail::from("no seat")),
+    }
+}
+
 // The hall isn't closed with this seat in place of its last; it comes back with its own.
 fn refused_with(
     hall: Hall<PlainDesk>,
     mut seats: Vec<Seat>,
     stranger: Seat,
 ) -> Result<(Hall<PlainDesk>, Vec<Seat>), Fail> {
-    let Some(last) = seats.pop() else {
-        return Err(Fail::from("no seat"));
-    };
-    seats.push(stranger)?;
+    let last = replace_last(seats.as_mut_slice(), stranger)?;
     let (hall, mut seats) = refused(hall, seats)?;
-    let _ = seats.pop();
-    seats.push(last)?;
+    replace_last(seats.as_mut_slice(), last)?;
     Ok((hall, seats))
 }
 
@@ -154,10 +168,9 @@ const LAST_FIRST: &str = "
 
 #[test]
 fn a_seat_of_another_hall_in_place_of_its_own(rt: HostRuntime) -> Result<(), Fail> {
-    let hall = hall_of(&rt, OPS, 9)?;
-    let mut seats = seats_of(&rt, &hall, 2)?;
-    talks(&rt, &hall, seats.as_mut_slice(), FIRST_LAST)?;
     let stranger = last_seat(&rt, 2, LAST_FIRST)?;
+    let hall = hall_of(&rt, OPS, 9)?;
+    let seats = seats_after(&rt, &hall, 2, FIRST_LAST)?;
     let (hall, seats) = refused_with(hall, seats, stranger)?;
     closes(hall, seats, 2)
 }

@@ -2,15 +2,19 @@
 
 use basics::{Bytes, Sequence};
 use pol_edit::{Edit, read_edit};
+use pol_meaning::Changes;
 use pol_names::By;
 use pol_text::Policy;
 use std::alloc::{AllocError, Global};
+use std::fmt::Display;
 use std::sync::Wait;
 use std::test::Fail;
 use tac_conn::{Answer, Ask, Proof, Service};
 use tac_desk::{Desk, Query, State};
 use tac_desks::PlainDesk;
-use tac_hall::{Call, CallAnswer, Entry, Hall, HallFault, Receipt, Seat, Segment, Settled, joins};
+use tac_hall::{
+    Call, CallAnswer, Entry, Hall, HallFault, Receipt, Seat, Segment, Settled, Shared, joins,
+};
 use tac_request::{AcctKind, Record};
 
 /// A policy under which bob may show things.
@@ -73,15 +77,31 @@ pub(crate) fn show_version(alloc: Global) -> Result<Call, AllocError> {
     run(alloc, "bob", "show version")
 }
 
-// Edits, which `; ` parts, if there are any.
-fn edits(alloc: Global, words: &str) -> Result<Sequence<Edit>, Fail> {
-    let mut edits = Sequence::new(alloc);
+// `run NAME LINE`, `pass NAME SECRET`, or `record NAME TASK`; the verb comes apart from the rest.
+fn ask_of(alloc: Global, verb: &str, rest: &str) -> Result<Call, AllocError> {
+    let (name, what) = word(rest);
+    match verb {
+        "run" => run(alloc, name, what),
+        "pass" => login(alloc, name, what),
+        _ => record(alloc, name, what),
+    }
+}
+
+// Adds the edits that `; ` parts, if there are any, to these.
+fn push_edits(alloc: Global, edits: &mut Sequence<Edit>, words: &str) -> Result<(), Fail> {
     for line in words.split("; ") {
         if !line.is_empty() {
             let edit = read_edit(alloc, line.as_bytes())?;
             edits.push(edit)?;
         }
     }
+    Ok(())
+}
+
+// Edits, which `; ` parts, if there are any.
+fn edits(alloc: Global, words: &str) -> Result<Sequence<Edit>, Fail> {
+    let mut edits = Sequence::new(alloc);
+    push_edits(alloc, &mut edits, words)?;
     Ok(edits)
 }
 
@@ -90,48 +110,59 @@ fn edits(alloc: Global, words: &str) -> Result<Sequence<Edit>, Fail> {
 fn call_of(alloc: Global, words: &str) -> Result<Call, Fail> {
     let (verb, rest) = word(words);
     match verb {
-        "run" => {
-            let (name, line) = word(rest);
-            Ok(run(alloc, name, line)?)
-        }
-        "pass" => {
-            let (name, secret) = word(rest);
-            Ok(login(alloc, name, secret)?)
-        }
-        "record" => {
-            let (name, task) = word(rest);
-            Ok(record(alloc, name, task)?)
-        }
+        "run" | "pass" | "record" => Ok(ask_of(alloc, verb, rest)?),
         "records" => Ok(Call::Query(Query::Records)),
         "stop" => Ok(Call::Stop),
-        "batch" => {
-            let edits = edits(alloc, rest)?;
-            Ok(Call::Batch(edits))
+        "batch" => Ok(Call::Batch(edits(alloc, rest)?)),
+        _ => Ok(Call::Edit(read_edit(alloc, words.as_bytes())?)),
+    }
+}
+
+// The word for what a desk answers, but for a denial by a rule.
+fn answer_word(answer: &Answer) -> &'static str {
+    match answer {
+        Answer::Permitted(None) => "permitted",
+        Answer::Pass => "pass",
+        Answer::Fail => "fail",
+        Answer::Stored => "stored",
+        _ => "another answer",
+    }
+}
+
+// What a desk answers.
+fn show_ask(out: &mut String, answer: &Answer) -> Result<(), AllocError> {
+    match answer {
+        Answer::Denied(By::Rule(owner, number)) => {
+            write!(out, "denied by {owner} rule {number}")
         }
-        _ => {
-            let edit = read_edit(alloc, words.as_bytes())?;
-            Ok(Call::Edit(edit))
-        }
+        _ => out.push_str(answer_word(answer)),
+    }
+}
+
+// Why a call is refused.
+fn show_refusal<F: Display>(out: &mut String, fault: &F) -> Result<(), AllocError> {
+    write!(out, "refused {fault}")
+}
+
+// How much an edit or edits change, or why they are refused.
+fn show_changes<F: Display>(
+    out: &mut String,
+    told: &Result<Shared<Changes>, F>,
+) -> Result<(), AllocError> {
+    match told {
+        Ok(changes) => write!(out, "changes {}", changes.get().len()),
+        Err(fault) => show_refusal(out, fault),
     }
 }
 
 fn show_answer(out: &mut String, answer: &CallAnswer) -> Result<(), AllocError> {
     match answer {
-        CallAnswer::Ask(Answer::Permitted(None)) => write!(out, "permitted"),
-        CallAnswer::Ask(Answer::Denied(By::Rule(owner, number))) => {
-            write!(out, "denied by {owner} rule {number}")
-        }
-        CallAnswer::Ask(Answer::Pass) => write!(out, "pass"),
-        CallAnswer::Ask(Answer::Fail) => write!(out, "fail"),
-        CallAnswer::Ask(Answer::Stored) => write!(out, "stored"),
-        CallAnswer::Ask(_) => write!(out, "another answer"),
-        CallAnswer::Edit(Ok(changes)) => write!(out, "changes {}", changes.get().len()),
-        CallAnswer::Edit(Err(fault)) => write!(out, "refused {fault}"),
-        CallAnswer::Batch(Ok(changes)) => write!(out, "changes {}", changes.get().len()),
-        CallAnswer::Batch(Err(fault)) => write!(out, "refused {fault}"),
-        CallAnswer::Query(Ok(_)) => write!(out, "report"),
-        CallAnswer::Query(Err(fault)) => write!(out, "refused {fault}"),
-        CallAnswer::Stopped => write!(out, "stopped"),
+        CallAnswer::Ask(answer) => show_ask(out, answer),
+        CallAnswer::Edit(told) => show_changes(out, told),
+        CallAnswer::Batch(told) => show_changes(out, told),
+        CallAnswer::Query(Ok(_)) => out.push_str("report"),
+        CallAnswer::Query(Err(fault)) => show_refusal(out, fault),
+        CallAnswer::Stopped => out.push_str("stopped"),
     }
 }
 
@@ -146,7 +177,19 @@ fn show(out: &mut String, told: &Result<Receipt, HallFault>) -> Result<(), Alloc
     }
 }
 
-// Makes a call by a seat.
+// Makes this call by a seat.
+fn makes<D: Desk, R: Wait + AllocGlobal>(
+    rt: &R,
+    hall: &Hall<D>,
+    seat: &mut Seat,
+    call: Call,
+    shown: &mut String,
+) -> Result<(), AllocError> {
+    let told = hall.call(rt, seat, call);
+    show(shown, &told)
+}
+
+// Makes the call that these words say by a seat.
 fn calls<D: Desk, R: Wait + AllocGlobal>(
     rt: &R,
     hall: &Hall<D>,
@@ -155,8 +198,23 @@ fn calls<D: Desk, R: Wait + AllocGlobal>(
     shown: &mut String,
 ) -> Result<(), Fail> {
     let call = call_of(rt.alloc(), words)?;
-    let told = hall.call(rt, seat, call);
-    Ok(show(shown, &told)?)
+    Ok(makes(rt, hall, seat, call, shown)?)
+}
+
+// Shows a segment.
+fn show_segment(out: &mut String, segment: &Segment) -> Result<(), AllocError> {
+    write!(out, "{} of {}", segment.number(), segment.log().len())
+}
+
+// Adds a segment to the others.
+fn adds(
+    segments: &mut Vec<Segment>,
+    segment: Segment,
+    shown: &mut String,
+) -> Result<(), AllocError> {
+    show_segment(shown, &segment)?;
+    segments.push(segment)?;
+    Ok(())
 }
 
 // Rotates the log, and adds the segment to the others.
@@ -166,15 +224,11 @@ fn rotates<D: Desk, R: Wait + AllocGlobal>(
     seat: &mut Seat,
     segments: &mut Vec<Segment>,
     shown: &mut String,
-) -> Result<(), Fail> {
+) -> Result<(), AllocError> {
     match hall.rotate(rt, seat) {
-        Ok(segment) => {
-            write!(shown, "{} of {}", segment.number(), segment.log().len())?;
-            segments.push(segment)?;
-        }
-        Err(fault) => write!(shown, "{fault}")?,
+        Ok(segment) => adds(segments, segment, shown),
+        Err(fault) => write!(shown, "{fault}"),
     }
-    Ok(())
 }
 
 // The segment that was taken out so many others before.
@@ -182,6 +236,38 @@ fn segment_at<'a>(segments: &'a [Segment], words: &str) -> Result<&'a Segment, F
     match segments.get(words.parse::<usize>()?) {
         Some(segment) => Ok(segment),
         None => Err(Fail::from("no such segment")),
+    }
+}
+
+// Whether the second of these two segments follows the first.
+fn are_joined(segments: &[Segment], words: &str) -> Result<bool, Fail> {
+    let (first, second) = word(words);
+    let first = segment_at(segments, first)?;
+    let second = segment_at(segments, second)?;
+    Ok(joins(first, second))
+}
+
+// Does one thing, and shows its result.
+fn does<D: Desk, R: Wait + AllocGlobal>(
+    rt: &R,
+    hall: &Hall<D>,
+    seat: &mut Seat,
+    segments: &mut Vec<Segment>,
+    words: &str,
+    shown: &mut String,
+) -> Result<(), Fail> {
+    let (verb, rest) = word(words);
+    match verb {
+        "rotate" => Ok(rotates(rt, hall, seat, segments, shown)?),
+        "shed" => {
+            let segment = segment_at(segments.as_slice(), rest)?;
+            Ok(write!(shown, "{}", seat.shed(segment))?)
+        }
+        "joins" => {
+            let are_joined = are_joined(segments.as_slice(), rest)?;
+            Ok(write!(shown, "{are_joined}")?)
+        }
+        _ => calls(rt, hall, seat, words, shown),
     }
 }
 
@@ -195,21 +281,7 @@ fn says<D: Desk, R: Wait + AllocGlobal>(
 ) -> Result<(), Fail> {
     let (words, wanted) = line;
     let mut shown = String::new(rt.alloc());
-    let (verb, rest) = word(words);
-    match verb {
-        "rotate" => rotates(rt, hall, seat, segments, &mut shown)?,
-        "shed" => {
-            let segment = segment_at(segments.as_slice(), rest)?;
-            write!(shown, "{}", seat.shed(segment))?;
-        }
-        "joins" => {
-            let (first, second) = word(rest);
-            let first = segment_at(segments.as_slice(), first)?;
-            let second = segment_at(segments.as_slice(), second)?;
-            write!(shown, "{}", joins(first, second))?;
-        }
-        _ => calls(rt, hall, seat, words, &mut shown)?,
-    }
+    does(rt, hall, seat, segments, words, &mut shown)?;
     if shown.as_str() == wanted {
         Ok(())
     } else {
@@ -269,29 +341,44 @@ pub(crate) fn talks<D: Desk, R: Wait + AllocGlobal>(
     talks_on(rt, hall, seats, &mut segments, talk)
 }
 
+// The log has so many calls.
+fn has_logged(log: &[Entry], logged: usize) -> Result<(), Fail> {
+    if log.len() == logged {
+        Ok(())
+    } else {
+        Err(Fail::from("another number of calls"))
+    }
+}
+
 // The hall is closed with these seats, and its log has so many calls.
 pub(crate) fn closes<D: Desk>(hall: Hall<D>, seats: Vec<Seat>, logged: usize) -> Result<(), Fail> {
     match hall.close(seats) {
-        Ok(settled) => {
-            if settled.log.len() == logged {
-                Ok(())
-            } else {
-                Err(Fail::from("another number of calls"))
-            }
-        }
+        Ok(settled) => has_logged(settled.log.as_slice(), logged),
         Err(_) => Err(Fail::from("close refused")),
     }
+}
+
+// Whether this is how the answer is shown.
+fn is_answer(alloc: Global, answer: &CallAnswer, wanted: &str) -> Result<bool, AllocError> {
+    let mut shown = String::new(alloc);
+    show_answer(&mut shown, answer)?;
+    Ok(shown.as_str() == wanted)
+}
+
+// Whether these words say this call.
+fn is_call(alloc: Global, call: &Call, words: &str) -> Result<bool, Fail> {
+    let wanted = call_of(alloc, words)?;
+    Ok(call.same(&wanted))
 }
 
 // Whether this is how the log has the call: `SEAT CALL = ANSWER`.
 fn is_entry(alloc: Global, entry: &Entry, line: &str) -> Result<bool, Fail> {
     let (asked, wanted) = line.split_once(" = ").unwrap_or((line, ""));
     let (number, words) = word(asked);
-    let number = number.parse::<u32>()?;
-    let call = call_of(alloc, words)?;
-    let mut shown = String::new(alloc);
-    show_answer(&mut shown, &entry.answer)?;
-    Ok(entry.seat == number && entry.call.get().same(&call) && shown.as_str() == wanted)
+    let is_seat = entry.seat == number.parse::<u32>()?;
+    let is_answer = is_answer(alloc, &entry.answer, wanted)?;
+    let is_call = is_call(alloc, entry.call.get(), words)?;
+    Ok(is_seat && is_answer && is_call)
 }
 
 // Whether the log has exactly the calls of these lines.
@@ -313,11 +400,22 @@ fn are_entries(alloc: Global, log: &[Entry], lines: &str) -> Result<bool, Fail> 
     Ok(left.is_empty())
 }
 
+// Whether the desk represents this.
+fn is_state(desk: &PlainDesk, state: &State) -> Result<bool, AllocError> {
+    let wanted = desk.state()?;
+    Ok(wanted.same(state))
+}
+
 // Whether a desk of this policy, without records, represents this.
 fn is_state_of(alloc: Global, state: &State, policy: &str) -> Result<bool, Fail> {
     let desk = desk_of(alloc, policy)?;
-    let wanted = desk.state()?;
-    Ok(wanted.same(state))
+    Ok(is_state(&desk, state)?)
+}
+
+// Whether the desk represents what one of this policy, without records, does.
+fn is_desk_of(alloc: Global, desk: &PlainDesk, policy: &str) -> Result<bool, Fail> {
+    let now = desk.state()?;
+    is_state_of(alloc, &now, policy)
 }
 
 /// What a hall has to have kept: the number of its last segment, the policy at the beginning of
@@ -331,14 +429,13 @@ pub(crate) struct Kept {
 }
 
 fn has_kept(alloc: Global, settled: &Settled<PlainDesk>, kept: &Kept) -> Result<(), Fail> {
-    let now = settled.desk.state()?;
     if settled.number != kept.number || !is_state_of(alloc, settled.base.get(), kept.base)? {
         return Err(Fail::from("another base"));
     }
     if !are_entries(alloc, settled.log.as_slice(), kept.lines)? {
         return Err(Fail::from("another log"));
     }
-    if !is_state_of(alloc, &now, kept.policy)? {
+    if !is_desk_of(alloc, &settled.desk, kept.policy)? {
         return Err(Fail::from("another desk"));
     }
     Ok(())
@@ -382,6 +479,18 @@ pub(crate) fn seats_of<D: Desk, R: Wait + AllocGlobal>(
     Ok(seats)
 }
 
+/// So many seats of a hall, after this conversation with them.
+pub(crate) fn seats_after<D: Desk, R: Wait + AllocGlobal>(
+    rt: &R,
+    hall: &Hall<D>,
+    count: usize,
+    talk: &str,
+) -> Result<Vec<Seat>, Fail> {
+    let mut seats = seats_of(rt, hall, count)?;
+    talks(rt, hall, seats.as_mut_slice(), talk)?;
+    Ok(seats)
+}
+
 /// A conversation with this hall and its first two seats; after it the hall is closed, and its log
 /// has so many calls.
 pub(crate) fn converses_in<D: Desk, R: Wait + AllocGlobal>(
@@ -390,8 +499,7 @@ pub(crate) fn converses_in<D: Desk, R: Wait + AllocGlobal>(
     talk: &str,
     logged: usize,
 ) -> Result<(), Fail> {
-    let mut seats = seats_of(rt, &hall, 2)?;
-    talks(rt, &hall, seats.as_mut_slice(), talk)?;
+    let seats = seats_after(rt, &hall, 2, talk)?;
     closes(hall, seats, logged)
 }
 

@@ -136,6 +136,17 @@ pub(crate) fn listen<R: Net<Listener = TcpListener, Stream = TcpStream>>(
     TcpListener::bind(rt, SocketAddr::from((Ipv4Addr::LOCALHOST, 0)))
 }
 
+// A client that has sent these bytes.
+fn sends_bytes<R: Net<Listener = TcpListener, Stream = TcpStream>>(
+    rt: &R,
+    address: SocketAddr,
+    bytes: &[u8],
+) -> io::Result<TcpStream> {
+    let mut client = TcpStream::connect(rt, address)?;
+    client.write_all(bytes)?;
+    Ok(client)
+}
+
 // A client that has sent a packet.
 fn sends<R: Net<Listener = TcpListener, Stream = TcpStream> + AllocGlobal>(
     rt: &R,
@@ -143,9 +154,7 @@ fn sends<R: Net<Listener = TcpListener, Stream = TcpStream> + AllocGlobal>(
     text: &str,
 ) -> io::Result<TcpStream> {
     let packet = sent_as(rt.alloc(), text)?;
-    let mut client = TcpStream::connect(rt, address)?;
-    client.write_all(packet.as_slice())?;
-    Ok(client)
+    sends_bytes(rt, address, packet.as_slice())
 }
 
 /// A client that has asked for `show version`.
@@ -169,15 +178,50 @@ pub(crate) fn is_answered(alloc: Global, client: &TcpStream, wanted: &[u8]) -> i
     Ok(answer.as_slice() == wanted)
 }
 
+// A device sends these bytes, and reads as many as there is room for. Nothing more is read.
+fn exchanges(device: &TcpStream, sent: &[u8], answer: &mut [u8]) -> io::Result<()> {
+    let mut device = device;
+    device.write_all(sent)?;
+    device.read_exact(answer)
+}
+
+// Whether a packet that is sent has this answer.
+fn is_answered_with(
+    alloc: Global,
+    device: &TcpStream,
+    sent: &[u8],
+    wanted: &[u8],
+) -> io::Result<bool> {
+    let mut answer = vec![in alloc; 0; wanted.len()]?;
+    exchanges(device, sent, answer.as_mut_slice())?;
+    Ok(answer.as_slice() == wanted)
+}
+
 // Whether a packet on a connection that is kept has this answer. Nothing more is read.
 fn is_answer(alloc: Global, device: &TcpStream, sent: &str, wanted: &str) -> io::Result<bool> {
     let sent = sent_as(alloc, sent)?;
     let wanted = sent_as(alloc, wanted)?;
-    let mut answer = vec![in alloc; 0; wanted.len()]?;
-    let mut device = device;
-    device.write_all(sent.as_slice())?;
-    device.read_exact(answer.as_mut_slice())?;
-    Ok(answer == wanted)
+    is_answered_with(alloc, device, sent.as_slice(), wanted.as_slice())
+}
+
+// Whether all packets of a visit are answered as they are to be.
+fn are_all_answered(alloc: Global, device: &TcpStream) -> io::Result<bool> {
+    for (sent, wanted) in VISIT {
+        if !is_answer(alloc, device, sent, wanted)? {
+            return Ok(false);
+        }
+    }
+    Ok(true)
+}
+
+// The same, and nothing comes after them.
+fn speaks(alloc: Global, device: &TcpStream) -> io::Result<bool> {
+    device.set_read_timeout(Some(Duration::from_secs(4)))?;
+    if !are_all_answered(alloc, device)? {
+        return Ok(false);
+    }
+    device.shutdown(Shutdown::Write)?;
+    is_answered(alloc, device, b"")
 }
 
 /// A device sends the packets of its visit on one connection, each after the last one's answer.
@@ -187,14 +231,7 @@ pub(crate) fn visits<R: Net<Listener = TcpListener, Stream = TcpStream> + AllocG
     address: SocketAddr,
 ) -> io::Result<bool> {
     let device = TcpStream::connect(rt, address)?;
-    device.set_read_timeout(Some(Duration::from_secs(4)))?;
-    for (sent, wanted) in VISIT {
-        if !is_answer(rt.alloc(), &device, sent, wanted)? {
-            return Ok(false);
-        }
-    }
-    device.shutdown(Shutdown::Write)?;
-    is_answered(rt.alloc(), &device, b"")
+    speaks(rt.alloc(), &device)
 }
 
 // The first client was permitted, and the second one denied.

@@ -107,13 +107,15 @@ fn are_in_order(log: &[Entry], held: u64, calls: usize) -> bool {
 
 // The hall is closed with these seats, and its calls are in order.
 fn closes(hall: Hall<PlainDesk>, seats: Vec<Seat>, held: u64, calls: usize) -> Result<(), Fail> {
-    let Ok(settled) = hall.close(seats) else {
-        return Err(Fail::from("close refused"));
+    let is_ordered = match hall.close(seats) {
+        Ok(settled) => are_in_order(settled.log.as_slice(), held, calls),
+        Err(_) => return Err(Fail::from("close refused")),
     };
-    if are_in_order(settled.log.as_slice(), held, calls) {
-        return Ok(());
+    if is_ordered {
+        Ok(())
+    } else {
+        Err(Fail::from("called in another order"))
     }
-    Err(Fail::from("called in another order"))
 }
 
 // Whether these are the permissions that two questions are answered.

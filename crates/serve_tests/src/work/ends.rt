@@ -1,8 +1,10 @@
 //! How a connection ends: a reply has 18 bytes.
 
 use crate::work::support::{all_end, ends, hall_of};
+use std::sync::Wait;
 use std::test::Fail;
-use tac_hall::Call;
+use tac_desks::PlainDesk;
+use tac_hall::{Call, Hall, Seat};
 
 #[test]
 fn by_what_comes(rt: HostRuntime) -> Result<(), Fail> {
@@ -53,14 +55,27 @@ fn by_the_gate(rt: HostRuntime) -> Result<(), Fail> {
     )
 }
 
+// The hall is stopped by this seat.
+fn stops<R: Wait>(rt: &R, hall: &Hall<PlainDesk>, seat: &mut Seat) -> Result<(), Fail> {
+    if hall.call(rt, seat, Call::Stop).is_err() {
+        Err(Fail::from("no stop"))
+    } else {
+        Ok(())
+    }
+}
+
+// The second seat of a hall, which is stopped by the first.
+fn seat_of_stopped<R: Wait>(rt: &R, hall: &Hall<PlainDesk>) -> Result<Seat, Fail> {
+    let mut other = hall.seat(rt)?;
+    let seat = hall.seat(rt)?;
+    stops(rt, hall, &mut other)?;
+    Ok(seat)
+}
+
 #[test]
 fn by_a_stop(rt: HostRuntime) -> Result<(), Fail> {
     let hall = hall_of(&rt, 9)?;
-    let mut other = hall.seat(&rt)?;
-    let seat = hall.seat(&rt)?;
-    if hall.call(&rt, &mut other, Call::Stop).is_err() {
-        return Err(Fail::from("no stop"));
-    }
+    let seat = seat_of_stopped(&rt, &hall)?;
     ends(&rt, &hall, seat, "pp 99 9 = Stopped 0 0 0")?;
     Ok(())
 }

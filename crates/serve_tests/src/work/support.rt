@@ -48,6 +48,24 @@ fn read_packets(alloc: Global) -> Result<Packets, Fail> {
     })
 }
 
+// What a line `LETTERS ROOM CALLS` says; `-` means no letters.
+#[derive(Clone, Copy)]
+struct Asked<'a> {
+    letters: &'a str,
+    room: usize,
+    calls: u64,
+}
+
+fn read_asked(asked: &str) -> Result<Asked<'_>, Fail> {
+    let (letters, rest) = asked.split_once(' ').unwrap_or((asked, ""));
+    let (room, calls) = rest.split_once(' ').unwrap_or((rest, ""));
+    Ok(Asked {
+        letters: if letters == "-" { "" } else { letters },
+        room: room.parse::<usize>()?,
+        calls: calls.parse::<u64>()?,
+    })
+}
+
 // How a connection ended, how many receipts there are, what was written, and how many replies the
 // gate heard of.
 #[derive(Drop)]
@@ -65,18 +83,16 @@ fn serves<D: Desk, R: Wait + AllocGlobal>(
     hall: &Hall<D>,
     packets: &Packets,
     seat: Seat,
-    letters: &str,
-    room: usize,
-    calls: u64,
+    asked: Asked<'_>,
 ) -> (Seat, Seen) {
     let mut reader = Scripted {
-        letters: letters.as_bytes(),
+        letters: asked.letters.as_bytes(),
         question: packets.question.as_slice(),
         record: packets.record.as_slice(),
     };
-    let mut writer = Sink::new(rt.alloc(), room, WHOLE);
+    let mut writer = Sink::new(rt.alloc(), asked.room, WHOLE);
     let gate = Counting {
-        calls: AtomicU64::new(calls),
+        calls: AtomicU64::new(asked.calls),
         replies: AtomicU64::new(0),
     };
     let Worked {
@@ -127,6 +143,30 @@ fn shown(alloc: Global, seen: &Seen) -> Result<String, Fail> {
     Ok(format!(in alloc; "{end:?} {receipts} {} {heard}", written.len())?)
 }
 
+// This is what was seen.
+fn is_seen(alloc: Global, seen: &Seen, wanted: &str) -> Result<(), Fail> {
+    let told = shown(alloc, seen)?;
+    if told.as_str() == wanted {
+        Ok(())
+    } else {
+        Err(Fail::from(told))
+    }
+}
+
+// Serves what is asked, and this is what was seen. The seat comes back.
+fn serves_so<D: Desk, R: Wait + AllocGlobal>(
+    rt: &R,
+    hall: &Hall<D>,
+    packets: &Packets,
+    seat: Seat,
+    asked: Asked<'_>,
+    wanted: &str,
+) -> Result<Seat, Fail> {
+    let (seat, seen) = serves(rt, hall, packets, seat, asked);
+    is_seen(rt.alloc(), &seen, wanted)?;
+    Ok(seat)
+}
+
 /// A worker at this hall, as a line `LETTERS ROOM CALLS = END RECEIPTS BYTES REPLIES` says; `-`
 /// means no letters. The seat comes back.
 pub(crate) fn ends<D: Desk, R: Wait + AllocGlobal>(
@@ -136,19 +176,17 @@ pub(crate) fn ends<D: Desk, R: Wait + AllocGlobal>(
     line: &str,
 ) -> Result<Seat, Fail> {
     let (asked, wanted) = line.split_once(" = ").unwrap_or((line, ""));
-    let (letters, rest) = asked.split_once(' ').unwrap_or((asked, ""));
-    let (room, calls) = rest.split_once(' ').unwrap_or((rest, ""));
-    let letters = if letters == "-" { "" } else { letters };
-    let room = room.parse::<usize>()?;
-    let calls = calls.parse::<u64>()?;
+    let asked = read_asked(asked)?;
     let packets = read_packets(rt.alloc())?;
-    let (seat, seen) = serves(rt, hall, &packets, seat, letters, room, calls);
-    let told = shown(rt.alloc(), &seen)?;
-    if told.as_str() == wanted {
-        Ok(seat)
-    } else {
-        Err(Fail::from(told))
-    }
+    serves_so(rt, hall, &packets, seat, asked, wanted)
+}
+
+// The same at a new hall whose log takes so many calls.
+fn ends_alone<R: Wait + AllocGlobal>(rt: &R, limit: usize, line: &str) -> Result<(), Fail> {
+    let hall = hall_of(rt, limit)?;
+    let seat = hall.seat(rt)?;
+    ends(rt, &hall, seat, line)?;
+    Ok(())
 }
 
 /// The same for each line, at a new hall whose log takes so many calls.
@@ -160,9 +198,7 @@ pub(crate) fn all_end<R: Wait + AllocGlobal>(
     for line in lines.lines() {
         let line = line.trim();
         if !line.is_empty() {
-            let hall = hall_of(rt, limit)?;
-            let seat = hall.seat(rt)?;
-            ends(rt, &hall, seat, line)?;
+            ends_alone(rt, limit, line)?;
         }
     }
     Ok(())

@@ -3,6 +3,7 @@
 use crate::work::packets::{LOGINS, PASSES, PERMISSION, PERMISSIONS, QUESTION, QUESTIONS};
 use crate::work::streams::{Manner, Sink, Source, WHOLE};
 use crate::work::support::{closes, hall_of, key};
+use std::alloc::Global;
 use std::process::Abort;
 use std::sync::Wait;
 use std::test::Fail;
@@ -10,6 +11,22 @@ use tac_desks::PlainDesk;
 use tac_hall::{Hall, Seat};
 use tac_wire::Key;
 use tac_worker::{End, OpenGate, Worked, work};
+
+// A packet, its reply, and the key.
+#[derive(Drop)]
+struct Packets {
+    key: Key,
+    question: Vec<u8>,
+    reply: Vec<u8>,
+}
+
+fn read_packets(alloc: Global) -> Result<Packets, Fail> {
+    Ok(Packets {
+        key: key()?,
+        question: hex::decode(alloc, QUESTION.as_bytes())?,
+        reply: hex::decode(alloc, PERMISSION.as_bytes())?,
+    })
+}
 
 // The result of a connection: its end, how many receipts there are, and what is written.
 #[derive(Clone, Copy)]
@@ -52,12 +69,11 @@ const FAILING: Manner = Manner {
 fn writes_a_beginning<R: Wait + Abort + AllocGlobal>(
     rt: &R,
     hall: &Hall<PlainDesk>,
-    key: &Key,
+    packets: &Packets,
     seat: Seat,
     manner: Manner,
-) -> Result<Seat, Fail> {
-    let question = hex::decode(rt.alloc(), QUESTION.as_bytes())?;
-    let reply = hex::decode(rt.alloc(), PERMISSION.as_bytes())?;
+) -> Seat {
+    let reply = packets.reply.as_slice();
     let mut seat = seat;
     for room in 0..=reply.len() {
         let is_whole = room == reply.len();
@@ -68,22 +84,23 @@ fn writes_a_beginning<R: Wait + Abort + AllocGlobal>(
                 End::WriteFault
             },
             receipts: 1,
-            written: &reply.as_slice()[..room],
+            written: &reply[..room],
         };
-        let mut source = Source::new(question.as_slice(), WHOLE);
+        let mut source = Source::new(packets.question.as_slice(), WHOLE);
         let mut sink = Sink::new(rt.alloc(), room, manner);
+        let key = &packets.key;
         seat = serves(rt, hall, key, seat, &mut source, &mut sink, &wanted);
     }
-    Ok(seat)
+    seat
 }
 
 #[test]
 fn a_writer_that_fails(rt: HostRuntime) -> Result<(), Fail> {
-    let key = key()?;
+    let packets = read_packets(rt.alloc())?;
     let hall = hall_of(&rt, 99)?;
     let seat = hall.seat(&rt)?;
-    let seat = writes_a_beginning(&rt, &hall, &key, seat, FAILING)?;
-    let seat = writes_a_beginning(&rt, &hall, &key, seat, WHOLE)?;
+    let seat = writes_a_beginning(&rt, &hall, &packets, seat, FAILING);
+    let seat = writes_a_beginning(&rt, &hall, &packets, seat, WHOLE);
     closes(rt.alloc(), hall, seat, 38)
 }
 
@@ -92,12 +109,12 @@ fn a_writer_that_fails(rt: HostRuntime) -> Result<(), Fail> {
 fn reads_a_beginning<R: Wait + Abort + AllocGlobal>(
     rt: &R,
     hall: &Hall<PlainDesk>,
-    key: &Key,
+    packets: &Packets,
     seat: Seat,
     piece: usize,
-) -> Result<Seat, Fail> {
-    let question = hex::decode(rt.alloc(), QUESTION.as_bytes())?;
-    let reply = hex::decode(rt.alloc(), PERMISSION.as_bytes())?;
+) -> Seat {
+    let question = packets.question.as_slice();
+    let reply = packets.reply.as_slice();
     let manner = Manner { piece, ..FAILING };
     let mut seat = seat;
     for length in 0..=question.len() {
@@ -109,22 +126,23 @@ fn reads_a_beginning<R: Wait + Abort + AllocGlobal>(
                 End::ReadFault
             },
             receipts: usize::from(is_whole),
-            written: if is_whole { reply.as_slice() } else { b"" },
+            written: if is_whole { reply } else { b"" },
         };
-        let mut source = Source::new(&question.as_slice()[..length], manner);
+        let mut source = Source::new(&question[..length], manner);
         let mut sink = Sink::new(rt.alloc(), 99, WHOLE);
+        let key = &packets.key;
         seat = serves(rt, hall, key, seat, &mut source, &mut sink, &wanted);
     }
-    Ok(seat)
+    seat
 }
 
 #[test]
 fn a_reader_that_fails(rt: HostRuntime) -> Result<(), Fail> {
-    let key = key()?;
+    let packets = read_packets(rt.alloc())?;
     let hall = hall_of(&rt, 99)?;
     let seat = hall.seat(&rt)?;
-    let seat = reads_a_beginning(&rt, &hall, &key, seat, 9999)?;
-    let seat = reads_a_beginning(&rt, &hall, &key, seat, 1)?;
+    let seat = reads_a_beginning(&rt, &hall, &packets, seat, 9999);
+    let seat = reads_a_beginning(&rt, &hall, &packets, seat, 1);
     closes(rt.alloc(), hall, seat, 2)
 }
 
@@ -157,12 +175,20 @@ fn trickles<R: Wait + Abort + AllocGlobal>(
     Ok(serves(rt, hall, &key()?, seat, &mut source, &mut sink, &wanted))
 }
 
+// All of them, by one seat of the hall.
+fn all_trickle<R: Wait + Abort + AllocGlobal>(
+    rt: &R,
+    hall: &Hall<PlainDesk>,
+) -> Result<Seat, Fail> {
+    let seat = hall.seat(rt)?;
+    let seat = trickles(rt, hall, seat, QUESTION, PERMISSION, End::ByProtocol, 1)?;
+    let seat = trickles(rt, hall, seat, QUESTIONS, PERMISSIONS, End::Finished, 2)?;
+    trickles(rt, hall, seat, LOGINS, PASSES, End::Finished, 2)
+}
+
 #[test]
 fn a_byte_at_a_time(rt: HostRuntime) -> Result<(), Fail> {
     let hall = hall_of(&rt, 99)?;
-    let seat = hall.seat(&rt)?;
-    let seat = trickles(&rt, &hall, seat, QUESTION, PERMISSION, End::ByProtocol, 1)?;
-    let seat = trickles(&rt, &hall, seat, QUESTIONS, PERMISSIONS, End::Finished, 2)?;
-    let seat = trickles(&rt, &hall, seat, LOGINS, PASSES, End::Finished, 2)?;
+    let seat = all_trickle(&rt, &hall)?;
     closes(rt.alloc(), hall, seat, 5)
 }
