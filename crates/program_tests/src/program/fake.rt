@@ -11,6 +11,13 @@ use std::rt::{Env, Files};
 use std::sync::atomic::{AtomicBool, Ordering};
 use std::thread::yield_now;
 
+// Writes a value, and this after it.
+fn write_with<D: Display>(out: &mut Vec<u8>, value: &D, end: &[u8]) -> io::Result<()> {
+    write!(out, "{value}")?;
+    out.extend_from_slice(end)?;
+    Ok(())
+}
+
 /// What was written to a stream that is open.
 #[derive(Drop)]
 pub(crate) struct Stream {
@@ -30,12 +37,10 @@ impl Stream {
         if !self.is_open {
             return Err(io::Error::from(io::ErrorKind::BrokenPipe));
         }
-        let Ok(mut written) = self.written.try_borrow_mut() else {
-            return Err(io::Error::from(io::ErrorKind::Other));
-        };
-        write!(&mut *written, "{value}")?;
-        written.extend_from_slice(end)?;
-        Ok(())
+        match self.written.try_borrow_mut() {
+            Ok(mut written) => write_with(&mut written, &value, end),
+            Err(_) => Err(io::Error::from(io::ErrorKind::Other)),
+        }
     }
 
     /// Whether exactly this was written.

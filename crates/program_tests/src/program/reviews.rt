@@ -6,6 +6,7 @@ use crate::program::help::{
     TEST_AFTER_LONG_HELP, TEST_LONG_ABOUT, WHY_AFTER_LONG_HELP, WHY_LONG_ABOUT,
 };
 use crate::program::running::run_ends;
+use std::alloc::{AllocError, Global};
 use std::net::{Net, TcpListener, TcpStream};
 use std::process::Abort;
 use std::sync::Wait;
@@ -111,16 +112,21 @@ const RULES: &str = concat!(
     "user bob in ops\n",
 );
 
+// The lines that take all rules away and then make `next`, in two batches.
+fn push_batches(alloc: Global, text: &mut String) -> Result<(), AllocError> {
+    text.push_str("begin\n")?;
+    for rule in (3..=66_u32).rev() {
+        text.push_str(format!(in alloc; "drop group ops {rule}\n")?.as_str())?;
+    }
+    text.push_str("commit\nbegin\ndrop group ops 2\ndrop group ops 1\nadd user eve in ops\n")?;
+    text.push_str("insert group ops 1 deny show run\ninsert group ops 2 permit show .*\n")?;
+    text.push_str("commit\n")
+}
+
 #[test]
 fn two_batches(rt: HostRuntime) -> Result<(), Fail> {
     let mut printed = String::new(rt.alloc());
-    printed.push_str("begin\n")?;
-    for rule in (3..=66_u32).rev() {
-        printed.push_str(format!(in rt.alloc(); "drop group ops {rule}\n")?.as_str())?;
-    }
-    printed.push_str("commit\nbegin\ndrop group ops 2\ndrop group ops 1\nadd user eve in ops\n")?;
-    printed.push_str("insert group ops 1 deny show run\ninsert group ops 2 permit show .*\n")?;
-    printed.push_str("commit\n")?;
+    push_batches(rt.alloc(), &mut printed)?;
     let told = "tacd: 2 batches; between two of them the policy is neither OLD nor NEW\n";
     let words = "tacd diff --edits policy next";
     ends(&rt, words, RULES, "", 0, printed.as_str(), told);

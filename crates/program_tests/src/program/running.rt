@@ -1,6 +1,6 @@
 //! What the program prints, and how it ends, by its words and its input.
 
-use crate::program::fake::Fake;
+use crate::program::fake::{Fake, Stream};
 use crate::program::help::{
     CHECK_AFTER_LONG_HELP, CHECK_LONG_ABOUT, REPLAY_AFTER_LONG_HELP, REPLAY_LONG_ABOUT,
     SERVE_AFTER_LONG_HELP, SERVE_LONG_ABOUT,
@@ -14,6 +14,15 @@ use std::thread::Threads;
 use std::time::Clock;
 use tac_journal::LogFiles;
 use tac_program::run;
+
+// Exactly this stands on a stream, after the program was run by these words.
+fn stands<R: Abort + AllocGlobal>(rt: &R, stream: &Stream, wanted: &str, words: &str) {
+    let found = stream.text(rt.alloc());
+    assert!(rt;
+        stream.holds(wanted),
+        "expected\n{wanted}written\n{found:?}\nby {words:?}"
+    );
+}
 
 /// Runs the program, and compares its status and what stands on both streams.
 pub(crate) fn run_ends<R>(rt: &R, fake: &Fake<'_>, status: u8, printed: &str, complained: &str)
@@ -30,16 +39,8 @@ where
 {
     let words = fake.words;
     assert_eq!(rt; run(fake, rt), ExitCode::from(status), "by {words:?}");
-    let output = fake.output.text(rt.alloc());
-    let complaints = fake.complaints.text(rt.alloc());
-    assert!(rt;
-        fake.output.holds(printed),
-        "expected\n{printed}printed\n{output:?}\nby {words:?}"
-    );
-    assert!(rt;
-        fake.complaints.holds(complained),
-        "expected\n{complained}complained\n{complaints:?}\nby {words:?}"
-    );
+    stands(rt, &fake.output, printed, words);
+    stands(rt, &fake.complaints, complained, words);
 }
 
 // Runs the program on an input that is also the policy's text.

@@ -7,6 +7,28 @@ use std::test::Fail;
 use tac_lint::{LintEnd, lint};
 use tac_review::Review;
 
+// The lint of a text ends so. What it prints is written.
+fn writes<R: Abort + AllocGlobal>(
+    rt: &R,
+    text: &[u8],
+    end: LintEnd,
+    out: &mut Vec<u8>,
+) -> Result<(), Fail> {
+    let mut reader = text;
+    let Ok(found) = lint(rt.alloc(), &mut reader, out) else {
+        return Err(Fail::from(AllocError));
+    };
+    assert!(rt; found == end);
+    Ok(())
+}
+
+// These bytes are this text.
+fn are<R: Abort>(rt: &R, bytes: &[u8], text: &str) -> Result<(), Fail> {
+    let shown = str::from_utf8(bytes)?;
+    assert!(rt; shown == text, "{shown}, not {text}");
+    Ok(())
+}
+
 // The lint of a text ends so, and prints this.
 fn ends<R: Abort + AllocGlobal>(
     rt: &R,
@@ -15,14 +37,8 @@ fn ends<R: Abort + AllocGlobal>(
     printed: &str,
 ) -> Result<(), Fail> {
     let mut out = Vec::new(rt.alloc());
-    let mut reader = text;
-    let Ok(found) = lint(rt.alloc(), &mut reader, &mut out) else {
-        return Err(Fail::from(AllocError));
-    };
-    let shown = str::from_utf8(out.as_slice())?;
-    assert!(rt; shown == printed, "{shown}, not {printed}");
-    assert!(rt; found == end);
-    Ok(())
+    writes(rt, text, end, &mut out)?;
+    are(rt, out.as_slice(), printed)
 }
 
 // One thing is told of the policy.
@@ -83,19 +99,26 @@ fn patterns(rt: HostRuntime) -> Result<(), Fail> {
     )
 }
 
+// A space is told, with which something at this place begins or ends.
+fn tells_space<R: Abort + AllocGlobal>(
+    rt: &R,
+    text: &str,
+    place: &str,
+    verb: &str,
+) -> Result<(), Fail> {
+    let told = format!(in rt.alloc(); "{place}: it {verb} with a space: is that meant?\n")?;
+    tells(rt, text, told.as_str())
+}
+
 #[test]
 fn spaces(rt: HostRuntime) -> Result<(), Fail> {
-    let before = "it begins with a space: is that meant?\n";
-    let after = "it ends with a space: is that meant?\n";
-    let alloc = rt.alloc();
-    let told = format!(in alloc; "line 2 column 7: {before}")?;
-    tells(&rt, "user bob\nlogin  x\n", told.as_str())?;
-    let told = format!(in alloc; "line 3 column 9: {after}")?;
-    tells(&rt, "user bob\nlogin x\nenable y \n", told.as_str())?;
-    let told = format!(in alloc; "line 3 column 8: {before}")?;
-    tells(&rt, "user bob\nlogin x\npermit  show <cr>\n", told.as_str())?;
-    let told = format!(in alloc; "line 3 column 17: {after}")?;
-    tells(&rt, "user bob\nlogin x\npermit show <cr> \n", told.as_str())
+    let (in_login, in_enable) = ("user bob\nlogin  x\n", "user bob\nlogin x\nenable y \n");
+    tells_space(&rt, in_login, "line 2 column 7", "begins")?;
+    tells_space(&rt, in_enable, "line 3 column 9", "ends")?;
+    let before = "user bob\nlogin x\npermit  show <cr>\n";
+    let after = "user bob\nlogin x\npermit show <cr> \n";
+    tells_space(&rt, before, "line 3 column 8", "begins")?;
+    tells_space(&rt, after, "line 3 column 17", "ends")
 }
 
 #[test]
@@ -149,10 +172,21 @@ fn nothing(rt: HostRuntime) -> Result<(), Fail> {
     )
 }
 
+// The text is refused for what is in this column of its first line.
+fn refuses_byte<R: Abort + AllocGlobal>(
+    rt: &R,
+    text: &[u8],
+    column: u32,
+    what: &str,
+) -> Result<(), Fail> {
+    let told = format!(in rt.alloc();
+        "line 1 column {column}: {what}: a policy is printable ASCII\n"
+    )?;
+    ends(rt, text, LintEnd::Refused, told.as_str())
+}
+
 #[test]
 fn bytes(rt: HostRuntime) -> Result<(), Fail> {
-    let ascii = "a policy is printable ASCII\n";
-    let alloc = rt.alloc();
     refuses(
         &rt,
         "user bob\r\nlogin x\n",
@@ -163,17 +197,11 @@ fn bytes(rt: HostRuntime) -> Result<(), Fail> {
         "user bob\n\tlogin x\n",
         "line 2 column 1: a tab: words are set apart by spaces\n",
     )?;
-    let told = format!(in alloc; "line 1 column 1: a byte order mark: {ascii}")?;
-    refuses(&rt, "\u{feff}user bob\nlogin x\n", told.as_str())?;
-    let told = format!(in alloc; "line 1 column 7: a byte that is no symbol: {ascii}")?;
-    refuses(&rt, "user b\u{f6}b\nlogin x\n", told.as_str())?;
-    let told = format!(in alloc; "line 1 column 7: a byte that isn't UTF-8: {ascii}")?;
-    ends(
-        &rt,
-        b"user b\xF6b\nlogin x\n",
-        LintEnd::Refused,
-        told.as_str(),
-    )
+    let marked = "\u{feff}user bob\nlogin x\n";
+    refuses_byte(&rt, marked.as_bytes(), 1, "a byte order mark")?;
+    let spelled = "user b\u{f6}b\nlogin x\n";
+    refuses_byte(&rt, spelled.as_bytes(), 7, "a byte that is no symbol")?;
+    refuses_byte(&rt, b"user b\xF6b\nlogin x\n", 7, "a byte that isn't UTF-8")
 }
 
 #[test]
@@ -238,22 +266,25 @@ fn chains(rt: HostRuntime) -> Result<(), Fail> {
     )
 }
 
+// The line that was probably meant is denied, and the one that is said is permitted.
+fn shows<R: Abort + AllocGlobal>(
+    rt: &R,
+    policy: &str,
+    meant: &str,
+    said: &str,
+) -> Result<(), Fail> {
+    reviews(rt, Review::Why, policy, meant, "done\ndenied by default\n")?;
+    let permitted = "done\npermitted by user b rule 1\n";
+    reviews(rt, Review::Why, policy, said, permitted)
+}
+
 // A habit is another reading of the rule: the line that was probably meant is denied.
 #[test]
 fn shown_by_why(rt: HostRuntime) -> Result<(), Fail> {
-    let denied = "done\ndenied by default\n";
-    let permitted = "done\npermitted by user b rule 1\n";
-    let cases = [
-        ("user b\npermit ^show\n", "b show", "b ^show"),
-        ("user b\npermit show$\n", "b show", "b show$"),
-        ("user b\npermit vlan \\d\n", "b vlan 7", "b vlan d"),
-        ("user b\npermit a{1,3}\n", "b aa", "b a{1,3}"),
-        ("user b\npermit [[:alpha:]]\n", "b z", "b h]"),
-        ("user b\npermit exit\n", "b exit <cr>", "b exit"),
-    ];
-    for (policy, meant, said) in cases {
-        reviews(&rt, Review::Why, policy, meant, denied)?;
-        reviews(&rt, Review::Why, policy, said, permitted)?;
-    }
-    Ok(())
+    shows(&rt, "user b\npermit ^show\n", "b show", "b ^show")?;
+    shows(&rt, "user b\npermit show$\n", "b show", "b show$")?;
+    shows(&rt, "user b\npermit vlan \\d\n", "b vlan 7", "b vlan d")?;
+    shows(&rt, "user b\npermit a{1,3}\n", "b aa", "b a{1,3}")?;
+    shows(&rt, "user b\npermit [[:alpha:]]\n", "b z", "b h]")?;
+    shows(&rt, "user b\npermit exit\n", "b exit <cr>", "b exit")
 }

@@ -82,22 +82,25 @@ fn same(rt: HostRuntime) -> Result<(), Fail> {
     )
 }
 
+// A text that is refused as the old policy, which is judged first.
+fn refused_as_old<R: Abort + AllocGlobal>(rt: &R, text: &str, fault: &str) -> Result<(), Fail> {
+    let printed = format!(in rt.alloc(); "refused\none: {fault}\n")?;
+    reviews(rt, DIFF, text, OLD, printed.as_str())?;
+    reviews(rt, DIFF, text, "user bob\n\nshow\n", printed.as_str())
+}
+
+// A text that is refused as the new policy.
+fn refused_as_new<R: Abort + AllocGlobal>(rt: &R, text: &str, fault: &str) -> Result<(), Fail> {
+    let printed = format!(in rt.alloc(); "refused\ntwo: {fault}\n")?;
+    reviews(rt, DIFF, OLD, text, printed.as_str())
+}
+
 // A text that is refused, as the old policy and as the new one.
 fn refused<R: Abort + AllocGlobal>(rt: &R, text: &str, fault: &str) -> Result<(), Fail> {
-    let alloc = rt.alloc();
-    let old = format!(in alloc; "refused\none: {fault}\n")?;
-    let new = format!(in alloc; "refused\ntwo: {fault}\n")?;
-    reviews(rt, DIFF, text, OLD, old.as_str())?;
-    reviews(rt, DIFF, OLD, text, new.as_str())?;
-    // The old one is judged first.
-    reviews(rt, DIFF, text, "user bob\n\nshow\n", old.as_str())?;
-    reviews(
-        rt,
-        DIFF,
-        "x",
-        text,
-        "refused\none: fault line 1 1 BadLine\n",
-    )
+    refused_as_old(rt, text, fault)?;
+    refused_as_new(rt, text, fault)?;
+    let printed = "refused\none: fault line 1 1 BadLine\n";
+    reviews(rt, DIFF, "x", text, printed)
 }
 
 #[test]

@@ -1,64 +1,86 @@
 //! The edits that make a new policy of an old one, typed at a console.
 
 use crate::review::chance::edits;
-use crate::review::inputs::{reviewed, reviews};
+use crate::review::inputs::{printed, reviewed, reviews};
 use pol_edit::{apply, apply_all, read_edit};
 use pol_text::Policy;
-use std::alloc::Global;
+use std::alloc::{AllocError, Global};
+use std::ops::Range;
 use std::process::Abort;
 use std::test::Fail;
 use tac_console::{Action, Batch, Notice, read_console};
 use tac_review::Review;
 
-// A line of the console is taken: no edit of a batch is refused.
-fn types<R: Abort + AllocGlobal>(
+// An action of a batch is done to the policy: no edit is refused.
+fn does<R: Abort + AllocGlobal>(
     rt: &R,
     policy: &mut Policy,
-    batch: &mut Batch,
+    action: &Action,
     line: &str,
 ) -> Result<(), Fail> {
-    let alloc = rt.alloc();
-    let asked = read_console(alloc, line.as_bytes())?;
-    let action = batch.take(alloc, asked)?;
-    match &action {
-        Action::Commit(edits) => apply_all(alloc, policy, edits.as_slice())?,
+    match action {
+        Action::Commit(edits) => apply_all(rt.alloc(), policy, edits.as_slice())?,
         Action::Tell(Notice::Done | Notice::Kept(_)) => {}
         _ => assert!(rt; false, "{line} isn't of a batch"),
     }
     Ok(())
 }
 
-// The edits that are printed make a policy of which none are left to the new one.
-fn loads<R: Abort + AllocGlobal>(rt: &R, old: &str, new: &str) -> Result<(), Fail> {
-    let alloc = rt.alloc();
-    let found = reviewed(alloc, Review::Edits, old, new)?;
-    let mut policy = Policy::read(alloc, old.as_bytes())?;
-    let mut batch = Batch::closed();
-    // the first line says how the review ended
-    for line in found.lines().skip(1) {
-        types(rt, &mut policy, &mut batch, line)?;
-    }
-    let made = policy.print(alloc)?;
-    reviews(
-        rt,
-        Review::Edits,
-        str::from_utf8(made.as_slice())?,
-        new,
-        "done\n",
-    )
+// A line of the console is taken.
+fn types<R: Abort + AllocGlobal>(
+    rt: &R,
+    policy: &mut Policy,
+    batch: &mut Batch,
+    line: &str,
+) -> Result<(), Fail> {
+    let asked = read_console(rt.alloc(), line.as_bytes())?;
+    let action = batch.take(rt.alloc(), asked)?;
+    does(rt, policy, &action, line)
 }
 
-// The policy that edits by chance make, printed. Refused ones are passed over.
-fn drawn(alloc: Global, seed: u32) -> Result<String, Fail> {
-    let mut policy = Policy::new(alloc);
-    for line in edits(alloc, seed, 60)?.lines() {
-        let edit = read_edit(alloc, line.as_bytes())?;
-        let _ = apply(alloc, &mut policy, &edit);
+// All lines that a review printed are taken, but the first, which says how it ended.
+fn types_all<R: Abort + AllocGlobal>(rt: &R, policy: &mut Policy, lines: &str) -> Result<(), Fail> {
+    let mut batch = Batch::closed();
+    for line in lines.lines().skip(1) {
+        types(rt, policy, &mut batch, line)?;
     }
-    let text = policy.print(alloc)?;
-    let mut printed = String::new(alloc);
-    printed.push_str(str::from_utf8(text.as_slice())?)?;
-    Ok(printed)
+    Ok(())
+}
+
+// The policy that these lines make of the old one, printed.
+fn made<R: Abort + AllocGlobal>(rt: &R, old: &str, lines: &str) -> Result<String, Fail> {
+    let mut policy = Policy::read(rt.alloc(), old.as_bytes())?;
+    types_all(rt, &mut policy, lines)?;
+    printed(rt.alloc(), &policy)
+}
+
+// The edits that are printed make a policy of which none are left to the new one.
+fn loads<R: Abort + AllocGlobal>(rt: &R, old: &str, new: &str) -> Result<(), Fail> {
+    let found = reviewed(rt.alloc(), Review::Edits, old, new)?;
+    let made = made(rt, old, found.as_str())?;
+    reviews(rt, Review::Edits, made.as_str(), new, "done\n")
+}
+
+// Edits that are typed so are made. Refused ones are passed over.
+fn edit_by(alloc: Global, policy: &mut Policy, lines: &str) -> Result<(), Fail> {
+    for line in lines.lines() {
+        let edit = read_edit(alloc, line.as_bytes())?;
+        let _ = apply(alloc, policy, &edit);
+    }
+    Ok(())
+}
+
+// The policy that these edits make, printed.
+fn edited(alloc: Global, lines: &str) -> Result<String, Fail> {
+    let mut policy = Policy::new(alloc);
+    edit_by(alloc, &mut policy, lines)?;
+    printed(alloc, &policy)
+}
+
+// The policy that edits by chance make, printed.
+fn drawn(alloc: Global, seed: u32) -> Result<String, Fail> {
+    let lines = edits(alloc, seed, 60)?;
+    edited(alloc, lines.as_str())
 }
 
 #[test]
@@ -187,12 +209,23 @@ group t in s
     loads(&rt, new, CHAINS)
 }
 
-// The text of a group and as many users of it as there may be.
-fn full(alloc: Global, group: &str) -> Result<String, Fail> {
-    let mut text = format!(in alloc; "group {group}\n")?;
-    for user in 1..1024_u32 {
+// The lines of these users, all of whom are in the group.
+fn push_users(
+    alloc: Global,
+    text: &mut String,
+    users: Range<u32>,
+    group: &str,
+) -> Result<(), AllocError> {
+    for user in users {
         text.push_str(format!(in alloc; "user u{user} in {group}\n")?.as_str())?;
     }
+    Ok(())
+}
+
+// The text of a group and as many users of it as there may be.
+fn full(alloc: Global, group: &str) -> Result<String, AllocError> {
+    let mut text = format!(in alloc; "group {group}\n")?;
+    push_users(alloc, &mut text, 1..1024, group)?;
     Ok(text)
 }
 
@@ -204,12 +237,18 @@ fn a_full_policy(rt: HostRuntime) -> Result<(), Fail> {
     loads(&rt, old.as_str(), new.as_str())
 }
 
-// A group with as many rules as it may have, which begin so.
-fn ruled(alloc: Global, word: &str) -> Result<String, Fail> {
-    let mut text = format!(in alloc; "group g\n")?;
+// As many rules as a group may have, which begin so.
+fn push_rules(alloc: Global, text: &mut String, word: &str) -> Result<(), AllocError> {
     for rule in 0..256_u32 {
         text.push_str(format!(in alloc; "permit {word} {rule}\n")?.as_str())?;
     }
+    Ok(())
+}
+
+// A group with these rules.
+fn ruled(alloc: Global, word: &str) -> Result<String, AllocError> {
+    let mut text = format!(in alloc; "group g\n")?;
+    push_rules(alloc, &mut text, word)?;
     Ok(text)
 }
 
@@ -220,23 +259,24 @@ fn all_rules_of_a_group(rt: HostRuntime) -> Result<(), Fail> {
     loads(&rt, old.as_str(), new.as_str())
 }
 
+// The text of a policy, with eighty more users, who are in this group.
+fn with_eighty(alloc: Global, text: &str, group: &str) -> Result<String, AllocError> {
+    let mut whole = String::new(alloc);
+    whole.push_str(text)?;
+    push_users(alloc, &mut whole, 0..80, group)?;
+    Ok(whole)
+}
+
 // Below `heavy`, after the first batch, `low` has the rules of `far` above it and of `here`, which
 // neither policy puts together.
 #[test]
 fn too_large_in_between(rt: HostRuntime) -> Result<(), Fail> {
-    let alloc = rt.alloc();
-    let mut old = String::new(alloc);
-    old.push_str(
-        "group q\ndeny .*b........\ngroup o\ngroup x\ngroup y in x\ngroup z in y\ngroup s in o\nuser t in s\ndeny .*a........\n",
-    )?;
-    let mut new = String::new(alloc);
-    new.push_str(
-        "group q\ndeny .*b........\ngroup o\ngroup x\ngroup y in x\ngroup z in y\ngroup s in q\nuser t in z\ndeny .*a........\n",
-    )?;
-    for user in 0..80_u32 {
-        old.push_str(format!(in alloc; "user u{user} in o\n")?.as_str())?;
-        new.push_str(format!(in alloc; "user u{user} in y\n")?.as_str())?;
-    }
+    let old =
+        "group q\ndeny .*b........\ngroup o\ngroup x\ngroup y in x\ngroup z in y\ngroup s in o\nuser t in s\ndeny .*a........\n";
+    let new =
+        "group q\ndeny .*b........\ngroup o\ngroup x\ngroup y in x\ngroup z in y\ngroup s in q\nuser t in z\ndeny .*a........\n";
     let wanted = "refused\nbatch 1: refused 11 TooManyStates user t\n";
+    let old = with_eighty(rt.alloc(), old, "o")?;
+    let new = with_eighty(rt.alloc(), new, "y")?;
     reviews(&rt, Review::Edits, old.as_str(), new.as_str(), wanted)
 }
