@@ -6,7 +6,7 @@ use std::alloc::{AllocError, Global};
 use std::fmt::Write;
 use std::process::Abort;
 use std::test::Fail;
-use tac_conn::{Answer, Ask, By, Conn, Name, Proof, Record, Sent, Step, SubjectId};
+use tac_conn::{Answer, Ask, By, Conn, Name, Proof, Record, Step, SubjectId};
 use tac_wire::{Frame, Header, Key, pad_in_place};
 
 /// The key of all conversations.
@@ -17,102 +17,128 @@ fn key() -> Result<Key, Fail> {
     }
 }
 
-// The packet that is written so, with the pad put on.
-fn frame<R: AllocGlobal>(rt: &R, text: &str) -> Result<Frame, Fail> {
-    let packet = packet(rt.alloc(), &key()?, text)?;
+// The frame of these bytes.
+fn frame_of(alloc: Global, packet: &[u8]) -> Result<Frame, Fail> {
     let Some((header, body)) = packet.split_first_chunk::<12>() else {
         return Err(Fail::from("no packet"));
     };
     Ok(Frame {
         header: Header::read(header),
-        body: Bytes::from_slice(rt.alloc(), body)?,
+        body: Bytes::from_slice(alloc, body)?,
     })
 }
 
-// A packet that is sent, in hexadecimal digits, with the pad taken off, and whether the connection
-// closes.
-fn spelled<R: AllocGlobal>(rt: &R, sent: Sent, closes: bool) -> Result<String, Fail> {
-    let mut bytes = Vec::from_slice(rt.alloc(), sent.as_slice())?;
-    let Some((header, body)) = bytes.split_first_chunk_mut::<12>() else {
+// The packet that is written so, with the pad put on.
+fn frame<R: AllocGlobal>(rt: &R, text: &str) -> Result<Frame, Fail> {
+    let packet = packet(rt.alloc(), &key()?, text)?;
+    frame_of(rt.alloc(), packet.as_slice())
+}
+
+// Takes the pad off a packet.
+fn unpad(packet: &mut [u8]) -> Result<(), Fail> {
+    let Some((header, body)) = packet.split_first_chunk_mut::<12>() else {
         return Err(Fail::from("no packet"));
     };
     pad_in_place(&Header::read(header), &key()?, body);
-    let mut text = hex::encode(rt.alloc(), bytes.as_slice())?;
+    Ok(())
+}
+
+// Adds a packet in hexadecimal digits, with the pad taken off.
+fn push_unpadded(text: &mut String, packet: &mut [u8]) -> Result<(), Fail> {
+    unpad(packet)?;
+    for byte in packet {
+        write!(text, "{byte:02x}")?;
+    }
+    Ok(())
+}
+
+// Adds a packet that is sent.
+fn push_packet(text: &mut String, alloc: Global, packet: &[u8]) -> Result<(), Fail> {
+    let mut packet = Vec::from_slice(alloc, packet)?;
+    push_unpadded(text, packet.as_mut_slice())
+}
+
+// The same, and whether the connection closes.
+fn push_sent(text: &mut String, alloc: Global, packet: &[u8], closes: bool) -> Result<(), Fail> {
+    push_packet(text, alloc, packet)?;
     if closes {
         text.push_str(" closes")?;
     }
-    Ok(text)
+    Ok(())
 }
 
-// What is asked, in short.
-fn asked<R: AllocGlobal>(rt: &R, ask: &Ask) -> Result<String, Fail> {
-    let mut text = String::new(rt.alloc());
-    match ask {
+// Adds who asks to be let in, for what, and by what.
+fn push_login(text: &mut String, user: &[u8], service: u8, proof: &Proof) -> Result<(), Fail> {
+    let user = str::from_utf8(user)?;
+    let secret = match proof {
+        Proof::Plain(secret) => str::from_utf8(secret.as_slice())?,
+        Proof::Chap { .. } => "(chap)",
+    };
+    write!(text, "{user} {service} {secret}: ")?;
+    Ok(())
+}
+
+// Adds who asks to run which line.
+fn push_command(text: &mut String, user: &[u8], line: &[u8]) -> Result<(), Fail> {
+    let user = str::from_utf8(user)?;
+    let line = str::from_utf8(line)?;
+    write!(text, "{user}: {line}: ")?;
+    Ok(())
+}
+
+// Adds what is to be recorded.
+fn push_record(text: &mut String, record: &Record) -> Result<(), Fail> {
+    let user = str::from_utf8(record.user.as_slice())?;
+    let task = str::from_utf8(record.task.as_slice())?;
+    let line = match &record.line {
+        Some(line) => str::from_utf8(line.as_slice())?,
+        None => "(no line)",
+    };
+    let kind = record.kind;
+    let elapsed = record.elapsed;
+    write!(text, "{user} {kind:?} {task} {elapsed} {line}: ")?;
+    Ok(())
+}
+
+// Adds what is asked, in short.
+fn push_asked(text: &mut String, ask: Ask) -> Result<(), Fail> {
+    match &ask {
         Ask::Authenticate {
             user,
             service,
             proof,
-        } => {
-            let user = str::from_utf8(user.as_slice())?;
-            let service = service.0;
-            let secret = match proof {
-                Proof::Plain(secret) => str::from_utf8(secret.as_slice())?,
-                Proof::Chap { .. } => "(chap)",
-            };
-            write!(text, "{user} {service} {secret}: ")?;
-        }
-        Ask::Authorise { user, line } => {
-            let user = str::from_utf8(user.as_slice())?;
-            let line = str::from_utf8(line.as_slice())?;
-            write!(text, "{user}: {line}: ")?;
-        }
-        Ask::Account(record) => {
-            let Record {
-                user,
-                kind,
-                task,
-                elapsed,
-                line,
-            } = record;
-            let user = str::from_utf8(user.as_slice())?;
-            let task = str::from_utf8(task.as_slice())?;
-            let line = match line {
-                Some(line) => str::from_utf8(line.as_slice())?,
-                None => "(no line)",
-            };
-            write!(text, "{user} {kind:?} {task} {elapsed} {line}: ")?;
-        }
+        } => push_login(text, user.as_slice(), service.0, proof),
+        Ask::Authorise { user, line } => push_command(text, user.as_slice(), line.as_slice()),
+        Ask::Account(record) => push_record(text, record),
     }
-    Ok(text)
 }
 
-// What is said to a packet: what is asked, where the desk is, and what is sent, where it answers so.
-fn said<R: AllocGlobal>(
+// Adds what is said to a packet: what is asked, where the desk is, and what is sent, where it
+// answers so.
+fn push_said<R: AllocGlobal>(
     rt: &R,
     conn: &mut Conn,
+    text: &mut String,
     packet: &str,
     answer: Answer,
-) -> Result<String, Fail> {
-    let frame = frame(rt, packet)?;
+) -> Result<(), Fail> {
     if conn.pending().is_some() {
         return Err(Fail::from("an answer is due"));
     }
-    let text = match conn.take(&key()?, frame)? {
-        Step::Reply(sent, closes) => spelled(rt, sent, closes)?,
+    let key = key()?;
+    match conn.take(&key, frame(rt, packet)?)? {
+        Step::Reply(sent, closes) => push_sent(text, rt.alloc(), sent.as_slice(), closes),
         Step::Asks(ask, slot) => {
-            let mut text = asked(rt, &ask)?;
+            push_asked(text, ask)?;
             if answer.kind() != slot.kind() {
                 return Err(Fail::from("no answer to this"));
             }
-            let (sent, closes) = conn.give(&key()?, slot, answer);
-            let reply = spelled(rt, sent, closes)?;
-            text.push_str(reply.as_str())?;
-            text
+            let (sent, closes) = conn.give(&key, slot, answer);
+            push_sent(text, rt.alloc(), sent.as_slice(), closes)
         }
-        Step::Silent => String::from_str(rt.alloc(), "silent")?,
-        Step::Close => String::from_str(rt.alloc(), "close")?,
-    };
-    Ok(text)
+        Step::Silent => Ok(text.push_str("silent")?),
+        Step::Close => Ok(text.push_str("close")?),
+    }
 }
 
 // The answer of a desk that a word names.
@@ -141,33 +167,51 @@ fn is_said<R: Abort + AllocGlobal>(rt: &R, said: &str, line: &str) -> Result<(),
     Ok(())
 }
 
+// Hands the connection the packet of a line, and adds what is said to it; or compares the line with
+// what was said.
+fn hears<R: Abort + AllocGlobal>(
+    rt: &R,
+    conn: &mut Conn,
+    said: &mut String,
+    line: &str,
+) -> Result<(), Fail> {
+    if line.is_empty() || line.starts_with('#') {
+        return Ok(());
+    }
+    let Some(packet) = line.strip_prefix("> ") else {
+        is_said(rt, said.as_str(), line)?;
+        said.clear();
+        return Ok(());
+    };
+    assert!(rt; said.is_empty(), "no answer is wanted before {line}");
+    let (word, packet) = packet.split_once(' ').ok_or("no packet")?;
+    push_said(rt, conn, said, packet, answer(word)?)
+}
+
+// The same of each line.
+fn hears_each<R: Abort + AllocGlobal>(
+    rt: &R,
+    conn: &mut Conn,
+    said: &mut String,
+    paragraph: &str,
+) -> Result<(), Fail> {
+    for line in paragraph.lines() {
+        hears(rt, conn, said, line.trim_start())?;
+    }
+    assert!(rt; said.is_empty(), "no answer is wanted at the end");
+    Ok(())
+}
+
 // Holds conversations. A paragraph is a connection, to which a line `> ANSWER PACKET` hands a
 // packet, ANSWER being what the desk would say to it. After each stands what is said: what is
 // asked, before a colon, and what is sent. A line that begins with `#` is a comment.
 fn converses<R: Abort + AllocGlobal>(rt: &R, text: &str) -> Result<(), Fail> {
-    let mut conn = Conn::new(rt.alloc());
-    let mut heard = None;
-    for line in text.lines() {
-        let line = line.trim_start();
-        if line.starts_with('#') {
-            continue;
-        }
-        if let Some(said) = heard.take() {
-            let said: String = said;
-            is_said(rt, said.as_str(), line)?;
-        } else if let Some(packet) = line.strip_prefix("> ") {
-            let (word, text) = packet.split_once(' ').ok_or("no packet")?;
-            heard = Some(said(rt, &mut conn, text, answer(word)?)?);
-        } else if line.is_empty() {
-            conn = Conn::new(rt.alloc());
-        } else {
-            return Err(Fail::from("nothing was said"));
-        }
+    for paragraph in text.split("\n\n") {
+        let mut conn = Conn::new(rt.alloc());
+        let mut said = String::new(rt.alloc());
+        hears_each(rt, &mut conn, &mut said, paragraph)?;
     }
-    match heard {
-        Some(_) => Err(Fail::from("no answer is wanted")),
-        None => Ok(()),
-    }
+    Ok(())
 }
 
 #[test]
@@ -234,9 +278,8 @@ fn sessions_side_by_side(rt: HostRuntime) -> Result<(), Fail> {
     )
 }
 
-// Sixteen logins, and what the rest of the conversation then finds.
-fn sixteen_logins(alloc: Global, rest: &str) -> Result<String, AllocError> {
-    let mut text = String::new(alloc);
+// Adds sixteen logins, and what the rest of the conversation then finds.
+fn push_logins(text: &mut String, rest: &str) -> Result<(), AllocError> {
     for session in 1..=16 {
         writeln!(
             text,
@@ -247,14 +290,14 @@ fn sixteen_logins(alloc: Global, rest: &str) -> Result<String, AllocError> {
             "c0010204.{session:08x}.00000010.0501000a0000'Password: '"
         )?;
     }
-    text.push_str(rest)?;
-    Ok(text)
+    text.push_str(rest)
 }
 
 #[test]
 fn seventeen_sessions(rt: HostRuntime) -> Result<(), Fail> {
-    let text = sixteen_logins(
-        rt.alloc(),
+    let mut text = String::new(rt.alloc());
+    push_logins(
+        &mut text,
         "> pass c0010104.00000011.0000000b.0101010103000000'bob'
         c0010204.00000011.00000017.070000110000'too many sessions'
         # A client that gives up gets no answer, and its session makes room.

@@ -28,33 +28,40 @@ fn bytes(alloc: Global) -> Result<Vec<u8>, AllocError> {
     Ok(bytes)
 }
 
-// Reads them by these calls.
-fn reads<R: Abort + AllocGlobal>(rt: &R, letters: &str, bytes: &[u8]) -> Result<(), Fail> {
+// Whether they are read by these calls.
+fn is_read(alloc: Global, letters: &str, bytes: &[u8]) -> Result<bool, Fail> {
     let mut reader = Reader {
         letters: letters.as_bytes(),
         text: bytes,
     };
-    let input = read_whole(rt.alloc(), &mut reader, COUNT)?;
-    assert!(rt; input.as_slice() == bytes);
-    assert!(rt; reader.letters.is_empty());
-    Ok(())
+    let input = read_whole(alloc, &mut reader, COUNT)?;
+    Ok(input.as_slice() == bytes && reader.letters.is_empty())
 }
 
-// Sends them by these calls.
-fn sends<R: Abort + AllocGlobal>(rt: &R, letters: &str, bytes: &[u8]) {
-    let mut writer = Writer::new(rt.alloc(), letters);
+// Whether they are sent by these calls.
+fn is_sent(alloc: Global, letters: &str, bytes: &[u8]) -> bool {
+    let mut writer = Writer::new(alloc, letters);
     let (sent, outcome) = send(&mut writer, bytes);
-    assert!(rt; outcome.is_ok());
-    assert_eq!(rt; sent, COUNT);
-    assert!(rt; writer.taken.as_slice() == bytes);
-    assert!(rt; writer.letters.is_empty());
+    outcome.is_ok()
+        && sent == COUNT
+        && writer.taken.as_slice() == bytes
+        && writer.letters.is_empty()
+}
+
+// Reads them by these calls, and sends them.
+fn reads_and_sends<R: Abort + AllocGlobal>(
+    rt: &R,
+    letters: &str,
+    bytes: &[u8],
+) -> Result<(), Fail> {
+    assert!(rt; is_read(rt.alloc(), letters, bytes)?);
+    assert!(rt; is_sent(rt.alloc(), letters, bytes));
+    Ok(())
 }
 
 #[test]
 fn a_byte_at_a_time(rt: HostRuntime) -> Result<(), Fail> {
     let letters = calls(rt.alloc())?;
     let bytes = bytes(rt.alloc())?;
-    reads(&rt, letters.as_str(), bytes.as_slice())?;
-    sends(&rt, letters.as_str(), bytes.as_slice());
-    Ok(())
+    reads_and_sends(&rt, letters.as_str(), bytes.as_slice())
 }

@@ -1,5 +1,6 @@
 //! Inputs that come in parts, are interrupted, fail, or are too long.
 
+use std::alloc::Global;
 use std::io::{self, ErrorKind, Read};
 use std::process::Abort;
 use tac_io::{InputFault, read_whole};
@@ -34,25 +35,33 @@ impl Read for Scripted<'_> {
     }
 }
 
-// Reads a text of eight bytes up to a bound. Wanted are how many are read, or the fault.
+// Reads a text of eight bytes up to a bound. Whether so many are read, or there is this fault.
+fn is_read(alloc: Global, letters: &str, bound: usize, wanted: Result<usize, InputFault>) -> bool {
+    let text = b"abcdefgh";
+    let mut reader = Scripted {
+        letters: letters.as_bytes(),
+        text,
+    };
+    match read_whole(alloc, &mut reader, bound) {
+        Ok(input) => match wanted {
+            Ok(n) => input.as_slice() == &text[..n.min(8)],
+            Err(_) => false,
+        },
+        Err(fault) => wanted == Err(fault),
+    }
+}
+
+// Reads it by these letters, so that it ends as is wanted.
 fn reads<R: Abort + AllocGlobal>(
     rt: &R,
     letters: &str,
     bound: usize,
     wanted: Result<usize, InputFault>,
 ) {
-    let text = b"abcdefgh";
-    let mut reader = Scripted {
-        letters: letters.as_bytes(),
-        text,
-    };
-    match (read_whole(rt.alloc(), &mut reader, bound), wanted) {
-        (Ok(input), Ok(n)) => {
-            assert!(rt; input.as_slice() == &text[..n.min(8)], "by {letters:?}");
-        }
-        (Ok(_), Err(fault)) => assert!(rt; false, "by {letters:?}: not {fault}"),
-        (Err(fault), wanted) => assert_eq!(rt; Err(fault), wanted, "by {letters:?}"),
-    }
+    assert!(rt;
+        is_read(rt.alloc(), letters, bound, wanted),
+        "by {letters:?}"
+    );
 }
 
 #[test]

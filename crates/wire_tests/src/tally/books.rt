@@ -5,6 +5,7 @@ use basics::{Bytes, Sequence};
 use pol_names::Name;
 use pol_text::Policy;
 use std::alloc::{AllocError, Global};
+use std::fmt::Write;
 use std::process::Abort;
 use std::test::Fail;
 use tac_tally::{AcctKind, Book, Record, StoreFault, Tally};
@@ -24,8 +25,16 @@ fn kind(word: &str) -> AcctKind {
 }
 
 // The bytes of a field; `_` is the empty text.
-fn field(alloc: Global, word: &str) -> Result<Bytes, AllocError> {
-    Bytes::from_slice(alloc, if word == "_" { b"" } else { word.as_bytes() })
+fn field(word: &str) -> &[u8] {
+    if word == "_" { b"" } else { word.as_bytes() }
+}
+
+// The line of a record; the empty text is none.
+fn line_of(alloc: Global, line: &str) -> Result<Option<Bytes>, AllocError> {
+    if line.is_empty() {
+        return Ok(None);
+    }
+    Ok(Some(Bytes::from_slice(alloc, line.as_bytes())?))
 }
 
 // The record that `USER KIND TASK SECONDS` tells, and a line, where one follows.
@@ -34,14 +43,38 @@ fn record(alloc: Global, words: &str) -> Result<Record, Fail> {
     let (verb, rest) = word(rest);
     let (task, rest) = word(rest);
     let (seconds, line) = word(rest);
-    let text = Bytes::from_slice(alloc, line.as_bytes())?;
+    let elapsed = seconds.parse::<u32>()?;
     Ok(Record {
-        user: field(alloc, user)?,
+        user: Bytes::from_slice(alloc, field(user))?,
         kind: kind(verb),
-        task: field(alloc, task)?,
-        elapsed: seconds.parse::<u32>()?,
-        line: if text.is_empty() { None } else { Some(text) },
+        task: Bytes::from_slice(alloc, field(task))?,
+        elapsed,
+        line: line_of(alloc, line)?,
     })
+}
+
+// Adds these users.
+fn push_users(alloc: Global, users: &mut Sequence<Bytes>, names: &str) -> Result<(), AllocError> {
+    for name in names.split(' ') {
+        users.push(Bytes::from_slice(alloc, name.as_bytes())?)?;
+    }
+    Ok(())
+}
+
+// Adds what a tally counts.
+fn push_tally(text: &mut String, tally: Tally) -> Result<(), Fail> {
+    let Tally {
+        starts,
+        stops,
+        watchdogs,
+        updates,
+        open_tasks,
+        elapsed,
+        drift,
+    } = tally;
+    write!(text, "{starts} {stops} {watchdogs} {updates}")?;
+    write!(text, " {open_tasks} {elapsed} {drift}")?;
+    Ok(())
 }
 
 fn name(text: &str) -> Result<Name, Fail> {
@@ -61,80 +94,60 @@ struct Bench {
 
 impl Bench {
     fn new(alloc: Global, policy: &str, limit: usize) -> Result<Bench, Fail> {
+        let policy = Policy::read(alloc, policy.as_bytes())?;
         Ok(Bench {
             alloc,
             book: Book::new(alloc, limit),
-            policy: Policy::read(alloc, policy.as_bytes())?,
+            policy,
         })
     }
 
-    fn text(&self, text: &str) -> Result<String, Fail> {
-        Ok(String::from_str(self.alloc, text)?)
-    }
-
-    fn store(&mut self, words: &str, denied: bool) -> Result<String, Fail> {
+    fn store(&mut self, words: &str, denied: bool, out: &mut String) -> Result<(), Fail> {
         let record = record(self.alloc, words)?;
         match self.book.store(record, denied) {
-            Ok(()) => self.text("stored"),
-            Err(StoreFault::Full) => self.text("full"),
+            Ok(()) => Ok(out.push_str("stored")?),
+            Err(StoreFault::Full) => Ok(out.push_str("full")?),
             Err(StoreFault::Memory) => Err(Fail::from("no memory")),
         }
     }
 
-    fn shown(&self, tally: Tally) -> Result<String, Fail> {
-        let Tally {
-            starts,
-            stops,
-            watchdogs,
-            updates,
-            open_tasks,
-            elapsed,
-            drift,
-        } = tally;
-        let counts = format!(in self.alloc; "{starts} {stops} {watchdogs} {updates}")?;
-        let text = format!(in self.alloc; "{counts} {open_tasks} {elapsed} {drift}")?;
-        Ok(text)
+    fn tally(&self, user: &str, out: &mut String) -> Result<(), Fail> {
+        push_tally(out, self.book.tally(field(user)))
     }
 
-    fn tally(&self, user: &str) -> Result<String, Fail> {
-        let user = field(self.alloc, user)?;
-        self.shown(self.book.tally(user.as_slice()))
-    }
-
-    fn group(&self, group: &str) -> Result<String, Fail> {
+    fn group(&self, group: &str, out: &mut String) -> Result<(), Fail> {
         let group = name(group)?;
-        self.shown(self.book.group_tally(self.alloc, &self.policy, &group)?)
+        let tally = self.book.group_tally(self.alloc, &self.policy, &group)?;
+        push_tally(out, tally)
     }
 
-    fn recount(&mut self, names: &str) -> Result<String, Fail> {
+    fn recount(&mut self, names: &str, out: &mut String) -> Result<(), Fail> {
         let mut users = Sequence::new(self.alloc);
-        for name in names.split(' ') {
-            users.push(Bytes::from_slice(self.alloc, name.as_bytes())?)?;
-        }
+        push_users(self.alloc, &mut users, names)?;
         let recount = recount_by(self.alloc, &self.book, users.as_slice(), &self.policy)?;
         self.book.settle(recount);
-        self.text("settled")
+        out.push_str("settled")?;
+        Ok(())
     }
 
     // The kinds of the records in order, and what is true of their number.
-    fn records(&self) -> Result<String, Fail> {
-        let mut text = self.text(if self.book.is_full() { "full" } else { "room" })?;
+    fn records(&self, out: &mut String) -> Result<(), Fail> {
+        out.push_str(if self.book.is_full() { "full" } else { "room" })?;
         for record in self.book.records() {
-            let kind = format!(in self.alloc; " {:?}", record.kind)?;
-            text.push_str(kind.as_str())?;
+            write!(out, " {:?}", record.kind)?;
         }
-        Ok(text)
+        Ok(())
     }
 
-    fn answer(&mut self, line: &str) -> Result<String, Fail> {
+    fn answer(&mut self, line: &str, out: &mut String) -> Result<(), Fail> {
         let (verb, rest) = word(line);
         match verb {
-            "store" => self.store(rest, false),
-            "mark" => self.store(rest, true),
-            "tally" => self.tally(rest),
-            "group" => self.group(rest),
-            "recount" => self.recount(rest),
-            "records" => self.records(),
+            "store" => self.store(rest, false, out),
+            "mark" => self.store(rest, true, out),
+            "tally" => self.tally(rest, out),
+            "group" => self.group(rest, out),
+            "recount" => self.recount(rest, out),
+            "records" => self.records(out),
             _ => Err(Fail::from("nothing is asked")),
         }
     }
@@ -143,7 +156,8 @@ impl Bench {
 // Does with a book what a line says to the left of its `=`, and compares the answer.
 fn is_answered<R: Abort>(rt: &R, bench: &mut Bench, line: &str) -> Result<(), Fail> {
     let (asked, wanted) = line.split_once(" = ").ok_or("no answer is wanted")?;
-    let answer = bench.answer(asked)?;
+    let mut answer = String::new(bench.alloc);
+    bench.answer(asked, &mut answer)?;
     assert_eq!(rt; answer.as_str(), wanted, "to {asked}");
     Ok(())
 }
@@ -273,25 +287,35 @@ fn marks_anew(rt: HostRuntime) -> Result<(), Fail> {
     )
 }
 
+// The user's tally is so many starts.
+fn has_started<R: Abort + AllocGlobal>(rt: &R, bench: &mut Bench, size: usize) -> Result<(), Fail> {
+    let tally = format!(in rt.alloc(); "tally bob = {size} 0 0 0 1 0 0")?;
+    is_answered(rt, bench, tally.as_str())
+}
+
 // Stores one more record, and counts them.
 fn has_room<R: Abort + AllocGlobal>(rt: &R, bench: &mut Bench, size: usize) -> Result<(), Fail> {
     is_answered(rt, bench, "mark bob start 1 0 ping = stored")?;
     assert_eq!(rt; bench.book.len(), size);
-    let tally = format!(in rt.alloc(); "tally bob = {size} 0 0 0 1 0 0")?;
-    is_answered(rt, bench, tally.as_str())?;
+    has_started(rt, bench, size)?;
     is_answered(rt, bench, "group bob = 0 0 0 0 0 0 0")
+}
+
+// Stores and counts until the book is full.
+fn fills<R: Abort + AllocGlobal>(rt: &R, bench: &mut Bench) -> Result<(), Fail> {
+    assert!(rt; bench.book.is_empty());
+    for size in 1..=300 {
+        has_room(rt, bench, size)?;
+    }
+    assert_eq!(rt; bench.book.limit(), 300);
+    is_answered(rt, bench, "store bob start 1 0 = full")
 }
 
 // Storing and counting succeed with ample memory, whatever the size.
 #[test]
 fn books_of_many_sizes(rt: HostRuntime) -> Result<(), Fail> {
     let mut bench = Bench::new(rt.alloc(), "user bob\n", 300)?;
-    assert!(rt; bench.book.is_empty());
-    for size in 1..=300 {
-        has_room(&rt, &mut bench, size)?;
-    }
-    assert_eq!(rt; bench.book.limit(), 300);
-    is_answered(&rt, &mut bench, "store bob start 1 0 = full")
+    fills(&rt, &mut bench)
 }
 
 // Stores a record of each of so many users, and asks for each tally at once.
@@ -326,18 +350,12 @@ fn stores_of_one<R: Abort + AllocGlobal>(
     Ok(())
 }
 
-// Each record is counted as it comes, so asking each time costs no pass over the others.
-#[test]
-fn many_users(rt: HostRuntime) -> Result<(), Fail> {
-    let mut bench = Bench::new(
-        rt.alloc(),
-        "user u7\npermit .*\nuser u9\npermit show\n",
-        20_001,
-    )?;
-    stores_of_each(&rt, &mut bench, 20_000)?;
+// Stores a record of each of many users, and then what fills the book.
+fn works_for_many<R: Abort + AllocGlobal>(rt: &R, bench: &mut Bench) -> Result<(), Fail> {
+    stores_of_each(rt, bench, 20_000)?;
     answers(
-        &rt,
-        &mut bench,
+        rt,
+        bench,
         "
         store u7 stop 1 3 show = stored
         recount u7 u9 = settled
@@ -351,13 +369,23 @@ fn many_users(rt: HostRuntime) -> Result<(), Fail> {
     )
 }
 
+// Each record is counted as it comes, so asking each time costs no pass over the others.
 #[test]
-fn many_records_of_a_user(rt: HostRuntime) -> Result<(), Fail> {
-    let mut bench = Bench::new(rt.alloc(), "group all\nuser bob in all\n", 20_005)?;
-    stores_of_one(&rt, &mut bench, 20_000)?;
+fn many_users(rt: HostRuntime) -> Result<(), Fail> {
+    let mut bench = Bench::new(
+        rt.alloc(),
+        "user u7\npermit .*\nuser u9\npermit show\n",
+        20_001,
+    )?;
+    works_for_many(&rt, &mut bench)
+}
+
+// Stores many records of one user, and then what others there are.
+fn works_for_one<R: Abort + AllocGlobal>(rt: &R, bench: &mut Bench) -> Result<(), Fail> {
+    stores_of_one(rt, bench, 20_000)?;
     answers(
-        &rt,
-        &mut bench,
+        rt,
+        bench,
         "
         store bob stop 17 5 show = stored
         store bob stop 17 5 show = stored
@@ -371,4 +399,10 @@ fn many_records_of_a_user(rt: HostRuntime) -> Result<(), Fail> {
         tally eve = 1 0 0 0 1 0 0
         ",
     )
+}
+
+#[test]
+fn many_records_of_a_user(rt: HostRuntime) -> Result<(), Fail> {
+    let mut bench = Bench::new(rt.alloc(), "group all\nuser bob in all\n", 20_005)?;
+    works_for_one(&rt, &mut bench)
 }

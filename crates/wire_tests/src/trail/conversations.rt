@@ -18,17 +18,22 @@ fn key() -> Result<Key, Fail> {
     }
 }
 
-// The line of what is told, by a time and a device that are made up.
-fn line_bytes(alloc: Global, noted: Noted) -> Result<Vec<u8>, AllocError> {
-    let event = Event {
-        time: Bytes::from_slice(alloc, b"t")?,
-        device: Bytes::from_slice(alloc, b"d")?,
-        session: noted.session,
-        told: noted.told,
-    };
-    let mut line = Vec::new(alloc);
-    push_event(&mut line, &event)?;
-    Ok(line)
+// A time and a device that are made up.
+fn made_up(alloc: Global) -> Result<(Bytes, Bytes), AllocError> {
+    let time = Bytes::from_slice(alloc, b"t")?;
+    let device = Bytes::from_slice(alloc, b"d")?;
+    Ok((time, device))
+}
+
+// What is told, by these two.
+fn event_of(time: Bytes, device: Bytes, noted: Noted) -> Event {
+    let Noted { session, told } = noted;
+    Event {
+        time,
+        device,
+        session,
+        told,
+    }
 }
 
 // Such a line without the two.
@@ -40,10 +45,23 @@ fn without_head(line: &[u8]) -> Result<&str, Fail> {
     }
 }
 
-fn push_line(text: &mut String, alloc: Global, noted: Noted) -> Result<(), Fail> {
-    let line = line_bytes(alloc, noted)?;
+// Adds the line of an event, by way of bytes that are lent for it.
+fn push_by(text: &mut String, line: &mut Vec<u8>, event: &Event) -> Result<(), Fail> {
+    push_event(line, event)?;
     text.push_str(without_head(line.as_slice())?)?;
     Ok(())
+}
+
+// Adds the line of an event.
+fn push_event_line(text: &mut String, alloc: Global, event: &Event) -> Result<(), Fail> {
+    let mut line = Vec::new(alloc);
+    push_by(text, &mut line, event)
+}
+
+// The line of what is told.
+fn push_line(text: &mut String, alloc: Global, noted: Noted) -> Result<(), Fail> {
+    let (time, device) = made_up(alloc)?;
+    push_event_line(text, alloc, &event_of(time, device, noted))
 }
 
 // The lines of what is told.
@@ -77,30 +95,28 @@ fn takes<R: AllocGlobal>(
     Ok(())
 }
 
-// What is told where a packet that is written so is sent.
-fn notes_of<R: AllocGlobal>(
-    rt: &R,
-    trail: &mut Trail,
-    text: &str,
-) -> Result<Result<Vec<Noted>, TrailFault>, Fail> {
-    let packet = packet(rt.alloc(), &key()?, text)?;
-    let noted = trail.replies(&key()?, packet.as_slice());
-    Ok(noted.map(Sequence::into_vec))
-}
-
 // Adds what is told, or the fault.
 fn push_notes(
     heard: &mut String,
     alloc: Global,
-    notes: Result<Vec<Noted>, TrailFault>,
+    notes: Result<Sequence<Noted>, TrailFault>,
 ) -> Result<(), Fail> {
     match notes {
-        Ok(notes) => push_lines(heard, alloc, notes),
-        Err(fault) => {
-            writeln!(heard, "{fault:?}")?;
-            Ok(())
-        }
+        Ok(notes) => push_lines(heard, alloc, notes.into_vec()),
+        Err(fault) => Ok(writeln!(heard, "{fault:?}")?),
     }
+}
+
+// Adds what is told where a packet that is written so is sent.
+fn sends<R: AllocGlobal>(
+    rt: &R,
+    trail: &mut Trail,
+    heard: &mut String,
+    text: &str,
+) -> Result<(), Fail> {
+    let key = key()?;
+    let packet = packet(rt.alloc(), &key, text)?;
+    push_notes(heard, rt.alloc(), trail.replies(&key, packet.as_slice()))
 }
 
 // Adds what is told at an event: `> PACKET` comes, `< PACKET` is sent, or the connection ends.
@@ -115,15 +131,31 @@ fn hears<R: AllocGlobal>(
     if let Some(digits) = event.strip_prefix("> ") {
         return takes(rt, trail, digits, one_by_one);
     }
-    let notes = match event.strip_prefix("< ") {
-        Some(digits) => notes_of(rt, trail, digits)?,
-        None => trail.ended(&key()?).map(Sequence::into_vec),
-    };
-    push_notes(heard, rt.alloc(), notes)
+    match event.strip_prefix("< ") {
+        Some(digits) => sends(rt, trail, heard, digits),
+        None => push_notes(heard, rt.alloc(), trail.ended(&key()?)),
+    }
 }
 
 fn is_event(line: &str) -> bool {
     line.starts_with('>') || line.starts_with('<') || line == "ends"
+}
+
+// Adds what is heard at the events among these lines.
+fn hears_each<R: AllocGlobal>(
+    rt: &R,
+    trail: &mut Trail,
+    heard: &mut String,
+    paragraph: &str,
+    one_by_one: bool,
+) -> Result<(), Fail> {
+    for line in paragraph.lines() {
+        let line = line.trim_start();
+        if is_event(line) {
+            hears(rt, trail, heard, line, one_by_one)?;
+        }
+    }
+    Ok(())
 }
 
 // A connection, of whose paragraph these are the lines; what is heard is added.
@@ -134,13 +166,7 @@ fn connects<R: AllocGlobal>(
     one_by_one: bool,
 ) -> Result<(), Fail> {
     let mut trail = Trail::new(rt.alloc());
-    for line in paragraph.lines() {
-        let line = line.trim_start();
-        if is_event(line) {
-            hears(rt, &mut trail, heard, line, one_by_one)?;
-        }
-    }
-    Ok(())
+    hears_each(rt, &mut trail, heard, paragraph, one_by_one)
 }
 
 // The lines of a paragraph that are no comments. One that begins with a comma continues the one
@@ -160,14 +186,31 @@ fn push_wanted(wanted: &mut String, paragraph: &str) -> Result<(), Fail> {
     Ok(())
 }
 
+// What is wanted of a connection, and what is heard.
+fn hears_wanted<R: AllocGlobal>(
+    rt: &R,
+    wanted: &mut String,
+    heard: &mut String,
+    paragraph: &str,
+    one_by_one: bool,
+) -> Result<(), Fail> {
+    push_wanted(wanted, paragraph)?;
+    connects(rt, heard, paragraph, one_by_one)
+}
+
+// A connection is heard as is wanted of it.
+fn is_heard<R: Abort + AllocGlobal>(rt: &R, paragraph: &str, one_by_one: bool) -> Result<(), Fail> {
+    let mut wanted = String::new(rt.alloc());
+    let mut heard = String::new(rt.alloc());
+    let outcome = hears_wanted(rt, &mut wanted, &mut heard, paragraph, one_by_one);
+    assert_eq!(rt; heard.as_str(), wanted.as_str());
+    outcome
+}
+
 // A paragraph is a connection, and after each event stand the lines that are told then.
 fn converses<R: Abort + AllocGlobal>(rt: &R, text: &str, one_by_one: bool) -> Result<(), Fail> {
     for paragraph in text.split("\n\n") {
-        let mut wanted = String::new(rt.alloc());
-        push_wanted(&mut wanted, paragraph)?;
-        let mut heard = String::new(rt.alloc());
-        connects(rt, &mut heard, paragraph, one_by_one)?;
-        assert_eq!(rt; heard.as_str(), wanted.as_str());
+        is_heard(rt, paragraph, one_by_one)?;
     }
     Ok(())
 }

@@ -2,8 +2,8 @@
 
 use crate::wire::cases::{answers, bytes, shown, told};
 use crate::wire::requests::arguments;
-use basics::Bytes;
-use std::alloc::Global;
+use basics::{Bytes, Sequence};
+use std::alloc::{AllocError, Global};
 use std::test::Fail;
 use tac_request::{
     AcctKind, AcctRequest, Record, acct_kind, read_acct_reply, read_acct_request, write_acct_reply,
@@ -49,13 +49,14 @@ pub(crate) fn accounting_reply(alloc: Global, body: &str) -> Result<String, Fail
 // The kind that flags mean, without those that have no meaning and with them.
 pub(crate) fn kind(alloc: Global, given: &str) -> Result<String, Fail> {
     let flags = bytes(alloc, given)?;
-    let [flags] = flags.as_slice() else {
-        return Err(Fail::from("not one byte"));
-    };
-    told(alloc, (acct_kind(*flags), acct_kind(*flags | 0xf0)))
+    match flags.as_slice() {
+        [flags] => told(alloc, (acct_kind(*flags), acct_kind(*flags | 0xf0))),
+        _ => Err(Fail::from("not one byte")),
+    }
 }
 
-fn record_of(alloc: Global, user: Bytes, args: &str) -> Result<Record, Fail> {
+// What is recorded at the end of a task, by this user with these arguments.
+fn record_of(alloc: Global, user: Bytes, args: Sequence<Bytes>) -> Result<Record, AllocError> {
     let request = AcctRequest {
         flags: 4,
         authen_method: 6,
@@ -65,15 +66,13 @@ fn record_of(alloc: Global, user: Bytes, args: &str) -> Result<Record, Fail> {
         user,
         port: Bytes::new(alloc),
         rem_addr: Bytes::new(alloc),
-        args: arguments(alloc, args)?,
+        args,
     };
-    Ok(Record::from_request(alloc, request, AcctKind::Stop)?)
+    Record::from_request(alloc, request, AcctKind::Stop)
 }
 
-// What is recorded of bob's arguments: seconds, task, and the line, where there is one.
-pub(crate) fn record(alloc: Global, given: &str) -> Result<String, Fail> {
-    let bob = Bytes::from_slice(alloc, b"bob")?;
-    let record = record_of(alloc, bob, given)?;
+// What is recorded: seconds, task, and the line, where there is one.
+fn shown_record(alloc: Global, record: &Record) -> Result<String, Fail> {
     if record.user.as_slice() != b"bob".as_slice() || record.kind != AcctKind::Stop {
         return Err(Fail::from("another's record"));
     }
@@ -84,9 +83,17 @@ pub(crate) fn record(alloc: Global, given: &str) -> Result<String, Fail> {
     }
 }
 
+// What is recorded of bob's arguments.
+pub(crate) fn record(alloc: Global, given: &str) -> Result<String, Fail> {
+    let args = arguments(alloc, given)?;
+    let bob = Bytes::from_slice(alloc, b"bob")?;
+    let record = record_of(alloc, bob, args)?;
+    shown_record(alloc, &record)
+}
+
 // The user of a record.
 pub(crate) fn user(alloc: Global, given: &str) -> Result<String, Fail> {
-    let record = record_of(alloc, bytes(alloc, given)?, "")?;
+    let record = record_of(alloc, bytes(alloc, given)?, Sequence::new(alloc))?;
     shown(alloc, &[], &[record.user.as_slice()], &[])
 }
 

@@ -50,6 +50,18 @@ fn push_numbers(text: &mut String, numbers: &[u32]) -> Result<(), Fail> {
     Ok(())
 }
 
+// Adds all three, each after a blank.
+fn push_shown(
+    text: &mut String,
+    numbers: &[u32],
+    fields: &[&[u8]],
+    arguments: &[Bytes],
+) -> Result<(), Fail> {
+    push_numbers(text, numbers)?;
+    push_fields(text, fields)?;
+    push_arguments(text, arguments)
+}
+
 /// An answer of numbers, fields and arguments, each after a blank.
 pub(crate) fn shown(
     alloc: Global,
@@ -58,9 +70,7 @@ pub(crate) fn shown(
     arguments: &[Bytes],
 ) -> Result<String, Fail> {
     let mut text = String::new(alloc);
-    push_numbers(&mut text, numbers)?;
-    push_fields(&mut text, fields)?;
-    push_arguments(&mut text, arguments)?;
+    push_shown(&mut text, numbers, fields, arguments)?;
     Ok(text)
 }
 

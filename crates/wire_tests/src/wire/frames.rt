@@ -2,8 +2,7 @@
 
 ghost use Rattle.std.specs.Prelude.{◌<◌};
 
-use basics::Bytes;
-use std::alloc::{AllocError, Global};
+use std::alloc::AllocError;
 use std::process::Abort;
 use std::test::Fail;
 use tac_wire::{FrameFault, Framer, Next, chap_response};
@@ -12,33 +11,57 @@ use tac_wire::{FrameFault, Framer, Next, chap_response};
 const STREAM: &[u8] =
     b"\xc0\x02\x01\x00\x00\x00\x00\x01\x00\x00\x00\x03abc\xc1\x01\x01\x04\x00\x00\x00\x02\x00\x00\x00\x00";
 
+// Whether this is a packet of this session and body, or what a word stands for.
+fn is_next(next: &Next, session: u32, text: &[u8]) -> bool {
+    match next {
+        Next::Packet(frame) => frame.header.session == session && frame.body.as_slice() == text,
+        Next::Need => session == 0 && text == b"(need)".as_slice(),
+        Next::Fault(_) => session == 0 && text == b"(fault)".as_slice(),
+        Next::Ended => session == 0 && text == b"(ended)".as_slice(),
+    }
+}
+
 // What the framer tells next: a packet's session and body, or a word for all else.
-fn told<R: Abort + AllocGlobal>(
-    rt: &R,
-    framer: &mut Framer,
-    session: u32,
-    text: &[u8],
-) -> Result<(), Fail> {
-    let (number, body) = match framer.next()? {
-        Next::Packet(frame) => (frame.header.session, frame.body),
-        Next::Need => (0, Bytes::from_slice(rt.alloc(), b"(need)")?),
-        Next::Fault(_) => (0, Bytes::from_slice(rt.alloc(), b"(fault)")?),
-        Next::Ended => (0, Bytes::from_slice(rt.alloc(), b"(ended)")?),
-    };
-    assert_eq!(rt; number, session);
-    assert!(rt; body.as_slice() == text);
+fn told<R: Abort>(rt: &R, framer: &mut Framer, session: u32, text: &[u8]) -> Result<(), Fail> {
+    let next = framer.next()?;
+    assert!(rt; is_next(&next, session, text), "{session} {text:?}");
     Ok(())
+}
+
+// The session of the next packet, if it is whole.
+fn next_session(framer: &mut Framer) -> Result<Option<u32>, Fail> {
+    match framer.next()? {
+        Next::Packet(frame) => Ok(Some(frame.header.session)),
+        _ => Ok(None),
+    }
 }
 
 // Adds the sessions of the packets that are whole, of at most three.
 fn push_sessions(framer: &mut Framer, sessions: &mut Vec<u32>) -> Result<(), Fail> {
     for _ in 0..3 {
-        match framer.next()? {
-            Next::Packet(frame) => sessions.push(frame.header.session)?,
-            _ => return Ok(()),
+        match next_session(framer)? {
+            Some(session) => sessions.push(session)?,
+            None => return Ok(()),
         }
     }
     Ok(())
+}
+
+// Both packets come in pieces of this size.
+fn takes_pieces<R: Abort>(
+    rt: &R,
+    framer: &mut Framer,
+    sessions: &mut Vec<u32>,
+    size: usize,
+) -> Result<(), Fail>
+    requires { 0 < size }
+{
+    for piece in STREAM.chunks(size) {
+        framer.feed(piece)?;
+        push_sessions(framer, sessions)?;
+    }
+    assert!(rt; sessions.as_slice() == [1, 2].as_slice());
+    told(rt, framer, 0, b"(need)")
 }
 
 fn comes_in_pieces<R: Abort + AllocGlobal>(rt: &R, size: usize) -> Result<(), Fail>
@@ -46,12 +69,7 @@ fn comes_in_pieces<R: Abort + AllocGlobal>(rt: &R, size: usize) -> Result<(), Fa
 {
     let mut framer = Framer::new(rt.alloc());
     let mut sessions = Vec::new(rt.alloc());
-    for piece in STREAM.chunks(size) {
-        framer.feed(piece)?;
-        push_sessions(&mut framer, &mut sessions)?;
-    }
-    assert!(rt; sessions.as_slice() == [1, 2].as_slice());
-    told(rt, &mut framer, 0, b"(need)")
+    takes_pieces(rt, &mut framer, &mut sessions, size)
 }
 
 #[test]
@@ -62,31 +80,59 @@ fn pieces_of_any_size(rt: HostRuntime) -> Result<(), Fail> {
     Ok(())
 }
 
+// Packets are told as soon as they are whole.
+fn waits_for_nothing<R: Abort>(rt: &R, framer: &mut Framer) -> Result<(), Fail> {
+    told(rt, framer, 0, b"(need)")?;
+    framer.feed(&STREAM[..14])?;
+    told(rt, framer, 0, b"(need)")?;
+    framer.feed(&STREAM[14..])?;
+    told(rt, framer, 1, b"abc")?;
+    told(rt, framer, 2, b"")?;
+    told(rt, framer, 0, b"(need)")
+}
+
 #[test]
 fn a_packet_waits_for_nothing_after_it(rt: HostRuntime) -> Result<(), Fail> {
     let mut framer = Framer::new(rt.alloc());
-    told(&rt, &mut framer, 0, b"(need)")?;
-    framer.feed(&STREAM[..14])?;
-    told(&rt, &mut framer, 0, b"(need)")?;
-    framer.feed(&STREAM[14..])?;
-    told(&rt, &mut framer, 1, b"abc")?;
-    told(&rt, &mut framer, 2, b"")?;
-    told(&rt, &mut framer, 0, b"(need)")
+    waits_for_nothing(&rt, &mut framer)
 }
 
-fn refuses<R: Abort + AllocGlobal>(rt: &R, header: &[u8], fault: FrameFault) -> Result<(), Fail> {
-    let mut framer = Framer::new(rt.alloc());
-    framer.feed(&STREAM[..15])?;
-    framer.feed(header)?;
-    told(rt, &mut framer, 1, b"abc")?;
+// The framer tells this fault next.
+fn tells_fault<R: Abort>(rt: &R, framer: &mut Framer, fault: FrameFault) -> Result<(), Fail> {
     match framer.next()? {
         Next::Fault(found) => assert_eq!(rt; found, fault),
         _ => return Err(Fail::from("no fault")),
     }
+    Ok(())
+}
+
+// After a packet the header is refused with this fault, which ends the stream.
+fn ends_by<R: Abort>(
+    rt: &R,
+    framer: &mut Framer,
+    header: &[u8],
+    fault: FrameFault,
+) -> Result<(), Fail> {
+    framer.feed(&STREAM[..15])?;
+    framer.feed(header)?;
+    told(rt, framer, 1, b"abc")?;
+    tells_fault(rt, framer, fault)?;
     // It is told once, and nothing is kept from then on.
-    told(rt, &mut framer, 0, b"(ended)")?;
+    told(rt, framer, 0, b"(ended)")?;
     framer.feed(STREAM)?;
-    told(rt, &mut framer, 0, b"(ended)")
+    told(rt, framer, 0, b"(ended)")
+}
+
+// The same of a new framer.
+fn refuses<R: Abort + AllocGlobal>(rt: &R, header: &[u8], fault: FrameFault) -> Result<(), Fail> {
+    let mut framer = Framer::new(rt.alloc());
+    ends_by(rt, &mut framer, header, fault)
+}
+
+// The body of this header is waited for.
+fn waits<R: Abort>(rt: &R, framer: &mut Framer, header: &[u8]) -> Result<(), Fail> {
+    framer.feed(header)?;
+    told(rt, framer, 0, b"(need)")
 }
 
 #[test]
@@ -128,8 +174,8 @@ fn headers_that_end_a_stream(rt: HostRuntime) -> Result<(), Fail> {
     }
     // The longest body is waited for; other flags don't matter.
     let mut framer = Framer::new(rt.alloc());
-    framer.feed(b"\xc0\x01\x01\xfe\x00\x00\x00\x01\x00\x02\x00\x03")?;
-    told(&rt, &mut framer, 0, b"(need)")
+    let longest = b"\xc0\x01\x01\xfe\x00\x00\x00\x01\x00\x02\x00\x03";
+    waits(&rt, &mut framer, longest)
 }
 
 // How many packets are whole, of at most three.
@@ -153,32 +199,51 @@ fn packets_of(framer: &mut Framer, text: &[u8]) -> Result<u64, Fail> {
     Ok(count)
 }
 
-// Twenty-five packets, each of a body of 52 bytes.
-fn small_packets(alloc: Global) -> Result<Vec<u8>, AllocError> {
-    let mut text = Vec::new(alloc);
+// Adds twenty-five packets, each of a body of 52 bytes.
+fn push_small_packets(text: &mut Vec<u8>) -> Result<(), AllocError> {
     for _ in 0..25 {
         text.extend_from_slice(b"\xc0\x02\x01\x00\x00\x00\x00\x01\x00\x00\x00\x34")?;
         text.extend_from_slice(&[b'x'; 52])?;
     }
-    Ok(text)
+    Ok(())
 }
 
-// Of 100 million bytes it keeps few: what it shows of itself is short.
-fn keeps_few<R: Abort + AllocGlobal>(rt: &R, text: &[u8]) -> Result<(), Fail> {
-    let mut framer = Framer::new(rt.alloc());
+// How many packets become whole by 62,500 such texts.
+fn many_packets_of(framer: &mut Framer, text: &[u8]) -> Result<u64, Fail> {
     let mut count: u64 = 0;
     for _ in 0..62_500 {
-        count = count.saturating_add(packets_of(&mut framer, text)?);
+        count = count.saturating_add(packets_of(framer, text)?);
     }
-    assert_eq!(rt; count, 1_562_500);
+    Ok(count)
+}
+
+// What the framer shows of itself is short.
+fn is_short<R: Abort + AllocGlobal>(rt: &R, framer: &Framer) -> Result<(), Fail> {
     let shown = format!(in rt.alloc(); "{framer:?}")?;
     assert!(rt; shown.len() < 10_000, "{} bytes", shown.len());
     Ok(())
 }
 
+// The framer takes very many packets, and is short then.
+fn takes_many<R: Abort + AllocGlobal>(
+    rt: &R,
+    framer: &mut Framer,
+    text: &[u8],
+) -> Result<(), Fail> {
+    assert_eq!(rt; many_packets_of(framer, text)?, 1_562_500);
+    is_short(rt, framer)
+}
+
+// Of 100 million bytes it keeps few: what it shows of itself is short.
+fn keeps_few<R: Abort + AllocGlobal>(rt: &R, text: &[u8]) -> Result<(), Fail> {
+    let mut framer = Framer::new(rt.alloc());
+    takes_many(rt, &mut framer, text)
+}
+
 #[test]
 fn many_small_packets(rt: HostRuntime) -> Result<(), Fail> {
-    let text = small_packets(rt.alloc())?;
+    let mut text = Vec::new(rt.alloc());
+    push_small_packets(&mut text)?;
     keeps_few(&rt, text.as_slice())
 }
 

@@ -63,24 +63,35 @@ pub(crate) fn argument(alloc: Global, given: &str) -> Result<String, Fail> {
     }
 }
 
-/// The arguments that a text spells, with a bar between two; the empty text has none.
-pub(crate) fn arguments(alloc: Global, given: &str) -> Result<Sequence<Bytes>, Fail> {
-    let mut list = Sequence::new(alloc);
+// Adds the arguments that a text spells.
+fn push_arguments(alloc: Global, list: &mut Sequence<Bytes>, given: &str) -> Result<(), Fail> {
     for argument in given.split('|') {
         if !argument.is_empty() {
             list.push(bytes(alloc, argument)?)?;
         }
     }
+    Ok(())
+}
+
+/// The arguments that a text spells, with a bar between two; the empty text has none.
+pub(crate) fn arguments(alloc: Global, given: &str) -> Result<Sequence<Bytes>, Fail> {
+    let mut list = Sequence::new(alloc);
+    push_arguments(alloc, &mut list, given)?;
     Ok(list)
 }
 
-pub(crate) fn line(alloc: Global, given: &str) -> Result<String, Fail> {
-    let args = arguments(alloc, given)?;
-    match request_line(alloc, args.as_slice())? {
+// The line that arguments make.
+fn line_of(alloc: Global, args: &[Bytes]) -> Result<String, Fail> {
+    match request_line(alloc, args)? {
         LineOf::Line(line) => shown(alloc, &[], &[line.as_slice()], &[]),
         LineOf::BadArgument => told(alloc, "bad argument"),
         LineOf::NotShell => told(alloc, "not shell"),
     }
+}
+
+pub(crate) fn line(alloc: Global, given: &str) -> Result<String, Fail> {
+    let args = arguments(alloc, given)?;
+    line_of(alloc, args.as_slice())
 }
 
 #[test]

@@ -12,24 +12,40 @@ pub(crate) fn key(alloc: Global, given: &str) -> Result<String, Fail> {
     }
 }
 
-// `HEADER BODY`: the body with the pad on by the key `secret key`; taken off again, it is the body.
+// The header of these digits.
+fn header_of(alloc: Global, digits: &str) -> Result<Header, Fail> {
+    let header = bytes(alloc, digits)?;
+    match header.as_slice().split_first_chunk::<12>() {
+        Some((header, [])) => Ok(Header::read(header)),
+        _ => Err(Fail::from("no header")),
+    }
+}
+
+// The body with the pad on by the key `secret key`; taken off again, it is the body.
+fn padded(alloc: Global, header: &Header, clear: &[u8], body: &mut [u8]) -> Result<String, Fail> {
+    let key = Key::read(b"secret key").ok_or("no key")?;
+    pad_in_place(header, &key, body);
+    let text = shown(alloc, &[], &[body], &[])?;
+    pad_in_place(header, &key, body);
+    if &*body == clear {
+        Ok(text)
+    } else {
+        Err(Fail::from("another body"))
+    }
+}
+
+// The same of a body that is copied.
+fn shown_padded(alloc: Global, header: &Header, clear: &[u8]) -> Result<String, Fail> {
+    let mut body = Vec::from_slice(alloc, clear)?;
+    padded(alloc, header, clear, body.as_mut_slice())
+}
+
+// `HEADER BODY`: the body with the pad on.
 pub(crate) fn pad(alloc: Global, given: &str) -> Result<String, Fail> {
     let (header, body) = given.split_once(' ').ok_or("no body")?;
-    let header = bytes(alloc, header)?;
-    let Some((header, [])) = header.as_slice().split_first_chunk::<12>() else {
-        return Err(Fail::from("no header"));
-    };
-    let header = Header::read(header);
-    let key = Key::read(b"secret key").ok_or("no key")?;
+    let header = header_of(alloc, header)?;
     let clear = bytes(alloc, body)?;
-    let mut body = Vec::from_slice(alloc, clear.as_slice())?;
-    pad_in_place(&header, &key, &mut body);
-    let text = shown(alloc, &[], &[body.as_slice()], &[])?;
-    pad_in_place(&header, &key, &mut body);
-    if body.as_slice() != clear.as_slice() {
-        return Err(Fail::from("another body"));
-    }
-    Ok(text)
+    shown_padded(alloc, &header, clear.as_slice())
 }
 
 // The digests were worked out by Python's hashlib, by the formula of RFC 8907, section 4.5.
