@@ -131,65 +131,74 @@ fn denying_policies(rt: HostRuntime) -> Result<(), Fail> {
     Ok(())
 }
 
-#[test]
-fn faults_of_arguments(rt: HostRuntime) -> Result<(), Fail> {
-    let bad = "bad argument";
-    let unsupported = "unsupported service";
-    let cases: [(&[u8], &[&[u8]], &str); 9] = [
-        (b"bob", &[b"service=shell", b"cmd=show", b"version"], bad),
-        (b"bob", &[b"cmd", b"service=ppp"], bad),
-        (b"eve", &[b"service=shell", b""], bad),
-        (b"bob", &[], unsupported),
-        (b"bob", &[b"cmd=show"], unsupported),
-        (b"bob", &[b"service=shell"], unsupported),
-        (b"bob", &[b"service=shell", b"cmd-arg=version"], unsupported),
-        (b"bob", &[b"service=Shell", b"cmd=show"], unsupported),
-        // The first service counts, and it counts before the user.
-        (
-            b"eve",
-            &[b"service=ppp", b"service=shell", b"cmd=show"],
-            unsupported,
-        ),
-    ];
-    for (user, args, msg) in &cases {
-        refuses(&rt, OPS, user, args, msg)?;
+// A line `USER|MESSAGE|ARGUMENT|..`: what the user asks for by the arguments is refused so.
+fn refuses_line<R: Abort + AllocGlobal>(rt: &R, line: &str) -> Result<(), Fail> {
+    let (user, rest) = line.split_once('|').ok_or("no message")?;
+    let mut args = Vec::new(rt.alloc());
+    let mut msg = rest;
+    if let Some((first, listed)) = rest.split_once('|') {
+        msg = first;
+        for arg in listed.split('|') {
+            args.push(arg.as_bytes())?;
+        }
+    }
+    refuses(rt, OPS, user.as_bytes(), args.as_slice(), msg)
+}
+
+// The same of each line. One that begins with `#` is a comment.
+fn refuses_lines<R: Abort + AllocGlobal>(rt: &R, lines: &str) -> Result<(), Fail> {
+    for line in lines.lines() {
+        let line = line.trim_start();
+        if !line.is_empty() && !line.starts_with('#') {
+            refuses_line(rt, line)?;
+        }
     }
     Ok(())
 }
 
 #[test]
+fn faults_of_arguments(rt: HostRuntime) -> Result<(), Fail> {
+    refuses_lines(
+        &rt,
+        "
+        bob|bad argument|service=shell|cmd=show|version
+        bob|bad argument|cmd|service=ppp
+        eve|bad argument|service=shell|
+        bob|unsupported service
+        bob|unsupported service|cmd=show
+        bob|unsupported service|service=shell
+        bob|unsupported service|service=shell|cmd-arg=version
+        bob|unsupported service|service=Shell|cmd=show
+        # The first service counts, and it counts before the user.
+        eve|unsupported service|service=ppp|service=shell|cmd=show
+        ",
+    )
+}
+
+#[test]
 fn faults_of_users_and_lines(rt: HostRuntime) -> Result<(), Fail> {
-    let unknown = "unknown user";
-    let unprintable = "unprintable command";
-    let cases: [(&[u8], &[&[u8]], &str); 10] = [
-        (b"eve", &SHOW_VERSION_ARGS, unknown),
-        (b"ops", &SHOW_VERSION_ARGS, unknown),
-        (b"", &SHOW_VERSION_ARGS, unknown),
-        (b"bob ", &SHOW_VERSION_ARGS, unknown),
-        (&[b'b'; 33], &SHOW_VERSION_ARGS, unknown),
-        // The user is judged before the line.
-        (
-            b"eve",
-            &[b"service=shell", b"cmd=show", b"cmd-arg=\x07"],
-            unknown,
-        ),
-        (
-            b"bob",
-            &[b"service=shell", b"cmd=show", b"cmd-arg=\x07"],
-            unprintable,
-        ),
-        (b"bob", &[b"service=shell", b"cmd=\x7f"], unprintable),
-        (
-            b"bob",
-            &[b"service=shell", b"cmd=show", b"cmd-arg=\xc3\xa9"],
-            unprintable,
-        ),
-        (b"bob", &[b"service=shell", b"cmd=show\n"], unprintable),
-    ];
-    for (user, args, msg) in &cases {
-        refuses(&rt, OPS, user, args, msg)?;
-    }
-    Ok(())
+    refuses_lines(
+        &rt,
+        "
+        eve|unknown user|service=shell|cmd=show|cmd-arg=version
+        ops|unknown user|service=shell|cmd=show|cmd-arg=version
+        |unknown user|service=shell|cmd=show|cmd-arg=version
+        bob |unknown user|service=shell|cmd=show|cmd-arg=version
+        bbbbbbbbbbbbbbbbbbbbbbbbbbbbbbbbb|unknown user|service=shell|cmd=show|cmd-arg=version
+        # The user is judged before the line.
+        eve|unknown user|service=shell|cmd=show|cmd-arg=\u{7}
+        bob|unprintable command|service=shell|cmd=show|cmd-arg=\u{7}
+        bob|unprintable command|service=shell|cmd=\u{7f}
+        bob|unprintable command|service=shell|cmd=show|cmd-arg=\u{e9}
+        ",
+    )?;
+    refuses(
+        &rt,
+        OPS,
+        b"bob",
+        &[b"service=shell", b"cmd=show\n"],
+        "unprintable command",
+    )
 }
 
 // Bob may run what the pattern says, and asks for what the arguments say.

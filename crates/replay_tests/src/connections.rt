@@ -1,6 +1,6 @@
 //! What packets do to connections.
 
-use crate::support::{OPS, PERMITTED, SHOW_VERSION, SHOW_VERSION_PACKET, joined, packet, plays};
+use crate::support::{OPS, PERMITTED, SHOW_VERSION, SHOW_VERSION_PACKET, converses, packet, plays};
 use std::test::Fail;
 
 const OPENED: &str = "run\nopen 1\n";
@@ -71,50 +71,56 @@ fn the_longest_body(rt: HostRuntime) -> Result<(), Fail> {
 
 #[test]
 fn single_connections(rt: HostRuntime) -> Result<(), Fail> {
-    let first = "packet 1 c0020104.00000001.00000036";
-    let first_reply = "reply 1 c0020204.00000001.00000006.010000000000\n";
-    // It stays open. Neither the flag of a later packet nor a session that is over matters.
-    let script = [
-        "key k\n",
-        OPS,
-        OPENED,
-        first,
-        BODY,
-        "packet 1 c0020100.00000002.00000036",
-        BODY,
-        first,
-        BODY,
-    ];
-    plays(
+    converses(
         &rt,
-        &script,
-        "reply 1 c0020204.00000001.00000006.010000000000\n\
-         reply 1 c0020204.00000002.00000006.010000000000\n\
-         reply 1 c0020204.00000001.00000006.010000000000\n",
+        OPS,
+        "
+        # It stays open. Neither the flag of a later packet nor a session that is over matters.
+        packet 1 c0020104.00000001.00000036.06010101030400030d080f\
+         'bobtty0service=shellcmd=showcmd-arg=version'
+        reply 1 c0020204.00000001.00000006.010000000000
+        packet 1 c0020100.00000002.00000036.06010101030400030d080f\
+         'bobtty0service=shellcmd=showcmd-arg=version'
+        reply 1 c0020204.00000002.00000006.010000000000
+        packet 1 c0020104.00000001.00000036.06010101030400030d080f\
+         'bobtty0service=shellcmd=showcmd-arg=version'
+        reply 1 c0020204.00000001.00000006.010000000000
+
+        # A bad body, a type that isn't known and a version that isn't close it.
+        packet 1 c0020104.00000001.00000036.06010101030400030d080f\
+         'bobtty0service=shellcmd=showcmd-arg=version'
+        reply 1 c0020204.00000001.00000006.010000000000
+        packet 1 c0020104.00000002.00000001.00
+        reply 1 c0020204.00000002.0000000e.110000080000'bad body'
+        closed 1
+
+        packet 1 c0020104.00000001.00000036.06010101030400030d080f\
+         'bobtty0service=shellcmd=showcmd-arg=version'
+        reply 1 c0020204.00000001.00000006.010000000000
+        packet 1 c0090100.00000002.00000000
+        reply 1 c0090200.00000002.00000000
+        closed 1
+
+        packet 1 c0020104.00000001.00000036.06010101030400030d080f\
+         'bobtty0service=shellcmd=showcmd-arg=version'
+        reply 1 c0020204.00000001.00000006.010000000000
+        packet 1 c2020104.00000002.00000000
+        closed 1
+        ",
     )?;
-    // A refusal leaves it open too.
-    let script = ["key k\nuser bob\n", OPENED, first, BODY, first, BODY];
-    let denied = "reply 1 c0020204.00000001.00000017.100000110000'denied by default'\n";
-    let output = joined(&rt, &[denied, denied])?;
-    plays(&rt, &script, output.as_str())?;
-    // A bad body, a type that isn't known and a version that isn't close it.
-    let endings = [
-        (
-            "c0020104.00000002.00000001.00",
-            "reply 1 c0020204.00000002.0000000e.110000080000'bad body'\n",
-        ),
-        (
-            "c0090100.00000002.00000000",
-            "reply 1 c0090200.00000002.00000000\n",
-        ),
-        ("c2020104.00000002.00000000", ""),
-    ];
-    for (hex, reply) in &endings {
-        let output = joined(&rt, &[first_reply, reply, "closed 1\n"])?;
-        let script = ["key k\n", OPS, OPENED, first, BODY, "packet 1 ", hex, "\n"];
-        plays(&rt, &script, output.as_str())?;
-    }
-    Ok(())
+    converses(
+        &rt,
+        "user bob\n",
+        "
+        # A refusal leaves it open too.
+        packet 1 c0020104.00000001.00000036.06010101030400030d080f\
+         'bobtty0service=shellcmd=showcmd-arg=version'
+        reply 1 c0020204.00000001.00000017.100000110000'denied by default'
+        packet 1 c0020104.00000001.00000036.06010101030400030d080f\
+         'bobtty0service=shellcmd=showcmd-arg=version'
+        reply 1 c0020204.00000001.00000017.100000110000'denied by default'
+        ",
+    )
 }
 
 #[test]

@@ -1,6 +1,7 @@
 //! What is said at the console between packets, and what it changes for them.
 
 use crate::support::{BOB, OPS, converses, joined, plays};
+use std::process::Abort;
 use std::test::Fail;
 
 #[test]
@@ -195,49 +196,26 @@ fn decisions(rt: HostRuntime) -> Result<(), Fail> {
     )
 }
 
+// The line is refused at the console, and leaves the policy as it is.
+fn asks_nothing<R: Abort + AllocGlobal>(rt: &R, line: &str) -> Result<(), Fail> {
+    plays(
+        rt,
+        &["key k\n", BOB, "run\nconsole ", line, "\nconsole policy\n"],
+        "refused 1 BadEdit\npolicy 2\ngroup ops\npermit show .*\n\
+         user bob in ops\nlogin secret\n",
+    )
+}
+
+// Lines, with a bar between two. The last one is empty.
+const ASKING_NOTHING: &str = " |policy | policy|Policy|records 1|tally|tally |tally bob|tally user\
+    |tally user |tally user a b|tally host bob|why|why |why  bob|why b*b x|shadow group ops|reach\
+    |reach ops|quit|rotate|\u{e9}|why bob \t|run|key k|console policy|packet 1 00|open 2|begin \
+    | commit|abandon all|";
+
 #[test]
 fn lines_that_ask_nothing(rt: HostRuntime) -> Result<(), Fail> {
-    let lines = [
-        "",
-        " ",
-        "policy ",
-        " policy",
-        "Policy",
-        "records 1",
-        "tally",
-        "tally ",
-        "tally bob",
-        "tally user",
-        "tally user ",
-        "tally user a b",
-        "tally host bob",
-        "why",
-        "why ",
-        "why  bob",
-        "why b*b x",
-        "shadow group ops",
-        "reach",
-        "reach ops",
-        "quit",
-        "rotate",
-        "\u{e9}",
-        "why bob \t",
-        "run",
-        "key k",
-        "console policy",
-        "packet 1 00",
-        "open 2",
-        "begin ",
-        " commit",
-        "abandon all",
-    ];
-    for line in &lines {
-        plays(
-            &rt,
-            &["key k\n", BOB, "run\nconsole ", line, "\nconsole policy\n"],
-            "refused 1 BadEdit\npolicy 2\ngroup ops\npermit show .*\n\
-            user bob in ops\nlogin secret\n",
-        )?;
+    for line in ASKING_NOTHING.split('|') {
+        asks_nothing(&rt, line)?;
     }
     Ok(())
 }

@@ -341,10 +341,10 @@ fn refused_batches(rt: HostRuntime) -> Result<(), Fail> {
     )
 }
 
-#[test]
-fn a_batch_of_64(rt: HostRuntime) -> Result<(), Fail> {
-    let mut script = String::from_str(rt.alloc(), "key k\nrun\nconsole begin\n")?;
-    let mut output = String::from_str(rt.alloc(), "ok\n")?;
+// A batch of as many groups as it may keep, one more, a question, and what the desk says then.
+fn push_batch(script: &mut String, output: &mut String) -> Result<(), Fail> {
+    script.push_str("key k\nrun\nconsole begin\n")?;
+    output.push_str("ok\n")?;
     for number in 1..65 {
         writeln!(script, "console add group a{number}")?;
         writeln!(output, "kept {number}")?;
@@ -353,5 +353,13 @@ fn a_batch_of_64(rt: HostRuntime) -> Result<(), Fail> {
     output.push_str("refused 10 Limit\nrefused 2 NoSuch\nok\n")?;
     script.push_str("console reach group a64\nconsole reach group b\n")?;
     output.push_str("none\nrefused 2 NoSuch\n")?;
+    Ok(())
+}
+
+#[test]
+fn a_batch_of_64(rt: HostRuntime) -> Result<(), Fail> {
+    let mut script = String::new(rt.alloc());
+    let mut output = String::new(rt.alloc());
+    push_batch(&mut script, &mut output)?;
     plays(&rt, &[script.as_str()], output.as_str())
 }

@@ -101,38 +101,63 @@ fn packets_in_parts(rt: HostRuntime) -> Result<(), Fail> {
 
 #[test]
 fn headers_without_their_bodies(rt: HostRuntime) -> Result<(), Fail> {
-    // These close the connection, but not before their twelfth byte.
-    let closing = [
-        "d001010000000001000000\nbytes 1 01",
-        "b001010000000001000000\nbytes 1 01",
-        "c201010000000001000000\nbytes 1 01",
-        "cf01010400000001000000\nbytes 1 01",
-        "c001010100000001000000\nbytes 1 01",
-        "c002010500000001000000\nbytes 1 01",
-        "c10901ff00000001000000\nbytes 1 01",
-        "c001010000000001000200\nbytes 1 04",
-        "c009010400000001ffffff\nbytes 1 ff",
-    ];
-    for header in &closing {
-        let text = joined(&rt, &["bytes 1 ", header, "\nclosed 1\n"])?;
-        converses(&rt, BOB, text.as_str())?;
-    }
-    // These wait for their bodies, whatever is wrong with them.
-    let waiting = [
-        "c0010100.00000001.00020003",
-        "c10101fe.00000001.00000002",
-        "c0010300.00000001.00000002",
-        "c0020000.00000001.00000002",
-        "c009ff00.00000001.00000002",
-    ];
-    for header in &waiting {
-        let text = joined(&rt, &["bytes 1 ", header, "\nbytes 1 00\n"])?;
-        converses(&rt, BOB, text.as_str())?;
-    }
     converses(
         &rt,
         BOB,
         "
+        # These close the connection, but not before their twelfth byte.
+        bytes 1 d001010000000001000000
+        bytes 1 01
+        closed 1
+
+        bytes 1 b001010000000001000000
+        bytes 1 01
+        closed 1
+
+        bytes 1 c201010000000001000000
+        bytes 1 01
+        closed 1
+
+        bytes 1 cf01010400000001000000
+        bytes 1 01
+        closed 1
+
+        bytes 1 c001010100000001000000
+        bytes 1 01
+        closed 1
+
+        bytes 1 c002010500000001000000
+        bytes 1 01
+        closed 1
+
+        bytes 1 c10901ff00000001000000
+        bytes 1 01
+        closed 1
+
+        bytes 1 c001010000000001000200
+        bytes 1 04
+        closed 1
+
+        bytes 1 c009010400000001ffffff
+        bytes 1 ff
+        closed 1
+
+        # These wait for their bodies, whatever is wrong with them.
+        bytes 1 c0010100.00000001.00020003
+        bytes 1 00
+
+        bytes 1 c10101fe.00000001.00000002
+        bytes 1 00
+
+        bytes 1 c0010300.00000001.00000002
+        bytes 1 00
+
+        bytes 1 c0020000.00000001.00000002
+        bytes 1 00
+
+        bytes 1 c009ff00.00000001.00000002
+        bytes 1 00
+
         bytes 1 c00901000000000100000001
         bytes 1 ff
         reply 1 c0090200.00000001.00000000
