@@ -18,7 +18,6 @@ use std::marker::Model;
 
 /// Entries, each a pattern, of which a [`Decider`](crate::Decider) is to be made. Patterns are read
 /// where they lie: what is kept of one is the terms of its flat form.
-#[derive(Drop)]
 pub struct Entries {
     alloc: Global,
     alphabet: Alphabet,
@@ -26,6 +25,19 @@ pub struct Entries {
     // the residual of each entry by the empty text
     start: Vec<EntryTerm>,
     count: usize,
+}
+
+// By hand, so that a proof of an owner has one call at each exit, not a drop of each field.
+impl Drop for Entries {
+    fn drop(self) {
+        let Entries {
+            alloc: _,
+            alphabet: _,
+            terms: _,
+            start: _,
+            count: _,
+        } = self;
+    }
 }
 
 impl Model for Entries {

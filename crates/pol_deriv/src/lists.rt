@@ -15,10 +15,19 @@ struct Span {
 }
 
 /// Lists of numbers, in order. A contract sees the list of them.
-#[derive(Drop)]
 pub(crate) struct Lists {
     spans: Vec<Span>,
     numbers: Vec<Number>,
+}
+
+// By hand, so that a proof of an owner has one call at each exit, not a drop of each field.
+impl Drop for Lists {
+    fn drop(self) {
+        let Lists {
+            spans: _,
+            numbers: _,
+        } = self;
+    }
 }
 
 impl Model for Lists {

@@ -7,7 +7,7 @@ use pol_names::{Name, SubjectId, Verdict};
 
 /// An edit. Secrets and patterns are kept as they were written, and judged when the edit is
 /// applied; rules are counted from 1.
-#[derive(Debug, Drop, PartialEq, Eq)]
+#[derive(Debug, PartialEq, Eq)]
 pub enum Edit {
     /// Adds a group, last, without rules.
     AddGroup {
@@ -61,6 +61,39 @@ pub enum Edit {
         from: u16,
         to: u16,
     },
+}
+
+// By hand, so that a proof of an owner has one call at each exit, not a drop of each field.
+impl Drop for Edit {
+    fn drop(self) {
+        match self {
+            Edit::AddGroup { name: _, parent: _ } => {}
+            Edit::AddUser { name: _, parent: _ } => {}
+            Edit::Remove { subject: _ } => {}
+            Edit::SetParent {
+                subject: _,
+                parent: _,
+            } => {}
+            Edit::SetLogin { user: _, secret: _ } => {}
+            Edit::SetEnable { user: _, secret: _ } => {}
+            Edit::SetPriv {
+                subject: _,
+                level: _,
+            } => {}
+            Edit::InsertRule {
+                subject: _,
+                at: _,
+                verdict: _,
+                pattern: _,
+            } => {}
+            Edit::RemoveRule { subject: _, at: _ } => {}
+            Edit::MoveRule {
+                subject: _,
+                from: _,
+                to: _,
+            } => {}
+        }
+    }
 }
 
 impl StructuralEq for Edit {

@@ -27,12 +27,22 @@ use std::slice;
 
 /// Edits that were judged, with all that making them takes. A contract sees the policy that they
 /// were prepared on, and the one that they make.
-#[derive(Drop)]
 pub struct Prepared {
     before: Policy,
     after: Live,
     // one of them must be on a subject's chain for its rules to have changed
     touched: Sequence<SubjectId>,
+}
+
+// By hand, so that a proof of an owner has one call at each exit, not a drop of each field.
+impl Drop for Prepared {
+    fn drop(self) {
+        let Prepared {
+            before: _,
+            after: _,
+            touched: _,
+        } = self;
+    }
 }
 
 impl Model for Prepared {
@@ -131,11 +141,23 @@ impl Live {
         requires { prepared.before ≡ self.old }
         ensures { self.new ≡ prepared.after }
     {
-        *self = prepared.after;
+        *self = prepared.into_live();
     }
 }
 
 impl Prepared {
+    // The policy that the edits make, with its automata.
+    fn into_live(self) -> Live
+        ensures { result ≡ self.after }
+    {
+        let Prepared {
+            before: _,
+            after,
+            touched: _,
+        } = self;
+        after
+    }
+
     /// Whether the edit was prepared on the present policy. Compares the policies, and takes no
     /// memory.
     pub fn fits(&self, live: &Live) -> bool

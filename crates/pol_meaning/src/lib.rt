@@ -7,13 +7,24 @@ use pol_names::{Name, SubjectId};
 
 /// A user to whom a change of the policy permits a line that was denied, or denies one that was
 /// permitted.
-#[derive(Debug, Drop, PartialEq, Eq)]
+#[derive(Debug, PartialEq, Eq)]
 pub struct Changed {
     pub user: Name,
     /// The least line that is permitted now and was denied before, if there is one.
     pub permits: Option<Bytes>,
     /// The least line that is denied now and was permitted before, if there is one.
     pub denies: Option<Bytes>,
+}
+
+// By hand, so that a proof of an owner has one call at each exit, not a drop of each field.
+impl Drop for Changed {
+    fn drop(self) {
+        let Changed {
+            user: _,
+            permits: _,
+            denies: _,
+        } = self;
+    }
 }
 
 impl StructuralEq for Changed {

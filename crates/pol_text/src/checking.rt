@@ -4,15 +4,14 @@ ghost use Rattle.std.specs.Prelude.{◌≡◌, ◌<◌, Ok, Err, length, map, sl
 ghost use Rattle.std.specs.Prelude.{MatchResult};
 ghost use Rattle.std.specs.List.{zip};
 ghost use Rattle.std.specs.Option.{option_map_or};
-ghost use Rattle.pol_text.specs.Draft.{RightDraft, first_failing};
+ghost use Rattle.pol_text.specs.Draft.{first_failing};
 ghost use Rattle.pol_text.specs.Policy.{id_of};
 ghost use Rattle.pol_text.specs.Policy.{has_parent as parent_test};
 ghost use Rattle.pol_text.specs.Policy.{ends_within as chain_ends_within};
-ghost use Rattle.pol_text.specs.Text.{IsUnlessMemory, with_right_chains};
+ghost use Rattle.pol_text.specs.Text.{with_right_chains};
 ghost use Rattle.pol_text.specs.declared.fault.PolicyFault.TheVariants.{Refused};
 
 use crate::chains::{ends_within, find_in};
-use crate::draft::Draft;
 use crate::fault::{PolicyFault, PolicyRefusal};
 use crate::policy::Policy;
 use crate::subject::Subject;
@@ -81,7 +80,7 @@ fn refuse(
 }
 
 // Each over all subjects in order: its parent is among them, its chain ends, and ends within 8.
-fn check_chains(
+pub(crate) fn check_chains(
     lines: &[usize],
     subjects: &Sequence<Subject>,
     places: &IndexSet<SubjectId>,
@@ -99,18 +98,4 @@ fn check_chains(
     let deep = first_longer(subjects, places, Policy::MAX_CHAIN);
     refuse(lines, deep, PolicyRefusal::TooDeep)?;
     Ok(())
-}
-
-/// The policy that the draft is.
-pub(crate) fn finish(draft: Draft) -> Result<Policy, PolicyFault>
-    requires { RightDraft draft }
-    ensures { IsUnlessMemory (λ policy. policy) result (with_right_chains draft) }
-{
-    let Draft {
-        lines,
-        subjects,
-        places,
-    } = draft;
-    check_chains(&lines, &subjects, &places)?;
-    Ok(Policy { subjects, places })
 }

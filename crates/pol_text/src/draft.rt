@@ -3,11 +3,13 @@
 ghost use Rattle.std.specs.Prelude.{◌≡◌, ◌++◌, ◌∷◌, [], OnOk};
 ghost use Rattle.std.specs.List.{list_any};
 ghost use Rattle.pol_names.specs.SubjectId.{same_id};
-ghost use Rattle.pol_text.specs.Draft.{LineGives, place_given};
+ghost use Rattle.pol_text.specs.Draft.{LineGives, RightDraft, place_given};
 ghost use Rattle.pol_text.specs.Setting.{changed_by};
-ghost use Rattle.pol_text.specs.Text.{with_subject, with_present};
+ghost use Rattle.pol_text.specs.Text.{IsUnlessMemory, with_subject, with_present};
+ghost use Rattle.pol_text.specs.Text.{with_right_chains};
 
-use crate::fault::{LineFault, PolicyRefusal};
+use crate::checking::check_chains;
+use crate::fault::{LineFault, PolicyFault, PolicyRefusal};
 use crate::policy::Policy;
 use crate::setting::Setting;
 use crate::subject::Subject;
@@ -19,13 +21,23 @@ use std::marker::Model;
 
 /// The subjects read so far in order, each with the line that it begins at. A subject may name a
 /// parent that is still to come, so chains are judged at the end.
-#[derive(Drop)]
 pub(crate) struct Draft {
     pub(crate) lines: Vec<usize>,
     // in the same order
     pub(crate) subjects: Sequence<Subject>,
     // the subjects' kinds and names, in the same order
     pub(crate) places: IndexSet<SubjectId>,
+}
+
+// By hand, so that a proof of an owner has one call at each exit, not a drop of each field.
+impl Drop for Draft {
+    fn drop(self) {
+        let Draft {
+            lines: _,
+            subjects: _,
+            places: _,
+        } = self;
+    }
 }
 
 impl Model for Draft {
@@ -120,5 +132,19 @@ impl Draft {
             subjects,
             places,
         })
+    }
+
+    /// The policy that the draft is.
+    pub(crate) fn finish(self) -> Result<Policy, PolicyFault>
+        requires { RightDraft self }
+        ensures { IsUnlessMemory (λ policy. policy) result (with_right_chains self) }
+    {
+        let Draft {
+            lines,
+            subjects,
+            places,
+        } = self;
+        check_chains(&lines, &subjects, &places)?;
+        Ok(Policy { subjects, places })
     }
 }

@@ -16,7 +16,6 @@ ghost use Rattle.pol_text.specs.declared.fault.PolicyFault.TheVariants.{Refused}
 ghost use Rattle.pol_text.specs.declared.fault.PolicyRefusal.{PolicyRefusal as RefusalValue};
 ghost use Rattle.pol_text.specs.declared.subject.Subject.{Subject as SubjectValue};
 
-use crate::checking::finish;
 use crate::draft::Draft;
 use crate::fault::{LineFault, PolicyFault, PolicyRefusal};
 use crate::policy::Policy;
@@ -219,7 +218,7 @@ fn read_policy(alloc: Global, text: &[u8]) -> Result<Policy, PolicyFault>
     ensures well_formed { IfOk result WellFormed }
 {
     let draft = read_lines(alloc, text)?;
-    finish(draft)
+    draft.finish()
 }
 
 impl Policy {

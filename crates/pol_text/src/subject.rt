@@ -62,7 +62,7 @@ impl Rule {
 }
 
 /// A group or a user. The parent is the name of a group.
-#[derive(Debug, Drop)]
+#[derive(Debug)]
 pub struct Subject {
     pub kind: Kind,
     pub name: Name,
@@ -75,6 +75,21 @@ pub struct Subject {
     pub priv_lvl: Option<u8>,
     /// At most 256.
     pub rules: Sequence<Rule>,
+}
+
+// By hand, so that a proof of an owner has one call at each exit, not a drop of each field.
+impl Drop for Subject {
+    fn drop(self) {
+        let Subject {
+            kind: _,
+            name: _,
+            parent: _,
+            login: _,
+            enable: _,
+            priv_lvl: _,
+            rules: _,
+        } = self;
+    }
 }
 
 impl PartialEq for Subject {
