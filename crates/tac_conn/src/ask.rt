@@ -20,7 +20,7 @@ pub enum Proof {
 }
 
 /// What is asked of the desk.
-#[derive(Debug, Drop, PartialEq, Eq)]
+#[derive(Debug, PartialEq, Eq)]
 pub enum Ask {
     /// Whether the proof is this user's, for this service.
     Authenticate {
@@ -35,6 +35,21 @@ pub enum Ask {
     },
     /// That this record be stored.
     Account(Record),
+}
+
+// By hand, so that a proof of an owner has one call at each exit, not a drop of each field.
+impl Drop for Ask {
+    fn drop(self) {
+        match self {
+            Ask::Authenticate {
+                user: _,
+                service: _,
+                proof: _,
+            } => {}
+            Ask::Authorise { user: _, line: _ } => {}
+            Ask::Account(_) => {}
+        }
+    }
 }
 
 impl StructuralEq for Ask {

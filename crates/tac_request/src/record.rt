@@ -50,7 +50,7 @@ pub fn acct_kind(flags: u8) -> Option<AcctKind>
 }
 
 /// An accounting record: what this server keeps of an accounting request.
-#[derive(Debug, Drop, PartialEq, Eq)]
+#[derive(Debug, PartialEq, Eq)]
 pub struct Record {
     pub user: Bytes,
     pub kind: AcctKind,
@@ -60,6 +60,19 @@ pub struct Record {
     pub elapsed: u32,
     /// The command line, where the arguments make one of symbols alone.
     pub line: Option<Bytes>,
+}
+
+// By hand, so that a proof of an owner has one call at each exit, not a drop of each field.
+impl Drop for Record {
+    fn drop(self) {
+        let Record {
+            user: _,
+            kind: _,
+            task: _,
+            elapsed: _,
+            line: _,
+        } = self;
+    }
 }
 
 impl StructuralEq for Record {

@@ -29,7 +29,6 @@ impl From<AllocError> for StoreFault {
 
 /// Accounting records in the order in which they came, at most so many. Beside each stands its
 /// mark: whether the present policy denies its line. What they count up to is kept for each user.
-#[derive(Drop)]
 pub struct Book {
     pub(crate) records: Vec<Record>,
     // the records' marks, in the same order
@@ -37,6 +36,18 @@ pub struct Book {
     // what is counted of each user
     pub(crate) accounts: Accounts,
     limit: usize,
+}
+
+// By hand, so that a proof of an owner has one call at each exit, not a drop of each field.
+impl Drop for Book {
+    fn drop(self) {
+        let Book {
+            records: _,
+            marks: _,
+            accounts: _,
+            limit: _,
+        } = self;
+    }
 }
 
 impl Model for Book {
