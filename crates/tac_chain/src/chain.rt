@@ -28,10 +28,16 @@ pub struct Rotated {
 ///
 /// What the desk represented between two logs isn't kept: it has all records until then, so the
 /// memory for it would grow with the square of the rotations.
-#[derive(Drop)]
 pub struct Chain {
     logs: Vec<Sequence<Entry>>,
     ends: Option<Ends>,
+}
+
+// By hand, so that a proof of an owner has one call at each exit, not a drop of each field.
+impl Drop for Chain {
+    fn drop(self) {
+        let Chain { logs: _, ends: _ } = self;
+    }
 }
 
 impl Model for Chain {

@@ -39,7 +39,6 @@ use tac_tally::{Book, Record};
 /// and beside each record whether the policy denies its line. A line is decided by what is
 /// remembered, or by a walk along it, and an edit works out anew only what it changes.
 /// A contract sees what the desk represents, and its meter.
-#[derive(Drop)]
 pub struct LiveDesk {
     alloc: Global,
     live: Live,
@@ -49,6 +48,19 @@ pub struct LiveDesk {
     book: Book,
     // of decisions of the policy
     remembered: Remembered,
+}
+
+// By hand, so that a proof of an owner has one call at each exit, not a drop of each field.
+impl Drop for LiveDesk {
+    fn drop(self) {
+        let LiveDesk {
+            alloc: _,
+            live: _,
+            meter: _,
+            book: _,
+            remembered: _,
+        } = self;
+    }
 }
 
 impl Model for LiveDesk {

@@ -12,12 +12,23 @@ use tac_desk::State;
 
 /// A hall that was closed: the number of its last segment, what its desk represented at the
 /// beginning of that, all calls since then, and the desk.
-#[derive(Drop)]
 pub struct Settled<D> {
     pub number: u64,
     pub base: Shared<State>,
     pub log: Vec<Entry>,
     pub desk: D,
+}
+
+// By hand, so that a proof of an owner has one call at each exit, not a drop of each field.
+impl<D: Drop> Drop for Settled<D> {
+    fn drop(self) {
+        let Settled {
+            number: _,
+            base: _,
+            log: _,
+            desk: _,
+        } = self;
+    }
 }
 
 // Whether the seat's view is what the log of this segment has of it.
