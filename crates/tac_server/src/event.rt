@@ -49,7 +49,8 @@ fn wire_packet(key: &Key, bytes: Bytes) -> Option<Bytes>
     let mut packet = bytes.into_vec();
     let (header, _) = packet.as_slice().split_first_chunk::<12>()?;
     let header = Header::read(header);
-    pad_in_place(&header, key, &mut packet.as_mut_slice()[12..]);
+    let (_, body) = packet.as_mut_slice().split_at_mut(12);
+    pad_in_place(&header, key, body);
     Some(Bytes::from(packet))
 }
 
