@@ -108,7 +108,7 @@ fn text<'a>(alloc: Global, id: &'a str, shown: &'a str, help: &'a str) -> Arg<'a
     Arg::new(alloc, id).long(id).value_name(shown).help(help)
 }
 
-// An option of `serve` that is given or not.
+// An option that is given or not.
 fn flag<'a>(alloc: Global, id: &'a str, help: &'a str) -> Arg<'a> {
     Arg::new(alloc, id)
         .long(id)
@@ -119,12 +119,11 @@ fn flag<'a>(alloc: Global, id: &'a str, help: &'a str) -> Arg<'a> {
 // The options of a server, in the order of its help.
 fn with_options<'a>(alloc: Global, command: Command<'a>) -> Result<Command<'a>, AllocError> {
     let connections = (1, 4_294_967_295);
-    let address = text(alloc, ADDRESS, "ADDR", ADDRESS_HELP).default_value("0.0.0.0");
     command
         .arg(number(alloc, PORT, "P", (1, 65_535), PORT_HELP).required(true))?
         .arg(text(alloc, KEY, "K", KEY_HELP))?
         .arg(text(alloc, KEY_FILE, "PATH", KEY_FILE_HELP))?
-        .arg(address)?
+        .arg(text(alloc, ADDRESS, "ADDR", ADDRESS_HELP).default_value("0.0.0.0"))?
         .arg(number(alloc, WORKERS, "W", (1, 63), WORKERS_HELP).default_value("4"))?
         .arg(number(alloc, IDLE, "SECONDS", (0, 86_400), IDLE_HELP).default_value("300"))?
         .arg(number(alloc, CONNECTIONS, "N", connections, CONNECTIONS_HELP).default_value(
@@ -171,32 +170,27 @@ fn lint<'a>(alloc: Global) -> Result<Command<'a>, AllocError> {
 }
 
 fn diff<'a>(alloc: Global) -> Result<Command<'a>, AllocError> {
-    let edits = Arg::new(alloc, EDITS)
-        .long(EDITS)
-        .action(ArgAction::SetTrue)
-        .help(EDITS_HELP);
-    let exit_code = Arg::new(alloc, EXIT_CODE)
-        .long(EXIT_CODE)
-        .action(ArgAction::SetTrue)
-        .help(EXIT_CODE_HELP);
     Command::new(alloc, DIFF)
         .about(DIFF_ABOUT)
         .long_about(DIFF_LONG_ABOUT)
         .after_help(DIFF_AFTER_HELP)
         .after_long_help(DIFF_AFTER_LONG_HELP)
-        .arg(edits)?
-        .arg(exit_code)?
+        .arg(flag(alloc, EDITS, EDITS_HELP))?
+        .arg(flag(alloc, EXIT_CODE, EXIT_CODE_HELP))?
         .arg(Arg::new(alloc, OLD).required(true).help(OLD_HELP))?
         .arg(Arg::new(alloc, NEW).required(true).help(NEW_HELP))
 }
 
-fn why<'a>(alloc: Global) -> Result<Command<'a>, AllocError> {
-    // what comes after the user is the line, whatever it begins with
-    let line = Arg::new(alloc, LINE)
+// What comes after the user is the line, whatever it begins with.
+fn line<'a>(alloc: Global) -> Arg<'a> {
+    Arg::new(alloc, LINE)
         .num_args(0..)
         .trailing_var_arg(true)
         .allow_hyphen_values(true)
-        .help(LINE_HELP);
+        .help(LINE_HELP)
+}
+
+fn why<'a>(alloc: Global) -> Result<Command<'a>, AllocError> {
     Command::new(alloc, WHY)
         .about(WHY_ABOUT)
         .long_about(WHY_LONG_ABOUT)
@@ -204,7 +198,7 @@ fn why<'a>(alloc: Global) -> Result<Command<'a>, AllocError> {
         .after_long_help(WHY_AFTER_LONG_HELP)
         .arg(Arg::new(alloc, FILE).required(true).help(FILE_HELP))?
         .arg(Arg::new(alloc, USER).help(USER_HELP))?
-        .arg(line)
+        .arg(line(alloc))
 }
 
 fn test<'a>(alloc: Global) -> Result<Command<'a>, AllocError> {
@@ -225,19 +219,27 @@ fn replay<'a>(alloc: Global) -> Command<'a> {
         .after_long_help(REPLAY_AFTER_LONG_HELP)
 }
 
+// The command with one more below it.
+fn with<'a>(
+    command: Command<'a>,
+    subcommand: Result<Command<'a>, AllocError>,
+) -> Result<Command<'a>, AllocError> {
+    command.subcommand(subcommand?)
+}
+
 /// What the program's command line may be.
 pub(crate) fn command<'a>(alloc: Global) -> Result<Command<'a>, AllocError> {
-    Command::new(alloc, "tacd")
+    let command = Command::new(alloc, "tacd")
         .about(ABOUT)
         .long_about(LONG_ABOUT)
         .after_long_help(AFTER_LONG_HELP)
         .version("0.1.0")
-        .subcommand_required(true)
-        .subcommand(serve(alloc)?)?
-        .subcommand(check(alloc)?)?
-        .subcommand(lint(alloc)?)?
-        .subcommand(diff(alloc)?)?
-        .subcommand(why(alloc)?)?
-        .subcommand(test(alloc)?)?
-        .subcommand(replay(alloc))
+        .subcommand_required(true);
+    let command = with(command, serve(alloc))?;
+    let command = with(command, check(alloc))?;
+    let command = with(command, lint(alloc))?;
+    let command = with(command, diff(alloc))?;
+    let command = with(command, why(alloc))?;
+    let command = with(command, test(alloc))?;
+    command.subcommand(replay(alloc))
 }
