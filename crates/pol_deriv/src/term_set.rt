@@ -8,7 +8,7 @@ use crate::node::Number;
 use std::marker::Model;
 
 /// A set of terms. A contract sees the list of their numbers, in order.
-#[derive(Debug, Drop)]
+#[derive(Drop)]
 pub struct TermSet {
     numbers: Vec<Number>,
 }

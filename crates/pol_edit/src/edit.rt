@@ -7,7 +7,7 @@ use pol_names::{Name, SubjectId, Verdict};
 
 /// An edit. Secrets and patterns are kept as they were written, and judged when the edit is
 /// applied; rules are counted from 1.
-#[derive(Debug, PartialEq, Eq)]
+#[derive(PartialEq, Eq)]
 pub enum Edit {
     /// Adds a group, last, without rules.
     AddGroup {

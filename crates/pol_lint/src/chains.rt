@@ -16,7 +16,7 @@ use pol_text::{Policy, PolicyRefusal};
 use std::alloc::{AllocError, Global};
 
 /// A line that begins a subject, and the column of its parent's name.
-#[derive(Clone, Copy, Debug, PartialEq, Eq)]
+#[derive(Clone, Copy, PartialEq, Eq)]
 pub(crate) struct Heading {
     line: usize,
     column: usize,

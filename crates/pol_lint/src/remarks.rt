@@ -19,7 +19,7 @@ use std::alloc::{AllocError, Global};
 
 /// The subject whose lines are read, and how many of its rules were: a rule, by its owner and its
 /// number.
-#[derive(Clone, Copy, Debug, PartialEq, Eq, Hash)]
+#[derive(Clone, Copy, PartialEq, Eq, Hash)]
 pub(crate) struct Present {
     pub(crate) owner: SubjectId,
     pub(crate) rules: u16,

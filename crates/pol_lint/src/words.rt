@@ -7,7 +7,7 @@ use basics::{split_once, without_leading_spaces};
 use pol_names::Kind;
 
 /// What a line says by its first word.
-#[derive(Clone, Copy, Debug, PartialEq, Eq)]
+#[derive(Clone, Copy, PartialEq, Eq)]
 pub(crate) enum Keyword {
     /// A subject begins.
     Opens(Kind),

@@ -18,7 +18,7 @@ use pol_text::{Policy, Subject};
 use std::alloc::{AllocError, Global};
 
 /// A rule along the chain of a subject.
-#[derive(Clone, Copy, Debug, PartialEq, Eq)]
+#[derive(Clone, Copy, PartialEq, Eq)]
 pub struct ChainRule {
     pub owner: SubjectId,
     /// The rule's number in its owner, from 1.

@@ -30,7 +30,7 @@ impl Credential {
 }
 
 /// 1 to 128 symbols. A contract sees them as a list.
-#[derive(Debug, Drop)]
+#[derive(Drop)]
 pub struct Secret {
     text: Bytes,
 }

@@ -18,7 +18,7 @@ const EVERY: u128 = (1 << 95) - 1;
 
 /// A set of symbols, in 16 bytes. A contract sees, of each of the 95 symbols in order, whether the
 /// class holds it.
-#[derive(Clone, Copy, Debug)]
+#[derive(Clone, Copy)]
 pub struct Class {
     // from the lowest on, one bit for each symbol, and no other bit
     bits: u128,
@@ -134,7 +134,7 @@ impl Class {
 pub type Term = Vec<Factor>;
 
 /// A part of a pattern.
-#[derive(Debug, Drop, PartialEq, Eq)]
+#[derive(Drop, PartialEq, Eq)]
 pub enum Factor {
     /// One symbol of the class.
     Class(Class),

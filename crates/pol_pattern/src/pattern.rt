@@ -28,14 +28,14 @@ use std::marker::Model;
 use std::sync::Arc;
 
 /// What was read, and the flat form that it spells.
-#[derive(Debug, Drop)]
+#[derive(Drop)]
 struct Whole {
     source: Bytes,
     terms: Vec<Term>,
 }
 
 /// A pattern as it was read, which its copies share. A contract sees its source.
-#[derive(Debug, Drop)]
+#[derive(Drop)]
 pub struct Pattern {
     whole: Arc<Whole>,
 }

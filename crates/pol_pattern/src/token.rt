@@ -3,7 +3,7 @@
 use crate::flat::Class;
 
 /// What may follow an atom.
-#[derive(Clone, Copy, Debug, PartialEq, Eq)]
+#[derive(Clone, Copy, PartialEq, Eq)]
 pub(crate) enum Repeat {
     /// `*`: any number of times.
     Star,
@@ -16,7 +16,7 @@ pub(crate) enum Repeat {
 }
 
 /// A part of a pattern that is read at once.
-#[derive(Clone, Copy, Debug)]
+#[derive(Clone, Copy)]
 pub(crate) enum Token {
     /// A literal, a dot, a class, or a symbol after a `\`: one symbol of the class.
     Atom(Class),

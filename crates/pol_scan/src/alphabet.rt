@@ -20,7 +20,7 @@ const FIRST: u8 = b' ';
 
 /// Which column each symbol has, and which is a column's least symbol. Columns are numbered in the
 /// order of their least symbols.
-#[derive(Clone, Copy, Debug)]
+#[derive(Clone, Copy)]
 pub struct Alphabet {
     width: Column,
     // from the first symbol on

@@ -25,7 +25,6 @@ const MOST_STATES: usize = StateNumber::MAX as usize;
 /// 0 is the first.
 ///
 /// A state takes its row of cells, and 17 bytes.
-#[derive(Debug)]
 pub struct Table {
     pub(crate) width: Column,
     // row by row

@@ -8,14 +8,14 @@ use std::alloc::{AllocError, Global};
 use std::marker::Model;
 
 // A word that goes on from an earlier one.
-#[derive(Clone, Copy, Debug)]
+#[derive(Clone, Copy)]
 struct Branch {
     parent: usize,
     column: Column,
 }
 
 /// Words, each but the empty first one an earlier one with one more column.
-#[derive(Debug, Drop)]
+#[derive(Drop)]
 pub(crate) struct Words {
     branches: Vec<Branch>,
 }

@@ -104,7 +104,7 @@ pub enum ChainFault {
 }
 
 /// Why a line was not read.
-#[derive(Clone, Copy, Debug, PartialEq, Eq)]
+#[derive(Clone, Copy, PartialEq, Eq)]
 pub(crate) enum LineFault {
     Refused(PolicyRefusal),
     Memory,

@@ -16,7 +16,7 @@ use pol_pattern::Pattern;
 use std::alloc::{AllocError, Global};
 
 /// A rule: what it says of the command lines that its pattern holds.
-#[derive(Debug, Drop)]
+#[derive(Drop)]
 pub struct Rule {
     pub verdict: Verdict,
     pub pattern: Pattern,
@@ -62,7 +62,6 @@ impl Rule {
 }
 
 /// A group or a user. The parent is the name of a group.
-#[derive(Debug)]
 pub struct Subject {
     pub kind: Kind,
     pub name: Name,

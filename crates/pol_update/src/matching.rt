@@ -4,7 +4,7 @@ use pol_text::Rule;
 use std::alloc::{AllocError, Global};
 
 /// A rule that is wanted.
-#[derive(Clone, Copy, Debug)]
+#[derive(Clone, Copy)]
 pub(crate) struct Wanted {
     /// Which of the present rules it is, counted from 0.
     pub(crate) origin: Option<usize>,
