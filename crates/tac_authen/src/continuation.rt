@@ -13,7 +13,7 @@ use tac_wire::BodyFault;
 
 /// What the client answers to a question (RFC 8907, section 5.3), as written: no value is refused
 /// here.
-#[derive(Debug, Drop)]
+#[derive(Drop)]
 pub struct Continue {
     /// What the user typed.
     pub user_msg: Bytes,

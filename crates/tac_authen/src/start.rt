@@ -45,7 +45,7 @@ impl Service {
 }
 
 /// The start of an authentication (RFC 8907, section 5.1), as written: no value is refused here.
-#[derive(Debug, Drop)]
+#[derive(Drop)]
 pub struct Start {
     pub action: Action,
     pub priv_lvl: u8,

@@ -7,7 +7,7 @@ use tac_request::Record;
 use tac_wire::Header;
 
 /// How a user proves to be the one named.
-#[derive(Debug, Drop, PartialEq, Eq)]
+#[derive(Drop, PartialEq, Eq)]
 pub enum Proof {
     /// The password itself.
     Plain(Bytes),
@@ -20,7 +20,7 @@ pub enum Proof {
 }
 
 /// What is asked of the desk.
-#[derive(Debug, PartialEq, Eq)]
+#[derive(PartialEq, Eq)]
 pub enum Ask {
     /// Whether the proof is this user's, for this service.
     Authenticate {

@@ -25,7 +25,7 @@ use std::alloc::{AllocError, Global};
 use tac_wire::{Frame, Header, Key};
 
 /// One connection: what is kept of the packets that came on it.
-#[derive(Debug, Drop)]
+#[derive(Drop)]
 pub struct Conn {
     alloc: Global,
     // whether the first packet asked for many sessions, once it came

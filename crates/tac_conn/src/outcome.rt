@@ -10,7 +10,7 @@ use crate::step::{Sent, Step};
 use tac_wire::{Header, Key};
 
 /// The outcome of a packet. Contracts speak of it; no public call takes or gives one.
-#[derive(Debug, Drop)]
+#[derive(Drop)]
 pub enum Outcome {
     /// A reply that asks the client for more, and its session, which is open from then on.
     Question(Reply, Session),

@@ -16,7 +16,7 @@ use tac_request::{
 use tac_wire::{Header, MESSAGE_MAX, Message, REPLY_MAX, decimal_digits, message_of};
 
 /// What a reply says.
-#[derive(Debug, Drop)]
+#[derive(Drop)]
 pub(crate) enum ReplyBody {
     Authentication(AuthenReply),
     Authorisation(AuthorReply),
@@ -41,7 +41,7 @@ impl ReplyBody {
 }
 
 /// A reply before it is spelled. The length in its header is set then.
-#[derive(Debug, Drop)]
+#[derive(Drop)]
 pub(crate) struct Reply {
     pub(crate) header: Header,
     pub(crate) body: ReplyBody,

@@ -10,7 +10,7 @@ use std::alloc::AllocError;
 use tac_authen::Service;
 
 /// An open session: one of authentication that has asked its client for more.
-#[derive(Debug, Drop)]
+#[derive(Drop)]
 pub(crate) struct Session {
     pub(crate) id: u32,
     /// The seq_no of the last reply. The session's next packet has the one after it.

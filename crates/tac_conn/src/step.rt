@@ -11,7 +11,7 @@ use std::marker::Model;
 use tac_wire::{Header, Key, pad_in_place};
 
 /// A packet as it is sent: header and body, with the pad on the body. A contract sees its bytes.
-#[derive(Debug, Drop)]
+#[derive(Drop)]
 pub struct Sent {
     bytes: ArrayVec<u8, 96>,
 }
@@ -79,7 +79,7 @@ impl Eq for Sent {
 }
 
 /// What is done for a packet.
-#[derive(Debug, Drop, PartialEq, Eq)]
+#[derive(Drop, PartialEq, Eq)]
 pub enum Step {
     /// A reply is sent, and the connection closes (true) or stays open.
     Reply(Sent, bool),

@@ -17,7 +17,6 @@ use tac_conn::{Answer, Conn, Sent, Slot};
 use tac_wire::{Framer, Key, Next};
 
 /// An open connection: the packets that came on it, and the beginning of one that isn't whole yet.
-#[derive(Debug)]
 pub struct Stream {
     framer: Framer,
     conn: Conn,

@@ -6,7 +6,7 @@ ghost use Rattle.tac_stream.specs.Turns as turns;
 use tac_conn::{Ask, Sent, Slot, Step};
 
 /// What is to be done next on a connection.
-#[derive(Debug, Drop, PartialEq, Eq)]
+#[derive(Drop, PartialEq, Eq)]
 pub enum Turn {
     /// A reply is sent, and the connection closes (true) or stays open.
     Reply(Sent, bool),

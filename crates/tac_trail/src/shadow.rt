@@ -15,7 +15,7 @@ use tac_conn::{Answer, AskKind, Conn, Packet, Sent, Step};
 use tac_wire::Key;
 
 /// What is done for a packet.
-#[derive(Debug, Drop)]
+#[derive(Drop)]
 pub(crate) enum Course {
     /// This reply is sent, and the connection closes (true) or stays open.
     Reply(Sent, bool),
@@ -94,7 +94,7 @@ fn followed(step: Step, closes: bool) -> Course
 
 /// A connection that takes the same packets as the worker's. It never waits for an answer, since
 /// no answer of the desk changes what follows.
-#[derive(Debug, Drop)]
+#[derive(Drop)]
 pub(crate) struct Shadow {
     conn: Conn,
 }

@@ -7,7 +7,7 @@ use crate::header::Header;
 use basics::Bytes;
 
 /// A packet as it stands in the stream: the body still has its pad.
-#[derive(Debug, Drop)]
+#[derive(Drop)]
 pub struct Frame {
     pub header: Header,
     pub body: Bytes,

@@ -14,7 +14,7 @@ use std::marker::Model;
 const HEADER: usize = 12;
 
 /// What stands first in what a [`Framer`] holds.
-#[derive(Debug, Drop)]
+#[derive(Drop)]
 pub enum Next {
     /// A whole packet.
     Packet(Frame),
