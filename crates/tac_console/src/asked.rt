@@ -4,7 +4,7 @@ use pol_edit::Edit;
 use tac_desk::Query;
 
 /// What a line of a console asks for.
-#[derive(Debug, Drop)]
+#[derive(Drop)]
 pub enum Asked {
     /// An edit of the policy.
     Edit(Edit),

@@ -25,7 +25,7 @@ pub enum Notice {
 }
 
 /// What is to be done for a line.
-#[derive(Debug, Drop)]
+#[derive(Drop)]
 pub enum Action {
     /// The edit is made.
     Edit(Edit),
@@ -38,7 +38,7 @@ pub enum Action {
 }
 
 /// The batch of a console: none is open, or the edits that are kept since `begin`.
-#[derive(Debug, Drop)]
+#[derive(Drop)]
 pub struct Batch {
     kept: Option<Sequence<Edit>>,
 }

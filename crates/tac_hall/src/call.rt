@@ -10,7 +10,6 @@ use tac_conn::{Answer, Ask};
 use tac_desk::{Query, QueryFault, Report};
 
 /// What a seat may call at its hall. Each call is answered and logged before the next is taken.
-#[derive(Debug)]
 pub enum Call {
     /// What a connection asks the desk.
     Ask(Ask),

@@ -20,7 +20,7 @@ use tac_io::read_piece;
 const CHUNK: usize = 4096;
 
 /// How it went on at a piece of the input.
-#[derive(Clone, Copy, Debug, PartialEq, Eq)]
+#[derive(Clone, Copy, PartialEq, Eq)]
 pub(crate) enum Went {
     /// Its lines were answered.
     On,

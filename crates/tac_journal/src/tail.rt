@@ -7,7 +7,7 @@ use std::fmt;
 use std::io::{self, Write};
 
 /// Why lines weren't appended.
-#[derive(Debug, Drop)]
+#[derive(Drop)]
 pub(crate) enum Untaken {
     /// The system says why.
     Failed(io::Error),

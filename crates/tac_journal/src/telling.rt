@@ -13,7 +13,7 @@ use tac_trail::Noted;
 use tac_witness::{Unsent, send_witnessed};
 
 /// Why a reply wasn't sent, or not whole. The connection is to be closed.
-#[derive(Clone, Copy, Debug, PartialEq, Eq)]
+#[derive(Clone, Copy, PartialEq, Eq)]
 pub(crate) enum Untold {
     /// There was no memory for the lines. Nothing was written.
     Memory,

@@ -10,7 +10,7 @@ const FIRST: u64 = 50;
 const LONGEST: u64 = 1_000;
 
 /// How long the next pause is: each is twice as long as the one before, up to a second.
-#[derive(Clone, Copy, Debug)]
+#[derive(Clone, Copy)]
 pub(crate) struct Pause {
     milliseconds: u64,
 }

@@ -14,7 +14,7 @@ use tac_review::{ReviewEnd, ReviewFault};
 use tac_server::{ReplayEnd, ReplayFault};
 
 /// How a run of the program ended, with the number that its caller sees.
-#[derive(Clone, Copy, Debug, PartialEq, Eq)]
+#[derive(Clone, Copy, PartialEq, Eq)]
 pub(crate) enum Status {
     /// All was done; help counts as that.
     Done = 0,

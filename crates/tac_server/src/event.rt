@@ -13,7 +13,7 @@ use std::alloc::{AllocError, Global};
 use tac_wire::{Header, Key, pad_in_place};
 
 /// What a line asks for.
-#[derive(Debug, Drop)]
+#[derive(Drop)]
 pub(crate) enum Event {
     /// Opens a connection.
     Open(u16),

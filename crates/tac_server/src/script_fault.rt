@@ -8,7 +8,7 @@ use pol_text::PolicyRefusal;
 use std::alloc::{AllocError, AllocFailed};
 use std::fmt;
 
-#[derive(Clone, Copy, Debug, PartialEq, Eq)]
+#[derive(Clone, Copy, PartialEq, Eq)]
 pub(crate) enum ScriptFault {
     BadKey,
     NoRun,
@@ -21,14 +21,14 @@ pub(crate) enum ScriptFault {
 
 /// A fault with its line, counted from 1. A policy that is too large is so as a whole: that has
 /// none.
-#[derive(Clone, Copy, Debug, PartialEq, Eq)]
+#[derive(Clone, Copy, PartialEq, Eq)]
 pub(crate) struct Located {
     pub(crate) line: Option<usize>,
     pub(crate) fault: ScriptFault,
 }
 
 /// Why a replay goes no further.
-#[derive(Clone, Copy, Debug, PartialEq, Eq)]
+#[derive(Clone, Copy, PartialEq, Eq)]
 pub(crate) enum Stop {
     Memory,
     Fault(Located),

@@ -23,7 +23,7 @@ use tac_wire::Key;
 const SENT_MAX: usize = 96;
 
 /// How a turn went.
-#[derive(Clone, Copy, Debug, PartialEq, Eq)]
+#[derive(Clone, Copy, PartialEq, Eq)]
 pub(crate) enum Went {
     /// A packet was served, and the connection stays open.
     On,

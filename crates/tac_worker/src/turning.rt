@@ -23,7 +23,7 @@ use tac_wire::Key;
 const CHUNK: usize = 4096;
 
 /// How a turn went by which the connection stays open.
-#[derive(Clone, Copy, Debug, PartialEq, Eq)]
+#[derive(Clone, Copy, PartialEq, Eq)]
 pub(crate) enum Went {
     /// A packet was served.
     On,
