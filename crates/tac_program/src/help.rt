@@ -235,7 +235,7 @@ pub(crate) const LINT_AFTER_HELP: &str = "Example:
 pub(crate) const LINT_AFTER_LONG_HELP: &str = "'tacd replay --help' describes the lines of a policy.
 
 What is printed, a line for each; columns count bytes from 1, and what is said of the whole line, or
-of the whole policy, stands at column 1:
+of the whole policy, is at column 1:
   line N column M: TEXT
 
 Example:
@@ -470,7 +470,7 @@ What is printed:
   fault line L FAULT   line L of the script is wrong, and nothing after it is played
   fault TooManyStates SUBJECT
                        the rules along SUBJECT and its groups are too large together
-  fault Memory         memory ran out: this line stands in place of all that is printed
+  fault Memory         memory ran out: this line is printed, and nothing else
 
 Example, in which bob, of the group ops, asks for 'show version':
   key k
