@@ -25,17 +25,14 @@ fn copy_terms(alloc: Global, terms: &[Term]) -> Result<Vec<Term>, AllocError>
     ensures { IfOk result (λ copies. terms_value copies.items ≡ terms_value terms.now) }
 {
     let mut copies = Vec::new(alloc);
-    for i in 0..terms.len() {
-        let mut copy = Vec::new(alloc);
-        for j in 0..terms[i].len() {
-            copy.push(terms[i][j].copy(alloc)?)?;
-        }
-        copies.push(copy)?;
+    for term in terms {
+        copies.push(copy_term(alloc, term)?)?;
     }
     Ok(copies)
 }
 
 /// A copy of the factors of one alternative.
+#[cycle(copy)]
 pub(crate) fn copy_term(alloc: Global, term: &[Factor]) -> Result<Term, AllocError>
     ensures { IfOk result (λ copy. term_value copy.items ≡ term_value term.now) }
 {
