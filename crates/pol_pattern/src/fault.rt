@@ -1,8 +1,8 @@
 //! Why bytes are no pattern.
 
-ghost use Rattle.std.specs.Prelude.{◌≡◌, Some};
+ghost use Rattle.std.specs.Prelude.{◌≡◌, ◌++◌, Some};
 ghost use Rattle.pol_pattern.specs.declared.fault.PatternFault.TheVariants.{Memory};
-ghost use Rattle.pol_pattern.specs.FaultText.{fault_text};
+ghost use Rattle.pol_pattern.specs.FaultText.{fault_text, place_of, place_text};
 
 use std::alloc::{AllocError, AllocFailed};
 use std::error::Error;
@@ -35,22 +35,51 @@ pub enum PatternFault {
     BadRepeat(usize),
 }
 
+impl PatternFault {
+    // The kind's number and name.
+    fn name(&self) -> &'static str
+        ensures { fault_text self.now ≡ result.now ++ place_text (place_of self.now) }
+    {
+        match self {
+            PatternFault::TooLong => "1 TooLong",
+            PatternFault::Unprintable(_) => "2 Unprintable",
+            PatternFault::Unclosed(_) => "3 Unclosed",
+            PatternFault::Unopened(_) => "4 Unopened",
+            PatternFault::NothingToRepeat(_) => "5 NothingToRepeat",
+            PatternFault::BadClass(_) => "6 BadClass",
+            PatternFault::BadEscape(_) => "7 BadEscape",
+            PatternFault::TooDeep => "8 TooDeep",
+            PatternFault::TooLarge => "9 TooLarge",
+            PatternFault::Memory => "10 Memory",
+            PatternFault::BadRepeat(_) => "11 BadRepeat",
+        }
+    }
+
+    // The place in the bytes, where the fault has one.
+    fn place(&self) -> Option<usize>
+        ensures { result ≡ place_of self.now }
+    {
+        match self {
+            PatternFault::Unprintable(place)
+            | PatternFault::Unclosed(place)
+            | PatternFault::Unopened(place)
+            | PatternFault::NothingToRepeat(place)
+            | PatternFault::BadClass(place)
+            | PatternFault::BadEscape(place)
+            | PatternFault::BadRepeat(place) => Some(*place),
+            _ => None,
+        }
+    }
+}
+
 impl fmt::Display for PatternFault {
     ghost output = { λ fault. Some (fault_text fault) };
 
     fn fmt<W: fmt::Write>(&self, f: &mut fmt::Formatter<W>) -> fmt::Result {
-        match self {
-            PatternFault::TooLong => write!(f, "1 TooLong"),
-            PatternFault::Unprintable(place) => write!(f, "2 Unprintable at {place}"),
-            PatternFault::Unclosed(place) => write!(f, "3 Unclosed at {place}"),
-            PatternFault::Unopened(place) => write!(f, "4 Unopened at {place}"),
-            PatternFault::NothingToRepeat(place) => write!(f, "5 NothingToRepeat at {place}"),
-            PatternFault::BadClass(place) => write!(f, "6 BadClass at {place}"),
-            PatternFault::BadEscape(place) => write!(f, "7 BadEscape at {place}"),
-            PatternFault::TooDeep => write!(f, "8 TooDeep"),
-            PatternFault::TooLarge => write!(f, "9 TooLarge"),
-            PatternFault::Memory => write!(f, "10 Memory"),
-            PatternFault::BadRepeat(place) => write!(f, "11 BadRepeat at {place}"),
+        f.write_str(self.name())?;
+        match self.place() {
+            Some(place) => write!(f, " at {place}"),
+            None => Ok(()),
         }
     }
 }
