@@ -1,7 +1,8 @@
 //! Building the flat form of a pattern out of its tokens.
 
 ghost use Rattle.std.specs.Prelude.{◌≡◌, ◌≤◌, ◌+◌, [], ◌∷◌, IfOk, min};
-ghost use Rattle.pol_pattern.specs.Flat.{Factor as FactorValue, empty, put, star, factor_value};
+ghost use Rattle.pol_pattern.specs.Flat.{Factor as FactorValue, empty, put, group as group_of};
+ghost use Rattle.pol_pattern.specs.Flat.{star, factor_value};
 ghost use Rattle.pol_pattern.specs.Flat.{term_value, terms_value, factor_size, terms_size};
 ghost use Rattle.pol_pattern.specs.Spelling.{repeat_factors, alternatives_of};
 ghost use Rattle.pol_pattern.specs.Spelling.{copies as term_copies, optional as optional_term};
@@ -217,6 +218,17 @@ impl Level {
         Ok(done)
     }
 
+    /// After a group of the inner level's alternatives.
+    fn with_group(self, inner: Level) -> Result<Level, AllocError>
+        ensures { (level group : LevelOf) → Represents self level → Represents inner group
+            → IfOk result (λ next. Represents next
+            (level_with_atom level (put (group_of (level_finished group)) empty))) }
+    {
+        let size = capped_sum(inner.sizes.finished(), 1);
+        let terms = inner.finished()?;
+        self.with_factor(Factor::Group(terms), size, true)
+    }
+
     fn with_bar(self, alloc: Global) -> Result<Level, AllocError>
         ensures { (level : LevelOf) → Represents self level
             → IfOk result (λ next. Represents next (level_with_bar level)) }
@@ -241,25 +253,22 @@ pub(crate) fn build(alloc: Global, tokens: &[Token]) -> Result<Vec<Term>, AllocE
     let mut outer = Vec::new(alloc);
     let mut level = Level::fresh(alloc);
     'tokens: for token in tokens {
-        match token {
-            Token::Atom(class) => {
-                level = level.with_factor(Factor::Class(*class), 1, false)?;
-            }
-            Token::Repeat(repeat) => level = level.with_repeat(alloc, *repeat)?,
-            Token::Bar => level = level.with_bar(alloc)?,
+        let next = match token {
+            Token::Atom(class) => level.with_factor(Factor::Class(*class), 1, false),
+            Token::Repeat(repeat) => level.with_repeat(alloc, *repeat),
+            Token::Bar => level.with_bar(alloc),
             Token::Open => {
                 outer.push(level)?;
-                level = Level::fresh(alloc);
+                Ok(Level::fresh(alloc))
             }
             Token::Close => {
-                let size = capped_sum(level.sizes.finished(), 1);
-                let inner = level.finished()?;
                 let Some(around) = outer.pop() else {
-                    return Ok(inner);
+                    return level.finished();
                 };
-                level = around.with_factor(Factor::Group(inner), size, true)?;
+                around.with_group(level)
             }
-        }
+        };
+        level = next?;
     }
     level.finished()
 }
