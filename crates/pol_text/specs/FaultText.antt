@@ -1,5 +1,5 @@
 -- How a refusal is printed, and a fault.
-use Rattle.std.specs.Prelude.{ℕ, List, ◌++◌, codes}
+use Rattle.std.specs.Prelude.{ℕ, List, [], ◌++◌, codes}
 use Rattle.std.specs.Fmt.{decimal}
 use Rattle.pol_pattern.specs.FaultText as patterns
 use Rattle.pol_text.specs.declared.fault.PolicyRefusal.{PolicyRefusal}
@@ -22,6 +22,11 @@ refusal_text NoSuchParent = codes "7 NoSuchParent"
 refusal_text Cycle = codes "8 Cycle"
 refusal_text TooDeep = codes "9 TooDeep"
 refusal_text Limit = codes "10 Limit"
+
+-- what is printed of a refusal after its name
+abbrev pub reason_text : PolicyRefusal → List ℕ
+reason_text (BadPattern fault) = codes " " ++ patterns.fault_text fault
+reason_text refusal = []
 
 -- the line comes before what is wrong there
 abbrev pub fault_text : PolicyFault → List ℕ

@@ -1,7 +1,7 @@
 //! Why a text is no policy.
 
-ghost use Rattle.std.specs.Prelude.{◌≡◌, Some};
-ghost use Rattle.pol_text.specs.FaultText.{refusal_text, fault_text};
+ghost use Rattle.std.specs.Prelude.{◌≡◌, ◌++◌, Some};
+ghost use Rattle.pol_text.specs.FaultText.{refusal_text, reason_text, fault_text};
 ghost use Rattle.pol_text.specs.declared.fault.PolicyFault.TheVariants.{Memory};
 ghost use Rattle.pol_text.specs.declared.fault.LineFault.TheVariants as lines;
 
@@ -35,21 +35,34 @@ pub enum PolicyRefusal {
     Limit,
 }
 
+impl PolicyRefusal {
+    // The kind's number and name.
+    fn name(&self) -> &'static str
+        ensures { refusal_text self.now ≡ result.now ++ reason_text self.now }
+    {
+        match self {
+            PolicyRefusal::BadLine => "1 BadLine",
+            PolicyRefusal::BadName => "2 BadName",
+            PolicyRefusal::Repeated => "3 Repeated",
+            PolicyRefusal::NoSubject => "4 NoSubject",
+            PolicyRefusal::BadPattern(_) => "5 BadPattern",
+            PolicyRefusal::BadValue => "6 BadValue",
+            PolicyRefusal::NoSuchParent => "7 NoSuchParent",
+            PolicyRefusal::Cycle => "8 Cycle",
+            PolicyRefusal::TooDeep => "9 TooDeep",
+            PolicyRefusal::Limit => "10 Limit",
+        }
+    }
+}
+
 impl fmt::Display for PolicyRefusal {
     ghost output = { λ refusal. Some (refusal_text refusal) };
 
     fn fmt<W: fmt::Write>(&self, f: &mut fmt::Formatter<W>) -> fmt::Result {
+        f.write_str(self.name())?;
         match self {
-            PolicyRefusal::BadLine => write!(f, "1 BadLine"),
-            PolicyRefusal::BadName => write!(f, "2 BadName"),
-            PolicyRefusal::Repeated => write!(f, "3 Repeated"),
-            PolicyRefusal::NoSubject => write!(f, "4 NoSubject"),
-            PolicyRefusal::BadPattern(fault) => write!(f, "5 BadPattern {fault}"),
-            PolicyRefusal::BadValue => write!(f, "6 BadValue"),
-            PolicyRefusal::NoSuchParent => write!(f, "7 NoSuchParent"),
-            PolicyRefusal::Cycle => write!(f, "8 Cycle"),
-            PolicyRefusal::TooDeep => write!(f, "9 TooDeep"),
-            PolicyRefusal::Limit => write!(f, "10 Limit"),
+            PolicyRefusal::BadPattern(fault) => write!(f, " {fault}"),
+            _ => Ok(()),
         }
     }
 }
