@@ -8,6 +8,7 @@ ghost use Rattle.tac_authen.specs.Start.{start_bytes, start_of};
 
 use basics::Bytes;
 use std::alloc::Global;
+use std::marker::Model;
 use tac_wire::BodyFault;
 
 /// What the client wants. Numbers without a name are actions that aren't served.
@@ -59,37 +60,93 @@ pub struct Start {
     pub extra: Bytes,
 }
 
-// Each fault in its order.
+// A start whose fields still lie in its body. Contracts see the start.
+#[derive(Drop)]
+struct LentStart<'a> {
+    action: Action,
+    priv_lvl: u8,
+    authen_type: AuthenType,
+    service: Service,
+    user: &'a [u8],
+    port: &'a [u8],
+    rem_addr: &'a [u8],
+    extra: &'a [u8],
+}
+
+impl<'a> Model for LentStart<'a> {
+    ghost use Rattle.tac_authen.specs.declared.start.Start.{Start};
+
+    ghost Value = { Start };
+
+    ghost view = { λ lent. record {
+      action = lent.action;
+      priv_lvl = lent.priv_lvl;
+      authen_type = lent.authen_type;
+      service = lent.service;
+      user = lent.user.now;
+      port = lent.port.now;
+      rem_addr = lent.rem_addr.now;
+      extra = lent.extra.now;
+    } };
+}
+
+impl<'a> LentStart<'a> {
+    // Each fault in its order. Takes no memory.
+    fn read(body: &'a [u8]) -> Result<LentStart<'a>, BodyFault>
+        ensures { result ≡ start_of body.now }
+    {
+        if body.len() < 8 {
+            return Err(BodyFault::Short);
+        }
+        let (fixed, fields) = body.split_at(8);
+        let user_len = fixed[4] as usize;
+        let port_len = fixed[5] as usize;
+        let rem_addr_len = fixed[6] as usize;
+        let data_len = fixed[7] as usize;
+        if fields.len() != user_len + port_len + rem_addr_len + data_len {
+            return Err(BodyFault::LengthSum);
+        }
+        let (user, fields) = fields.split_at(user_len);
+        let (port, fields) = fields.split_at(port_len);
+        let (rem_addr, extra) = fields.split_at(rem_addr_len);
+        Ok(LentStart {
+            action: Action(fixed[0]),
+            priv_lvl: fixed[1],
+            authen_type: AuthenType(fixed[2]),
+            service: Service(fixed[3]),
+            user,
+            port,
+            rem_addr,
+            extra,
+        })
+    }
+
+    // Copies the fields.
+    fn into_owned(self, alloc: Global) -> Result<Start, BodyFault>
+        ensures { GivesUnlessMemory is_memory (λ start. start) result (Ok self.entry) }
+    {
+        let user = Bytes::from_slice(alloc, self.user)?;
+        let port = Bytes::from_slice(alloc, self.port)?;
+        let rem_addr = Bytes::from_slice(alloc, self.rem_addr)?;
+        let extra = Bytes::from_slice(alloc, self.extra)?;
+        Ok(Start {
+            action: self.action,
+            priv_lvl: self.priv_lvl,
+            authen_type: self.authen_type,
+            service: self.service,
+            user,
+            port,
+            rem_addr,
+            extra,
+        })
+    }
+}
+
 fn read_fields(alloc: Global, body: &[u8]) -> Result<Start, BodyFault>
     ensures exact { GivesUnlessMemory is_memory (λ body. body) result (start_of body.now) }
     ensures memory { result ≡ Err Memory → IsOk (start_of body.now) }
 {
-    if body.len() < 8 {
-        return Err(BodyFault::Short);
-    }
-    let (fixed, fields) = body.split_at(8);
-    let (user_len, port_len, rem_addr_len, data_len) = (
-        fixed[4] as usize,
-        fixed[5] as usize,
-        fixed[6] as usize,
-        fixed[7] as usize,
-    );
-    if fields.len() != user_len + port_len + rem_addr_len + data_len {
-        return Err(BodyFault::LengthSum);
-    }
-    let (user, fields) = fields.split_at(user_len);
-    let (port, fields) = fields.split_at(port_len);
-    let (rem_addr, extra) = fields.split_at(rem_addr_len);
-    Ok(Start {
-        action: Action(fixed[0]),
-        priv_lvl: fixed[1],
-        authen_type: AuthenType(fixed[2]),
-        service: Service(fixed[3]),
-        user: Bytes::from_slice(alloc, user)?,
-        port: Bytes::from_slice(alloc, port)?,
-        rem_addr: Bytes::from_slice(alloc, rem_addr)?,
-        extra: Bytes::from_slice(alloc, extra)?,
-    })
+    LentStart::read(body)?.into_owned(alloc)
 }
 
 /// The start that a body spells (RFC 8907, section 5.1).
