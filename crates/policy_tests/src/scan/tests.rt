@@ -84,7 +84,10 @@ fn limits(rt: HostRuntime) -> Result<(), Fail> {
         };
         assert!(rt; found == states, "{divisor} within {limit}");
         if let Some(found) = found {
-            assert!(rt; machine.steps == u64::from(found) * u64::from(base), "{divisor}");
+            assert!(rt;
+                machine.steps == u64::from(found) * u64::from(base),
+                "{divisor}"
+            );
         }
     }
     Ok(())
@@ -186,7 +189,10 @@ fn texts(rt: HostRuntime) -> Result<(), Fail> {
     let text = alphabet.text_of(word);
     assert_eq!(rt; text.as_slice(), b" !~".as_slice());
     let mut machine = machine(95, 5, 0).ok_or("no machine")?;
-    let table = scan(rt.alloc(), &mut machine, 5).ok().ok_or("refused")?.table;
+    let table = scan(rt.alloc(), &mut machine, 5)
+        .ok()
+        .ok_or("refused")?
+        .table;
     assert_eq!(rt; table.width(), alphabet.width());
     assert_eq!(rt; table.run(&[0, 94]), 4);
     for (text, state) in [("", Some(0)), (" ~", Some(4)), ("a\n", None)] {
