@@ -7,13 +7,13 @@ use Rattle.pol_names.specs.declared.subject_id.Kind.{Kind}
 use Rattle.pol_names.specs.declared.subject_id.SubjectId.{SubjectId}
 use Rattle.pol_text.specs.declared.subject.Subject.{Subject}
 use Rattle.pol_text.specs.declared.fault.PolicyRefusal.{PolicyRefusal}
-use Rattle.pol_text.specs.declared.fault.PolicyRefusal.TheVariants.{Repeated, Limit}
+use Rattle.pol_text.specs.declared.fault.PolicyRefusal.TheVariants.{Repeated, NoSubject, Limit}
 use Rattle.pol_text.specs.declared.fault.PolicyFault.{PolicyFault}
 use Rattle.pol_text.specs.declared.fault.LineFault.{LineFault}
 use Rattle.pol_text.specs.declared.fault.LineFault.TheVariants as lines
 use Rattle.pol_names.specs.SubjectId.{same_id}
 use Rattle.pol_text.specs.Policy.{id_of, find_subject}
-use Rattle.pol_text.specs.Draft.{LineFails, at_place, place_given}
+use Rattle.pol_text.specs.Draft.{LineFails, LineMakes, at_place, place_given}
 use Rattle.pol_text.specs.Text.{Draft, subjects_of, new_subject, with_subject, with_present, after_first, split_last, ◌>>=◌, with_line, with_lines, FailsUnlessMemory}
 
 any_found : (id : SubjectId) (subjects : List Subject) → list_any (same_id id) (map id_of subjects) ≡ is_some (find_subject id subjects)
@@ -66,14 +66,23 @@ pub present_is : (change : Subject → Result Subject PolicyRefusal) (front : Dr
 unfolding with_present
 present_is change front line subject = rw (split_last-push front (line, subject)) refl
 
-pub present_fails : (fault : LineFault) (change : Subject → Result Subject PolicyRefusal) (draft front : Draft) (line : ℕ) (subject : Subject)
+present_fails : (fault : LineFault) (change : Subject → Result Subject PolicyRefusal) (draft front : Draft) (line : ℕ) (subject : Subject)
     → draft ≡ front ++ (line, subject) ∷ [] → LineFails fault (change subject) → LineFails fault (with_present change draft)
 present_fails fault change draft front line subject e h =
     rw (e, present_is change front line subject) (LineFails-bind fault (change subject) _ h)
 
-pub present_changed : (change : Subject → Result Subject PolicyRefusal) (draft front : Draft) (line : ℕ) (subject next : Subject)
+present_changed : (change : Subject → Result Subject PolicyRefusal) (draft front : Draft) (line : ℕ) (subject next : Subject)
     → draft ≡ front ++ (line, subject) ∷ [] → change subject ≡ Ok next → with_present change draft ≡ Ok (front ++ (line, next) ∷ [])
 present_changed change draft front line subject next e h = ap (with_present change) e ∙ present_is change front line subject ∙ rw h refl
+
+pub present_made : (r : Result Unit LineFault) (change : Subject → Result Subject PolicyRefusal) (draft front : Draft) (line : ℕ) (subject next : Subject)
+    → draft ≡ front ++ (line, subject) ∷ [] → LineMakes r next (change subject) → LineMakes r (front ++ (line, next) ∷ []) (with_present change draft)
+present_made (Ok made) change draft front line subject next e h = present_changed change draft front line subject next e h
+present_made (Err fault) change draft front line subject next e h = present_fails fault change draft front line subject e h
+
+pub nothing_present : (change : Subject → Result Subject PolicyRefusal) (draft : Draft) → draft ≡ [] → with_present change draft ≡ Err NoSubject
+unfolding with_present
+nothing_present change draft none = ap (with_present change) none
 
 -- the ids stay where the last subject keeps its own
 pub ids_kept : (keys : List SubjectId) (subjects front : List Subject) (old next : Subject) → keys ≡ map id_of subjects → subjects ≡ front ++ old ∷ [] → id_of next ≡ id_of old

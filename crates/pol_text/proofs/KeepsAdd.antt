@@ -2,7 +2,7 @@
 use Rattle.std.proofs.Common.{◌≡◌, ℕ, zero, suc, ◌<◌, Bool, true, false, not, cond, ◌&&◌, ◌||◌, List, [], ◌∷◌, ◌++◌, length, map, Option, None, Some, refl, sym, ap, ◌∙◌, arith, is_some, length-append}
 use Rattle.std.specs.Option.{option_map_or, option_and_then}
 use Rattle.std.specs.List.{list_any, list_all}
-use Rattle.std.proofs.lemmas.Bool.{and_parts, and_from, or_parts, or_from, cond-false, not-true, not_from_false}
+use Rattle.std.proofs.lemmas.Bool.{and_parts, and_from, or_parts, or_from, not-true, not_from_false}
 use Rattle.std.proofs.lemmas.List.Folds.{list_all-append}
 use Rattle.std.proofs.lemmas.List.{map_push}
 use Rattle.pol_names.specs.declared.subject_id.SubjectId.{SubjectId}
@@ -11,7 +11,6 @@ use Rattle.pol_names.specs.Name.{is_name}
 use Rattle.pol_names.specs.SubjectId.{same_id, group_id}
 use Rattle.pol_text.specs.Policy.{id_of, find_subject, ends_within, all_distinct, all_of, is_right_subject, has_parent, WellFormed}
 use Rattle.pol_text.specs.Change.{has_room_below}
-use Rattle.indexmap.specs.IndexSet.{insert_key}
 use Rattle.pol_text.proofs.Keeps.{all_found, all_from, all_both, differs_back, same_id_is, found_same}
 use Rattle.pol_text.proofs.RightSubject.{right_parts}
 
@@ -129,13 +128,6 @@ module _ (p : List Subject) (w : WellFormed p) where
     where
       both : (test : Subject → Bool) → list_all test p ≡ true → test y ≡ true → list_all test (p ++ y ∷ []) ≡ true
       both test all here = list_all-append test p (y ∷ []) ∙ and_from (list_all test p) (list_all test (y ∷ [])) all (and_from (test y) true here refl)
-
--- the list of kinds and names grows by the new one
-pub added_keys : (id : SubjectId) (p : List Subject) (keys kept new : List SubjectId) → keys ≡ map id_of p → kept ≡ keys → find_subject id p ≡ None
-    → new ≡ insert_key same_id kept id → new ≡ map id_of p ++ id ∷ []
-added_keys id p keys kept new fields same absent e =
-    let none : list_any (same_id id) kept ≡ false = ap (list_any (same_id id)) (same ∙ fields) ∙ absent_any id p absent in
-    e ∙ cond-false (list_any (same_id id) kept) kept (kept ++ id ∷ []) none ∙ ap (λ l. l ++ id ∷ []) (same ∙ fields)
 
 -- a group's name is a name
 pub group_name : (p : List Subject) → WellFormed p → (parent : Option (List ℕ)) → all_of (λ name. is_some (find_subject (group_id name) p)) parent ≡ true → all_of is_name parent ≡ true

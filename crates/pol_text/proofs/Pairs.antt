@@ -1,11 +1,11 @@
 -- The lines and the subjects of a draft, side by side.
-use Rattle.std.proofs.Common.{◌≡◌, ℕ, zero, suc, ◌+◌, ◌-◌, ◌<◌, List, [], ◌∷◌, ◌++◌, length, map, remove, slice_get, Some, refl, sym, ap, ◌∙◌, arith, length-append}
+use Rattle.std.proofs.Common.{◌≡◌, ℕ, zero, suc, ◌+◌, ◌-◌, ◌<◌, List, [], ◌∷◌, ◌++◌, ◌≢◌, length, map, take, slice_get, slice_set, Some, None, refl, sym, ap, ◌∙◌, arith, length-append}
 use Rattle.std.specs.List.{zip}
-use Rattle.std.proofs.lemmas.List.{map_push}
 use Rattle.pol_names.specs.declared.subject_id.SubjectId.{SubjectId}
 use Rattle.pol_text.specs.declared.subject.Subject.{Subject}
 use Rattle.pol_text.specs.Policy.{id_of}
 use Rattle.pol_text.specs.Text.{Draft, subjects_of}
+use Rattle.pol_text.proofs.Keeps.{set_back}
 
 pub firsts : {X Y : Type 0} (xs : List X) (ys : List Y) → length xs ≡ length ys → map (λ (p : X × Y). p.0) (zip xs ys) ≡ xs
 firsts [] ys e = refl
@@ -36,35 +36,34 @@ pub drafted_ids : (lines : List ℕ) (subjects : List Subject) (draft : Draft) (
 drafted_ids lines subjects draft keys long e view =
     e ∙ ap (map id_of) (sym (seconds lines subjects long)) ∙ ap (λ (d : Draft). map id_of (subjects_of d)) view
 
+-- ---- what is at a place
+
+slice_get-within : {X : Type 0} (xs : List X) (i : ℕ) (x : X) → slice_get xs i ≡ Some x → i < length xs
+slice_get-within [] i x at = cc
+slice_get-within (y ∷ xs) zero x at = omega arith
+slice_get-within (y ∷ xs) (suc i) x at = let lt = slice_get-within xs i x at in omega arith
+
+slice_get-there : {X : Type 0} (xs : List X) (i : ℕ) → i < length xs → slice_get xs i ≢ None
+slice_get-there [] i lt none = omega arith
+slice_get-there (x ∷ xs) zero lt none = cc
+slice_get-there (x ∷ xs) (suc i) lt none = slice_get-there xs i (omega arith) none
+
 -- ---- one more of each
 
 module _ (lines more : List ℕ) (subjects next : List Subject) (line : ℕ) (subject : Subject) (long : length lines ≡ length subjects)
     (lines_now : more ≡ lines ++ line ∷ []) (subjects_now : next ≡ subjects ++ subject ∷ []) where
-  pub still_long : length more ≡ length next
-  still_long =
-      let one : length more ≡ length lines + 1 = ap length lines_now ∙ length-append lines (line ∷ []) in
-      let other : length next ≡ length subjects + 1 = ap length subjects_now ∙ length-append subjects (subject ∷ []) in
-      omega arith
-
   pub pushed : (draft : Draft) (y : Subject) → zip lines subjects ≡ draft → subject ≡ y → zip more next ≡ draft ++ (line, y) ∷ []
   pushed draft y view same =
       ap (λ l. zip l next) lines_now ∙ ap (zip (lines ++ line ∷ [])) subjects_now ∙ zip_push lines subjects line subject long
       ∙ ap (λ (d : Draft). d ++ (line, subject) ∷ []) view ∙ ap (λ s. draft ++ (line, s) ∷ []) same
 
--- the kinds and names grow by the new one
-pub ids_grown : (keys new : List SubjectId) (subjects next : List Subject) (subject y : Subject) → keys ≡ map id_of subjects
-    → new ≡ keys ++ id_of y ∷ [] → next ≡ subjects ++ subject ∷ [] → subject ≡ y → new ≡ map id_of next
-ids_grown keys new subjects next subject y is e grown same =
-    e ∙ ap (λ ids. ids ++ id_of y ∷ []) is ∙ sym (map_push id_of subjects y)
-    ∙ ap (λ s. map id_of (subjects ++ s ∷ [])) (sym same) ∙ ap (map id_of) (sym grown)
-
 -- ---- the last of them
 
-last_out : {X : Type 0} (xs : List X) (i : ℕ) (x : X) → length xs ≡ suc i → slice_get xs i ≡ Some x → xs ≡ remove xs i ++ x ∷ []
-last_out [] i x long at = cc
-last_out (y ∷ []) zero x long at = let e : y ≡ x = cc in ap (λ t. t ∷ []) e
-last_out (y ∷ z ∷ xs) zero x long at = absurd (omega arith)
-last_out (y ∷ xs) (suc i) x long at = ap (λ l. y ∷ l) (last_out xs i x (omega arith) at)
+last_set : {X : Type 0} (xs : List X) (i : ℕ) (x : X) → length xs ≡ suc i → slice_set xs i x ≡ take i xs ++ x ∷ []
+last_set [] i x long = absurd (omega arith)
+last_set (y ∷ []) zero x long = refl
+last_set (y ∷ z ∷ xs) zero x long = absurd (omega arith)
+last_set (y ∷ xs) (suc i) x long = ap (λ l. y ∷ l) (last_set xs i x (omega arith))
 
 record LastPair (lines : List ℕ) (front : List Subject) : Type 0 where
   before : List ℕ
@@ -80,24 +79,36 @@ last_pair (n ∷ lines) (x ∷ front) long =
     record { before = n ∷ rest.before; line = rest.line; paired = λ s. ap (λ l. (n, x) ∷ l) (rest.paired s) }
 
 -- the present subject, and what stands before it
-pub record Present (lines : List ℕ) (subjects front : List Subject) (old : Subject) : Type 0 where
+pub record Present (lines : List ℕ) (subjects : List Subject) (last : ℕ) (old : Subject) : Type 0 where
   pub before : List ℕ
+  pub front : List Subject
   pub line : ℕ
   pub whole : subjects ≡ front ++ old ∷ []
+  pub changed : (s : Subject) → slice_set subjects last s ≡ front ++ s ∷ []
   pub paired : (s : Subject) → zip lines (front ++ s ∷ []) ≡ zip before front ++ (line, s) ∷ []
   pub long : (s : Subject) → length lines ≡ length (front ++ s ∷ [])
 
-pub present : (lines : List ℕ) (subjects front : List Subject) (old : Subject) (count : ℕ) → length lines ≡ length subjects → count ≡ length subjects → 0 < count
-    → slice_get subjects (count - 1) ≡ Some old → front ≡ remove subjects (count - 1) → Present lines subjects front old
-present lines subjects front old count same is some at rest =
-    let whole : subjects ≡ front ++ old ∷ [] = last_out subjects (count - 1) old (omega arith) at ∙ ap (λ l. l ++ old ∷ []) (sym rest) in
+pub present : (lines : List ℕ) (subjects : List Subject) (last : ℕ) (old : Subject) → length lines ≡ length subjects → last ≡ length subjects - 1
+    → slice_get subjects last ≡ Some old → Present lines subjects last old
+present lines subjects last old same is at =
+    let some : length subjects ≡ suc last = let lt : last < length subjects = slice_get-within subjects last old at in omega arith in
+    let front = take last subjects in
+    let whole : subjects ≡ front ++ old ∷ [] = sym (set_back subjects last old at) ∙ last_set subjects last old some in
     let size : length subjects ≡ length (front ++ old ∷ []) = ap length whole in
     let sum : length (front ++ old ∷ []) ≡ length front + 1 = length-append front (old ∷ []) in
-    let last = last_pair lines front (omega arith) in
+    let pair = last_pair lines front (omega arith) in
     record {
-      before = last.before;
-      line = last.line;
+      before = pair.before;
+      front = front;
+      line = pair.line;
       whole = whole;
-      paired = last.paired;
+      changed = λ s. last_set subjects last s some;
+      paired = pair.paired;
       long = λ s. let next : length (front ++ s ∷ []) ≡ length front + 1 = length-append front (s ∷ []) in omega arith;
     }
+
+-- there is no subject
+pub none_there : (lines : List ℕ) (subjects : List Subject) (last : ℕ) → last ≡ length subjects - 1 → slice_get subjects last ≡ None → zip lines subjects ≡ []
+none_there [] [] last is none = refl
+none_there (line ∷ lines) [] last is none = refl
+none_there lines (subject ∷ subjects) last is none = absurd (slice_get-there (subject ∷ subjects) last (omega arith) none)

@@ -1,5 +1,5 @@
 -- A change of a subject keeps its kind and name, and that it is right.
-use Rattle.std.proofs.Common.{◌≡◌, ℕ, Bool, true, false, cond, ◌&&◌, List, [], ◌∷◌, ◌++◌, length, nat_le, Option, None, Some, Result, Ok, Err, refl, sym, ap, ◌∙◌, arith, if◌then◌else◌, length-append}
+use Rattle.std.proofs.Common.{◌≡◌, ℕ, Bool, true, false, cond, ◌&&◌, List, [], ◌∷◌, ◌++◌, length, nat_le, Option, None, Some, Result, Ok, Err, OnErr, refl, sym, ap, ◌∙◌, arith, if◌then◌else◌, length-append}
 use Rattle.std.specs.List.{list_all}
 use Rattle.std.specs.Result.{is_ok}
 use Rattle.std.specs.Option.{option_and_then}
@@ -18,6 +18,8 @@ use Rattle.pol_names.specs.declared.subject_id.Kind.TheVariants.{Group, User}
 use Rattle.pol_names.specs.declared.decision.Verdict.{Verdict}
 use Rattle.pol_text.specs.declared.subject.Subject.{Subject}
 use Rattle.pol_text.specs.declared.fault.PolicyRefusal.TheVariants.{BadLine, BadPattern, Limit}
+use Rattle.pol_text.specs.declared.fault.LineFault.{LineFault}
+use Rattle.pol_text.specs.Draft.{LineMakes}
 use Rattle.pol_text.specs.declared.setting.Setting.{Setting}
 use Rattle.pol_text.specs.declared.setting.Setting.TheVariants as settings
 use Rattle.pol_names.specs.Name.{is_name}
@@ -240,3 +242,8 @@ change_kept (settings.Secret Login text) subject next h = login_kept text.now su
 change_kept (settings.Secret Enable text) subject next h = enable_kept text.now subject next h
 change_kept (settings.Priv text) subject next h = priv_kept text.now subject next h
 change_kept (settings.Rule version verdict text) subject next h = rule_kept version verdict text.now subject next h
+
+-- a subject keeps its kind and name, whether the setting is made or refused
+pub made_kept : (r : Result Unit LineFault) (setting : Setting) (subject next : Subject) → LineMakes r next (changed_by setting subject) → OnErr r (next ≡ subject) → id_of next ≡ id_of subject
+made_kept (Ok made) setting subject next h same = (change_kept setting subject next h).same
+made_kept (Err fault) setting subject next h same = ap id_of same

@@ -22,6 +22,11 @@ abbrev pub LineGives : {Y : Type 0} → Result Y LineFault → Result Y PolicyRe
 LineGives (Ok x) wanted = wanted ≡ Ok x
 LineGives (Err fault) wanted = LineFails fault wanted
 
+-- what is there now is the wanted one, unless memory ran out
+abbrev pub LineMakes : {Y : Type 0} → Result Unit LineFault → Y → Result Y PolicyRefusal → Type 0
+LineMakes (Ok made) now wanted = wanted ≡ Ok now
+LineMakes (Err fault) now wanted = LineFails fault wanted
+
 -- a line's fault with the line that it is at
 abbrev pub at_place : ℕ → LineFault → PolicyFault
 at_place line Memory = faults.Memory

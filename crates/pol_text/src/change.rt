@@ -3,7 +3,7 @@
 ghost use Rattle.std.specs.Prelude.{◌≡◌, List, ◌<◌, ◌≤◌, ◌∷◌, ◌++◌, ◌&&◌, [], length, map};
 ghost use Rattle.std.specs.Prelude.{position, slice_get, nat_lt, nat_le, false, is_some, IsTrue};
 ghost use Rattle.std.specs.Prelude.{Ok, Err, None, OnOk, OnErr};
-ghost use Rattle.std.specs.List.{list_all};
+ghost use Rattle.std.specs.List.{list_all, list_any};
 ghost use Rattle.std.specs.Option.{option_map_or};
 ghost use Rattle.std.specs.Result.{result_err};
 ghost use Rattle.pol_names.specs.SubjectId.{same_id, group_id};
@@ -31,6 +31,26 @@ fn place_of(places: &IndexSet<SubjectId>, id: &SubjectId) -> Option<usize>
     ensures { result ≡ position (same_id id.now) places.now.keys }
 {
     places.get_index_of(id)
+}
+
+/// Adds a subject, and its kind and name, or leaves both as they are.
+pub(crate) fn push_subject(
+    subjects: &mut Sequence<Subject>,
+    places: &mut IndexSet<SubjectId>,
+    subject: Subject,
+) -> Result<(), AllocError>
+    requires { list_any (same_id (id_of subject)) places.old.keys ≡ false }
+    ensures subjects { OnOk result (subjects.new ≡ subjects.old ++ subject ∷ []) }
+    ensures places { OnOk result (places.new.keys ≡ places.old.keys ++ id_of subject ∷ []) }
+    ensures err { OnErr result
+        ((subjects.new ≡ subjects.old) × (places.new.keys ≡ places.old.keys)) }
+{
+    let id = subject.id();
+    places.reserve(1)?;
+    subjects.push(subject)?;
+    // there is room, so it is added
+    places.insert(id)?;
+    Ok(())
 }
 
 // Puts the subject at the place below another group, and returns the one that it was below.
@@ -88,11 +108,8 @@ impl Policy {
         ensures err { OnErr result (self.new ≡ self.old) }
         ensures well_formed { WellFormed self.new }
     {
-        self.places.reserve(1)?;
-        self.subjects.push(Subject::new(alloc, kind, name, parent))?;
-        // there is room, so it is added
-        self.places.insert(SubjectId { kind, name })?;
-        Ok(())
+        let subject = Subject::new(alloc, kind, name, parent);
+        push_subject(&mut self.subjects, &mut self.places, subject)
     }
 
     /// Takes a user out, or a group that is no parent. Linear.

@@ -1,13 +1,14 @@
 //! A policy while it is read.
 
-ghost use Rattle.std.specs.Prelude.{◌≡◌, ◌++◌, ◌∷◌, [], OnOk};
+ghost use Rattle.std.specs.Prelude.{◌≡◌, [], length};
 ghost use Rattle.std.specs.List.{list_any};
 ghost use Rattle.pol_names.specs.SubjectId.{same_id};
-ghost use Rattle.pol_text.specs.Draft.{LineGives, RightDraft, place_given};
+ghost use Rattle.pol_text.specs.Draft.{LineMakes, RightDraft, place_given};
 ghost use Rattle.pol_text.specs.Setting.{changed_by};
 ghost use Rattle.pol_text.specs.Text.{IsUnlessMemory, with_subject, with_present};
 ghost use Rattle.pol_text.specs.Text.{with_right_chains};
 
+use crate::change::push_subject;
 use crate::checking::check_chains;
 use crate::fault::{LineFault, PolicyFault, PolicyRefusal};
 use crate::policy::Policy;
@@ -54,16 +55,16 @@ impl Model for Draft {
         × (draft.places.keys ≡ map id_of draft.subjects) };
 }
 
-// Adds the place of a subject after so many.
-fn add_place(places: &mut IndexSet<SubjectId>, count: usize, id: SubjectId) -> Result<(), LineFault>
-    ensures given { LineGives result (place_given (list_any (same_id id) places.old.keys) count) }
-    ensures keys { OnOk result (places.new.keys ≡ places.old.keys ++ id ∷ []) }
+// Refuses one more subject of this kind and name.
+fn check_place(places: &IndexSet<SubjectId>, id: &SubjectId) -> Result<(), PolicyRefusal>
+    ensures { result
+        ≡ place_given (list_any (same_id id.now) places.now.keys) (length places.now.keys) }
 {
-    if !places.insert(id)? {
-        return Err(LineFault::Refused(PolicyRefusal::Repeated));
+    if places.contains(id) {
+        return Err(PolicyRefusal::Repeated);
     }
-    if count >= Policy::MAX_SUBJECTS {
-        return Err(LineFault::Refused(PolicyRefusal::Limit));
+    if places.len() >= Policy::MAX_SUBJECTS {
+        return Err(PolicyRefusal::Limit);
     }
     Ok(())
 }
@@ -81,57 +82,38 @@ impl Draft {
     }
 
     /// Adds a subject that begins at the line. Expected constant time, amortised.
-    #[tactic(auto, unfolding(crate::specs::Text::with_subject))]
-    pub(crate) fn with_subject(
-        self,
+    pub(crate) fn add_subject(
+        &mut self,
         alloc: Global,
         line: usize,
         kind: Kind,
         name: Name,
         parent: Option<Name>,
-    ) -> Result<Draft, LineFault>
-        ensures { LineGives result (with_subject line kind name parent self) }
+    ) -> Result<(), LineFault>
+        ensures { LineMakes result self.new (with_subject line kind name parent self.old) }
     {
-        let Draft {
-            mut lines,
-            mut subjects,
-            mut places,
-        } = self;
-        add_place(&mut places, subjects.len(), SubjectId { kind, name })?;
-        lines.push(line)?;
-        subjects.push(Subject::new(alloc, kind, name, parent))?;
-        Ok(Draft {
-            lines,
-            subjects,
-            places,
-        })
+        check_place(&self.places, &SubjectId { kind, name })?;
+        self.lines.reserve(1)?;
+        let subject = Subject::new(alloc, kind, name, parent);
+        push_subject(&mut self.subjects, &mut self.places, subject)?;
+        // there is room, so it is added
+        self.lines.push(line)?;
+        Ok(())
     }
 
     /// Changes the present subject, which is the last. No names are looked up.
-    #[tactic(auto, unfolding(crate::specs::Text::with_present))]
-    pub(crate) fn with_present(
-        self,
+    pub(crate) fn change_present(
+        &mut self,
         alloc: Global,
         setting: Setting<'_>,
-    ) -> Result<Draft, LineFault>
-        ensures { LineGives result (with_present (changed_by setting.entry) self) }
+    ) -> Result<(), LineFault>
+        ensures { LineMakes result self.new (with_present (changed_by setting.entry) self.old) }
     {
-        let Draft {
-            lines,
-            mut subjects,
-            places,
-        } = self;
-        let count = subjects.len();
-        if count == 0 {
+        let last = self.subjects.len().saturating_sub(1);
+        let Some(subject) = self.subjects.get_mut(last) else {
             return Err(LineFault::Refused(PolicyRefusal::NoSubject));
-        }
-        let subject = setting.change(alloc, subjects.remove(count - 1))?;
-        subjects.push(subject)?;
-        Ok(Draft {
-            lines,
-            subjects,
-            places,
-        })
+        };
+        setting.make(alloc, subject)
     }
 
     /// The policy that the draft is.

@@ -3,7 +3,7 @@
 ghost use Rattle.std.specs.Prelude.{◌≡◌, ◌≤◌, ℕ, List, length, false, Ok, Err, IfOk, codes};
 ghost use Rattle.std.specs.Prelude.{bytes_eq};
 ghost use Rattle.basics.specs.Lines.{split_at_first, lines_of};
-ghost use Rattle.pol_text.specs.Draft.{LineGives, at_place};
+ghost use Rattle.pol_text.specs.Draft.{LineMakes, at_place};
 ghost use Rattle.pol_text.specs.Setting.{with_heading, with_setting};
 ghost use Rattle.pol_text.specs.Text.{Draft as DraftValue};
 ghost use Rattle.pol_text.specs.Policy.{WellFormed, TellsEndless};
@@ -73,15 +73,15 @@ fn heading(rest: &[u8]) -> Result<(Name, Option<Name>), PolicyRefusal>
 // A line that begins a subject, after its first word.
 fn add_subject(
     alloc: Global,
-    draft: Draft,
+    draft: &mut Draft,
     number: usize,
     kind: Kind,
     rest: &[u8],
-) -> Result<Draft, LineFault>
-    ensures { LineGives result (with_heading number kind rest.now draft) }
+) -> Result<(), LineFault>
+    ensures { LineMakes result draft.new (with_heading number kind rest.now draft.old) }
 {
     let (name, parent) = heading(rest)?;
-    draft.with_subject(alloc, number, kind, name, parent)
+    draft.add_subject(alloc, number, kind, name, parent)
 }
 
 // What a line of this first word sets; nothing for a word that begins no such line.
@@ -118,13 +118,13 @@ fn setting_of<'a>(version: Version, word: &[u8], rest: &'a [u8]) -> Option<Setti
 #[tactic(auto, unfolding(crate::specs::Text::with_words))]
 fn add_words(
     alloc: Global,
-    draft: Draft,
+    draft: &mut Draft,
     version: Version,
     number: usize,
     word: &[u8],
     rest: &[u8],
-) -> Result<Draft, LineFault>
-    ensures { LineGives result (with_words version number word.now rest.now draft) }
+) -> Result<(), LineFault>
+    ensures { LineMakes result draft.new (with_words version number word.now rest.now draft.old) }
 {
     if word == b"group".as_slice() {
         return add_subject(alloc, draft, number, Kind::Group, rest);
@@ -133,7 +133,7 @@ fn add_words(
         return add_subject(alloc, draft, number, Kind::User, rest);
     }
     match setting_of(version, word, rest) {
-        Some(setting) => draft.with_present(alloc, setting),
+        Some(setting) => draft.change_present(alloc, setting),
         None => Err(LineFault::Refused(PolicyRefusal::BadLine)),
     }
 }
@@ -141,15 +141,15 @@ fn add_words(
 #[tactic(auto, unfolding(crate::specs::Text::with_trimmed))]
 fn add_trimmed(
     alloc: Global,
-    draft: Draft,
+    draft: &mut Draft,
     version: Version,
     number: usize,
     line: &[u8],
-) -> Result<Draft, LineFault>
-    ensures { LineGives result (with_trimmed version number line.now draft) }
+) -> Result<(), LineFault>
+    ensures { LineMakes result draft.new (with_trimmed version number line.now draft.old) }
 {
     if let [] | [b'#', ..] = line {
-        return Ok(draft);
+        return Ok(());
     }
     let Some((word, rest)) = split_once(line, b' ') else {
         return Err(LineFault::Refused(PolicyRefusal::BadLine));
@@ -157,16 +157,16 @@ fn add_trimmed(
     add_words(alloc, draft, version, number, word, rest)
 }
 
-// The draft after one more line.
+// Adds to the draft what one more line says.
 #[tactic(auto, unfolding(crate::specs::Text::with_line))]
 fn add_line(
     alloc: Global,
-    draft: Draft,
+    draft: &mut Draft,
     version: Version,
     number: usize,
     line: &[u8],
-) -> Result<Draft, LineFault>
-    ensures { LineGives result (with_line version number line.now draft) }
+) -> Result<(), LineFault>
+    ensures { LineMakes result draft.new (with_line version number line.now draft.old) }
 {
     if !is_text(line) {
         return Err(LineFault::Refused(PolicyRefusal::BadLine));
@@ -203,9 +203,8 @@ fn read_lines(alloc: Global, text: &[u8]) -> Result<Draft, PolicyFault>
     let (version, mut lines) = body_of(text);
     let mut draft = Draft::new(alloc);
     'lines: while let Some((number, line)) = lines.take_line() {
-        match add_line(alloc, draft, version, number, line) {
-            Ok(next) => draft = next,
-            Err(fault) => return Err(at_line(number, fault)),
+        if let Err(fault) = add_line(alloc, &mut draft, version, number, line) {
+            return Err(at_line(number, fault));
         }
     }
     Ok(draft)
@@ -225,10 +224,10 @@ impl Policy {
     /// Reads a policy's text (docs/POLICY.md): the policy that it says, or the first fault with its
     /// line.
     ///
-    /// A line of a subject takes no look-up, a line that begins one takes one hash look-up, and the
-    /// chains of what is accepted have at most 8 subjects. So an accepted text takes expected time
-    /// linear in its length, up to a logarithm. A refused one takes at most 1,024 look-ups more for
-    /// each of its subjects.
+    /// A line of a subject takes no look-up, a line that begins one takes two hash look-ups, and
+    /// the chains of what is accepted have at most 8 subjects. So an accepted text takes expected
+    /// time linear in its length, up to a logarithm. A refused one takes at most 1,024 look-ups
+    /// more for each of its subjects.
     pub fn read(alloc: Global, text: &[u8]) -> Result<Policy, PolicyFault>
         ensures exact { IsUnlessMemory (λ policy. policy) result (policy_of text.now) }
         ensures well_formed { IfOk result WellFormed }

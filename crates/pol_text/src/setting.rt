@@ -1,11 +1,11 @@
 //! What a line says of the present subject.
 
-ghost use Rattle.std.specs.Prelude.{◌≡◌, Ok, Err, ok_or, if◌then◌else◌};
+ghost use Rattle.std.specs.Prelude.{◌≡◌, Ok, Err, OnErr, ok_or, if◌then◌else◌};
 ghost use Rattle.basics.specs.Memory.{GivesUnlessMemory};
 ghost use Rattle.pol_pattern.specs.Memory.{is_memory};
 ghost use Rattle.pol_text.specs.declared.fault.PolicyRefusal.TheVariants.{BadLine, BadValue};
 ghost use Rattle.pol_names.specs.declared.subject_id.Kind.TheVariants.{Group};
-ghost use Rattle.pol_text.specs.Draft.{LineGives};
+ghost use Rattle.pol_text.specs.Draft.{LineGives, LineMakes};
 ghost use Rattle.pol_names.specs.SubjectId.{same_kind};
 ghost use Rattle.pol_names.specs.Secret.{secret_of};
 ghost use Rattle.pol_text.specs.Setting.{changed_by, secret_given};
@@ -29,15 +29,16 @@ pub(crate) enum Setting<'a> {
 }
 
 impl<'a> Setting<'a> {
-    /// The subject with the setting made.
-    pub(crate) fn change(self, alloc: Global, subject: Subject) -> Result<Subject, LineFault>
-        ensures { LineGives result (changed_by self.entry subject) }
+    /// Makes the setting. A subject stays as it is where that is refused.
+    pub(crate) fn make(self, alloc: Global, subject: &mut Subject) -> Result<(), LineFault>
+        ensures made { LineMakes result subject.new (changed_by self.entry subject.old) }
+        ensures err { OnErr result (subject.new ≡ subject.old) }
     {
         match self {
-            Setting::Secret(credential, text) => with_secret(alloc, subject, credential, text),
-            Setting::Priv(text) => with_priv(subject, text),
+            Setting::Secret(credential, text) => add_secret(alloc, subject, credential, text),
+            Setting::Priv(text) => add_priv(subject, text),
             Setting::Rule(version, verdict, text) => {
-                with_rule(alloc, subject, version, verdict, text)
+                add_rule(alloc, subject, version, verdict, text)
             }
         }
     }
@@ -62,13 +63,14 @@ fn refuse_group(kind: Kind) -> Result<(), PolicyRefusal>
     }
 }
 
-fn with_secret(
+fn add_secret(
     alloc: Global,
-    mut subject: Subject,
+    subject: &mut Subject,
     credential: Credential,
     text: &[u8],
-) -> Result<Subject, LineFault>
-    ensures { LineGives result (secret_given credential text.now subject) }
+) -> Result<(), LineFault>
+    ensures made { LineMakes result subject.new (secret_given credential text.now subject.old) }
+    ensures err { OnErr result (subject.new ≡ subject.old) }
 {
     refuse_group(subject.kind)?;
     if subject.has_secret(credential) {
@@ -76,7 +78,7 @@ fn with_secret(
     }
     let secret = secret(alloc, text)?;
     subject.set_secret(credential, Some(secret));
-    Ok(subject)
+    Ok(())
 }
 
 // A level of 1 to 4 digits, up to 15.
@@ -90,8 +92,9 @@ fn level(text: &[u8]) -> Option<u8>
     Some(level as u8)
 }
 
-fn with_priv(mut subject: Subject, text: &[u8]) -> Result<Subject, LineFault>
-    ensures { LineGives result (priv_set text.now subject) }
+fn add_priv(subject: &mut Subject, text: &[u8]) -> Result<(), LineFault>
+    ensures made { LineMakes result subject.new (priv_set text.now subject.old) }
+    ensures err { OnErr result (subject.new ≡ subject.old) }
 {
     if subject.priv_lvl.is_some() {
         return Err(LineFault::Refused(PolicyRefusal::Repeated));
@@ -100,7 +103,7 @@ fn with_priv(mut subject: Subject, text: &[u8]) -> Result<Subject, LineFault>
         return Err(LineFault::Refused(PolicyRefusal::BadValue));
     };
     subject.priv_lvl = Some(level);
-    Ok(subject)
+    Ok(())
 }
 
 // The pattern that a text of this version spells.
@@ -125,19 +128,20 @@ fn pattern(alloc: Global, version: Version, text: &[u8]) -> Result<Pattern, Line
 }
 
 #[tactic(auto, unfolding(crate::specs::Text::with_rule))]
-fn with_rule(
+fn add_rule(
     alloc: Global,
-    mut subject: Subject,
+    subject: &mut Subject,
     version: Version,
     verdict: Verdict,
     text: &[u8],
-) -> Result<Subject, LineFault>
-    ensures { LineGives result (rule_added version verdict text.now subject) }
+) -> Result<(), LineFault>
+    ensures made { LineMakes result subject.new (rule_added version verdict text.now subject.old) }
+    ensures err { OnErr result (subject.new ≡ subject.old) }
 {
     let pattern = pattern(alloc, version, text)?;
     if subject.rules.len() >= Policy::MAX_RULES {
         return Err(LineFault::Refused(PolicyRefusal::Limit));
     }
     subject.rules.push(Rule { verdict, pattern })?;
-    Ok(subject)
+    Ok(())
 }

@@ -3,8 +3,8 @@ use Rattle.pol_text.proofs.reading.read_lines.Goals as goal
 
 pub lines-preserved : goal.lines-preserved
 lines-preserved c =
-    lines_go_on c.body_of-version.result.0 c.lines.lines.number c.in-Some.number c.take_line.new.self.number c.lines.lines.lines c.take_line.new.self.lines c.in-Some.line.now c.lines.draft c.in-Ok.next _
-    c.in-Some.ensures.some.0 c.in-Some.ensures.some.1 c.lines.invariant c.in-Ok.ensures c.in-Some.ensures.some.2
+    lines_go_on c.body_of-version.result.0 c.lines.lines.number c.in-Some.number c.take_line.new.self.number c.lines.lines.lines c.take_line.new.self.lines c.in-Some.line.now c.lines.draft c.add_line.new.draft _
+    c.in-Some.ensures.some.0 c.in-Some.ensures.some.1 c.lines.invariant c.in_default-add_line.ensures c.in-Some.ensures.some.2
 
 pub returns-in-Err : goal.returns-in-Err
 returns-in-Err c =
