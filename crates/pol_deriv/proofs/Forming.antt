@@ -7,7 +7,7 @@ use Rattle.pol_pattern.specs.Flat.{Class, class, group, star, Term, empty, put, 
 use Rattle.pol_deriv.specs.Linear.{factor_holds_empty, term_holds_empty, terms_hold_empty, continuation, factor_linear, linear, terms_linear}
 use Rattle.pol_deriv.specs.Table.{Means, Keeps, Grows}
 use Rattle.pol_deriv.specs.Nodes.{term_at, begins_with_terms, kind_of, of_kind, first_factor, first_terms, rest_of, with_alternative, node_term, IsRight}
-use Rattle.pol_deriv.specs.Forms.{IsForm}
+use Rattle.pol_deriv.specs.Forms.{IsForm, HasAdded}
 use Rattle.pol_deriv.specs.declared.linear.Monomial.{Monomial}
 use Rattle.pol_deriv.specs.declared.node.Kind.{Kind}
 use Rattle.pol_deriv.specs.declared.node.Kind.TheVariants as kinds
@@ -28,6 +28,19 @@ form_append table [] second [] back p q = q
 form_append table [] second (pair ∷ front) back p q = absurd p
 form_append table (m ∷ first) second [] back p q = absurd p
 form_append table (m ∷ first) second (pair ∷ front) back p q = (p.0, form_append table first second front back p.1 q)
+
+pub none_added : (table : List Term) (form : List Monomial) → HasAdded table form form []
+none_added table form = ([], sym (append-nil form), tt)
+
+pub added_more : (old new : List Term) → Keeps old new → (before form more : List Monomial) (front back : List (Class × Term)) → HasAdded old before form front → HasAdded new form more back → HasAdded new before more (front ++ back)
+added_more old new keeps before form more front back p q = (
+  p.0 ++ q.0,
+  q.1 ∙ ap (λ (l : List Monomial). l ++ q.0) p.1 ∙ append_assoc before p.0 q.0,
+  form_append new p.0 q.0 front back (form_kept old new keeps p.0 front p.2) q.2,
+)
+
+pub whole_form : (table : List Term) (form : List Monomial) (pairs : List (Class × Term)) → HasAdded table [] form pairs → IsForm table form pairs
+whole_form table form pairs h = subst (λ (l : List Monomial). IsForm table l pairs) (sym h.1) h.2
 
 -- ---- what a term begins with
 
@@ -91,36 +104,36 @@ none_left_at kinds.Star left rest table (nodes.Alternative first r mark) not e =
 
 -- ---- the terms of a group or a star, so far
 
-pub record TermsSoFar (old new : List Term) (whole after : Term) (at next : ℕ) (mark : Bool) (form : List Monomial) : Type 0 where
+pub record TermsSoFar (old new : List Term) (whole after : Term) (at next : ℕ) (mark : Bool) (before form : List Monomial) : Type 0 where
   pub grows : Grows old new
   pub goes_on : Means new next after
   pub left : Terms
   pub here : Means new at (put (of_kind (kind_of whole) left) (rest_of whole))
   pub done : List (Class × Term)
-  pub made : IsForm new form done
+  pub made : HasAdded new before form done
   pub pairs : done ++ terms_linear left after ≡ terms_linear (first_terms whole) after
   pub marked : (mark || terms_hold_empty left) ≡ factor_holds_empty (first_factor whole)
 
-pub terms_first : (old new : List Term) (term next : ℕ) (after : Term) (mark : Bool) → Grows old new → Means old term (term_at old term) → IsTrue (begins_with_terms (term_at old term))
-    → Means new next after → mark ≡ is_star (kind_of (term_at old term)) → TermsSoFar old new (term_at old term) after term next mark []
-terms_first old new term next after mark grows means begins at_next is_mark = record {
+pub terms_first : (old new : List Term) (term next : ℕ) (after : Term) (mark : Bool) (form : List Monomial) → Grows old new → Means old term (term_at old term) → IsTrue (begins_with_terms (term_at old term))
+    → Means new next after → mark ≡ is_star (kind_of (term_at old term)) → TermsSoFar old new (term_at old term) after term next mark form form
+terms_first old new term next after mark form grows means begins at_next is_mark = record {
   grows = grows;
   goes_on = at_next;
   left = first_terms (term_at old term);
   here = grows.kept term _ (subst (Means old term) (begins_is (term_at old term) begins) means);
   done = [];
-  made = tt;
+  made = none_added new form;
   pairs = refl;
   marked = ap (λ (b : Bool). b || terms_hold_empty (first_terms (term_at old term))) is_mark ∙ first_mark (term_at old term) begins;
 }
 
-module _ (old new : List Term) (whole after : Term) (at next : ℕ) (mark : Bool) (form : List Monomial) (so_far : TermsSoFar old new whole after at next mark form) where
+module _ (old new : List Term) (whole after : Term) (at next : ℕ) (mark : Bool) (before form : List Monomial) (so_far : TermsSoFar old new whole after at next mark before form) where
   -- one term more
-  pub terms_more : (first rest : ℕ) (own : Bool) (newer : List Term) (begun : List Monomial) → IsTrue (begins_with_terms (term_at new rest))
+  pub terms_more : (first rest : ℕ) (own : Bool) (newer : List Term) (more : List Monomial) → IsTrue (begins_with_terms (term_at new rest))
       → Means new rest (term_at new rest) → Means new at (with_alternative (term_at new first) (term_at new rest)) → Grows new newer
-      → IsForm newer begun (linear (term_at new first) (term_at new next)) → own ≡ term_holds_empty (term_at new first)
-      → TermsSoFar old newer whole after rest next (mark || own) (form ++ begun)
-  terms_more first rest own newer begun begins at_rest at_whole grows is_begun is_own =
+      → HasAdded newer form more (linear (term_at new first) (term_at new next)) → own ≡ term_holds_empty (term_at new first)
+      → TermsSoFar old newer whole after rest next (mark || own) before more
+  terms_more first rest own newer more begins at_rest at_whole grows is_begun is_own =
       let kind = kind_of whole in
       let w = alternative_left kind so_far.left (term_at new first) (term_at new rest) (rest_of whole) begins
       (means_one new at (with_alternative (term_at new first) (term_at new rest)) (put (of_kind kind so_far.left) (rest_of whole)) at_whole so_far.here) in
@@ -132,8 +145,8 @@ module _ (old new : List Term) (whole after : Term) (at next : ℕ) (mark : Bool
         left = w.0;
         here = grows.kept rest _ (subst (Means new rest) w.2 at_rest);
         done = so_far.done ++ own_pairs;
-        made = form_append newer form begun so_far.done own_pairs (form_kept new newer grows.kept form so_far.done so_far.made)
-            (subst (λ (b : Term). IsForm newer begun (linear (term_at new first) b)) same_next is_begun);
+        made = added_more new newer grows.kept before form more so_far.done own_pairs so_far.made
+            (subst (λ (b : Term). HasAdded newer form more (linear (term_at new first) b)) same_next is_begun);
         pairs = append_assoc so_far.done own_pairs (terms_linear w.0 after)
             ∙ ap (λ (t : Terms). so_far.done ++ terms_linear t after) (sym w.1) ∙ so_far.pairs;
         marked = or_assoc mark own (terms_hold_empty w.0)
@@ -150,10 +163,10 @@ module _ (old new : List Term) (whole after : Term) (at next : ℕ) (mark : Bool
   none_left node not at_node =
       none_left_at (kind_of whole) so_far.left (rest_of whole) new node not (means_one new at (node_term new node) (put (of_kind (kind_of whole) so_far.left) (rest_of whole)) at_node so_far.here)
 
-  pub terms_end : (node : Node) → ((first r : ℕ) (m : Bool) → node ≡ nodes.Alternative first r m → ⊥) → Means new at (node_term new node) → IsForm new form (terms_linear (first_terms whole) after)
+  pub terms_end : (node : Node) → ((first r : ℕ) (m : Bool) → node ≡ nodes.Alternative first r m → ⊥) → Means new at (node_term new node) → HasAdded new before form (terms_linear (first_terms whole) after)
   terms_end node not at_node =
       let e = none_left node not at_node in
-      subst (IsForm new form) (sym (append-nil so_far.done) ∙ ap (λ (t : Terms). so_far.done ++ terms_linear t after) (sym e) ∙ so_far.pairs) so_far.made
+      subst (HasAdded new before form) (sym (append-nil so_far.done) ∙ ap (λ (t : Terms). so_far.done ++ terms_linear t after) (sym e) ∙ so_far.pairs) so_far.made
 
   pub mark_end : (node : Node) → ((first r : ℕ) (m : Bool) → node ≡ nodes.Alternative first r m → ⊥) → Means new at (node_term new node) → mark ≡ factor_holds_empty (first_factor whole)
   mark_end node not at_node =
@@ -166,37 +179,37 @@ module _ (old new : List Term) (whole after : Term) (at next : ℕ) (mark : Bool
 
 -- ---- the factors of a term, so far
 
-pub record FactorsSoFar (old new : List Term) (whole after : Term) (at : ℕ) (form : List Monomial) : Type 0 where
+pub record FactorsSoFar (old new : List Term) (whole after : Term) (at : ℕ) (before form : List Monomial) : Type 0 where
   pub keeps : Keeps old new
   pub left : Term
   pub here : Means new at left
   pub done : List (Class × Term)
-  pub made : IsForm new form done
+  pub made : HasAdded new before form done
   pub pairs : done ++ linear left after ≡ linear whole after
 
 -- what follows the whole still has its number
 pub after_same : (old new : List Term) → Keeps old new → (number : ℕ) → number < length old → term_at new number ≡ term_at old number
 after_same old new keeps number lt = term_means new number (term_at old number) (keeps number (term_at old number) (at_means old number lt))
 
-module _ (old new : List Term) (whole after : Term) (at : ℕ) (form : List Monomial) (so_far : FactorsSoFar old new whole after at form) where
+module _ (old new : List Term) (whole after : Term) (at : ℕ) (before form : List Monomial) (so_far : FactorsSoFar old new whole after at before form) where
   left_is : (term : Term) → Means new at term → so_far.left ≡ term
   left_is term means = means_one new at so_far.left term so_far.here means
 
   -- a class is left, and what follows it
-  pub class_end : (c : Class) (rest : Term) (newer : List Term) (next : ℕ) → Means new at (put (class c) rest) → Keeps new newer → Means newer next (join_term rest after)
-      → IsForm newer (form ++ record { class = c; next = next } ∷ []) (linear whole after)
-  class_end c rest newer next means keeps at_next =
-      subst (IsForm newer (form ++ record { class = c; next = next } ∷ [])) (ap (λ (t : Term). so_far.done ++ linear t after) (sym (left_is (put (class c) rest) means)) ∙ so_far.pairs)
-      (form_append newer form (record { class = c; next = next } ∷ []) so_far.done ((c, join_term rest after) ∷ []) (form_kept new newer keeps form so_far.done so_far.made) ((refl, at_next), tt))
+  pub class_end : (c : Class) (rest : Term) (newer : List Term) (next : ℕ) (more : List Monomial) → Means new at (put (class c) rest) → Keeps new newer → Means newer next (join_term rest after)
+      → more ≡ form ++ record { class = c; next = next } ∷ [] → HasAdded newer before more (linear whole after)
+  class_end c rest newer next more means keeps at_next is_more =
+      subst (HasAdded newer before more) (ap (λ (t : Term). so_far.done ++ linear t after) (sym (left_is (put (class c) rest) means)) ∙ so_far.pairs)
+      (added_more new newer keeps before form more so_far.done ((c, join_term rest after) ∷ []) so_far.made (record { class = c; next = next } ∷ [], is_more, ((refl, at_next), tt)))
 
-  module _ (newer : List Term) (begun : List Monomial) (means : Means new at (term_at new at)) (begins : IsTrue (begins_with_terms (term_at new at))) (keeps : Keeps new newer)
-      (is_begun : IsForm newer begun (factor_linear (first_factor (term_at new at)) (join_term (rest_of (term_at new at)) after))) where
+  module _ (newer : List Term) (more : List Monomial) (means : Means new at (term_at new at)) (begins : IsTrue (begins_with_terms (term_at new at))) (keeps : Keeps new newer)
+      (is_begun : HasAdded newer form more (factor_linear (first_factor (term_at new at)) (join_term (rest_of (term_at new at)) after))) where
     first_pairs : List (Class × Term)
     first_pairs = factor_linear (first_factor (term_at new at)) (join_term (rest_of (term_at new at)) after)
 
-    both : IsForm newer (form ++ begun) (so_far.done ++ first_pairs)
+    both : HasAdded newer before more (so_far.done ++ first_pairs)
     unfolding first_pairs
-    both = form_append newer form begun so_far.done first_pairs (form_kept new newer keeps form so_far.done so_far.made) is_begun
+    both = added_more new newer keeps before form more so_far.done first_pairs so_far.made is_begun
 
     whole_pairs : (so_far.done ++ first_pairs) ++ cond (factor_holds_empty (first_factor (term_at new at))) (linear (rest_of (term_at new at)) after) [] ≡ linear whole after
     unfolding first_pairs
@@ -206,7 +219,7 @@ module _ (old new : List Term) (whole after : Term) (at : ℕ) (form : List Mono
         ∙ ap (λ (t : Term). so_far.done ++ linear t after) (sym (left_is (term_at new at) means)) ∙ so_far.pairs
 
     -- a group or a star that holds the empty text, and then the rest
-    pub factors_more : (rest : ℕ) → factor_holds_empty (first_factor (term_at new at)) ≡ true → Means newer rest (rest_of (term_at new at)) → FactorsSoFar old newer whole after rest (form ++ begun)
+    pub factors_more : (rest : ℕ) → factor_holds_empty (first_factor (term_at new at)) ≡ true → Means newer rest (rest_of (term_at new at)) → FactorsSoFar old newer whole after rest before more
     factors_more rest holds at_rest = record {
       keeps = λ number t m. keeps number t (so_far.keeps number t m);
       left = rest_of (term_at new at);
@@ -217,9 +230,9 @@ module _ (old new : List Term) (whole after : Term) (at : ℕ) (form : List Mono
     }
 
     -- a group that doesn't
-    pub factors_end : factor_holds_empty (first_factor (term_at new at)) ≡ false → IsForm newer (form ++ begun) (linear whole after)
+    pub factors_end : factor_holds_empty (first_factor (term_at new at)) ≡ false → HasAdded newer before more (linear whole after)
     factors_end holds =
-        subst (IsForm newer (form ++ begun))
+        subst (HasAdded newer before more)
         (sym (append-nil (so_far.done ++ first_pairs)) ∙ ap (λ (b : Bool). (so_far.done ++ first_pairs) ++ cond b (linear (rest_of (term_at new at)) after) []) (sym holds) ∙ whole_pairs) both
 
 -- ---- what the nodes say

@@ -1,5 +1,5 @@
 -- The code's linear forms.
-use Rattle.std.specs.Prelude.{◌≡◌, ◌↔◌, ◌+◌, ◌<◌, ℕ, Some, List, map, filter, slice_get, Contains}
+use Rattle.std.specs.Prelude.{◌≡◌, ◌↔◌, ◌+◌, ◌<◌, ℕ, Some, List, ◌++◌, map, filter, slice_get, Contains}
 use Rattle.std.specs.List.{AllZip}
 use Rattle.std.specs.List.Sorted.{IsStrictlyIncreasing}
 use Rattle.pol_pattern.specs.Flat.{Class, holds_symbol, Term}
@@ -11,6 +11,11 @@ abbrev pub IsForm : List Term → List Monomial → List (Class × Term) → Typ
 IsForm table monomials pairs =
     AllZip (λ monomial pair. (monomial.class ≡ pair.0)
     × Means table monomial.next pair.1) monomials pairs
+
+-- the form is an earlier one, and then the monomials of the pairs
+abbrev pub HasAdded : List Term → List Monomial → List Monomial → List (Class × Term) → Type 0
+HasAdded table earlier form pairs =
+    (added : List Monomial) × (form ≡ earlier ++ added) × IsForm table added pairs
 
 -- the numbers to which the symbol leads
 abbrev pub reached : ℕ → List Monomial → List ℕ

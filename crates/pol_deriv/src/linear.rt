@@ -2,7 +2,7 @@
 //! (V. Antimirov, "Partial derivatives of regular expressions and finite automaton constructions",
 //! 1996).
 
-ghost use Rattle.std.specs.Prelude.{◌≡◌, ◌<◌, length, true, false, IsTrue, IfOk, MatchOption};
+ghost use Rattle.std.specs.Prelude.{◌≡◌, ◌<◌, length, true, false, IsTrue, IfOk, OnOk, MatchOption};
 ghost use Rattle.pol_pattern.specs.Flat as flat;
 ghost use Rattle.pol_deriv.specs.Linear as spec;
 ghost use Rattle.pol_deriv.specs.Nodes.{term_at, begins_with_terms, first_factor, rest_of};
@@ -21,37 +21,35 @@ pub(crate) struct Monomial {
 }
 
 impl Table {
-    ghost use Rattle.pol_deriv.specs.Forms.{IsForm};
+    ghost use Rattle.pol_deriv.specs.Forms.{HasAdded};
 
-    /// The linear form of a term, where another follows it.
+    /// Adds to a form the linear form of a term, where another follows it.
     #[cycle(linear)]
     pub(crate) fn linear(
         &mut self,
         term: Number,
         after: Number,
-    ) -> Result<Vec<Monomial>, AllocError>
+        form: &mut Vec<Monomial>,
+    ) -> Result<(), AllocError>
         requires term { term < length self.old }
         requires after { after < length self.old }
         ensures grows { Grows self.old self.new }
         ensures exact { let pairs = spec.linear (term_at self.old term) (term_at self.old after) in
-            IfOk result (λ form. IsForm self.new form.items pairs) }
+            OnOk result (HasAdded self.new form.old.items form.new.items pairs) }
     {
-        let mut form = Vec::new(self.alloc());
         let mut at = term;
         'factors: loop {
             match self.node(at) {
-                Node::Empty => return Ok(form),
+                Node::Empty => return Ok(()),
                 Node::Class { class, rest } => {
                     let next = self.join(rest, after)?;
                     form.push(Monomial { class, next })?;
-                    return Ok(form);
+                    return Ok(());
                 }
                 Node::Group { .. } | Node::Star { .. } | Node::Alternative { .. } => {
-                    let (mut begun, rest) = self.linear_terms(at, after)?;
-                    form.append(&mut begun)?;
-                    match rest {
+                    match self.linear_terms(at, after, form)? {
                         Some(rest) => at = rest,
-                        None => return Ok(form),
+                        None => return Ok(()),
                     }
                 }
             }
@@ -76,14 +74,15 @@ impl Table {
         }
     }
 
-    /// The linear form of the group or star that a term begins with, where another follows the
-    /// term; and the rest of the term, if the group or star holds the empty text.
+    /// Adds to a form the linear form of the group or star that a term begins with, where another
+    /// follows the term. Answers the rest of the term, if the group or star holds the empty text.
     #[cycle(linear)]
     fn linear_terms(
         &mut self,
         term: Number,
         after: Number,
-    ) -> Result<(Vec<Monomial>, Option<Number>), AllocError>
+        form: &mut Vec<Monomial>,
+    ) -> Result<Option<Number>, AllocError>
         requires term { term < length self.old }
         requires after { after < length self.old }
         requires begins { IsTrue (begins_with_terms (term_at self.old term)) }
@@ -91,23 +90,21 @@ impl Table {
         ensures exact { let whole = term_at self.old term in
             let rest = flat.join_term (rest_of whole) (term_at self.old after) in
             let pairs = spec.factor_linear (first_factor whole) rest in
-            IfOk result (λ begun. IsForm self.new begun.0.items pairs) }
+            OnOk result (HasAdded self.new form.old.items form.new.items pairs) }
         ensures rest { let whole = term_at self.old term in
             let holds_empty = spec.factor_holds_empty (first_factor whole) in
-            IfOk result (λ begun. MatchOption begun.1 (holds_empty ≡ false)
+            IfOk result (λ rest. MatchOption rest (holds_empty ≡ false)
             (λ n. (holds_empty ≡ true) × (n < term) × Means self.new n (rest_of whole))) }
     {
         let (kind, rest) = self.end(term);
         let next = self.continuation(term, after)?;
         let mut holds_empty = matches!(kind, Kind::Star);
-        let mut form = Vec::new(self.alloc());
         let mut at = term;
         'terms: while let Node::Alternative { first, rest, .. } = self.node(at) {
             holds_empty |= self.holds_empty(first);
-            let mut begun = self.linear(first, next)?;
-            form.append(&mut begun)?;
+            self.linear(first, next, form)?;
             at = rest;
         }
-        Ok((form, holds_empty.then_some(rest)))
+        Ok(holds_empty.then_some(rest))
     }
 }

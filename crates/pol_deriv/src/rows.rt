@@ -79,6 +79,26 @@ fn push_row(alloc: Global, lists: &mut Lists, form: &[Monomial]) -> Result<usize
     Ok(place)
 }
 
+/// Adds for each symbol the derivatives of a term by it. Answers where the first of these lists
+/// stands.
+fn push_derivatives(
+    lists: &mut Lists,
+    table: &mut Table,
+    number: Number,
+) -> Result<usize, AllocError>
+    requires { number < length table.old }
+    ensures grows { Grows table.old table.new }
+    ensures kept { (k : ℕ) (list : List ℕ) → slice_get lists.old k ≡ Some list
+        → slice_get lists.new k ≡ Some list }
+    ensures row { IfOk result
+        (λ place. IsRow table.new lists.new place (term_at table.old number)) }
+{
+    let after = table.empty()?;
+    let mut form = Vec::new(table.alloc());
+    table.linear(number, after, &mut form)?;
+    push_row(table.alloc(), lists, &form)
+}
+
 impl Rows {
     /// Nothing was worked out yet.
     pub(crate) fn new(alloc: Global) -> Rows
@@ -110,9 +130,7 @@ impl Rows {
         if let Some(place) = self.place(number) {
             return Ok(place);
         }
-        let empty = table.empty()?;
-        let form = table.linear(number, empty)?;
-        let place = push_row(table.alloc(), &mut self.lists, &form)?;
+        let place = push_derivatives(&mut self.lists, table, number)?;
         note(&mut self.places, number, place)?;
         Ok(place)
     }

@@ -14,7 +14,7 @@ decreases-linear_terms l = 2 * l.term
 abbrev pub invariant-linear-factors : goal.invariant-linear-factors
 invariant-linear-factors l = record {
   below : l.at ≤ l.term;
-  so_far : FactorsSoFar l.fn.self l.self (term_at l.fn.self l.term) (term_at l.fn.self l.after) l.at l.form.items;
+  so_far : FactorsSoFar l.fn.self l.self (term_at l.fn.self l.term) (term_at l.fn.self l.after) l.at l.fn.form.items l.form.items;
 }
 
 abbrev pub decreases-linear-factors : goal.decreases-linear-factors
@@ -24,7 +24,7 @@ abbrev pub invariant-linear_terms-terms : goal.invariant-linear_terms-terms
 invariant-linear_terms-terms l = record {
   below : l.at ≤ l.term;
   so_far : TermsSoFar l.fn.self l.self (term_at l.fn.self l.term)
-      (continuation (first_factor (term_at l.fn.self l.term)) (join_term (rest_of (term_at l.fn.self l.term)) (term_at l.fn.self l.after))) l.at l.next l.holds_empty l.form.items;
+      (continuation (first_factor (term_at l.fn.self l.term)) (join_term (rest_of (term_at l.fn.self l.term)) (term_at l.fn.self l.after))) l.at l.next l.holds_empty l.fn.form.items l.form.items;
 }
 
 abbrev pub decreases-linear_terms-terms : goal.decreases-linear_terms-terms
