@@ -1,9 +1,11 @@
 -- Rows of derivatives.
-use Rattle.std.proofs.Common.{◌≡◌, ◌↔◌, ◌⊎◌, inl, inr, ◌+◌, ◌-◌, ◌<◌, ◌≤◌, ℕ, Bool, true, false, List, [], ◌∷◌, ◌++◌, length, map, filter, cond, eqb, nat_le, Option, Contains, Some, refl, sym, ap, subst, ◌∙◌, arith}
+use Rattle.std.proofs.Common.{◌≡◌, ◌↔◌, ◌⊎◌, inl, inr, ◌+◌, ◌-◌, ◌<◌, ◌≤◌, ℕ, Bool, true, false, List, [], ◌∷◌, ◌++◌, length, take, get_or, map, filter, cond, append-nil, eqb, nat_le, Option, Contains, Some, refl, sym, ap, subst, ◌∙◌, arith}
 use Rattle.std.specs.List.{slice_get}
 use Rattle.std.specs.List.Sorted.{IsStrictlyIncreasing}
 use Rattle.std.proofs.lemmas.Bool.{false≢true, eqb-true, and_parts}
 use Rattle.std.proofs.lemmas.Bool.Decides.{nat_tests}
+use Rattle.std.proofs.lemmas.List.{take_more, map-append}
+use Rattle.std.proofs.lemmas.List.Elements.{filter-append}
 use Rattle.std.proofs.lemmas.Option.{same_Some}
 use Rattle.basics.specs.Symbol.{is_symbol}
 use Rattle.pol_pattern.specs.Flat.{Class, holds_symbol, Term, empty}
@@ -35,6 +37,24 @@ row_more form lists place count list long row sorted members = λ column lt. by 
       sorted,
       λ number. subst (λ (k : ℕ). Contains list number ↔ Contains (reached (32 + k) form) number) (sym e) (members number),
     )
+
+-- ---- the numbers to which a symbol leads
+
+-- by one monomial more
+pub reached_more : (symbol : ℕ) (form : List Monomial) (k : ℕ) (m : Monomial) → k < length form → m ≡ get_or form k m
+    → reached symbol (take (k + 1) form) ≡ cond (holds_symbol m.class symbol) (reached symbol (take k form) ++ m.next ∷ []) (reached symbol (take k form))
+reached_more symbol form k m lt at =
+    ap (reached symbol) (take_more form k m lt ∙ ap (λ (x : Monomial). take k form ++ x ∷ []) (sym at)) ∙ last (take k form)
+  where
+    by : (b : Bool) (numbers : List ℕ) → numbers ++ map (λ (x : Monomial). x.next) (cond b (m ∷ []) []) ≡ cond b (numbers ++ m.next ∷ []) numbers
+    by true numbers = refl
+    by false numbers = append-nil numbers
+
+    last : (front : List Monomial) → reached symbol (front ++ m ∷ []) ≡ cond (holds_symbol m.class symbol) (reached symbol front ++ m.next ∷ []) (reached symbol front)
+    last front =
+        ap (map (λ (x : Monomial). x.next)) (filter-append (λ (x : Monomial). holds_symbol x.class symbol) front (m ∷ []))
+        ∙ map-append (λ (x : Monomial). x.next) (filter (λ (x : Monomial). holds_symbol x.class symbol) front) (cond (holds_symbol m.class symbol) (m ∷ []) [])
+        ∙ by (holds_symbol m.class symbol) (reached symbol front)
 
 -- ---- what the lists of a row represent
 

@@ -44,10 +44,13 @@ impl Model for Rows {
 fn successors(alloc: Global, form: &[Monomial], symbol: u8) -> Result<Vec<Number>, AllocError>
     ensures { IfOk result (λ numbers. numbers.items ≡ reached symbol form.now) }
 {
-    form.iter()
-        .filter(|monomial| monomial.class.holds(symbol))
-        .map(|monomial| monomial.next)
-        .collect(alloc)
+    let mut numbers = Vec::new(alloc);
+    for monomial in form {
+        if monomial.class.holds(symbol) {
+            numbers.push(monomial.next)?;
+        }
+    }
+    Ok(numbers)
 }
 
 /// Notes where the row of a term begins.
