@@ -56,7 +56,10 @@ user gone now permits: ping
 user come now denies: show 
 ";
     reviews(&rt, DIFF, OLD, NEW, changes)?;
-    reviews(&rt, DIFF, NEW, OLD, back)
+    reviews(&rt, DIFF, NEW, OLD, back)?;
+    // One line alone.
+    let permitted = "differs\nuser u now permits: x\n";
+    reviews(&rt, DIFF, "", "user u\npermit x\n", permitted)
 }
 
 #[test]
