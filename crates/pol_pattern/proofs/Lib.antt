@@ -27,6 +27,10 @@ pub mod Symbols
 pub mod Rows
 pub mod Laws
 pub mod OldPatterns
+pub mod Places
+pub mod Unclosed
+pub mod Unopened
+pub mod FaultsSaid
 pub mod Split
 pub mod Left
 pub mod Marks

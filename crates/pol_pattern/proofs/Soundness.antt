@@ -13,7 +13,7 @@ use Rattle.pol_pattern.specs.declared.token.Token.TheVariants as tokens
 use Rattle.pol_pattern.specs.declared.fault.PatternFault.{PatternFault}
 use Rattle.pol_pattern.specs.declared.fault.PatternFault.TheVariants as faults
 use Rattle.pol_pattern.specs.Flat.{Class, class, group, empty, put, Term, Terms, terms_size}
-use Rattle.pol_pattern.specs.Spelling.{most_bytes, Suffix, suffix_bytes, is_right_suffix, suffix_repeat, Atom, single, or, nothing, parentheses, alternatives_bytes, atom_bytes, is_right_atom, atom_depth, alternatives_terms, atom_factors, SpellsBy}
+use Rattle.pol_pattern.specs.Spelling.{most_bytes, Suffix, suffix_bytes, is_right_suffix, suffix_repeat, Alternatives, Atom, single, or, nothing, parentheses, alternatives_bytes, atom_bytes, is_right_alternatives, is_right_atom, alternatives_depth, atom_depth, alternatives_terms, atom_factors, SpellsBy}
 use Rattle.pol_pattern.specs.Reading.{token_at, Context, outermost, closed, context_after, at_end, tokens_from, Level, fresh, with_atom, with_repeat, with_bar, finished, build, sized, is_unprintable, reading_by}
 use Rattle.pol_pattern.proofs.TreeLevels.{alternatives_level, fresh_finished}
 use Rattle.pol_pattern.proofs.Steps.{chosen, bind_ok, done, ok_is, refused}
@@ -22,7 +22,7 @@ use Rattle.pol_pattern.proofs.LevelParts.{Part, part_bytes, part_level, repeats_
 
 -- ---- bytes and tokens that are the rest of each level
 
-record Rest (version : Version) (context : Context) (bytes : List ℕ) (rest : List Token) : Type 0 where
+pub record Rest (version : Version) (context : Context) (bytes : List ℕ) (rest : List Token) : Type 0 where
   pub part : Part
   pub parts : List Part
   -- where no atom stands before, nothing is repeated
@@ -40,7 +40,7 @@ unfolding build
 build_end level [] e = refl
 build_end level (around ∷ outer) e = absurd (omega arith)
 
-rest_end : (version : Version) (flag : Bool) → Rest version (record { opened = []; has_atom = flag }) [] []
+pub rest_end : (version : Version) (flag : Bool) → Rest version (record { opened = []; has_atom = flag }) [] []
 rest_end version flag = record {
   part = nothing_left;
   parts = [];
@@ -171,7 +171,7 @@ by_byte version context byte same rest tokens e h = subst (λ (b : ℕ). Rest ve
 after_one : (version : Version) (context : Context) (size : ℕ) (rest : List ℕ) (tokens : List Token) → size ≡ 1 → Rest version context (drop (size - 1) rest) tokens → Rest version context rest tokens
 after_one version context size rest tokens e h = subst (λ (n : ℕ). Rest version context (drop (n - 1) rest) tokens) e h
 
-token_in : (version : Version) (place byte : ℕ) (rest : List ℕ) (token : Token) (size : ℕ) (context next : Context) (others : List Token) → length context.opened ≤ 32
+pub token_in : (version : Version) (place byte : ℕ) (rest : List ℕ) (token : Token) (size : ℕ) (context next : Context) (others : List Token) → length context.opened ≤ 32
     → TokenSpelled version byte rest token size → context_after place token context ≡ Ok next → Rest version next (drop (size - 1) rest) others → Rest version context (byte ∷ rest) (token ∷ others)
 unfolding context_after
 token_in version place byte rest (tokens.Atom c) size context next others few (tree, right, depth, factors, whole) e h =
@@ -203,7 +203,7 @@ token_in version place byte rest tokens.Close size context next others few (same
     by_byte version context byte 41 rest (tokens.Close ∷ others) same
     (close_in version place context.opened context.has_atom next rest others few e (after_one version next size rest others one h))
 
-few_opened : (place : ℕ) (token : Token) (context next : Context) → length context.opened ≤ 32 → context_after place token context ≡ Ok next → length next.opened ≤ 32
+pub few_opened : (place : ℕ) (token : Token) (context next : Context) → length context.opened ≤ 32 → context_after place token context ≡ Ok next → length next.opened ≤ 32
 unfolding context_after
 few_opened place (tokens.Atom c) context next few e = subst (λ (n : Context). length n.opened ≤ 32) (ok_is (record context { has_atom = true }) next e) few
 few_opened place (tokens.Repeat repeat) context next few e =
@@ -243,7 +243,7 @@ tokens_rest version (byte ∷ rest) place zero context found text few e =
 
 -- ---- patterns
 
-printable : (i : ℕ) (bytes : List ℕ) → position_from is_unprintable i bytes ≡ None → is_text bytes ≡ true
+pub printable : (i : ℕ) (bytes : List ℕ) → position_from is_unprintable i bytes ≡ None → is_text bytes ≡ true
 printable i [] e = refl
 printable i (byte ∷ rest) e =
     elim (chosen (is_unprintable byte) (Some i) _ None e) [
@@ -255,19 +255,30 @@ not_mapped : {X : Type 0} (place : Option ℕ) (read : Result X PatternFault) (x
 not_mapped None read x e = (refl, e)
 not_mapped (Some at) read x e = absurd cc
 
--- the tree of what is left of a whole pattern
-whole_spelled : (version : Version) (bytes : List ℕ) (flat : Terms) (part : Part) (parts : List Part) → part.repeats ≡ [] → IsRightPart version [] part → IsRightParts version [] parts → bytes ≡ part_bytes part ++ parts_bytes parts
-    → flat ≡ finished (part_level fresh part) → length bytes ≤ most_bytes version → terms_size flat ≤ 400 → SpellsBy version bytes flat
-whole_spelled version bytes flat part (other ∷ parts) none right impossible spelled is short small = absurd impossible
-whole_spelled version bytes flat part [] none right right_parts spelled is short small = (
-  part.tree,
-  right.0,
-  sym (spelled ∙ append-nil (part_bytes part) ∙ ap (λ (r : List Suffix). suffixes_bytes r ++ alternatives_bytes part.tree) none),
-  sym (is ∙ ap (λ (r : List Suffix). finished (alternatives_level (repeats_level fresh r) part.tree)) none ∙ fresh_finished part.tree),
-  short,
-  omega (arith, right.1),
-  small,
-)
+-- the tree of the tokens of a whole pattern
+pub record TreeOf (version : Version) (bytes : List ℕ) (found : List Token) : Type 0 where
+  pub tree : Alternatives
+  pub right : is_right_alternatives version tree ≡ true
+  pub spelled : alternatives_bytes tree ≡ bytes
+  pub few : alternatives_depth tree ≤ 32
+  pub flat : alternatives_terms tree ≡ build fresh [] found
+
+whole_tree : (version : Version) (bytes : List ℕ) (found : List Token) (part : Part) (parts : List Part) → part.repeats ≡ [] → IsRightPart version [] part → IsRightParts version [] parts → bytes ≡ part_bytes part ++ parts_bytes parts
+    → build fresh [] found ≡ finished (part_level fresh part) → TreeOf version bytes found
+whole_tree version bytes found part (other ∷ parts) none right impossible spelled is = absurd impossible
+whole_tree version bytes found part [] none right right_parts spelled is = record {
+  tree = part.tree;
+  right = right.0;
+  spelled = sym (spelled ∙ append-nil (part_bytes part) ∙ ap (λ (r : List Suffix). suffixes_bytes r ++ alternatives_bytes part.tree) none);
+  few = omega (arith, right.1);
+  flat = sym (is ∙ ap (λ (r : List Suffix). finished (alternatives_level (repeats_level fresh r) part.tree)) none ∙ fresh_finished part.tree);
+}
+
+pub rest_tree : (version : Version) (bytes : List ℕ) (found : List Token) → Rest version outermost bytes found → TreeOf version bytes found
+rest_tree version bytes found rest = whole_tree version bytes found rest.part rest.parts (rest.unrepeated refl) rest.right rest.right_parts rest.spelled (rest.flat fresh [] refl)
+
+pub tokens_tree : (version : Version) (bytes : List ℕ) (place : ℕ) (found : List Token) → is_text bytes ≡ true → tokens_from version place 0 outermost bytes ≡ Ok found → TreeOf version bytes found
+tokens_tree version bytes place found text e = rest_tree version bytes found (tokens_rest version bytes place 0 outermost found text (omega arith) e)
 
 pub reading_spells : (version : Version) (bytes : List ℕ) (flat : Terms) → reading_by version bytes ≡ Ok flat → SpellsBy version bytes flat
 unfolding reading_by
@@ -278,13 +289,18 @@ reading_spells version bytes flat e =
           let r = not_mapped (position is_unprintable bytes) _ flat short.1 in
           let text = printable 0 bytes (sym (position_from-zero is_unprintable bytes) ∙ r.0) in
           let a = bind_ok (tokens_from version 0 0 outermost bytes) (λ tokens. sized (build fresh [] tokens)) flat r.1 in
-          let rest = tokens_rest version bytes 0 0 outermost a.0 text (omega arith) a.1 in
+          let of = tokens_tree version bytes 0 a.0 text a.1 in
           elim (chosen (nat_lt 400 (terms_size (build fresh [] a.0))) (Err faults.TooLarge) (done (build fresh [] a.0)) (done flat) a.2) [
             | inl large ↦ absurd (refused faults.TooLarge flat large.1)
             | inr small ↦
-                let is : build fresh [] a.0 ≡ flat = ok_is (build fresh [] a.0) flat small.1 in
-                whole_spelled version bytes flat rest.part rest.parts (rest.unrepeated refl) rest.right rest.right_parts rest.spelled (sym is ∙ rest.flat fresh [] refl)
-                (ltb-false (most_bytes version) (length bytes) short.0)
-                (subst (λ (f : Terms). terms_size f ≤ 400) is (ltb-false 400 (terms_size (build fresh [] a.0)) small.0))
+                let is : build fresh [] a.0 ≡ flat = ok_is (build fresh [] a.0) flat small.1 in (
+                  of.tree,
+                  of.right,
+                  of.spelled,
+                  of.flat ∙ is,
+                  ltb-false (most_bytes version) (length bytes) short.0,
+                  of.few,
+                  subst (λ (f : Terms). terms_size f ≤ 400) is (ltb-false 400 (terms_size (build fresh [] a.0)) small.0),
+                )
           ]
     ]

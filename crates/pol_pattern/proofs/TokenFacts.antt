@@ -114,7 +114,7 @@ sign_spelled version byte rest found suffix sign right one same e =
     spelled_by version byte rest (tokens.Repeat (suffix_repeat suffix)) 1 found e
     (suffix, right, refl, ap (λ (b : ℕ). b ∷ rest) same ∙ ap (λ (b : List ℕ). b ++ rest) (sym one))
 
-counts_version : (version : Version) (byte sign : ℕ) → (has_counts version && eqb byte sign) ≡ true → (version ≡ Two) × (byte ≡ sign)
+pub counts_version : (version : Version) (byte sign : ℕ) → (has_counts version && eqb byte sign) ≡ true → (version ≡ Two) × (byte ≡ sign)
 counts_version One byte sign e = absurd cc
 counts_version Two byte sign e = (refl, eqb-true byte sign e)
 

@@ -7,6 +7,7 @@ pub mod FaultText
 pub mod Memory
 pub mod Upgrading
 pub mod Reading
+pub mod Places
 pub mod Matching
 pub mod Sizes
 pub mod Levels

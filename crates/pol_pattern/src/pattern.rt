@@ -1,7 +1,7 @@
 //! A pattern: a set of texts, by the bytes that spell it.
 
 ghost use Rattle.std.specs.Prelude.{◌≡◌, ◌↔◌, ◌<◌, ◌≤◌, ℕ, List, length, position, nat_eq, IfOk};
-ghost use Rattle.std.specs.Prelude.{IfSome, Ok, Err, IsTrue};
+ghost use Rattle.std.specs.Prelude.{IfSome, IfErr, Ok, Err, IsTrue};
 ghost use Rattle.std.specs.Cmp.Lexicographic.{pointwise};
 ghost use Rattle.std.specs.Cmp.Rules.{comparing};
 ghost use Rattle.std.proofs.Common.{rules};
@@ -13,9 +13,11 @@ ghost use Rattle.pol_pattern.specs.Spelling.{SpellsBy, Spells, Holds};
 ghost use Rattle.pol_pattern.specs.Upgrading.{upgraded as upgraded_bytes, UpgradeLaw};
 ghost use Rattle.pol_pattern.specs.Languages.{LanguageLaws};
 ghost use Rattle.pol_pattern.specs.declared.version.Version.TheVariants.{One as VersionOne};
+ghost use Rattle.pol_pattern.specs.declared.version.Version.TheVariants.{Two as VersionTwo};
 ghost use Rattle.pol_pattern.specs.Matching.{matches, MatchLaw};
 ghost use Rattle.pol_pattern.specs.Reading.{reading as reading_of, pattern_of, pattern_of_old};
 ghost use Rattle.pol_pattern.specs.Reading.{is_unprintable};
+ghost use Rattle.pol_pattern.specs.Places.{FaultOf};
 
 use crate::fault::PatternFault;
 use crate::flat::Term;
@@ -86,6 +88,10 @@ impl Pattern {
         ensures too_long { 400 < length bytes.now → result ≡ Err PatternFault.TooLong }
         ensures unprintable { length bytes.now ≤ 400 → IfSome (position is_unprintable bytes.now)
             (λ place. result ≡ Err (PatternFault.Unprintable place)) }
+
+        // What a refusal says of these bytes is so: what stands at its place, and why no pattern
+        // has it there.
+        ensures place { IfErr result (λ fault. FaultOf VersionTwo bytes.now fault) }
     {
         let terms = reading::flat(alloc, Version::Two, bytes)?;
         let source = Bytes::from_slice(alloc, bytes)?;
@@ -111,6 +117,9 @@ impl Pattern {
         ensures too_long { 200 < length bytes.now → result ≡ Err PatternFault.TooLong }
         ensures unprintable { length bytes.now ≤ 200 → IfSome (position is_unprintable bytes.now)
             (λ place. result ≡ Err (PatternFault.Unprintable place)) }
+
+        // What a refusal says of these bytes is so by version 1.
+        ensures place { IfErr result (λ fault. FaultOf VersionOne bytes.now fault) }
 
         // A pattern of version 1 and its new source hold the same texts.
         ensures law { UpgradeLaw }

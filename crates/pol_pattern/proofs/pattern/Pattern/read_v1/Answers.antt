@@ -2,6 +2,8 @@ use Rattle.std.proofs.lemmas.Result.{err_from_is_err_and}
 use Rattle.pol_pattern.specs.Flat.{terms_value}
 use Rattle.pol_pattern.proofs.Upgraded.{upgrade_law}
 use Rattle.pol_pattern.proofs.OldPatterns.{old_reads, old_is, old_fails, old_refused_for_memory, old_found}
+use Rattle.pol_pattern.specs.declared.version.Version.TheVariants.{One}
+use Rattle.pol_pattern.proofs.FaultsSaid.{fault_said}
 use Rattle.pol_pattern.proofs.pattern.Pattern.read_v1.Goals as goal
 
 pub returns-in_err-terms-clause-exact : goal.returns-in_err-terms-clause-exact
@@ -37,3 +39,8 @@ returns-clause-found c =
 
 pub returns-clause-law : goal.returns-clause-law
 returns-clause-law c = upgrade_law
+
+pub returns-in_err-terms-clause-place : goal.returns-in_err-terms-clause-place
+returns-in_err-terms-clause-place c =
+    let p = err_from_is_err_and c.from_residual.result c.from_residual.ensures.1 in
+    rw (p.1, p.2) (fault_said One c.args.bytes.now c.in_err-terms.field-0.0 c.in_err-terms.ensures.exact)
