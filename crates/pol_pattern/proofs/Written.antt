@@ -8,7 +8,9 @@ use Rattle.pol_pattern.specs.declared.token.Repeat.{Repeat}
 use Rattle.pol_pattern.specs.declared.token.Repeat.TheVariants.{Star, Plus, Question, Counted}
 use Rattle.pol_pattern.specs.Flat.{Term, empty, put, star, Terms, none, alt, join_term, join_terms, term_size, terms_size, term_value, terms_value}
 use Rattle.pol_pattern.specs.Spelling.{copies, optional, alternatives_of, repeat_factors}
-use Rattle.pol_pattern.specs.Reading.{Level, present, finished}
+use Rattle.pol_pattern.specs.Reading.{Level, with_repeat, present, finished}
+use Rattle.pol_pattern.specs.declared.sizes.Sizes.{Sizes}
+use Rattle.pol_pattern.specs.Sizes.{size_of}
 use Rattle.pol_pattern.specs.Levels.{Represents}
 use Rattle.pol_pattern.proofs.Counts.{size-join_term, size-join_terms, size-star}
 use Rattle.pol_pattern.proofs.Values.{term_value-append, terms_value-append}
@@ -33,6 +35,13 @@ repeat_written Plus factors written is fits =
     ap (repeat_factors Plus) (is (omega (arith, fits, size-join_term factors (put (star (alternatives_of factors)) empty))))
 repeat_written Question factors written is fits = ap (repeat_factors Question) (is (omega (arith, fits)))
 repeat_written (Counted low high) factors written is fits = counted_written low (high - low) factors written is fits
+
+-- a size that was judged on the sizes is that of what is written out
+pub repeat_fits : (repeat : Repeat) (level : Level) (written : Term) (sizes : Sizes) → sizes ≡ size_of (with_repeat level repeat) → sizes.last ≤ 400
+    → (term_size level.last ≤ 400 → written ≡ level.last) → term_size (repeat_factors repeat written) ≤ 400
+repeat_fits repeat level written sizes known judged is =
+    let fits : term_size (repeat_factors repeat level.last) ≤ 400 = omega (arith, ap (λ (s : Sizes). s.last) known, judged) in
+    omega (arith, fits, ap term_size (repeat_written repeat level.last written is fits))
 
 -- ---- the parts of a level, joined
 

@@ -11,3 +11,5 @@ pub record Represents (code : LevelValue) (level : Level) : Type 0 where
   pub done : terms_size level.done ≤ 400 → terms_value code.done.items ≡ level.done
   pub before : term_size level.before ≤ 400 → term_value code.before.items ≡ level.before
   pub last : term_size level.last ≤ 400 → term_value code.last.items ≡ level.last
+  -- what the last token wrote out
+  pub written : term_size (term_value code.last.items) ≤ 400

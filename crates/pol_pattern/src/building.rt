@@ -3,7 +3,8 @@
 ghost use Rattle.std.specs.Prelude.{◌≡◌, ◌≤◌, ◌+◌, [], ◌∷◌, IfOk, min};
 ghost use Rattle.pol_pattern.specs.Flat.{Factor as FactorValue, empty, put, group as group_of};
 ghost use Rattle.pol_pattern.specs.Flat.{star, factor_value};
-ghost use Rattle.pol_pattern.specs.Flat.{term_value, terms_value, factor_size, terms_size};
+ghost use Rattle.pol_pattern.specs.Flat.{term_value, terms_value, factor_size, term_size};
+ghost use Rattle.pol_pattern.specs.Flat.{terms_size};
 ghost use Rattle.pol_pattern.specs.Spelling.{repeat_factors, alternatives_of};
 ghost use Rattle.pol_pattern.specs.Spelling.{copies as term_copies, optional as optional_term};
 ghost use Rattle.pol_pattern.specs.Reading.{fresh as fresh_level, with_atom as level_with_atom};
@@ -61,6 +62,7 @@ fn starred(alloc: Global, factors: Term) -> Result<Factor, AllocError>
 
 /// The factors so many times, one after another.
 fn copies(alloc: Global, factors: &[Factor], count: u32) -> Result<Term, AllocError>
+    requires { term_size (term_copies count (term_value factors.now)) ≤ FACTORS }
     ensures { IfOk result
         (λ term. term_value term.items ≡ term_copies count (term_value factors.now)) }
 {
@@ -84,6 +86,8 @@ fn optional(alloc: Global, factors: Term) -> Result<Term, AllocError>
 
 /// The factors from `low` to `high` times.
 fn counted(alloc: Global, factors: Term, low: u32, high: u32) -> Result<Term, AllocError>
+    requires { term_size (repeat_factors (Repeat.Counted low high) (term_value factors.items))
+        ≤ FACTORS }
     ensures { IfOk result (λ term. term_value term.items
         ≡ repeat_factors (Repeat.Counted low high) (term_value factors.items)) }
 {
@@ -94,8 +98,10 @@ fn counted(alloc: Global, factors: Term, low: u32, high: u32) -> Result<Term, Al
     Ok(term)
 }
 
-/// The factors of a unit, repeated.
+/// The factors of a unit, repeated. It is asked only for what a pattern has room for, so a size is
+/// judged before any of it is written out.
 fn repeated(alloc: Global, mut factors: Term, repeat: Repeat) -> Result<Term, AllocError>
+    requires { term_size (repeat_factors repeat (term_value factors.items)) ≤ FACTORS }
     ensures { IfOk result
         (λ term. term_value term.items ≡ repeat_factors repeat (term_value factors.items)) }
 {
@@ -173,6 +179,7 @@ impl Level {
     }
 
     fn with_repeat(self, alloc: Global, repeat: Repeat) -> Result<Level, AllocError>
+        requires { (level : LevelOf) × Represents self level }
         ensures { (level : LevelOf) → Represents self level
             → IfOk result (λ next. Represents next (level_with_repeat level repeat)) }
     {
