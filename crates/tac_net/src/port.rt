@@ -3,6 +3,7 @@
 use std::io;
 use std::net::{Net, Shutdown, SocketAddr, TcpListener, TcpStream};
 use std::os::fd::OwnedFd;
+use std::sync::atomic::{AtomicBool, Ordering};
 
 /// A port that is listened on, and that can be closed while threads wait for connections there.
 #[derive(Drop)]
@@ -10,6 +11,7 @@ pub struct Port {
     listener: TcpListener,
     // the same socket as a stream, which can be shut down
     door: TcpStream,
+    is_left: AtomicBool,
 }
 
 impl Port {
@@ -21,12 +23,26 @@ impl Port {
     {
         let listener = TcpListener::bind(rt, address)?;
         let door = TcpStream::from(OwnedFd::from(listener.try_clone()?));
-        Ok(Port { listener, door })
+        Ok(Port {
+            listener,
+            door,
+            is_left: AtomicBool::new(false),
+        })
     }
 
     /// What takes the connections.
     pub fn listener(&self) -> &TcpListener {
         &self.listener
+    }
+
+    /// Nobody takes connections here any more.
+    pub(crate) fn leave(&self) {
+        self.is_left.store(true, Ordering::SeqCst);
+    }
+
+    /// Whether all workers that took connections here have ended.
+    pub fn is_left(&self) -> bool {
+        self.is_left.load(Ordering::SeqCst)
     }
 
     /// Takes no more connections. Whoever waits for one is told at once that there is none, and

@@ -61,7 +61,12 @@ where
             served.items)) }
     {
         match seats.take() {
-            Some(seats) => serve_rotating(rt, listener, hall, settings, archive, seats, vigil, log),
+            Some(seats) => {
+                let served =
+                    serve_rotating(rt, listener, hall, settings, archive, seats, vigil, log);
+                port.leave();
+                served
+            }
             None => unreachable!(),
         }
     };
