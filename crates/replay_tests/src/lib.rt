@@ -27,6 +27,8 @@ mod script_faults;
 #[cfg(test)]
 mod sessions;
 #[cfg(test)]
+mod sizes;
+#[cfg(test)]
 mod support;
 #[cfg(test)]
 mod transport;
