@@ -1,5 +1,5 @@
 -- With which status the program ends.
-use Rattle.std.specs.Prelude.{Result, Ok, Err}
+use Rattle.std.specs.Prelude.{Result, Unit, Ok, Err}
 use Rattle.tac_io.specs.declared.answering.AnswerFault.{AnswerFault}
 use Rattle.tac_io.specs.declared.answering.AnswerFault.TheVariants as answers
 use Rattle.tac_check.specs.declared.checking.CheckEnd.{CheckEnd}
@@ -9,6 +9,8 @@ use Rattle.tac_lint.specs.declared.linting.LintEnd.TheVariants as lints
 use Rattle.tac_review.specs.declared.task.ReviewEnd.{ReviewEnd}
 use Rattle.tac_review.specs.declared.task.ReviewEnd.TheVariants as reviews
 use Rattle.tac_review.specs.declared.task.ReviewFault.{ReviewFault}
+use Rattle.tac_net.specs.declared.fault.ServeFault.{ServeFault}
+use Rattle.tac_net.specs.declared.fault.ServeFault.TheVariants as serving
 use Rattle.tac_program.specs.declared.status.Status.{Status}
 use Rattle.tac_program.specs.declared.status.Status.TheVariants.{Done, Refused, OutOfMemory, Failed}
 use Rattle.tac_program.specs.declared.status.Status.TheVariants.{Differs}
@@ -39,3 +41,16 @@ status_of_review told (Ok reviews.Differs) = told
 status_of_review told (Ok (reviews.Edited batches)) = told
 status_of_review told (Ok reviews.Refused) = Refused
 status_of_review told (Err fault) = status_of fault.fault
+
+-- a thread that can't be made counts as memory does: the machine has too little for the workers
+abbrev pub status_of_serving : ServeFault → Status
+status_of_serving serving.Memory = OutOfMemory
+status_of_serving serving.Threads = OutOfMemory
+status_of_serving serving.ReadFault = Failed
+status_of_serving serving.WriteFault = Failed
+status_of_serving serving.CloseRefused = Failed
+
+-- how a server ends that was stopped at its console, or wasn't
+abbrev pub end_of_serving : Result (Unit {0}) ServeFault → Result (Unit {0}) Status
+end_of_serving (Ok stopped) = Ok stopped
+end_of_serving (Err fault) = Err (status_of_serving fault)

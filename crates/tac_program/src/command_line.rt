@@ -5,7 +5,7 @@ use crate::help::{
     CHECK_AFTER_LONG_HELP, CHECK_LONG_ABOUT, CONNECTIONS_HELP, DIFF_ABOUT, DIFF_AFTER_HELP,
     DIFF_AFTER_LONG_HELP, DIFF_LONG_ABOUT, EDITS_HELP, EXIT_CODE_HELP, FILE_HELP, IDLE_HELP,
     KEY_FILE_HELP, KEY_HELP, LINE_HELP, LINT_ABOUT, LINT_AFTER_HELP, LINT_AFTER_LONG_HELP,
-    LINT_LONG_ABOUT, LOG_HELP, LONG_ABOUT, NEW_HELP, OLD_HELP, PORT_HELP, REPLAY_ABOUT,
+    LINT_LONG_ABOUT, LOG_HELP, LONG_ABOUT, NEW_HELP, NO_CONSOLE_HELP, OLD_HELP, PORT_HELP, REPLAY_ABOUT,
     REPLAY_AFTER_HELP, REPLAY_AFTER_LONG_HELP, REPLAY_LONG_ABOUT, ROTATE_AT_HELP, SERVE_ABOUT,
     SERVE_AFTER_HELP, SERVE_AFTER_LONG_HELP, SERVE_LONG_ABOUT, SYNC_HELP, TEST_ABOUT,
     TEST_AFTER_HELP, TEST_AFTER_LONG_HELP, TEST_LONG_ABOUT, USER_HELP, WHY_ABOUT, WHY_AFTER_HELP,
@@ -78,6 +78,9 @@ pub(crate) const LOG: &str = "log";
 /// Whether such a line counts only once it is on the disk.
 pub(crate) const SYNC: &str = "sync";
 
+/// Whether the server has no console.
+pub(crate) const NO_CONSOLE: &str = "no-console";
+
 // The key, by either of its options.
 const SECRET: &str = "secret";
 
@@ -124,14 +127,15 @@ fn with_options<'a>(alloc: Global, command: Command<'a>) -> Result<Command<'a>, 
         .arg(text(alloc, KEY, "K", KEY_HELP))?
         .arg(text(alloc, KEY_FILE, "PATH", KEY_FILE_HELP))?
         .arg(text(alloc, ADDRESS, "ADDR", ADDRESS_HELP).default_value("0.0.0.0"))?
-        .arg(number(alloc, WORKERS, "W", (1, 63), WORKERS_HELP).default_value("4"))?
+        .arg(number(alloc, WORKERS, "W", (1, 63), WORKERS_HELP).default_value("16"))?
         .arg(number(alloc, IDLE, "SECONDS", (0, 86_400), IDLE_HELP).default_value("300"))?
         .arg(number(alloc, CONNECTIONS, "N", connections, CONNECTIONS_HELP).default_value(
             "4294967295",
         ))?
         .arg(number(alloc, ROTATE_AT, "N", (1, 65_536), ROTATE_AT_HELP).default_value("32768"))?
         .arg(text(alloc, LOG, "PATH", LOG_HELP))?
-        .arg(flag(alloc, SYNC, SYNC_HELP).requires_arg(LOG)?)
+        .arg(flag(alloc, SYNC, SYNC_HELP).requires_arg(LOG)?)?
+        .arg(flag(alloc, NO_CONSOLE, NO_CONSOLE_HELP))
 }
 
 fn serve<'a>(alloc: Global) -> Result<Command<'a>, AllocError> {
@@ -233,7 +237,7 @@ pub(crate) fn command<'a>(alloc: Global) -> Result<Command<'a>, AllocError> {
         .about(ABOUT)
         .long_about(LONG_ABOUT)
         .after_long_help(AFTER_LONG_HELP)
-        .version("0.1.0")
+        .version("0.2.0")
         .subcommand_required(true);
     let command = with(command, serve(alloc))?;
     let command = with(command, check(alloc))?;

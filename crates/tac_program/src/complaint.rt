@@ -11,6 +11,12 @@ pub(crate) fn complain<R: Eprint>(rt: &R, path: &str, fault: AnswerFault) {
     };
 }
 
+/// Says what tells more of a policy's file that is refused. It doesn't matter whether this could be
+/// written.
+pub(crate) fn name_lint<R: Eprint>(rt: &R, path: &str) {
+    let _ = eprintln!(rt; "tacd: 'tacd lint {path}' says more");
+}
+
 /// Says how many batches of edits there are, if there are several. It doesn't matter whether this
 /// could be written.
 pub(crate) fn tell_batches<R: Eprint>(rt: &R, batches: usize) {

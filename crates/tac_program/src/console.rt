@@ -1,6 +1,11 @@
 //! The console's input.
 
+ghost use Rattle.std.specs.Prelude.{[], Some};
+
 use std::io::{self, Read};
+use std::thread::sleep;
+use std::time::{Clock, Duration};
+use tac_net::Port;
 
 /// What is typed at a console. Where it ends at once, standard error says so: it has no lines then,
 /// as `/dev/null`, and the server stops.
@@ -34,5 +39,30 @@ impl<R: Eprint, I: Read> Read for ConsoleInput<'_, R, I> {
         }
         self.has_begun = true;
         Ok(n)
+    }
+}
+
+/// How long a server without a console waits between two glances at its workers, in milliseconds.
+const GLANCE: u64 = 250;
+
+/// The input of a server without a console: no line comes. It ends once all workers have ended, each
+/// after the connections that it was to serve.
+#[derive(Drop)]
+pub(crate) struct NoConsole<'a, H> {
+    pub(crate) clock: &'a H,
+    pub(crate) port: &'a Port,
+}
+
+impl<H: Clock> Read for NoConsole<'_, H> {
+    ghost remaining = { λ console. Some [] };
+
+    fn read(&mut self, _buf: &mut [u8]) -> io::Result<usize> {
+        for _ in 0..u64::MAX {
+            if self.port.is_left() {
+                return Ok(0);
+            }
+            sleep(self.clock, Duration::from_millis(GLANCE));
+        }
+        Ok(0)
     }
 }

@@ -86,6 +86,9 @@ pub(crate) const LOG_HELP: &str =
 
 pub(crate) const SYNC_HELP: &str = "Answer a device only once its line is on the disk";
 
+pub(crate) const NO_CONSOLE_HELP: &str =
+    "Read no standard input, and serve until the process is ended, as by SIGTERM";
+
 pub(crate) const SERVE_AFTER_HELP: &str = "Example:
   tacd serve --port 49 --key-file tacd.key campus.policy
 
@@ -95,8 +98,12 @@ pub(crate) const SERVE_AFTER_HELP: &str = "Example:
 pub(crate) const SERVE_AFTER_LONG_HELP: &str = with_policy_lines!(
     "\
 A worker serves one connection at a time, until the device hangs up, or has had no reply for so many
-seconds as --idle says (at most 10 before the first reply); other devices wait. Standard output has
-'listening PORT' first, and then what the console's lines are answered.
+seconds as --idle says (at most 10 before the first reply); other devices wait, so a login that waits
+for its password takes a worker. Standard output has 'listening PORT' first, and then what the
+console's lines are answered.
+
+Signals aren't seen: SIGTERM ends the server, and SIGHUP too. To run it in the background or in a
+container, give --no-console.
 
 Lines of the console, where a SUBJECT is 'user NAME' or 'group NAME':
   policy               the policy as it is now
@@ -194,6 +201,7 @@ What is printed of one that is refused:
   fault TooManyStates SUBJECT
                        the rules along SUBJECT and its groups are too large together
   fault Memory         memory ran out
+Standard error then names 'tacd lint', which says more.
 
 Example:
   $ cat desk.policy
@@ -266,7 +274,7 @@ pub(crate) const DIFF_LONG_ABOUT: &str =
 For each user for whom anything changes it prints the shortest command line that the new policy
 permits and the old one denies, and the shortest that the new one denies and the old one permits; of
 lines of one length, the first by ASCII. So nothing is printed for a user exactly if the two policies
-decide alike on every line that he could ever give. It is what the console of 'tacd serve' answers
+permit and deny alike every line that he could ever give. It is what the console of 'tacd serve' answers
 to edits that make the one policy into the other. With --edits it prints such edits, which load NEW
 into a server that has OLD.";
 

@@ -11,11 +11,16 @@ use pol_live::{BuildFault, SubjectId};
 use pol_text::{Policy, PolicyFault};
 use std::alloc::{AllocError, Global};
 use std::fs;
+use std::fs::OpenFile;
 use std::io::{Read, Write};
+use std::os::unix::fs::PermissionsExt;
 use std::rt::Files;
 use tac_console::{write_policy_fault, write_size_fault};
 use tac_desks::{LiveDesk, MAX_RECORDS};
 use tac_io::{AnswerFault, InputFault, MAX_INPUT, read_whole, write_answer};
+
+/// The right by which any user of a machine reads a file.
+const OTHERS_READ: u32 = 0o004;
 
 // Whether the path is a folder's: that could be opened, but its first read would fail.
 fn is_folder<R: Files>(rt: &R, path: &str) -> bool {
@@ -39,6 +44,25 @@ pub(crate) fn open_file<R: Files + Eprint>(rt: &R, path: &str) -> Result<R::File
             Err(Status::of_unopened(error.kind()))
         }
     }
+}
+
+// Whether any user of the machine may read a file.
+fn is_read_by_others<F: OpenFile>(file: &F) -> bool {
+    match file.metadata() {
+        Ok(metadata) => metadata.is_file() && metadata.permissions().mode() & OTHERS_READ != 0,
+        Err(_) => false,
+    }
+}
+
+/// The same of a file that has secrets. Standard error says so where others can read them.
+pub(crate) fn open_secret<R: Files + Eprint>(rt: &R, path: &str) -> Result<R::File, Status> {
+    let file = open_file(rt, path)?;
+    if is_read_by_others(&file) {
+        let _ = eprintln!(rt;
+            "tacd: {path}: it has secrets, and any user of this machine can read it"
+        );
+    }
+    Ok(file)
 }
 
 // What is printed of a policy that may not stand.

@@ -4,9 +4,9 @@
 //! could be written.
 
 use crate::command_line::{
-    ADDRESS, CONNECTIONS, FILE, IDLE, KEY, KEY_FILE, LOG, PORT, ROTATE_AT, SYNC, WORKERS,
+    ADDRESS, CONNECTIONS, FILE, IDLE, KEY, KEY_FILE, LOG, NO_CONSOLE, PORT, ROTATE_AT, SYNC, WORKERS,
 };
-use crate::opening::open_file;
+use crate::opening::open_secret;
 use crate::status::Status;
 use basics::split_once;
 use clap::ArgMatches;
@@ -36,6 +36,8 @@ pub(crate) struct Options<'a> {
     pub(crate) log: Option<&'a str>,
     /// Whether a line counts only once it is on the disk.
     pub(crate) syncs: bool,
+    /// Whether standard input is the console of an operator.
+    pub(crate) has_console: bool,
 }
 
 // The key of a word of the command line. What is said of it doesn't show it.
@@ -66,9 +68,19 @@ fn first_line(text: &[u8]) -> &[u8] {
     }
 }
 
+// Says so where a line begins as one of another server's configuration does. It is the key all the
+// same.
+fn doubt<R: Eprint>(rt: &R, path: &str, line: &[u8]) {
+    if line.starts_with(b"key =") || line.starts_with(b"key=") {
+        let _ = eprintln!(rt;
+            "tacd: {path}: its first line begins with 'key'; the whole line is taken for the key"
+        );
+    }
+}
+
 // The key that is the first line of a file, up to its LF, or all of the file where it has none.
 fn key_of_file<R: Files + Eprint + AllocGlobal>(rt: &R, path: &str) -> Result<Key, Status> {
-    let mut file = open_file(rt, path)?;
+    let mut file = open_secret(rt, path)?;
     let text = match read_whole(rt.alloc(), &mut file, MAX_KEY_FILE) {
         Ok(text) => text,
         Err(fault) => {
@@ -76,8 +88,12 @@ fn key_of_file<R: Files + Eprint + AllocGlobal>(rt: &R, path: &str) -> Result<Ke
             return Err(Status::of_key_file(fault));
         }
     };
-    match Key::read(first_line(text.as_slice())) {
-        Some(key) => Ok(key),
+    let line = first_line(text.as_slice());
+    match Key::read(line) {
+        Some(key) => {
+            doubt(rt, path, line);
+            Ok(key)
+        }
         None => {
             let _ = eprintln!(rt;
                 "tacd: {path}: its first line is not 1 to 128 printable ASCII characters"
@@ -142,6 +158,7 @@ impl<'a> Options<'a> {
                 path,
                 log: matches.get_str(LOG),
                 syncs: matches.get_flag(SYNC),
+                has_console: !matches.get_flag(NO_CONSOLE),
             }),
             _ => Err(Status::BadCommandLine),
         }

@@ -4,7 +4,7 @@ ghost use Rattle.std.specs.Prelude.{◌≡◌, ◌≢◌, ◌⊎◌};
 ghost use Rattle.clap.specs.Values.{kind_of};
 
 use crate::command_line::{CHECK, DIFF, FILE, LINT, SERVE, TEST, WHY, command};
-use crate::complaint::complain;
+use crate::complaint::{complain, name_lint};
 use crate::opening::open_file;
 use crate::options::Options;
 use crate::reviewing::{diff, test, why};
@@ -20,7 +20,7 @@ use std::sync::Wait;
 use std::thread::Threads;
 use std::time::Clock;
 use std::{env, io};
-use tac_check::check;
+use tac_check::{CheckEnd, check};
 use tac_journal::LogFiles;
 use tac_lint::lint;
 use tac_server::replay;
@@ -42,8 +42,10 @@ fn check_policy<R: Files + Print + Eprint + AllocGlobal>(rt: &R, path: &str) -> 
         Err(status) => return status,
     };
     let outcome = check(rt.alloc(), &mut file, &mut io::writer(rt));
-    if let Err(fault) = outcome {
-        complain(rt, path, fault);
+    match outcome {
+        Ok(CheckEnd::Sound) => {}
+        Ok(CheckEnd::Refused) => name_lint(rt, path),
+        Err(fault) => complain(rt, path, fault),
     }
     Status::of_check(outcome)
 }

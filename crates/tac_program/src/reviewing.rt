@@ -96,9 +96,13 @@ where
     )
 }
 
-// `USER`, or `USER LINE`: the words of a line are one blank apart, as a router joins them.
+// `USER`, or `USER LINE`: the words of a line are one blank apart, as a router joins them. A user
+// with a blank is none, and then the question is empty, which is no question.
 fn question_of(alloc: Global, user: &str, words: &[&str]) -> Result<Vec<u8>, AllocError> {
     let mut question = Vec::new(alloc);
+    if user.contains(' ') {
+        return Ok(question);
+    }
     question.extend_from_slice(user.as_bytes())?;
     for word in words {
         question.push(b' ')?;

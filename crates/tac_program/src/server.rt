@@ -4,13 +4,15 @@
 //! that could be written.
 
 ghost use Rattle.std.specs.Prelude.{◌≡◌, ◌⊎◌, IfOk, IfErr};
+ghost use Rattle.tac_program.specs.Ending.{end_of_serving};
 
-use crate::complaint::complain;
-use crate::console::ConsoleInput;
-use crate::opening::{open_desk, open_file};
+use crate::complaint::{complain, name_lint};
+use crate::console::{ConsoleInput, NoConsole};
+use crate::opening::{open_desk, open_secret};
 use crate::options::Options;
 use crate::status::Status;
 use std::io;
+use std::io::Read;
 use std::net::{Net, SocketAddr, TcpListener, TcpStream};
 use std::rt::Files;
 use std::sync::Wait;
@@ -29,10 +31,13 @@ fn desk_of_file<R: Files + Print + Eprint + AllocGlobal>(
     rt: &R,
     path: &str,
 ) -> Result<LiveDesk, Status> {
-    let mut file = open_file(rt, path)?;
+    let mut file = open_secret(rt, path)?;
     match open_desk(rt.alloc(), &mut file, &mut io::writer(rt)) {
         Ok(Some(desk)) => Ok(desk),
-        Ok(None) => Err(Status::Refused),
+        Ok(None) => {
+            name_lint(rt, path);
+            Err(Status::Refused)
+        }
         Err(fault) => {
             complain(rt, path, fault);
             Err(Status::of_answer(fault))
@@ -107,8 +112,55 @@ where
     }
 }
 
-/// Serves as the options say, with the runtime's input and output as the console, until that ends
-/// it. Threads, sockets and the log are the host's.
+// Serves with a console on this input, until that ends.
+fn serve_console<R, H, I: Read + Drop>(
+    rt: &R,
+    host: &H,
+    options: &Options<'_>,
+    hall: Hall<LiveDesk>,
+    journal: &Option<Journal<'_>>,
+    port: &Port,
+    input: I,
+) -> Result<(), ServeFault>
+where
+    R: Print,
+    H: Threads + Wait + Clock + Sync + AllocGlobal + Eprint + LogFiles,
+{
+    let console = AuditedConsole::new(host, journal);
+    let outcome = serve(
+        host,
+        port,
+        hall,
+        &options.settings,
+        journal,
+        &mut AuditedInput {
+            console: &console,
+            input,
+        },
+        &mut AuditedOutput {
+            console: &console,
+            output: io::writer(rt),
+        },
+    );
+    console.end();
+    outcome
+}
+
+// Says why a server ended, unless it was stopped. The error is the status to end with.
+fn ended<R: Eprint>(rt: &R, outcome: Result<(), ServeFault>) -> Result<(), Status>
+    ensures { result ≡ end_of_serving outcome }
+{
+    match outcome {
+        Ok(()) => Ok(()),
+        Err(fault) => {
+            let _ = eprintln!(rt; "tacd: {fault}");
+            Err(Status::of_serving(fault))
+        }
+    }
+}
+
+/// Serves as the options say, until its console ends it: the runtime's input and output, or no input
+/// at all. Threads, sockets and the log are the host's.
 pub(crate) fn serve_by<R, H>(rt: &R, host: &H, options: &Options<'_>) -> Result<(), Status>
 where
     R: Files + Input + Print + Eprint + AllocGlobal,
@@ -119,28 +171,15 @@ where
     let hall = hall_of(rt, desk)?;
     let journal = journal_of(rt, host, options)?;
     let port = port_at(rt, host, options.address)?;
-    let console = AuditedConsole::new(host, &journal);
-    let outcome = serve(
-        host,
-        &port,
-        hall,
-        &options.settings,
-        &journal,
-        &mut AuditedInput {
-            console: &console,
-            input: ConsoleInput::new(rt, rt.reader()),
-        },
-        &mut AuditedOutput {
-            console: &console,
-            output: io::writer(rt),
-        },
-    );
-    console.end();
-    match outcome {
-        Ok(()) => Ok(()),
-        Err(fault) => {
-            let _ = eprintln!(rt; "tacd: {fault}");
-            Err(Status::of_serving(fault))
-        }
-    }
+    let outcome = if options.has_console {
+        let input = ConsoleInput::new(rt, rt.reader());
+        serve_console(rt, host, options, hall, &journal, &port, input)
+    } else {
+        let input = NoConsole {
+            clock: host,
+            port: &port,
+        };
+        serve_console(rt, host, options, hall, &journal, &port, input)
+    };
+    ended(rt, outcome)
 }

@@ -2,7 +2,7 @@
 
 ghost use Rattle.std.specs.Prelude.{◌≡◌, ◌≢◌, ◌⊎◌};
 ghost use Rattle.tac_program.specs.Ending.{status_of, status_of_check, status_of_lint};
-ghost use Rattle.tac_program.specs.Ending.{status_of_review};
+ghost use Rattle.tac_program.specs.Ending.{status_of_review, status_of_serving};
 
 use clap::error::ErrorKind;
 use std::io::ErrorKind as IoErrorKind;
@@ -99,11 +99,7 @@ impl Status {
 
     /// The status of a server that failed.
     pub(crate) fn of_serving(fault: ServeFault) -> Status
-        ensures memory { fault ≡ ServeFault.Memory → result ≡ Status.OutOfMemory }
-        ensures read { fault ≡ ServeFault.ReadFault → result ≡ Status.Failed }
-        ensures write { fault ≡ ServeFault.WriteFault → result ≡ Status.Failed }
-        ensures threads { fault ≡ ServeFault.Threads → result ≡ Status.OutOfMemory }
-        ensures close { fault ≡ ServeFault.CloseRefused → result ≡ Status.Failed }
+        ensures { result ≡ status_of_serving fault }
     {
         match fault {
             ServeFault::Memory | ServeFault::Threads => Status::OutOfMemory,

@@ -36,6 +36,8 @@ const LOGIN: &str = "c0010100000000010000000cd0cc6454bd5ba688b08e66a7";
 // The question for the name, after which the connection stays open.
 const NAME_WANTED: &str = "c00102000000000100000010d049912c37db4f2b7d26db3c07a2abf5";
 
+const POLICY: &str = "group ops\npermit show .*\nuser bob in ops\n";
+
 /// What devices do at the server.
 #[derive(Clone, Copy, Debug, PartialEq, Eq)]
 enum Visit {
@@ -43,6 +45,8 @@ enum Visit {
     AtOnce(u32),
     /// One connection is kept open, and bob asks on it ten times.
     TenTimes,
+    /// Bob asks on two connections, one after the other.
+    Twice,
     /// Bob asks on a connection that is silent afterwards, and asks on another one, where he is
     /// answered within five seconds.
     AfterASilentOne,
@@ -141,6 +145,15 @@ where
     Ok(true)
 }
 
+fn twice<R>(rt: &R, address: SocketAddr) -> io::Result<bool>
+where
+    R: Clock + AllocGlobal + Net<Listener = TcpListener, Stream = TcpStream>,
+{
+    let is_first = asks_once(rt, address)?;
+    let is_second = asks_once(rt, address)?;
+    Ok(is_first && is_second)
+}
+
 // Whether bob is permitted, and waits for less than five seconds.
 fn asks_in_time<R>(rt: &R, address: SocketAddr) -> io::Result<bool>
 where
@@ -190,6 +203,7 @@ impl Visit {
         let went = match self {
             Visit::AtOnce(count) => at_once(rt, address, count),
             Visit::TenTimes => ten_times(rt, address),
+            Visit::Twice => twice(rt, address),
             Visit::AfterASilentOne => after_a_silent_one(rt, address),
             Visit::EightAndNoMore => eight_and_no_more(rt, address),
         };
@@ -240,14 +254,13 @@ where
     R: Net<Listener = TcpListener, Stream = TcpStream>,
 {
     let is_over = AtomicBool::new(false);
-    let policy = "group ops\npermit show .*\nuser bob in ops\n";
-    let fake = Fake::typing(rt.alloc(), words, policy, types, &is_over);
+    let fake = Fake::typing(rt.alloc(), words, POLICY, types, &is_over);
     let (went, status) = visit_it(rt, &fake, &is_over, address, visit);
     went && status == ExitCode::from(0) && fake.output.holds(printed)
 }
 
-// The program serves at this port, devices visit it at this address, and then its operator types
-// lines, of which `quit` is the last. It prints the port and these answers.
+// The program serves at this port, and its key is in a file. Devices visit it at this address, and
+// then its operator types lines, of which `quit` is the last. It prints the port and these answers.
 fn operated<R>(
     rt: &R,
     options: &str,
@@ -288,7 +301,7 @@ const THERE: [u8; 4] = [127, 0, 0, 2];
 fn so_many_are_served_at_once(rt: HostRuntime) -> Result<(), Fail> {
     visited(&rt, "--workers 6", HERE, Visit::AtOnce(6))?;
     visited(&rt, "--workers 63", HERE, Visit::AtOnce(63))?;
-    visited(&rt, "--idle 0", HERE, Visit::AtOnce(4))
+    visited(&rt, "--idle 0", HERE, Visit::AtOnce(16))
 }
 
 // Without the option a server has its port at each address of the machine. With it the port may be
@@ -347,4 +360,24 @@ fn lines_in_a_log(rt: HostRuntime) -> Result<(), Fail> {
 fn so_many_connections_each(rt: HostRuntime) -> Result<(), Fail> {
     let options = "--workers 1 --connections 8";
     visited(&rt, options, HERE, Visit::EightAndNoMore)
+}
+
+// Standard input ends at once, and isn't read: the server ends once its worker does. Its key is on
+// the command line, and ends in a blank.
+#[test]
+fn without_a_console(rt: HostRuntime) -> Result<(), Fail> {
+    let port = free_port(&rt)?;
+    let address = SocketAddr::from((Ipv4Addr::LOCALHOST, port));
+    let words = format!(in rt.alloc();
+        "tacd serve --no-console --port {port} --key k~ --workers 1 --connections 2 policy"
+    )?;
+    let printed = format!(in rt.alloc(); "listening {port}\n")?;
+    let fake = Fake::new(rt.alloc(), words.as_str(), POLICY, "", true);
+    let is_over = AtomicBool::new(true);
+    let (went, status) = visit_it(&rt, &fake, &is_over, address, Visit::Twice);
+    let is_silent = fake.output.holds(printed.as_str()) && fake.complaints.holds("");
+    if went && status == ExitCode::from(0) && is_silent {
+        return Ok(());
+    }
+    Err(Fail::from("a device was served otherwise, or the server ended otherwise"))
 }

@@ -111,10 +111,13 @@ user bob in ops
 user eve in ops
 ";
 
-/// A runtime with these words, one blank between them, this input, and this text in the file
-/// `policy`. The file `next` has another policy, and `cases` two cases. The first line of the file
-/// `key` is a key that ends in a blank, that of `bad-key` is no key, and `no-key` is empty. There is
-/// a folder `folder`, and no other file.
+/// A runtime with these words, one blank between them, of which `~` is a blank within a word, this
+/// input, and this text in the file `policy`. The file `next` has another policy, and `cases` two
+/// cases. The first line of the file `key` is a key that ends in a blank, that of `bad-key` is no key,
+/// and `no-key` is empty. `long-key` is the same as `key` and as long as such a file may be, and
+/// `longer-key` is a byte longer. `other-key` has a line of another server's configuration; others
+/// can read `open-key`, which has one too, and `open-policy`, which is refused. For `no-memory` there
+/// is none. There is a folder `folder`, and no other file.
 #[derive(Drop)]
 pub(crate) struct Fake<'a> {
     pub(crate) alloc: Global,
@@ -183,7 +186,9 @@ impl Env for Fake<'_> {
         if bytes.len() > buf.len() {
             return Err(FillError::TooLong);
         }
-        buf[..bytes.len()].copy_from_slice(bytes);
+        for (symbol, &byte) in buf.iter_mut().zip(bytes) {
+            *symbol = if byte == b'~' { b' ' } else { byte };
+        }
         Ok(bytes.len())
     }
 
@@ -243,7 +248,10 @@ impl Eprint for Fake<'_> {
 #[derive(Drop)]
 pub(crate) struct FakeFile {
     is_unreadable: bool,
+    is_open_to_others: bool,
     rest: &'static [u8],
+    // so many letters come after that
+    letters: usize,
 }
 
 impl Read for FakeFile {
@@ -251,7 +259,13 @@ impl Read for FakeFile {
         if self.is_unreadable {
             return Err(io::Error::from(ErrorKind::IsADirectory));
         }
-        self.rest.read(buf)
+        if !self.rest.is_empty() {
+            return self.rest.read(buf);
+        }
+        let count = self.letters.min(buf.len());
+        buf[..count].fill(b'x');
+        self.letters -= count;
+        Ok(count)
     }
 }
 
@@ -273,6 +287,9 @@ impl Seek for FakeFile {
 
 impl OpenFile for FakeFile {
     fn metadata(&self) -> io::Result<Metadata> {
+        if self.is_open_to_others {
+            return Ok(Metadata::of_file(0));
+        }
         Err(io::Error::from(ErrorKind::Unsupported))
     }
 
@@ -300,13 +317,24 @@ impl Files for Fake<'_> {
             "next" => NEXT,
             "cases" => "permit bob show version\ndeny bob reload\n",
             "key" => "k \nthe second line\n",
+            "long-key" | "longer-key" => "k \n",
+            "other-key" => "key = tundra\n",
+            "open-key" => "key=tundra",
+            "open-policy" => "x",
             "bad-key" => "tun\tdra\n",
             "no-key" | "unreadable" => "",
+            "no-memory" => return Err(io::Error::from(ErrorKind::OutOfMemory)),
             _ => return Err(io::Error::from(ErrorKind::NotFound)),
         };
         Ok(FakeFile {
             is_unreadable: path == "unreadable",
+            is_open_to_others: path.starts_with("open-"),
             rest: text.as_bytes(),
+            letters: match path {
+                "long-key" => 65_533,
+                "longer-key" => 65_534,
+                _ => 0,
+            },
         })
     }
 

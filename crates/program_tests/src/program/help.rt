@@ -13,8 +13,12 @@ be seen by everyone with a login on this machine, by 'ps' for one.";
 
 pub(crate) const SERVE_AFTER_LONG_HELP: &str =
     "A worker serves one connection at a time, until the device hangs up, or has had no reply for so many
-seconds as --idle says (at most 10 before the first reply); other devices wait. Standard output has
-'listening PORT' first, and then what the console's lines are answered.
+seconds as --idle says (at most 10 before the first reply); other devices wait, so a login that waits
+for its password takes a worker. Standard output has 'listening PORT' first, and then what the
+console's lines are answered.
+
+Signals aren't seen: SIGTERM ends the server, and SIGHUP too. To run it in the background or in a
+container, give --no-console.
 
 Lines of the console, where a SUBJECT is 'user NAME' or 'group NAME':
   policy               the policy as it is now
@@ -131,6 +135,7 @@ What is printed of one that is refused:
   fault TooManyStates SUBJECT
                        the rules along SUBJECT and its groups are too large together
   fault Memory         memory ran out
+Standard error then names 'tacd lint', which says more.
 
 Example:
   $ cat desk.policy
@@ -190,7 +195,7 @@ pub(crate) const DIFF_LONG_ABOUT: &str =
 For each user for whom anything changes it prints the shortest command line that the new policy
 permits and the old one denies, and the shortest that the new one denies and the old one permits; of
 lines of one length, the first by ASCII. So nothing is printed for a user exactly if the two policies
-decide alike on every line that he could ever give. It is what the console of 'tacd serve' answers
+permit and deny alike every line that he could ever give. It is what the console of 'tacd serve' answers
 to edits that make the one policy into the other. With --edits it prints such edits, which load NEW
 into a server that has OLD.";
 

@@ -171,6 +171,7 @@ fn explains(rt: HostRuntime) {
     tells(&rt, "tacd why policy bob", 0, "denied by default\n");
     tells(&rt, "tacd why policy eve show", 0, "unknown user\n");
     tells(&rt, "tacd why policy b/b show", 1, "fault BadQuestion\n");
+    tells(&rt, "tacd why policy bob~show run", 1, "fault BadQuestion\n");
     tells(
         &rt,
         "tacd why policy bob sh\u{f6}w",

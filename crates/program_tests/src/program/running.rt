@@ -84,6 +84,9 @@ where
     ends(rt, "tacd check policy", policy, true, 0, printed, "");
 }
 
+// What is said of the file `policy` where it is refused.
+const LINT_SAYS_MORE: &str = "tacd: 'tacd lint policy' says more\n";
+
 // Checks a policy that is refused, and would serve it.
 fn refused<R>(rt: &R, policy: &'static str, printed: &str)
 where
@@ -97,9 +100,10 @@ where
         + Eprint
         + Net<Listener = TcpListener, Stream = TcpStream>,
 {
-    ends(rt, "tacd check policy", policy, true, 1, printed, "");
     let words = "tacd serve --port 1 --key k policy";
-    ends(rt, words, policy, true, 1, printed, "");
+    for words in ["tacd check policy", words] {
+        ends(rt, words, policy, true, 1, printed, LINT_SAYS_MORE);
+    }
 }
 
 #[test]
@@ -263,7 +267,7 @@ fn serves_on_no_port(rt: HostRuntime) -> Result<(), Fail> {
     ends(&rt, words.as_str(), "", true, 4, "", complained.as_str());
     // A refused policy comes before the port.
     let fault = "fault line 1 1 BadLine\n";
-    ends(&rt, words.as_str(), "x", true, 1, fault, "");
+    ends(&rt, words.as_str(), "x", true, 1, fault, LINT_SAYS_MORE);
     Ok(())
 }
 
@@ -283,9 +287,22 @@ fn serves_with_no_log(rt: HostRuntime) -> Result<(), Fail> {
         let complained = format!(in rt.alloc(); "tacd: {path}: {why}\n")?;
         ends(&rt, words.as_str(), "", true, 4, "", complained.as_str());
         let fault = "fault line 1 1 BadLine\n";
-        ends(&rt, words.as_str(), "x", true, 1, fault, "");
+        ends(&rt, words.as_str(), "x", true, 1, fault, LINT_SAYS_MORE);
     }
     Ok(())
+}
+
+// A server says so of a policy that others can read, and takes it. A check doesn't say it.
+#[test]
+fn serves_a_policy_that_others_read(rt: HostRuntime) {
+    let told = "tacd: open-policy: it has secrets, and any user of this machine can read it
+tacd: 'tacd lint open-policy' says more
+";
+    let fault = "fault line 1 1 BadLine\n";
+    let words = "tacd serve --port 1 --key k open-policy";
+    ends(&rt, words, "", true, 1, fault, told);
+    let told = "tacd: 'tacd lint open-policy' says more\n";
+    ends(&rt, "tacd check open-policy", "", true, 1, fault, told);
 }
 
 // Paths that are there and can't be read.
@@ -302,24 +319,15 @@ fn serves_no_file(rt: HostRuntime) -> Result<(), Fail> {
         let words = format!(in rt.alloc(); "tacd serve --port 1 --key k {path}")?;
         ends(&rt, words.as_str(), "", true, 4, "", complained);
     }
-    ends(
-        &rt,
-        "tacd serve --port 1 --key k nowhere",
-        "",
-        true,
-        4,
-        "",
-        nowhere,
-    );
-    ends(
-        &rt,
-        "tacd serve --port 1 --key k policy",
-        "x",
-        false,
-        4,
-        "",
-        unwritten,
-    );
+    let starved = "tacd: no-memory: out of memory\n";
+    for (path, takes_output, status, complained) in [
+        ("nowhere", true, 4, nowhere),
+        ("no-memory", true, 3, starved),
+        ("policy", false, 4, unwritten),
+    ] {
+        let words = format!(in rt.alloc(); "tacd serve --port 1 --key k {path}")?;
+        ends(&rt, words.as_str(), "x", takes_output, status, "", complained);
+    }
     Ok(())
 }
 
@@ -486,24 +494,49 @@ fn syncs_a_log(rt: HostRuntime) {
     ends(&rt, words, "", true, 2, "", NO_LOG);
 }
 
+// What is said of a key's file before a policy's file that isn't there, and with which status the
+// program ends. A file that others can read, and one whose first line looks like another server's,
+// are taken.
+const KEY_FILES: [(&str, u8, &str); 10] = [
+    ("nowhere", 4, "tacd: nowhere: entity not found\n"),
+    ("folder", 4, "tacd: folder: it is a folder\n"),
+    ("unreadable", 4, "tacd: unreadable: it could not be read\n"),
+    ("longer-key", 4, "tacd: longer-key: it is over 65536 bytes long\n"),
+    (
+        "bad-key",
+        2,
+        "tacd: bad-key: its first line is not 1 to 128 printable ASCII characters\n",
+    ),
+    (
+        "no-key",
+        2,
+        "tacd: no-key: its first line is not 1 to 128 printable ASCII characters\n",
+    ),
+    ("key", 4, "tacd: nobody: entity not found\n"),
+    ("long-key", 4, "tacd: nobody: entity not found\n"),
+    (
+        "other-key",
+        4,
+        "tacd: other-key: its first line begins with 'key'; the whole line is taken for the key
+tacd: nobody: entity not found
+",
+    ),
+    (
+        "open-key",
+        4,
+        "tacd: open-key: it has secrets, and any user of this machine can read it
+tacd: open-key: its first line begins with 'key'; the whole line is taken for the key
+tacd: nobody: entity not found
+",
+    ),
+];
+
 // A key's file is judged after the command line, and before the policy's file.
 #[test]
 fn key_files(rt: HostRuntime) -> Result<(), Fail> {
-    let first = "its first line is not 1 to 128 printable ASCII characters\n";
-    let cases = [
-        ("nowhere", 4, "tacd: nowhere: entity not found\n"),
-        ("folder", 4, "tacd: folder: it is a folder\n"),
-        ("unreadable", 4, "tacd: unreadable: it could not be read\n"),
-        ("key", 4, "tacd: nobody: entity not found\n"),
-    ];
-    for (path, status, complained) in cases {
+    for (path, status, complained) in KEY_FILES {
         let words = format!(in rt.alloc(); "tacd serve --port 1 --key-file {path} nobody")?;
         ends(&rt, words.as_str(), "", true, status, "", complained);
-    }
-    for path in ["bad-key", "no-key"] {
-        let words = format!(in rt.alloc(); "tacd serve --port 1 --key-file {path} nobody")?;
-        let complained = format!(in rt.alloc(); "tacd: {path}: {first}")?;
-        ends(&rt, words.as_str(), "", true, 2, "", complained.as_str());
     }
     let both = "tacd serve --port 1 --key k --key-file key policy";
     ends(&rt, both, "", true, 2, "", TWO_KEYS);
@@ -582,12 +615,13 @@ Options:
       --key <K>          The key that server and devices share; other users of this machine see it
       --key-file <PATH>  The file whose first line is that key
       --address <ADDR>   The IPv4 or IPv6 address to listen at; '::' is every address of both kinds [default: 0.0.0.0]
-      --workers <W>      How many connections are served at once, 1 to 63 [default: 4]
+      --workers <W>      How many connections are served at once, 1 to 63 [default: 16]
       --idle <SECONDS>   After how many seconds without a reply a connection is closed, 0 to 86400; 0 is never [default: 300]
       --connections <N>  How many connections each worker serves before it ends, at least 1 [default: 4294967295]
       --rotate-at <N>    Put the log of calls away, and begin the next, before its Nth call, 1 to 65536 [default: 32768]
       --log <PATH>       The file that takes a line of JSON for each request, before the device hears of it
       --sync             Answer a device only once its line is on the disk
+      --no-console       Read no standard input, and serve until the process is ended, as by SIGTERM
   -h, --help             Print help (see more with '--help')
 
 Example:
@@ -622,7 +656,7 @@ Options:
       --workers <W>
           How many connections are served at once, 1 to 63
           
-          [default: 4]
+          [default: 16]
 
       --idle <SECONDS>
           After how many seconds without a reply a connection is closed, 0 to 86400; 0 is never
@@ -644,6 +678,9 @@ Options:
 
       --sync
           Answer a device only once its line is on the disk
+
+      --no-console
+          Read no standard input, and serve until the process is ended, as by SIGTERM
 
   -h, --help
           Print help (see a summary with '-h')
@@ -705,7 +742,7 @@ Options:
 
 #[test]
 fn help(rt: HostRuntime) -> Result<(), Fail> {
-    ends(&rt, "tacd --version", "", true, 0, "tacd 0.1.0\n", "");
+    ends(&rt, "tacd --version", "", true, 0, "tacd 0.2.0\n", "");
     ends(&rt, "tacd -h", "", true, 0, SUMMARY, "");
     ends(&rt, "tacd replay -h", "", true, 0, REPLAY_SUMMARY, "");
     // What the long help says before and after the options stands in help.rt.
