@@ -1,9 +1,11 @@
 -- What is told of a packet, by what came before it on its session, and by what it was answered.
-use Rattle.std.specs.Prelude.{ℕ, List, [], ◌∷◌, Bool, false, ◌==◌, Option, Some, None}
+use Rattle.std.specs.Prelude.{ℕ, ◌+◌, List, [], ◌∷◌, Bool, false, ◌==◌, ◌&&◌, Option, Some, None}
 use Rattle.std.specs.Prelude.{if◌then◌else◌}
 use Rattle.std.specs.Option.{option_map, option_map_or}
 use Rattle.std.specs.Result.{result_ok}
 use Rattle.tac_wire.specs.Flag.{has_flag}
+use Rattle.tac_wire.specs.Header.{tac_plus_authen}
+use Rattle.tac_wire.specs.declared.header.Header.{Header}
 use Rattle.tac_authen.specs.declared.start.Start.{Start}
 use Rattle.tac_authen.specs.declared.continuation.Continue.{Continue}
 use Rattle.tac_authen.specs.Start.{start_of}
@@ -37,6 +39,7 @@ use Rattle.tac_audit.specs.declared.event.Why.TheVariants.{BadBody, UnservedType
 use Rattle.tac_audit.specs.declared.event.Why.TheVariants.{Aborted}
 use Rattle.tac_audit.specs.declared.event.Told.{Told}
 use Rattle.tac_audit.specs.declared.event.Told.TheVariants.{Login, Command, Account, Refused}
+use Rattle.tac_audit.specs.declared.telling.OpenLogin.{OpenLogin}
 use Rattle.tac_audit.specs.declared.telling.Answered.{Answered}
 use Rattle.tac_audit.specs.declared.telling.Answered.TheVariants.{Nothing, Empty, Question, Last}
 
@@ -76,6 +79,21 @@ acct_asker request =
 abbrev pub named : Asker → Option Continue → Asker
 named asker answer =
     record asker { user = option_map_or (λ answer. answer.user_msg) answer [] }
+
+-- ---- a login that goes on
+
+-- begun by a START, which this packet has
+abbrev pub begun_by : Packet → Start → OpenLogin
+begun_by packet start = record { asker = start_asker start; last_seq = packet.header.seq }
+
+-- .. and gone on with by a packet that told the name
+abbrev pub named_by : Packet → OpenLogin → OpenLogin
+named_by packet login =
+    record { asker = named login.asker (continued packet); last_seq = packet.header.seq }
+
+-- a packet is the login's next: it is one of authentication, with the seq_no after the last reply's
+abbrev pub is_next : OpenLogin → Header → Bool
+is_next login header = header.kind.0 == tac_plus_authen && header.seq == login.last_seq + 2
 
 -- ---- a packet that has a last reply
 
@@ -122,37 +140,40 @@ told_last asker (Some Accounting) body said = told_record (result_ok (acct_reque
 
 -- ---- any packet
 
--- the client gives a login up
-abbrev pub is_abort : Option Asker → List ℕ → Bool
-is_abort None body = false
-is_abort (Some asker) body =
-    option_map_or (λ answer. has_flag continue_flag_abort answer.flags)
-    (result_ok (continue_of body)) false
+-- the client gives its login up, which counts only in its turn
+abbrev pub is_abort : Option OpenLogin → Packet → Bool
+is_abort None packet = false
+is_abort (Some login) packet =
+    is_next login packet.header
+    && option_map_or (λ answer. has_flag continue_flag_abort answer.flags) (continued packet) false
 
 -- why a packet has no reply
-abbrev pub why_none : Option Asker → List ℕ → Why
-why_none asker body = if is_abort asker body then Aborted else OutOfTurn
+abbrev pub why_none : Option OpenLogin → Packet → Why
+why_none login packet = if is_abort login packet then Aborted else OutOfTurn
+
+-- who logs in
+abbrev pub asker_in : Option OpenLogin → Option Asker
+asker_in login = option_map (λ login. login.asker) login
 
 -- what is told of a packet; nothing while a login goes on
-unfoldable pub told_of : Option Asker → Packet → Answered → Option Told
-told_of asker packet Question = None
-told_of asker packet Nothing = Some (Refused (why_none asker packet.body))
-told_of asker packet Empty = Some (Refused UnservedType)
-told_of asker packet (Last said) =
-    Some (told_last asker (kind_of packet.header) packet.body said)
+unfoldable pub told_of : Option OpenLogin → Packet → Answered → Option Told
+told_of login packet Question = None
+told_of login packet Nothing = Some (Refused (why_none login packet))
+told_of login packet Empty = Some (Refused UnservedType)
+told_of login packet (Last said) =
+    Some (told_last (asker_in login) (kind_of packet.header) packet.body said)
 
 -- ---- by all packets of a connection, the latest first
 
--- who logs in, by the packets of an open session
-abbrev pub asker_of : List Packet → Option Asker
-asker_of [] = None
-asker_of (start ∷ []) = option_map start_asker (started start)
-asker_of (packet ∷ before ∷ earlier) =
-    option_map (λ asker. named asker (continued packet)) (asker_of (before ∷ earlier))
+-- the login that the packets of an open session make
+abbrev pub login_of : List Packet → Option OpenLogin
+login_of [] = None
+login_of (start ∷ []) = option_map (begun_by start) (started start)
+login_of (packet ∷ before ∷ earlier) = option_map (named_by packet) (login_of (before ∷ earlier))
 
--- who logs in on the session of a packet that came after these
-abbrev pub asker_in : List Packet → Packet → Option Asker
-asker_in earlier packet = asker_of (trail_of earlier packet.header.session)
+-- the login on the session of a packet that came after these
+abbrev pub login_in : List Packet → Packet → Option OpenLogin
+login_in earlier packet = login_of (trail_of earlier packet.header.session)
 
 -- the status of a last reply; questions have none
 abbrev pub authen_status : ℕ → Option Status
@@ -193,4 +214,4 @@ answered_to earlier packet answer =
 -- what is told of it
 abbrev pub told_after : List Packet → Packet → Answer → Option Told
 told_after earlier packet answer =
-    told_of (asker_in earlier packet) packet (answered_to earlier packet answer)
+    told_of (login_in earlier packet) packet (answered_to earlier packet answer)

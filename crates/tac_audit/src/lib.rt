@@ -11,4 +11,4 @@ mod telling;
 pub use event::{Asker, Event, Said, Status, Told, Typed, Why};
 pub use line::{push_event, typed_line};
 pub use masking::{masked, masked_answer, typed};
-pub use telling::{Answered, login_begun, login_named, tell};
+pub use telling::{Answered, OpenLogin, login_begun, login_named, tell};

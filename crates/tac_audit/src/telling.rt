@@ -20,11 +20,20 @@ use crate::event::{Asker, Said, Told, Why};
 use basics::Bytes;
 use std::alloc::{AllocError, Global};
 use tac_authen::{read_continue, read_start};
-use tac_conn::AskKind;
+use tac_conn::{AskKind, Packet};
 use tac_request::{
     LineOf, acct_kind, read_acct_request, read_author_request, request_line, task_id,
 };
 use tac_wire::{Header, PacketType, well_formed};
+
+/// A login that goes on: its last packet was answered by a question.
+#[derive(Debug, Drop)]
+pub struct OpenLogin {
+    /// Who logs in.
+    pub asker: Asker,
+    /// The seq_no of its last packet.
+    pub last_seq: u8,
+}
 
 /// What a packet was answered.
 #[derive(Debug, Drop)]
@@ -56,39 +65,55 @@ impl Asker {
 
 // ---- who logs in
 
-/// Who logs in, by the body of a START; nobody where that is invalid. The error means that memory
-/// ran out.
-pub fn login_begun(alloc: Global, body: &[u8]) -> Result<Option<Asker>, AllocError>
-    ensures { (packet : PacketValue) → packet.body ≡ body.now →
-        IfOk result (λ asker. asker ≡ telling.asker_of (packet ∷ [])) }
+/// The login that a START begins; none where its body is invalid. The error means that memory ran
+/// out.
+pub fn login_begun(alloc: Global, packet: &Packet) -> Result<Option<OpenLogin>, AllocError>
+    ensures { IfOk result (λ login. login ≡ telling.login_of (packet.now ∷ [])) }
 {
-    let Some(start) = well_formed(read_start(alloc, body))? else {
+    let Some(start) = well_formed(read_start(alloc, packet.body.as_slice()))? else {
         return Ok(None);
     };
-    Ok(Some(Asker {
+    let asker = Asker {
         user: start.user,
         port: start.port,
         from: start.rem_addr,
         privilege: start.priv_lvl,
         service: start.service.0,
+    };
+    Ok(Some(OpenLogin {
+        asker,
+        last_seq: packet.header.seq,
     }))
 }
 
-/// Who logs in, by the body of the CONTINUE that tells the name. The error is that of no memory.
-pub fn login_named(alloc: Global, asker: Asker, body: &[u8]) -> Result<Asker, AllocError>
-    ensures { IfOk result (λ named. named
-        ≡ telling.named asker (result_ok (continue_of body.now))) }
+// The same under another name.
+fn renamed(asker: Asker, user: Bytes) -> Asker
+    ensures { result ≡ record asker { user = user } }
 {
-    let user = match well_formed(read_continue(alloc, body))? {
-        Some(answer) => answer.user_msg,
-        None => Bytes::new(alloc),
-    };
-    Ok(Asker {
+    Asker {
         user,
         port: asker.port,
         from: asker.from,
         privilege: asker.privilege,
         service: asker.service,
+    }
+}
+
+/// The login after the CONTINUE that tells the name. The error means that memory ran out.
+pub fn login_named(
+    alloc: Global,
+    login: OpenLogin,
+    packet: &Packet,
+) -> Result<OpenLogin, AllocError>
+    ensures { IfOk result (λ named. named ≡ telling.named_by packet.now login) }
+{
+    let user = match well_formed(read_continue(alloc, packet.body.as_slice()))? {
+        Some(answer) => answer.user_msg,
+        None => Bytes::new(alloc),
+    };
+    Ok(OpenLogin {
+        asker: renamed(login.asker, user),
+        last_seq: packet.header.seq,
     })
 }
 
@@ -195,6 +220,16 @@ fn tell_authen(
     }
 }
 
+// Who logs in.
+fn asker_in(login: Option<&OpenLogin>) -> Option<&Asker>
+    ensures { option_copied result ≡ telling.asker_in (option_copied login.entry) }
+{
+    match login {
+        Some(login) => Some(&login.asker),
+        None => None,
+    }
+}
+
 // What packets of this type are about; `None` for a type that isn't served.
 fn kind_of(header: &Header) -> Option<AskKind>
     ensures { result ≡ judging.kind_of header.now }
@@ -229,24 +264,36 @@ fn tell_last(
 
 // ---- any packet
 
-// Whether the client gives a login up.
-fn is_abort(alloc: Global, asker: Option<&Asker>, body: &[u8]) -> Result<bool, AllocError>
-    ensures { IfOk result (λ test. test ≡ telling.is_abort (option_copied asker.entry) body.now) }
+// Whether this is the header of the login's next packet.
+fn is_next(login: &OpenLogin, header: &Header) -> bool
+    ensures { result ≡ telling.is_next login.now header.now }
 {
-    if asker.is_none() {
+    header.kind == PacketType::AUTHENTICATION
+        && u16::from(header.seq) == u16::from(login.last_seq) + 2
+}
+
+// Whether the client gives its login up.
+fn is_abort(alloc: Global, login: Option<&OpenLogin>, packet: &Packet) -> Result<bool, AllocError>
+    ensures { IfOk result
+        (λ test. test ≡ telling.is_abort (option_copied login.entry) packet.now) }
+{
+    let Some(login) = login else {
+        return Ok(false);
+    };
+    if !is_next(login, &packet.header) {
         return Ok(false);
     }
-    match well_formed(read_continue(alloc, body))? {
+    match well_formed(read_continue(alloc, packet.body.as_slice()))? {
         Some(answer) => Ok(answer.is_abort()),
         None => Ok(false),
     }
 }
 
 // Why a packet has no reply.
-fn why_none(alloc: Global, asker: Option<&Asker>, body: &[u8]) -> Result<Why, AllocError>
-    ensures { IfOk result (λ why. why ≡ telling.why_none (option_copied asker.entry) body.now) }
+fn why_none(alloc: Global, login: Option<&OpenLogin>, packet: &Packet) -> Result<Why, AllocError>
+    ensures { IfOk result (λ why. why ≡ telling.why_none (option_copied login.entry) packet.now) }
 {
-    if is_abort(alloc, asker, body)? {
+    if is_abort(alloc, login, packet)? {
         return Ok(Why::Aborted);
     }
     Ok(Why::OutOfTurn)
@@ -256,13 +303,12 @@ fn why_none(alloc: Global, asker: Option<&Asker>, body: &[u8]) -> Result<Why, Al
 #[tactic(auto, unfolding(crate::specs::Telling::told_of))]
 fn tell_exactly(
     alloc: Global,
-    asker: Option<&Asker>,
-    header: &Header,
-    body: &[u8],
+    login: Option<&OpenLogin>,
+    packet: &Packet,
     answered: Answered,
 ) -> Result<Option<Told>, AllocError>
-    ensures { let packet : PacketValue = record { header = header.now; body = body.now } in
-        IfOk result (λ told. told ≡ telling.told_of (option_copied asker.entry) packet answered) }
+    ensures { IfOk result
+        (λ told. told ≡ telling.told_of (option_copied login.entry) packet.now answered) }
 {
     match answered {
         Answered::Question => Ok(None),
@@ -270,33 +316,32 @@ fn tell_exactly(
             why: Why::UnservedType,
         })),
         Answered::Nothing => {
-            let why = why_none(alloc, asker, body)?;
+            let why = why_none(alloc, login, packet)?;
             Ok(Some(Told::Refused { why }))
         }
         Answered::Last(said) => {
-            let told = tell_last(alloc, asker, kind_of(header), body, said)?;
+            let kind = kind_of(&packet.header);
+            let told = tell_last(alloc, asker_in(login), kind, packet.body.as_slice(), said)?;
             Ok(Some(told))
         }
     }
 }
 
-/// What is told of a clear packet that was answered so; nothing while a login goes on. The asker
-/// is who logs in on its session, where a login is open there. The error means that memory ran out.
+/// What is told of a clear packet that was answered so; nothing while a login goes on. The login
+/// is the one that goes on on its session. The error means that memory ran out.
 pub fn tell(
     alloc: Global,
-    asker: Option<&Asker>,
-    header: &Header,
-    body: &[u8],
+    login: Option<&OpenLogin>,
+    packet: &Packet,
     answered: Answered,
 ) -> Result<Option<Told>, AllocError>
-    ensures told { let packet : PacketValue = record { header = header.now; body = body.now } in
-        IfOk result (λ told. told ≡ telling.told_of (option_copied asker.entry) packet answered) }
+    ensures told { IfOk result
+        (λ told. told ≡ telling.told_of (option_copied login.entry) packet.now answered) }
     // It is what is told of the packet by the packets that came before it on its connection.
     ensures history { (earlier : List PacketValue) (answer : AnswerValue) →
-        let packet : PacketValue = record { header = header.now; body = body.now } in
-        option_copied asker.entry ≡ telling.asker_in earlier packet →
-        answered ≡ telling.answered_to earlier packet answer →
-        IfOk result (λ told. told ≡ telling.told_after earlier packet answer) }
+        option_copied login.entry ≡ telling.login_in earlier packet.now →
+        answered ≡ telling.answered_to earlier packet.now answer →
+        IfOk result (λ told. told ≡ telling.told_after earlier packet.now answer) }
 
     // Neither the data of a START nor what was typed to its last question is told.
     ensures unsaid { (start : StartValue) (secret : List ℕ) (said : SaidValue) →
@@ -306,5 +351,5 @@ pub fn tell(
         telling.told_continue asker (Some answer) said
         ≡ telling.told_continue asker (Some other) said }
 {
-    tell_exactly(alloc, asker, header, body, answered)
+    tell_exactly(alloc, login, packet, answered)
 }

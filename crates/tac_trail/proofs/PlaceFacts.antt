@@ -13,7 +13,7 @@ use Rattle.tac_conn.specs.History.{trail_of, outcome}
 use Rattle.tac_conn.specs.Standing as conns
 use Rattle.tac_trail.specs.declared.logins.Logins.{Logins}
 use Rattle.tac_trail.specs.declared.trail.Trail.{Trail}
-use Rattle.tac_trail.specs.Logins.{asker_at}
+use Rattle.tac_trail.specs.Logins.{login_at}
 use Rattle.tac_conn.specs.declared.packet.Packet.{Packet}
 use Rattle.tac_trail.specs.declared.shadow.Course.{Course}
 use Rattle.tac_trail.specs.Course.{course_of}
@@ -26,11 +26,11 @@ cut_none : cut [] ≡ only (open_end [])
 unfolding cut cut_within
 cut_none = refl
 
-knows_none : (logins : Logins) → ((session : ℕ) → asker_at logins session ≡ None) → Knows logins []
+knows_none : (logins : Logins) → ((session : ℕ) → login_at logins session ≡ None) → Knows logins []
 unfolding trail_of
 knows_none logins none = λ session. none session
 
-pub stands_new : (key : List ℕ) (trail : Trail) → trail.framer ≡ unread [] → trail.ahead.items ≡ [] → conns.Stands trail.shadow [] → ((session : ℕ) → asker_at trail.logins session ≡ None) → trail.over ≡ false
+pub stands_new : (key : List ℕ) (trail : Trail) → trail.framer ≡ unread [] → trail.ahead.items ≡ [] → conns.Stands trail.shadow [] → ((session : ℕ) → login_at trail.logins session ≡ None) → trail.over ≡ false
     → Stands key [] [] (only (open_end [])) trail
 stands_new key trail framer ahead shadow logins alive = record {
   reads = record { whole = cut_none; framer = framer ∙ ap unread (sym ahead); parts = ap cut ahead ∙ cut_none; shadow = shadow };

@@ -9,7 +9,7 @@ use Rattle.tac_conn.specs.History.{trail_of, outcome}
 use Rattle.tac_conn.specs.Standing as conns
 use Rattle.tac_audit.specs.declared.telling.Answered.{Answered}
 use Rattle.tac_audit.specs.declared.telling.Answered.TheVariants as answers
-use Rattle.tac_audit.specs.Telling.{asker_of}
+use Rattle.tac_audit.specs.Telling.{login_of}
 use Rattle.tac_trail.specs.declared.logins.Logins.{Logins}
 use Rattle.tac_trail.specs.declared.shadow.Course.{Course}
 use Rattle.tac_trail.specs.declared.shadow.Course.TheVariants as courses
@@ -20,13 +20,13 @@ use Rattle.tac_trail.specs.declared.trail.TrailFault.TheVariants.{Memory, OtherR
 use Rattle.tac_trail.specs.declared.trail.Turn.{Turn}
 use Rattle.tac_trail.specs.declared.trail.Turn.TheVariants as turns
 use Rattle.tac_trail.specs.Course.{course_of, is_reply, closes}
-use Rattle.tac_trail.specs.Logins.{asker_at}
+use Rattle.tac_trail.specs.Logins.{login_at}
 use Rattle.tac_trail.specs.Notes.{packets_of, note_of, Place, bad_header, last_note}
 use Rattle.tac_trail.specs.Said.{answered_in}
 
 -- the logins that are kept are those of the sessions that are open after these packets
 abbrev pub Knows : Logins → List Packet → Type 0
-Knows logins packets = (session : ℕ) → asker_at logins session ≡ asker_of (trail_of packets session)
+Knows logins packets = (session : ℕ) → login_at logins session ≡ login_of (trail_of packets session)
 
 -- of the bytes that came these packets were taken, and these parts are left
 pub record Reads (key bytes : List ℕ) (told : List Frame) (left : Parts) (trail : Trail)

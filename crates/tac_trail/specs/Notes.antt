@@ -13,7 +13,7 @@ use Rattle.tac_audit.specs.declared.event.Told.TheVariants.{Refused}
 use Rattle.tac_audit.specs.declared.event.Why.TheVariants.{BadHeader}
 use Rattle.tac_audit.specs.declared.telling.Answered.{Answered}
 use Rattle.tac_audit.specs.declared.telling.Answered.TheVariants.{Nothing}
-use Rattle.tac_audit.specs.Telling.{told_of, asker_in}
+use Rattle.tac_audit.specs.Telling.{told_of, login_in}
 use Rattle.tac_trail.specs.declared.trail.Noted.{Noted}
 use Rattle.tac_trail.specs.Course.{course_of, is_silent}
 
@@ -29,7 +29,7 @@ noted session (Some told) = record { session = session; told = told } ∷ []
 -- what is told of a packet that came after these, where it is answered so
 abbrev pub note_of : List Packet → Packet → Answered → List Noted
 note_of earlier packet answered =
-    noted packet.header.session (told_of (asker_in earlier packet) packet answered)
+    noted packet.header.session (told_of (login_in earlier packet) packet answered)
 
 -- how far it has been told: what was told, of which packets, and which are left
 pub record Place : Type 0 where

@@ -1,4 +1,4 @@
-//! Who logs in on the open sessions.
+//! The logins that go on, on the open sessions.
 
 ghost use Rattle.std.specs.Prelude.{◌≡◌, ℕ, None, IfOk, OnOk};
 ghost use Rattle.std.specs.Option.{option_copied};
@@ -6,38 +6,42 @@ ghost use Rattle.tac_trail.specs.Logins as logins;
 
 use std::alloc::{AllocError, Global};
 use std::collections::BTreeMap;
-use tac_audit::{Asker, login_begun, login_named};
+use tac_audit::{OpenLogin, login_begun, login_named};
 use tac_conn::Packet;
 
-/// Who logs in on each open session; at most 16 are open.
+/// The login on each open session; at most 16 are open.
 #[derive(Drop)]
 pub(crate) struct Logins {
-    by_session: BTreeMap<u32, Asker>,
+    by_session: BTreeMap<u32, OpenLogin>,
 }
 
-// Who logs in once this packet of the login was asked for more.
-fn asked(alloc: Global, asker: Option<Asker>, body: &[u8]) -> Result<Option<Asker>, AllocError>
-    ensures { IfOk result (λ next. next ≡ logins.next_asker asker body.now) }
+// The login once this packet of it was answered by a question.
+fn asked(
+    alloc: Global,
+    login: Option<OpenLogin>,
+    packet: &Packet,
+) -> Result<Option<OpenLogin>, AllocError>
+    ensures { IfOk result (λ next. next ≡ logins.next_login login packet.now) }
 {
-    match asker {
-        Some(asker) => Ok(Some(login_named(alloc, asker, body)?)),
-        None => login_begun(alloc, body),
+    match login {
+        Some(login) => Ok(Some(login_named(alloc, login, packet)?)),
+        None => login_begun(alloc, packet),
     }
 }
 
 impl Logins {
-    /// Nobody. Takes no memory.
+    /// None. Takes no memory.
     pub(crate) fn new(alloc: Global) -> Logins
-        ensures { (session : ℕ) → logins.asker_at result session ≡ None }
+        ensures { (session : ℕ) → logins.login_at result session ≡ None }
     {
         Logins {
             by_session: BTreeMap::new(alloc),
         }
     }
 
-    /// Who logs in on this session.
-    pub(crate) fn get(&self, session: u32) -> Option<&Asker>
-        ensures { option_copied result ≡ logins.asker_at self.now session }
+    /// The login on this session.
+    pub(crate) fn get(&self, session: u32) -> Option<&OpenLogin>
+        ensures { option_copied result ≡ logins.login_at self.now session }
     {
         self.by_session.get(&session)
     }
@@ -53,12 +57,12 @@ impl Logins {
         ensures { OnOk result (logins.Follows self.old self.new packet.now goes_on) }
     {
         let session = packet.header.session;
-        let asker = self.by_session.remove(&session);
+        let login = self.by_session.remove(&session);
         if !goes_on {
             return Ok(());
         }
-        if let Some(asker) = asked(alloc, asker, packet.body.as_slice())? {
-            self.by_session.insert(session, asker)?;
+        if let Some(login) = asked(alloc, login, packet)? {
+            self.by_session.insert(session, login)?;
         }
         Ok(())
     }

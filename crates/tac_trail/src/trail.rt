@@ -223,14 +223,8 @@ impl Trail {
     {
         let session = packet.header.session;
         let goes_on = is_question(&answered);
-        let asker = self.logins.get(session);
-        let told = tell(
-            self.alloc,
-            asker,
-            &packet.header,
-            packet.body.as_slice(),
-            answered,
-        )?;
+        let login = self.logins.get(session);
+        let told = tell(self.alloc, login, packet, answered)?;
         if let Some(told) = told {
             notes.push(Noted { session, told })?;
         }

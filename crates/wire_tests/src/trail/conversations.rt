@@ -347,7 +347,48 @@ fn refusals(rt: HostRuntime) -> Result<(), Fail> {
         ends
         "00000001","type":"refused","why":"out of turn"}
 
-        # A header of another major version.
+        # A login is given up only in its turn: where 3 is next, neither by 5 nor by 255, and not by a
+        # packet of another type.
+        > c0010100.00000001.0000000b.0101010103000000'bob'
+        < c0010200.00000001.00000010.0501000a0000'Password: '
+        > c0010500.00000001.00000005.0000000001
+        ends
+        "00000001","type":"refused","why":"out of turn"}
+
+        > c0010100.00000001.0000000b.0101010103000000'bob'
+        < c0010200.00000001.00000010.0501000a0000'Password: '
+        > c001ff00.00000001.00000005.0000000001
+        ends
+        "00000001","type":"refused","why":"out of turn"}
+
+        > c0010100.00000001.0000000b.0101010103000000'bob'
+        < c0010200.00000001.00000010.0501000a0000'Password: '
+        > c0020300.00000001.00000005.0000000001
+        ends
+        "00000001","type":"refused","why":"out of turn"}
+
+        # .. and where 5 is next, not by 3 once more.
+        > c0010100.00000001.0000000c.0101010100040000'tty0'
+        < c0010200.00000001.00000010.0400000a0000'Username: '
+        > c0010300.00000001.00000008.0003000000'bob'
+        < c0010400.00000001.00000010.0501000a0000'Password: '
+        > c0010300.00000001.00000005.0000000001
+        ends
+        "00000001","type":"refused","why":"out of turn"}
+
+        > c0010100.00000001.0000000c.0101010100040000'tty0'
+        < c0010200.00000001.00000010.0400000a0000'Username: '
+        > c0010300.00000001.00000008.0003000000'bob'
+        < c0010400.00000001.00000010.0501000a0000'Password: '
+        > c0010500.00000001.00000005.0000000001
+        ends
+        "00000001","type":"refused","why":"aborted"}
+
+        # A header of another major version, and of a session above 16 bits.
+        > d0010100.fedcba98.00000000
+        ends
+        "fedcba98","type":"refused","why":"bad header"}
+
         > d0010100.00000abc.00000000
         ends
         "00000abc","type":"refused","why":"bad header"}
