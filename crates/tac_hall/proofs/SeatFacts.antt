@@ -1,13 +1,13 @@
 -- The view of a seat to which a call is added, and from which calls are taken.
-use Rattle.std.proofs.Common.{◌≡◌, ℕ, zero, suc, ◌+◌, List, [], ◌∷◌, ◌++◌, ◌<◌, ◌≤◌, drop, arith, rules, IsTrue, nat_lt, refl, subst, Result, Err, Some, None}
+use Rattle.std.proofs.Common.{◌≡◌, ℕ, zero, suc, ◌+◌, List, [], ◌∷◌, ◌++◌, ◌<◌, ◌≤◌, drop, arith, rules, IsTrue, nat_lt, refl, subst, Result, Ok, Err, IfErr, Some, None}
 use Rattle.std.specs.Prelude.{slice_get}
 use Rattle.tac_hall.specs.declared.call.Call.{Call}
 use Rattle.tac_hall.specs.declared.call.CallAnswer.{CallAnswer}
 use Rattle.tac_hall.specs.declared.entry.Made.{Made}
 use Rattle.tac_hall.specs.declared.entry.Receipt.{Receipt}
 use Rattle.tac_hall.specs.declared.fault.HallFault.{HallFault}
-use Rattle.tac_hall.specs.Room.{Contents}
-use Rattle.tac_hall.specs.Seat.{Sitting, IsBelow, AreBelow, AreFrom, Rises, IsReached, CallsBy}
+use Rattle.tac_hall.specs.Room.{Contents, IsLawful}
+use Rattle.tac_hall.specs.Seat.{Sitting, IsBelow, AreBelow, AreFrom, Rises, IsReached, CallsBy, IsRefused}
 use Rattle.tac_hall.proofs.PartFacts.{kept_next}
 
 -- ---- a call is added
@@ -130,3 +130,10 @@ from_zero (made ∷ view) = (omega arith, from_zero view)
 -- there are no logs
 pub all_from : (view : List Made) (count : ℕ) → count ≡ 0 → AreFrom count view
 all_from view count none = rw none (from_zero view)
+
+-- ---- a refusal
+
+-- where some room refuses the call so, the refusal was given
+pub refused_in : (seat : Sitting) (call : Call) (result : Result Receipt HallFault) → (was : Contents) × (then : Contents) × IsLawful was × CallsBy was seat call result then → IfErr result (IsRefused seat call)
+refused_in seat call (Ok receipt) r = tt
+refused_in seat call (Err fault) r = record { was = r.0; then = r.1; lawful = r.2; refuses = r.3 }

@@ -7,7 +7,7 @@ use Rattle.tac_hall.specs.declared.entry.Receipt.{Receipt}
 use Rattle.tac_hall.specs.declared.fault.HallFault.{HallFault}
 use Rattle.tac_hall.specs.declared.fault.HallFault.TheVariants.{LogFull, Memory, Closed, NoSeat}
 use Rattle.tac_hall.specs.History.{IsOfKind}
-use Rattle.tac_hall.specs.Room.{Contents, Sits, IsCalled, Calls}
+use Rattle.tac_hall.specs.Room.{Contents, IsLawful, Sits, IsCalled, Calls}
 
 -- its number, the calls that it made and hasn't shed, in order, and the first place that is above
 -- those of all calls that it made: in the log of the segment of this number, the next one
@@ -99,3 +99,10 @@ CallsBy was seat call (Err Memory) now =
     IsKnown was seat.number seat.segment seat.next × Calls was seat.number call (Err Memory) now
 CallsBy was seat call (Err Closed) now =
     IsKnown was seat.number seat.segment seat.next × Calls was seat.number call (Err Closed) now
+
+-- the refusal was given: some lawful room refuses this call of the seat so
+pub record IsRefused (seat : Sitting) (call : Call) (fault : HallFault) : Type 0 where
+  pub was : Contents
+  pub then : Contents
+  pub lawful : IsLawful was
+  pub refuses : CallsBy was seat call (Err fault) then

@@ -109,6 +109,7 @@ impl<D: Desk> Hall<D> {
     pub fn call<R: Wait>(&self, rt: &R, seat: &mut Seat, call: Call) -> Result<Receipt, HallFault>
         ensures made { IfOk result (λ receipt. sitting.IsMade seat.old call receipt seat.new) }
         ensures err { OnErr result (seat.new ≡ seat.old) }
+        ensures refused { IfErr result (sitting.IsRefused seat.old call) }
 
         // One step of some room has this result; `close` tells it was this one, of seats it takes.
         ensures room { (was : Contents) × (then : Contents) × IsLawful was
