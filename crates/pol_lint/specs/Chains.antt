@@ -11,7 +11,7 @@ use Rattle.pol_names.specs.declared.subject_id.SubjectId.{SubjectId}
 use Rattle.pol_text.specs.declared.fault.PolicyRefusal.{PolicyRefusal}
 use Rattle.pol_text.specs.Policy.{max_subjects}
 use Rattle.pol_text.specs.Text.{body_of}
-use Rattle.pol_lint.specs.Words.{column_of, noted, words_of, words_in, keyword_of}
+use Rattle.pol_lint.specs.Words.{column_of, noted, words_of, words_in, parent_text, keyword_of}
 use Rattle.pol_lint.specs.Faults.{body_faults}
 use Rattle.pol_lint.specs.declared.words.Keyword.{Keyword}
 use Rattle.pol_lint.specs.declared.words.Keyword.TheVariants.{Opens}
@@ -22,10 +22,6 @@ use Rattle.pol_lint.specs.declared.finding.Finding.TheVariants.{TooManyStates}
 use Rattle.pol_lint.specs.declared.remark.Remark.{Remark}
 
 -- ---- lines that begin subjects
-
--- what is said of a subject's parent, in `NAME in PARENT`
-abbrev pub parent_text : List ℕ → List ℕ
-parent_text rest = (words_of (words_of rest).1).1
 
 abbrev pub heading_by : ℕ → List ℕ → Keyword → List ℕ → Option Heading
 heading_by number line (Opens kind) rest =

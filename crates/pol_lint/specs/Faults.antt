@@ -2,11 +2,13 @@
 -- itself, in a text of the same version: as the only one, or after one that begins a subject.
 use Rattle.std.specs.Prelude.{ℕ, ◌+◌, List, [], ◌∷◌, ◌++◌, ◌==◌, drop, map, codes, Bool, true}
 use Rattle.std.specs.Prelude.{false}
-use Rattle.std.specs.Prelude.{not, ◌&&◌, Option, Some, None, Result, Ok, Err, if◌then◌else◌}
+use Rattle.std.specs.Prelude.{not, is_some, ◌&&◌, Option, Some, None, Result, Ok, Err}
+use Rattle.std.specs.Prelude.{if◌then◌else◌}
 use Rattle.std.specs.Char.{to_ascii_lowercase}
 use Rattle.std.specs.Str.{is_utf8}
 use Rattle.basics.specs.Symbol.{is_symbol, is_text}
 use Rattle.basics.specs.Lines.{without_leading_spaces}
+use Rattle.pol_names.specs.Name.{name_of}
 use Rattle.pol_names.specs.declared.subject_id.Kind.{Kind}
 use Rattle.pol_names.specs.declared.subject_id.Kind.TheVariants.{Group, User}
 use Rattle.pol_pattern.specs.declared.version.Version.{Version}
@@ -17,16 +19,20 @@ use Rattle.pol_text.specs.declared.subject.Subject.{Subject}
 use Rattle.pol_text.specs.declared.fault.PolicyFault.{PolicyFault}
 use Rattle.pol_text.specs.declared.fault.PolicyFault.TheVariants as policies
 use Rattle.pol_text.specs.declared.fault.PolicyRefusal.{PolicyRefusal}
-use Rattle.pol_text.specs.declared.fault.PolicyRefusal.TheVariants.{BadName, BadPattern, BadValue}
-use Rattle.pol_text.specs.declared.fault.PolicyRefusal.TheVariants.{NoSuchParent, Cycle}
+use Rattle.pol_text.specs.declared.fault.PolicyRefusal.TheVariants.{BadLine, BadName, BadPattern}
+use Rattle.pol_text.specs.declared.fault.PolicyRefusal.TheVariants.{BadValue, NoSuchParent, Cycle}
 use Rattle.pol_text.specs.Text.{policy_of, version_line, Body}
-use Rattle.pol_lint.specs.Words.{column_of, noted, begins, words_in, keyword_of}
+use Rattle.pol_lint.specs.Words.{column_of, noted, begins, words_of, words_in, parent_text}
+use Rattle.pol_lint.specs.Words.{keyword_of}
+use Rattle.pol_lint.specs.Reasons.{line_reason, reason_column}
 use Rattle.pol_lint.specs.declared.words.Keyword.{Keyword}
 use Rattle.pol_lint.specs.declared.words.Keyword.TheVariants.{Opens, Nothing}
 use Rattle.pol_lint.specs.declared.finding.Finding.{Finding}
 use Rattle.pol_lint.specs.declared.finding.Finding.TheVariants.{CarriageReturn, Tab, ByteOrderMark}
 use Rattle.pol_lint.specs.declared.finding.Finding.TheVariants.{NotUtf8, NotSymbol, Capitals}
 use Rattle.pol_lint.specs.declared.finding.Finding.TheVariants.{Refused}
+use Rattle.pol_lint.specs.declared.finding.Finding.TheVariants as findings
+use Rattle.pol_lint.specs.declared.reason.LineReason.{LineReason}
 use Rattle.pol_lint.specs.declared.remark.Remark.{Remark}
 
 -- ---- bytes that are no symbols
@@ -116,15 +122,27 @@ place_in (patterns.BadEscape place) = place
 place_in (patterns.BadRepeat place) = place
 place_in _ = 0
 
--- where it is: in the pattern, at what comes after the first word, or at that word
+-- a name that is wrong: the subject's, or where that is right its parent's
+abbrev pub name_column : List ℕ → List ℕ → ℕ
+name_column line rest =
+    if is_some (name_of (words_of rest).0) then column_of line (parent_text rest)
+    else column_of line rest
+
+-- where it is: in the pattern, at the name, at what comes after the first word, or at that word
 abbrev pub refusal_column : List ℕ → PolicyRefusal → ℕ
 refusal_column line (BadPattern fault) = column_of line (drop (place_in fault) (words_in line).1)
-refusal_column line BadName = column_of line (words_in line).1
+refusal_column line BadName = name_column line (words_in line).1
 refusal_column line BadValue = column_of line (words_in line).1
 refusal_column line _ = column_of line (without_leading_spaces line)
 
+-- why it isn't a line of a policy
+abbrev pub reason_of : List ℕ → LineReason
+reason_of line = line_reason (without_leading_spaces line)
+
 abbrev pub refusal_remarks : ℕ → List ℕ → Option PolicyRefusal → List Remark
 refusal_remarks number line None = []
+refusal_remarks number line (Some BadLine) =
+    noted number (reason_column line (reason_of line)) (Some (findings.BadLine (reason_of line)))
 refusal_remarks number line (Some refusal) =
     noted number (refusal_column line refusal) (Some (Refused refusal))
 

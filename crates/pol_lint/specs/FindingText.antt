@@ -1,6 +1,7 @@
 -- How a finding is told (docs/REVIEW.md).
 use Rattle.std.specs.Prelude.{ℕ, List, ◌++◌, codes}
 use Rattle.pol_text.specs.FaultText.{refusal_text}
+use Rattle.pol_lint.specs.Reasons.{reason_text}
 use Rattle.pol_lint.specs.declared.finding.Finding.{Finding}
 use Rattle.pol_lint.specs.declared.finding.Finding.TheVariants as findings
 
@@ -15,6 +16,8 @@ finding_text findings.NamedClass =
     codes "'[[:' begins a class of these symbols here: is a range meant, as '[a-z]'?"
 finding_text findings.Count =
     codes "'{' and '}' are symbols here: is a count meant, as in 'policy 2'?"
+finding_text findings.Comment =
+    codes "'#' is a symbol here, and begins no comment after a rule: is it meant?"
 finding_text findings.BlankBefore = codes "it begins with a space: is that meant?"
 finding_text findings.BlankAfter = codes "it ends with a space: is that meant?"
 finding_text findings.NoEnd = codes "other rules end in ' <cr>': is it meant that this one doesn't?"
@@ -31,6 +34,7 @@ finding_text findings.ByteOrderMark = codes "a byte order mark: a policy is prin
 finding_text findings.NotUtf8 = codes "a byte that isn't UTF-8: a policy is printable ASCII"
 finding_text findings.NotSymbol = codes "a byte that is no symbol: a policy is printable ASCII"
 finding_text findings.Capitals = codes "a keyword in capitals: keywords are in lower case"
+finding_text (findings.BadLine reason) = codes "refused: 1 BadLine: " ++ reason_text reason
 finding_text (findings.Refused refusal) = codes "refused: " ++ refusal_text refusal
 finding_text (findings.NoParent name) = codes "the policy has no group " ++ name
 finding_text findings.Cycle = codes "the chain of parents comes back to this group"

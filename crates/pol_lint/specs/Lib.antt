@@ -1,5 +1,7 @@
 pub mod FindingText
 pub mod Words
+pub mod Near
+pub mod Reasons
 pub mod Habits
 pub mod Remarks
 pub mod Faults

@@ -35,6 +35,10 @@ words_of text = option_map_or (λ parts. parts) (split_at_first 32 text) (text, 
 abbrev pub words_in : List ℕ → List ℕ × List ℕ
 words_in line = words_of (without_leading_spaces line)
 
+-- what is said of a subject's parent, in `NAME in PARENT`
+abbrev pub parent_text : List ℕ → List ℕ
+parent_text rest = (words_of (words_of rest).1).1
+
 -- what a line says by its first word
 abbrev pub keyword_of : List ℕ → Keyword
 keyword_of word =

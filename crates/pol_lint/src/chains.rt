@@ -9,7 +9,7 @@ ghost use Rattle.pol_lint.specs.Chains as chains;
 use crate::faults::lines_faults;
 use crate::finding::Finding;
 use crate::remark::{Remark, column_of, note};
-use crate::words::{Keyword, keyword_of, words_in, words_of};
+use crate::words::{Keyword, keyword_of, parent_text, words_in, words_of};
 use basics::{Lines, Sequence};
 use pol_names::{Name, SubjectId};
 use pol_text::{Policy, PolicyRefusal};
@@ -22,15 +22,6 @@ pub(crate) struct Heading {
     column: usize,
     id: SubjectId,
     parent: Option<Name>,
-}
-
-// What is said of a subject's parent.
-fn parent_text(rest: &[u8]) -> &[u8]
-    ensures { result.now ≡ chains.parent_text rest.now }
-{
-    let (_, below) = words_of(rest);
-    let (_, parent) = words_of(below);
-    parent
 }
 
 // Adds the subject that a line begins, where it begins one.

@@ -7,10 +7,11 @@ ghost use Rattle.pol_text.specs.Text.{body_of as body_wanted};
 ghost use Rattle.pol_lint.specs.Faults as faults;
 
 use crate::finding::Finding;
+use crate::reason::{line_reason, reason_column};
 use crate::remark::{Remark, column_of, note};
-use crate::words::{Keyword, keyword_of, words_in};
+use crate::words::{Keyword, keyword_of, parent_text, words_in, words_of};
 use basics::{Sequence, is_symbol, is_text, without_leading_spaces};
-use pol_names::Kind;
+use pol_names::{Kind, Name};
 use pol_pattern::{PatternFault, Version};
 use pol_text::{Policy, PolicyFault, PolicyRefusal, body_of};
 use std::alloc::{AllocError, Global};
@@ -180,13 +181,26 @@ fn after_first(text: &[u8], count: usize) -> &[u8]
     }
 }
 
+// A name that is wrong: the subject's, or where that is right its parent's.
+fn name_column(line: &[u8], rest: &[u8]) -> usize
+    ensures { result ≡ faults.name_column line.now rest.now }
+{
+    let (name, _) = words_of(rest);
+    if Name::read(name).is_some() {
+        column_of(line, parent_text(rest))
+    } else {
+        column_of(line, rest)
+    }
+}
+
 fn refusal_column(line: &[u8], refusal: PolicyRefusal) -> usize
     ensures { result ≡ faults.refusal_column line.now refusal }
 {
     let (_, rest) = words_in(line);
     match refusal {
         PolicyRefusal::BadPattern(fault) => column_of(line, after_first(rest, place_in(fault))),
-        PolicyRefusal::BadName | PolicyRefusal::BadValue => column_of(line, rest),
+        PolicyRefusal::BadName => name_column(line, rest),
+        PolicyRefusal::BadValue => column_of(line, rest),
         _ => column_of(line, without_leading_spaces(line)),
     }
 }
@@ -204,6 +218,11 @@ fn note_refusal(
         ++ faults.refusal_remarks number line.now (faults.refusal_of version present line.now)) }
 {
     match refusal_of(alloc, version, present, line)? {
+        Some(PolicyRefusal::BadLine) => {
+            let reason = line_reason(alloc, without_leading_spaces(line))?;
+            let column = reason_column(line, reason);
+            note(remarks, number, column, Some(Finding::BadLine(reason)))
+        }
         Some(refusal) => {
             let column = refusal_column(line, refusal);
             note(remarks, number, column, Some(Finding::Refused(refusal)))

@@ -3,6 +3,7 @@
 ghost use Rattle.std.specs.Prelude.{Some};
 ghost use Rattle.pol_lint.specs.FindingText.{finding_text};
 
+use crate::reason::LineReason;
 use pol_names::Name;
 use pol_text::PolicyRefusal;
 use std::fmt;
@@ -24,6 +25,8 @@ pub enum Finding {
     NamedClass,
     /// A pattern has a count like `{1,3}`.
     Count,
+    /// A pattern has ` # `.
+    Comment,
     /// A secret or a pattern begins with a space.
     BlankBefore,
     /// A secret or a pattern ends with a space.
@@ -52,6 +55,8 @@ pub enum Finding {
     NotSymbol,
     /// A keyword in capitals.
     Capitals,
+    /// It isn't a line of a policy.
+    BadLine(LineReason),
     /// What else is wrong, as a check names it.
     Refused(PolicyRefusal),
     /// The parent of this name is no group of the policy.
@@ -99,6 +104,12 @@ impl fmt::Display for Finding {
                     "'{{' and '}}' are symbols here: is a count meant, as in 'policy 2'?"
                 )
             }
+            Finding::Comment => {
+                write!(
+                    f,
+                    "'#' is a symbol here, and begins no comment after a rule: is it meant?"
+                )
+            }
             Finding::BlankBefore => write!(f, "it begins with a space: is that meant?"),
             Finding::BlankAfter => write!(f, "it ends with a space: is that meant?"),
             Finding::NoEnd => {
@@ -142,6 +153,7 @@ impl fmt::Display for Finding {
                     "refused: TooManyStates: the rules along this chain have over 16384 states"
                 )
             }
+            Finding::BadLine(reason) => write!(f, "refused: 1 BadLine: {reason}"),
             Finding::Refused(refusal) => write!(f, "refused: {refusal}"),
             Finding::NoParent(name) => write!(f, "the policy has no group {name}"),
         }

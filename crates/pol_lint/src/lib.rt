@@ -6,11 +6,15 @@ mod faults;
 mod finding;
 mod habits;
 mod hidden;
+mod near;
+mod reason;
 mod remark;
 mod remarks;
 mod words;
 
 pub use chains::{size_faults, text_faults};
 pub use finding::Finding;
+pub use near::Word;
+pub use reason::LineReason;
 pub use remark::Remark;
 pub use remarks::policy_remarks;

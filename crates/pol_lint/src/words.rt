@@ -38,6 +38,15 @@ pub(crate) fn words_in(line: &[u8]) -> (&[u8], &[u8])
     words_of(without_leading_spaces(line))
 }
 
+/// What is said of a subject's parent, in `NAME in PARENT`.
+pub(crate) fn parent_text(rest: &[u8]) -> &[u8]
+    ensures { result.now ≡ words.parent_text rest.now }
+{
+    let (_, below) = words_of(rest);
+    let (_, parent) = words_of(below);
+    parent
+}
+
 /// What a line says by its first word.
 pub(crate) fn keyword_of(word: &[u8]) -> Keyword
     ensures { result ≡ words.keyword_of word.now }

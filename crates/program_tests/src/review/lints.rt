@@ -224,8 +224,8 @@ fn lines(rt: HostRuntime) -> Result<(), Fail> {
 line 2 column 6: refused: 2 BadName
 line 3 column 6: refused: 6 BadValue
 line 5 column 1: a keyword in capitals: keywords are in lower case
-line 6 column 1: refused: 1 BadLine
-line 8 column 1: refused: 1 BadLine
+line 6 column 1: refused: 1 BadLine: this is a setting of users, and it stands under a group
+line 8 column 1: refused: 1 BadLine: no line of a policy begins with this word
 ",
     )?;
     // A line is of the version that the first line says.
@@ -237,13 +237,96 @@ line 8 column 1: refused: 1 BadLine
     refuses(
         &rt,
         "\npolicy 2\nuser bob\npermit show a}\n",
-        "line 2 column 1: refused: 1 BadLine\n",
+        "line 2 column 1: refused: 1 BadLine: only the first line of a text says a version, and exactly as 'policy 2'\n",
     )?;
     refuses(
         &rt,
         "user bob\nuser bob\n",
         "line 2 column 1: refused: 3 Repeated\n",
     )
+}
+
+// Each reason for which a line isn't one of a policy, and the places of names.
+#[test]
+fn reasons(rt: HostRuntime) -> Result<(), Fail> {
+    refuses(
+        &rt,
+        "policy 3
+key = k
+accounting file = /var/log/acct
+user = bob {
+  login = cleartext x
+  member=ops
+}
+group ops
+permti show .*
+show vlan
+  enable x\x20
+priv
+priv 5\x20
+priv  5
+priv 5 6
+user bob in
+user bob of ops
+user bob in  ops
+user bob in o/ps
+user b/b in o/ps
+  policy 2
+realm ops {
+",
+        "line 1 column 1: refused: 1 BadLine: only the first line of a text says a version, and exactly as 'policy 2'
+line 2 column 1: refused: 1 BadLine: this is a line of another program's file, such as tac_plus's
+line 3 column 1: refused: 1 BadLine: this is a line of another program's file, such as tac_plus's
+line 4 column 1: refused: 1 BadLine: this is a line of another program's file, such as tac_plus's
+line 6 column 3: refused: 1 BadLine: this is a line of another program's file, such as tac_plus's
+line 7 column 1: refused: 1 BadLine: this is a line of another program's file, such as tac_plus's
+line 9 column 1: refused: 1 BadLine: no line of a policy begins with this word: is 'permit' meant?
+line 10 column 1: refused: 1 BadLine: no line of a policy begins with this word
+line 11 column 3: refused: 1 BadLine: this is a setting of users, and it stands under a group
+line 12 column 1: refused: 1 BadLine: a value is missing at its end
+line 13 column 7: refused: 1 BadLine: it ends with a space
+line 14 column 5: refused: 1 BadLine: two spaces in a row, where words are set apart by one
+line 15 column 1: refused: 1 BadLine: after 'priv' one number may follow, and nothing else
+line 16 column 1: refused: 1 BadLine: a value is missing at its end
+line 17 column 1: refused: 1 BadLine: after the name nothing may follow but 'in PARENT'
+line 18 column 12: refused: 1 BadLine: two spaces in a row, where words are set apart by one
+line 19 column 13: refused: 2 BadName
+line 20 column 6: refused: 2 BadName
+line 21 column 3: refused: 1 BadLine: only the first line of a text says a version, and exactly as 'policy 2'
+line 22 column 1: refused: 1 BadLine: this is a line of another program's file, such as tac_plus's
+",
+    )
+}
+
+// The known word that is nearest to this one is told.
+fn takes_for<R: Abort + AllocGlobal>(rt: &R, word: &str, known: &str) -> Result<(), Fail> {
+    let text = format!(in rt.alloc(); "{word} x\n")?;
+    let told = format!(in rt.alloc();
+        "line 1 column 1: refused: 1 BadLine: no line of a policy begins with this word{known}\n"
+    )?;
+    refuses(rt, text.as_str(), told.as_str())
+}
+
+/// Words, and what is asked of each: `drnv` is as near to `deny`, which comes later.
+const WORDS: [(&str, &str); 10] = [
+    ("grop", ": is 'group' meant?"),
+    ("usre", ": is 'user' meant?"),
+    ("enab", ": is 'enable' meant?"),
+    ("Polcy", ": is 'policy' meant?"),
+    ("permitte", ": is 'permit' meant?"),
+    ("drnv", ": is 'priv' meant?"),
+    ("dny", ": is 'deny' meant?"),
+    ("end", ""),
+    ("permitted", ""),
+    ("show", ""),
+];
+
+#[test]
+fn nearest_words(rt: HostRuntime) -> Result<(), Fail> {
+    for (word, known) in WORDS {
+        takes_for(&rt, word, known)?;
+    }
+    Ok(())
 }
 
 #[test]

@@ -1,0 +1,101 @@
+-- Why a line isn't one of a policy, where it is refused as BadLine (docs/REVIEW.md). Of several
+-- reasons the first of this order is told: it is another program's; no line begins with its first
+-- word; nothing follows that word; it is a secret, which stands under a group; it ends with a space;
+-- it has two spaces in a row; its fields are wrong.
+use Rattle.std.specs.Prelude.{ℕ, List, [], ◌∷◌, ◌++◌, ◌==◌, length, codes, Bool, not, is_some}
+use Rattle.std.specs.Prelude.{◌&&◌, ◌||◌, Option, Some, None, if◌then◌else◌}
+use Rattle.std.specs.Str.{bytes_eq}
+use Rattle.basics.specs.Lines.{split_at_first, without_leading_spaces}
+use Rattle.pol_lint.specs.Words.{begins, ends, column_of, words_of, keyword_of}
+use Rattle.pol_lint.specs.Near.{word_text, nearest}
+use Rattle.pol_lint.specs.declared.near.Word.{Word}
+use Rattle.pol_lint.specs.declared.words.Keyword.{Keyword}
+use Rattle.pol_lint.specs.declared.words.Keyword.TheVariants.{Opens, Secret, Nothing}
+use Rattle.pol_lint.specs.declared.reason.LineReason.{LineReason}
+use Rattle.pol_lint.specs.declared.reason.LineReason.TheVariants as reasons
+
+-- ---- lines of another program's file, as tac_plus has them
+
+abbrev pub is_equals : List ℕ → Bool
+is_equals word = bytes_eq word (codes "=")
+
+-- `KEY=..`, `KEY = ..`, `DEFAULT KEY = ..`, `NAME {` or `}`
+abbrev pub is_of_other_program : List ℕ → Bool
+is_of_other_program line =
+    is_some (split_at_first 61 (words_of line).0)
+    || is_equals (words_of (words_of line).1).0
+    || is_equals (words_of (words_of (words_of line).1).1).0
+    || begins line (codes "}") || ends line (codes " {")
+
+-- ---- lines that begin with no word of a policy's, or with `policy`
+
+abbrev pub misspelt : Option Word → LineReason
+misspelt (Some word) = reasons.Misspelt word
+misspelt None = reasons.Unknown
+
+abbrev pub unknown_reason : List ℕ → LineReason
+unknown_reason word =
+    if bytes_eq word (codes "policy") then reasons.Version else misspelt (nearest word)
+
+-- ---- lines that begin with one
+
+-- from its first two spaces in a row on
+abbrev pub from_two_blanks : List ℕ → List ℕ
+from_two_blanks [] = []
+from_two_blanks (byte ∷ rest) =
+    if byte == 32 && begins rest (codes " ") then byte ∷ rest else from_two_blanks rest
+
+-- `in` without a parent, or too many fields
+abbrev pub form_reason : Keyword → List ℕ → LineReason
+form_reason (Opens kind) rest =
+    if bytes_eq (words_of rest).1 (codes "in") then reasons.NoValue else reasons.Heading
+form_reason _ rest = reasons.Level
+
+abbrev pub fields_reason : List ℕ → Keyword → List ℕ → LineReason
+fields_reason line says rest =
+    if ends line (codes " ") then reasons.BlankAtEnd
+    else if length (from_two_blanks line) == 0 then form_reason says rest
+    else reasons.TwoBlanks
+
+abbrev pub value_reason : List ℕ → Keyword → List ℕ → LineReason
+value_reason line Secret rest = reasons.OfUsers
+value_reason line says rest = fields_reason line says rest
+
+abbrev pub known_reason : List ℕ → Keyword → List ℕ → LineReason
+known_reason line says rest =
+    if is_some (split_at_first 32 line) then value_reason line says rest else reasons.NoValue
+
+-- ---- any line
+
+abbrev pub reason_by : List ℕ → Keyword → List ℕ × List ℕ → LineReason
+reason_by line Nothing words = unknown_reason words.0
+reason_by line says words = known_reason line says words.1
+
+-- of a line without the spaces that it begins with
+abbrev pub line_reason : List ℕ → LineReason
+line_reason line =
+    if is_of_other_program line then reasons.OtherProgram
+    else reason_by line (keyword_of (words_of line).0) (words_of line)
+
+-- where it is: at the space, or at the first word
+abbrev pub reason_column : List ℕ → LineReason → ℕ
+reason_column line reasons.BlankAtEnd = length line
+reason_column line reasons.TwoBlanks =
+    column_of line (from_two_blanks (without_leading_spaces line))
+reason_column line _ = column_of line (without_leading_spaces line)
+
+-- ---- how it is told
+
+abbrev pub reason_text : LineReason → List ℕ
+reason_text reasons.OtherProgram = codes "this is a line of another program's file, such as tac_plus's"
+reason_text reasons.Version =
+    codes "only the first line of a text says a version, and exactly as 'policy 2'"
+reason_text reasons.Unknown = codes "no line of a policy begins with this word"
+reason_text (reasons.Misspelt word) =
+    codes "no line of a policy begins with this word: is '" ++ word_text word ++ codes "' meant?"
+reason_text reasons.NoValue = codes "a value is missing at its end"
+reason_text reasons.OfUsers = codes "this is a setting of users, and it stands under a group"
+reason_text reasons.BlankAtEnd = codes "it ends with a space"
+reason_text reasons.TwoBlanks = codes "two spaces in a row, where words are set apart by one"
+reason_text reasons.Heading = codes "after the name nothing may follow but 'in PARENT'"
+reason_text reasons.Level = codes "after 'priv' one number may follow, and nothing else"

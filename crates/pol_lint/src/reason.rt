@@ -1,0 +1,183 @@
+//! Why a line isn't one of a policy.
+
+ghost use Rattle.std.specs.Prelude.{◌≡◌, Some, IfOk};
+ghost use Rattle.pol_lint.specs.Reasons as reasons;
+
+use crate::near::{Word, nearest};
+use crate::remark::column_of;
+use crate::words::{Keyword, keyword_of, words_of};
+use basics::{split_once, without_leading_spaces};
+use std::alloc::{AllocError, Global};
+use std::fmt;
+
+/// Why a line isn't one of a policy. Of several reasons the first is told, in this order but for
+/// NoValue: a missing parent comes after the spaces.
+#[derive(Clone, Copy, Debug, PartialEq, Eq)]
+pub enum LineReason {
+    /// It is a line as tac_plus's configuration has them.
+    OtherProgram,
+    /// It begins with `policy`, and isn't the first line of a text of version 2.
+    Version,
+    /// No line of a policy begins with its first word, and none with one like it.
+    Unknown,
+    /// No line of a policy begins with its first word, but lines begin with this one.
+    Misspelt(Word),
+    /// Nothing follows its first word, or the `in` after a name.
+    NoValue,
+    /// A secret under a group.
+    OfUsers,
+    /// It ends with a space.
+    BlankAtEnd,
+    /// It has two spaces in a row.
+    TwoBlanks,
+    /// Something else than `in PARENT` follows a subject's name.
+    Heading,
+    /// More than one word follows `priv`.
+    Level,
+}
+
+impl fmt::Display for LineReason {
+    ghost output = { λ reason. Some (reasons.reason_text reason) };
+
+    fn fmt<W: fmt::Write>(&self, f: &mut fmt::Formatter<W>) -> fmt::Result {
+        match self {
+            LineReason::OtherProgram => {
+                write!(
+                    f,
+                    "this is a line of another program's file, such as tac_plus's"
+                )
+            }
+            LineReason::Version => {
+                write!(
+                    f,
+                    "only the first line of a text says a version, and exactly as 'policy 2'"
+                )
+            }
+            LineReason::Unknown => write!(f, "no line of a policy begins with this word"),
+            LineReason::Misspelt(word) => {
+                write!(
+                    f,
+                    "no line of a policy begins with this word: is '{word}' meant?"
+                )
+            }
+            LineReason::NoValue => write!(f, "a value is missing at its end"),
+            LineReason::OfUsers => {
+                write!(f, "this is a setting of users, and it stands under a group")
+            }
+            LineReason::BlankAtEnd => write!(f, "it ends with a space"),
+            LineReason::TwoBlanks => {
+                write!(f, "two spaces in a row, where words are set apart by one")
+            }
+            LineReason::Heading => {
+                write!(f, "after the name nothing may follow but 'in PARENT'")
+            }
+            LineReason::Level => {
+                write!(f, "after 'priv' one number may follow, and nothing else")
+            }
+        }
+    }
+}
+
+// As tac_plus has it: `KEY=..`, `KEY = ..`, `DEFAULT KEY = ..`, `NAME {` or `}`.
+fn is_of_other_program(line: &[u8]) -> bool
+    ensures { result ≡ reasons.is_of_other_program line.now }
+{
+    let (first, rest) = words_of(line);
+    let (second, rest) = words_of(rest);
+    let (third, _) = words_of(rest);
+    split_once(first, b'=').is_some()
+        || second == b"=".as_slice()
+        || third == b"=".as_slice()
+        || line.starts_with(b"}")
+        || line.ends_with(b" {")
+}
+
+// No line begins with the word, or it is `policy`.
+fn unknown_reason(alloc: Global, word: &[u8]) -> Result<LineReason, AllocError>
+    ensures { IfOk result (λ reason. reason ≡ reasons.unknown_reason word.now) }
+{
+    if word == b"policy".as_slice() {
+        return Ok(LineReason::Version);
+    }
+    match nearest(alloc, word)? {
+        Some(word) => Ok(LineReason::Misspelt(word)),
+        None => Ok(LineReason::Unknown),
+    }
+}
+
+// The line from its first two spaces in a row on.
+fn from_two_blanks(line: &[u8]) -> &[u8]
+    ensures { result.now ≡ reasons.from_two_blanks line.now }
+{
+    let mut rest = line;
+    while let [byte, after @ ..] = rest {
+        if *byte == b' ' && after.starts_with(b" ") {
+            return rest;
+        }
+        rest = after;
+    }
+    rest
+}
+
+// `in` without a parent, or too many fields.
+fn form_reason(says: Keyword, rest: &[u8]) -> LineReason
+    ensures { result ≡ reasons.form_reason says rest.now }
+{
+    let (_, below) = words_of(rest);
+    match says {
+        Keyword::Opens(_) if below == b"in".as_slice() => LineReason::NoValue,
+        Keyword::Opens(_) => LineReason::Heading,
+        _ => LineReason::Level,
+    }
+}
+
+fn fields_reason(line: &[u8], says: Keyword, rest: &[u8]) -> LineReason
+    ensures { result ≡ reasons.fields_reason line.now says rest.now }
+{
+    if line.ends_with(b" ") {
+        return LineReason::BlankAtEnd;
+    }
+    if from_two_blanks(line).len() == 0 {
+        return form_reason(says, rest);
+    }
+    LineReason::TwoBlanks
+}
+
+// Of a line that begins with a keyword.
+fn known_reason(line: &[u8], says: Keyword, rest: &[u8]) -> LineReason
+    ensures { result ≡ reasons.known_reason line.now says rest.now }
+{
+    if split_once(line, b' ').is_none() {
+        return LineReason::NoValue;
+    }
+    match says {
+        Keyword::Secret => LineReason::OfUsers,
+        says => fields_reason(line, says, rest),
+    }
+}
+
+/// Why a line that is refused as BadLine isn't one of a policy. It has no spaces at its beginning.
+pub(crate) fn line_reason(alloc: Global, line: &[u8]) -> Result<LineReason, AllocError>
+    ensures { IfOk result (λ reason. reason ≡ reasons.line_reason line.now) }
+{
+    if is_of_other_program(line) {
+        return Ok(LineReason::OtherProgram);
+    }
+    let (word, rest) = words_of(line);
+    match keyword_of(word) {
+        Keyword::Nothing => unknown_reason(alloc, word),
+        says => Ok(known_reason(line, says, rest)),
+    }
+}
+
+/// The column of that reason.
+pub(crate) fn reason_column(line: &[u8], reason: LineReason) -> usize
+    ensures { result ≡ reasons.reason_column line.now reason }
+{
+    let said = without_leading_spaces(line);
+    match reason {
+        LineReason::BlankAtEnd => line.len(),
+        LineReason::TwoBlanks => column_of(line, from_two_blanks(said)),
+        _ => column_of(line, said),
+    }
+}
