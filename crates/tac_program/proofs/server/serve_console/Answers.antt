@@ -1,7 +1,7 @@
 use denote.Param.Send.{sendable}
 use Rattle.std.proofs.Crossing.{crosses}
 use Rattle.tac_program.proofs.Crossing.{LiveDesk-send}
-use Rattle.tac_program.proofs.server.serve_by.Goals as goal
+use Rattle.tac_program.proofs.server.serve_console.Goals as goal
 
 pub serve-outcome-requires-send-D : goal.serve-outcome-requires-send-D
 serve-outcome-requires-send-D g c κs within = search (LiveDesk-send, crosses, sendable) depth 60 fits 20000
