@@ -17,6 +17,7 @@ use Rattle.tac_conn.specs.Reply.{packet_of, answer_body}
 use Rattle.tac_conn.specs.Judging.{reply_in, closes as outcome_closes}
 use Rattle.tac_conn.specs.History.{outcome, judged_after, is_closed}
 use Rattle.tac_conn.specs.Standing.{step_of}
+use Rattle.tac_hall.specs.Seat.{Sitting}
 use Rattle.tac_stream.specs.declared.stream.Stream.{Stream}
 use Rattle.tac_stream.specs.declared.turn.Turn.{Turn}
 use Rattle.tac_stream.specs.declared.turn.Turn.TheVariants.{Reply, Asks, Silent, Need, Close}
@@ -231,7 +232,7 @@ ends_memory key asked sent_by was old = record {
 
 -- nothing is sent for what is left, and nothing is asked
 pub ends_none : (end : End) (key : List ℕ) (asked : List Ask) (sent_by : List Answer → List Sending) (was : Calling) (old new : Option (List ℕ)) → asked ≡ [] → sent_by [] ≡ []
-    → Appends old new [] → Leaves end [] → (Appends old new [] → Writes end key [] [] old new) → Ends end key asked sent_by was was old new
+    → Appends old new [] → Leaves end was.seat [] → (Appends old new [] → Writes end key [] [] old new) → Ends end key asked sent_by was was old new
 ends_none end key asked sent_by was old new none nothing written leaves writes = record {
   made = [];
   makes = makes_none was;
@@ -242,43 +243,42 @@ ends_none end key asked sent_by was old new none nothing written leaves writes =
 }
 
 -- the next ask wasn't called
-pub ends_uncalled : (end : End) (key : List ℕ) (asked : List Ask) (sent_by : List Answer → List Sending) (was : Calling) (old : Option (List ℕ)) → IsUncalled end → sent_by [] ≡ [] → 0 < length asked
-    → Ends end key asked sent_by was was old old
-ends_uncalled Finished key asked sent_by was old u nothing some = absurd u
-ends_uncalled ByProtocol key asked sent_by was old u nothing some = absurd u
-ends_uncalled Stopped key asked sent_by was old u nothing some =
-    record { made = []; makes = makes_none was; left = asked; asks = refl; leaves = some; writes = rw nothing (Appends-nil old) }
-ends_uncalled LogFull key asked sent_by was old u nothing some =
-    record { made = []; makes = makes_none was; left = asked; asks = refl; leaves = some; writes = rw nothing (Appends-nil old) }
-ends_uncalled Memory key asked sent_by was old u nothing some = ends_memory key asked sent_by was old
-ends_uncalled ReadFault key asked sent_by was old u nothing some = absurd u
-ends_uncalled WriteFault key asked sent_by was old u nothing some = absurd u
-ends_uncalled Held key asked sent_by was old u nothing some =
-    record { made = []; makes = makes_none was; left = asked; asks = refl; leaves = some; writes = rw nothing (Appends-nil old) }
-ends_uncalled NoSeat key asked sent_by was old u nothing some =
-    record { made = []; makes = makes_none was; left = asked; asks = refl; leaves = some; writes = rw nothing (Appends-nil old) }
+module _ (key : List ℕ) (ask : Ask) (later asked : List Ask) (sent_by : List Answer → List Sending) (was : Calling) (old : Option (List ℕ)) (first : asked ≡ ask ∷ later) (nothing : sent_by [] ≡ []) where
+  uncalled : (end : End) → Leaves end was.seat (ask ∷ later) → (Appends old old [] → Writes end key [] [] old old) → Ends end key asked sent_by was was old old
+  uncalled end leaves writes = record { made = []; makes = makes_none was; left = ask ∷ later; asks = first; leaves = leaves; writes = rw nothing (writes (Appends-nil old)) }
 
-uncalled_unfinished : (end : End) → IsUncalled end → end ≡ Finished → ⊥
-uncalled_unfinished Finished u e = u
-uncalled_unfinished ByProtocol u e = u
-uncalled_unfinished Stopped u e = cc
-uncalled_unfinished LogFull u e = cc
-uncalled_unfinished Memory u e = cc
-uncalled_unfinished ReadFault u e = u
-uncalled_unfinished WriteFault u e = u
-uncalled_unfinished Held u e = cc
-uncalled_unfinished NoSeat u e = cc
+  pub ends_uncalled : (end : End) → IsUncalled was.seat ask end → Ends end key asked sent_by was was old old
+  ends_uncalled Finished u = absurd u
+  ends_uncalled ByProtocol u = absurd u
+  ends_uncalled Stopped u = uncalled Stopped u (λ w. w)
+  ends_uncalled LogFull u = uncalled LogFull u (λ w. w)
+  ends_uncalled Memory u = ends_memory key asked sent_by was old
+  ends_uncalled ReadFault u = absurd u
+  ends_uncalled WriteFault u = absurd u
+  ends_uncalled Held u = uncalled Held (omega arith) (λ w. w)
+  ends_uncalled NoSeat u = uncalled NoSeat u (λ w. w)
 
-uncalled_closing : (end : End) (closing : Bool) → IsUncalled end → Closes end closing
-uncalled_closing Finished closing u = absurd u
-uncalled_closing ByProtocol closing u = absurd u
-uncalled_closing Stopped closing u = tt
-uncalled_closing LogFull closing u = tt
-uncalled_closing Memory closing u = tt
-uncalled_closing ReadFault closing u = absurd u
-uncalled_closing WriteFault closing u = tt
-uncalled_closing Held closing u = tt
-uncalled_closing NoSeat closing u = tt
+uncalled_unfinished : (seat : Sitting) (ask : Ask) (end : End) → IsUncalled seat ask end → end ≡ Finished → ⊥
+uncalled_unfinished seat ask Finished u e = u
+uncalled_unfinished seat ask ByProtocol u e = u
+uncalled_unfinished seat ask Stopped u e = cc
+uncalled_unfinished seat ask LogFull u e = cc
+uncalled_unfinished seat ask Memory u e = cc
+uncalled_unfinished seat ask ReadFault u e = u
+uncalled_unfinished seat ask WriteFault u e = u
+uncalled_unfinished seat ask Held u e = cc
+uncalled_unfinished seat ask NoSeat u e = cc
+
+uncalled_closing : (seat : Sitting) (ask : Ask) (end : End) (closing : Bool) → IsUncalled seat ask end → Closes end closing
+uncalled_closing seat ask Finished closing u = absurd u
+uncalled_closing seat ask ByProtocol closing u = absurd u
+uncalled_closing seat ask Stopped closing u = tt
+uncalled_closing seat ask LogFull closing u = tt
+uncalled_closing seat ask Memory closing u = tt
+uncalled_closing seat ask ReadFault closing u = absurd u
+uncalled_closing seat ask WriteFault closing u = tt
+uncalled_closing seat ask Held closing u = tt
+uncalled_closing seat ask NoSeat closing u = tt
 
 -- ---- a turn
 
@@ -347,16 +347,17 @@ module _ (key bytes : List ℕ) (taken : ℕ) where
       by_tail (fault reason) e = cc
 
   -- it wasn't asked
-  pub turned_uncalled : (was : Calling) (old : Option (List ℕ)) (stream : Stream) (ask : Ask) (slot : Slot) (end : End) → IsTurn key bytes taken (Asks ask slot) → IsUncalled end
+  pub turned_uncalled : (was : Calling) (old : Option (List ℕ)) (stream : Stream) (ask : Ask) (slot : Slot) (end : End) → IsTurn key bytes taken (Asks ask slot) → IsUncalled was.seat ask end
       → Turned (Err end) key bytes taken was was old old stream
   turned_uncalled was old stream ask slot end (inl f) u =
       let came = serves_turn key _ (Asks ask slot) f.is in
       record {
-        unfinished = uncalled_unfinished end u;
+        unfinished = uncalled_unfinished was.seat ask end u;
         memory = λ e. some_left bytes taken f.frame f.more f.left;
-        closing = uncalled_closing end (closes key bytes) u;
-        ends = ends_uncalled end key _ _ was old u (rw f.left (served_first key _ f.frame f.more [] ∙ rw came refl))
-            (rw (f.left, asks_first key (packets_of key (take taken (cut bytes).packets)) f.frame f.more, came) (omega arith));
+        closing = uncalled_closing was.seat ask end (closes key bytes) u;
+        ends = ends_uncalled key ask (if slot.single then asks_in key (clear key f.frame ∷ taken_of key bytes taken) f.more else []) _ _ was old
+            (rw f.left (asks_first key (packets_of key (take taken (cut bytes).packets)) f.frame f.more ∙ rw came refl))
+            (rw f.left (served_first key _ f.frame f.more [] ∙ rw came refl)) end u;
       }
   turned_uncalled was old stream ask slot end (inr n) u = absurd (by_tail (cut bytes).tail n.is)
     where
@@ -365,7 +366,7 @@ module _ (key bytes : List ℕ) (taken : ℕ) where
       by_tail (fault reason) e = cc
 
   pub turned_refusal : (was now : Calling) (old : Option (List ℕ)) (stream : Stream) (ask : Ask) (slot : Slot) (result : Result Went End) (end : End) → IsTurn key bytes taken (Asks ask slot)
-      → now ≡ was → IsUncalled end → IsErrAnd result (λ told. told ≡ end) → Turned result key bytes taken was now old old stream
+      → now ≡ was → IsUncalled was.seat ask end → IsErrAnd result (λ told. told ≡ end) → Turned result key bytes taken was now old old stream
   turned_refusal was now old stream ask slot (Ok went) end turn same u told = absurd told
   turned_refusal was now old stream ask slot (Err other) end turn same u told = rw (same, told) (turned_uncalled was old stream ask slot end turn u)
 

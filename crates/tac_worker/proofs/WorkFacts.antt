@@ -107,7 +107,7 @@ module _ (key : List ℕ) (was now : Calling) (before after old mid : Option (Li
         ap (λ (fs : List Frame). is_closed (packets_of key fs) || closed_by (cut s.input).tail) all_taken ∙ ap (λ (b : Bool). b || closed_by (cut s.input).tail) s.stays ∙ r.tail
 
     -- nothing was left to do
-    served_whole : (end : End) (left : Option (List ℕ)) → Consumes after left [] → (end ≡ Finished → IsAtEnd left) → (end ≡ Memory → ⊥) → Closes end false → Leaves end [] → (Appends new new [] → Writes end key [] [] new new)
+    served_whole : (end : End) (left : Option (List ℕ)) → Consumes after left [] → (end ≡ Finished → IsAtEnd left) → (end ≡ Memory → ⊥) → Closes end false → Leaves end next.seat [] → (Appends new new [] → Writes end key [] [] new new)
         → IsServed end key was next before left old new
     served_whole end left read finished enough closing leaves writes = record {
       input = s.input;

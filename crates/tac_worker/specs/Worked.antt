@@ -1,5 +1,5 @@
 -- What a worker has done that served one connection by calls at a hall.
-use Rattle.std.specs.Prelude.{◌≡◌, ◌<◌, ℕ, List, [], ◌++◌, map, length, Bool, true, false, Option}
+use Rattle.std.specs.Prelude.{◌≡◌, ◌<◌, ℕ, List, [], ◌∷◌, ◌++◌, map, length, Bool, true, false, Option}
 use Rattle.std.specs.Io.KnownBytes.{Appends, Consumes, IsAtEnd}
 use Rattle.tac_conn.specs.declared.ask.Answer.{Answer}
 use Rattle.tac_conn.specs.declared.ask.Ask.{Ask}
@@ -12,8 +12,8 @@ use Rattle.tac_hall.specs.declared.fault.HallFault.TheVariants as refusals
 use Rattle.tac_worker.specs.declared.worked.End.{End}
 use Rattle.tac_worker.specs.declared.worked.End.TheVariants.{Finished, ByProtocol, Stopped, LogFull}
 use Rattle.tac_worker.specs.declared.worked.End.TheVariants.{Memory, ReadFault, WriteFault}
-use Rattle.tac_worker.specs.declared.worked.End.TheVariants.{NoSeat}
-use Rattle.tac_hall.specs.Seat.{Sitting}
+use Rattle.tac_worker.specs.declared.worked.End.TheVariants.{Held, NoSeat}
+use Rattle.tac_hall.specs.Seat.{Sitting, IsRefused}
 use Rattle.tac_worker.specs.Served.{Sending, served, asks, closes, bytes_sent, carried}
 
 -- ---- its calls
@@ -98,15 +98,23 @@ end_by refusals.Memory = Memory
 end_by refusals.Closed = Stopped
 end_by refusals.NoSeat = NoSeat
 
--- the asks that are left without a call: none, where nothing kept it from calling; some, where its
--- next call wasn't made
-abbrev pub Leaves : End → List Ask → Type 0
-Leaves Finished left = left ≡ []
-Leaves ByProtocol left = left ≡ []
-Leaves ReadFault left = left ≡ []
-Leaves Memory left = Unit {0}
-Leaves WriteFault left = Unit {0}
-Leaves end left = 0 < length left
+-- the first of these asks was refused so, as a call of this seat
+abbrev pub IsFirstRefused : HallFault → Sitting → List Ask → Type 0
+IsFirstRefused fault seat [] = ⊥
+IsFirstRefused fault seat (ask ∷ left) = IsRefused seat (calls.Ask ask) fault
+
+-- the asks that are left without a call by this seat: none, where nothing kept it from calling;
+-- some, where its next call wasn't made, because the gate held it or the hall refused it so
+abbrev pub Leaves : End → Sitting → List Ask → Type 0
+Leaves Finished seat left = left ≡ []
+Leaves ByProtocol seat left = left ≡ []
+Leaves ReadFault seat left = left ≡ []
+Leaves Memory seat left = Unit {0}
+Leaves WriteFault seat left = Unit {0}
+Leaves Held seat left = 0 < length left
+Leaves Stopped seat left = IsFirstRefused refusals.Closed seat left
+Leaves LogFull seat left = IsFirstRefused refusals.LogFull seat left
+Leaves NoSeat seat left = IsFirstRefused refusals.NoSeat seat left
 
 -- whether what was read closes the connection
 abbrev pub Closes : End → Bool → Type 0
@@ -122,7 +130,7 @@ pub record Ends (end : End) (key : List ℕ) (asked : List Ask) (sent_by : List 
   pub makes : Makes was now made
   pub left : List Ask
   pub asks : asked ≡ asks_of made ++ left
-  pub leaves : Leaves end left
+  pub leaves : Leaves end now.seat left
   pub writes : Writes end key (sent_by (answers_of made)) (answers_of made) old new
 
 -- a connection was served, on which these bytes were read; it ended so

@@ -7,13 +7,18 @@ use Rattle.tac_wire.specs.Stream.{cut}
 use Rattle.tac_conn.specs.Packet.{clear}
 use Rattle.tac_conn.specs.History.{is_closed}
 use Rattle.tac_conn.specs.declared.ask.Answer.{Answer}
+use Rattle.tac_conn.specs.declared.ask.Ask.{Ask}
 use Rattle.tac_conn.specs.declared.packet.Packet.{Packet}
 use Rattle.tac_stream.specs.declared.stream.Stream.{Stream}
 use Rattle.tac_stream.specs.Turns.{packets_of, closed_by}
 use Rattle.tac_stream.specs.Kept.{IsReady, Stands, closed_of, pending_of}
+use Rattle.tac_hall.specs.Seat.{Sitting, IsRefused}
+use Rattle.tac_hall.specs.declared.call.Call.TheVariants as calls
+use Rattle.tac_hall.specs.declared.fault.HallFault.TheVariants as refusals
 use Rattle.tac_worker.specs.declared.worked.End.{End}
-use Rattle.tac_worker.specs.declared.worked.End.TheVariants.{Finished, ByProtocol, Memory}
-use Rattle.tac_worker.specs.declared.worked.End.TheVariants.{ReadFault, WriteFault}
+use Rattle.tac_worker.specs.declared.worked.End.TheVariants.{Finished, ByProtocol, Stopped, LogFull}
+use Rattle.tac_worker.specs.declared.worked.End.TheVariants.{Memory, ReadFault, WriteFault, Held}
+use Rattle.tac_worker.specs.declared.worked.End.TheVariants.{NoSeat}
 use Rattle.tac_worker.specs.declared.turning.Went.{Went}
 use Rattle.tac_worker.specs.declared.turning.Went.TheVariants.{On, Rests}
 use Rattle.tac_worker.specs.Served.{Sending, served_to, asks_in, closes}
@@ -44,13 +49,18 @@ pub record GoesOn (key : List ℕ) (earlier : List Packet) (frames : List Frame)
 
 -- ---- a reply
 
--- a call isn't made at these ends
-abbrev pub IsUncalled : End → Type 0
-IsUncalled Finished = ⊥
-IsUncalled ByProtocol = ⊥
-IsUncalled ReadFault = ⊥
-IsUncalled WriteFault = ⊥
-IsUncalled end = Unit {0}
+-- at these ends a call of this ask by this seat wasn't made: the gate held it, memory ran out, or
+-- the hall refused it so
+abbrev pub IsUncalled : Sitting → Ask → End → Type 0
+IsUncalled seat ask Finished = ⊥
+IsUncalled seat ask ByProtocol = ⊥
+IsUncalled seat ask ReadFault = ⊥
+IsUncalled seat ask WriteFault = ⊥
+IsUncalled seat ask Memory = Unit {0}
+IsUncalled seat ask Held = Unit {0}
+IsUncalled seat ask Stopped = IsRefused seat (calls.Ask ask) refusals.Closed
+IsUncalled seat ask LogFull = IsRefused seat (calls.Ask ask) refusals.LogFull
+IsUncalled seat ask NoSeat = IsRefused seat (calls.Ask ask) refusals.NoSeat
 
 -- a packet was written, after which the connection closes or not
 abbrev pub Replies : Result Went End → List ℕ → Bool → Option (List ℕ) → Option (List ℕ) → Type 0

@@ -69,7 +69,7 @@ impl Caller {
         ensures makes { IfOk result (λ answer. (segment place : ℕ) × Makes self.old self.new
             (record { ask = ask; segment = segment; place = place; answer = answer } ∷ [])) }
         ensures kind { IfOk result (λ answer. kind_of_answer answer ≡ kind_of_ask ask) }
-        ensures uncalled { IfErr result IsUncalled }
+        ensures uncalled { IfErr result (IsUncalled self.old.seat ask) }
         ensures err { OnErr result (self.new ≡ self.old) }
     {
         if !lets_call(gate, self.seat.number()) {
