@@ -3,6 +3,7 @@ use Rattle.std.specs.Prelude.{◌≡◌, ◌≤◌, ℕ, suc, List, [], ◌∷�
 use Rattle.std.specs.Prelude.{Some, Result, Ok, Err}
 use Rattle.tac_hall.specs.declared.entry.Entry.{Entry}
 use Rattle.tac_hall.specs.declared.fault.HallFault.{HallFault}
+use Rattle.tac_hall.specs.declared.fault.HallFault.TheVariants.{LogFull, Memory, Closed, NoSeat}
 use Rattle.tac_hall.specs.Room.{Contents, IsLawful, Rotates}
 use Rattle.tac_hall.specs.Segment.{Stretch}
 use Rattle.tac_chain.specs.declared.chain.Rotated.{Rotated}
@@ -34,7 +35,24 @@ AreOf logs least [] = Unit {0}
 AreOf logs least (rotated ∷ later) =
     (least ≤ rotated.number) × IsOf logs rotated × AreOf logs (suc rotated.number) later
 
--- else the chain stays as it is
+-- some room refused a rotation so
+pub record IsUntaken (fault : HallFault) : Type 0 where
+  pub was : Contents
+  pub then : Contents
+  pub lawful : IsLawful was
+  pub refuses : Rotates was (Err fault) then
+
+-- why nothing was kept: the hall refused the rotation so; or what it took out doesn't follow the
+-- chain, which is told as NoSeat; or memory ran out, in the hall or for the place in the chain
+abbrev pub IsUnkept : Chained → HallFault → Type 0
+IsUnkept was LogFull = IsUntaken LogFull
+IsUnkept was Closed = IsUntaken Closed
+IsUnkept was Memory = Unit {0}
+IsUnkept was NoSeat =
+    (segment : Stretch) × IsTaken segment
+    × (IsFollowedBy was segment.number segment.base → ⊥)
+
+-- then the chain stays as it is
 abbrev pub Keeps : Chained → Result Rotated HallFault → Chained → Type 0
 Keeps was (Ok rotated) now = IsKept was rotated now
-Keeps was (Err fault) now = now ≡ was
+Keeps was (Err fault) now = (now ≡ was) × IsUnkept was fault
