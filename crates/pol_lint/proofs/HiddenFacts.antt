@@ -33,7 +33,7 @@ by_alike version policy others a b alike present number line (Opens kind) rest =
 by_alike version policy others a b alike present number line Secret rest = refl
 by_alike version policy others a b alike present number line Level rest = refl
 by_alike version policy others a b alike present number line Rule rest =
-    ap (λ (finding : Option Finding). pattern_habits version number line rest ++ noted number (length line + 1) (wanted.end_finding others rest) ++ noted number (column_of line rest) finding) (shadow_alike a b alike present)
+    ap (λ (finding : Option Finding). pattern_habits version number line rest ++ noted number (length line + 1) (wanted.end_finding version others rest) ++ noted number (column_of line rest) finding) (shadow_alike a b alike present)
 by_alike version policy others a b alike present number line Nothing rest = refl
 
 pub lines_alike : (version : Version) (policy : List Subject) (others : Bool) (a b : List Present) → ((rule : Present) → list_any (same_rule rule) a ≡ list_any (same_rule rule) b)

@@ -2,12 +2,16 @@
 -- spaces that nobody sees.
 use Rattle.std.specs.Prelude.{ℕ, List, [], ◌∷◌, ◌++◌, ◌==◌, length, codes, nat_le, Bool}
 use Rattle.std.specs.Prelude.{false, not, ◌&&◌, ◌||◌, Option, Some, None, if◌then◌else◌}
+use Rattle.std.specs.Option.{option_or}
 use Rattle.pol_pattern.specs.declared.version.Version.{Version}
 use Rattle.pol_pattern.specs.declared.version.Version.TheVariants.{One, Two}
 use Rattle.pol_lint.specs.Words.{column_of, noted, begins, ends}
+use Rattle.pol_lint.specs.Places.{place_after}
+use Rattle.pol_lint.specs.declared.place.Place.{Place}
+use Rattle.pol_lint.specs.declared.place.Place.TheVariants.{Outside, Class}
 use Rattle.pol_lint.specs.declared.finding.Finding.{Finding}
 use Rattle.pol_lint.specs.declared.finding.Finding.TheVariants.{Caret, Dollar, Digit, WordByte}
-use Rattle.pol_lint.specs.declared.finding.Finding.TheVariants.{Space, NamedClass, Count}
+use Rattle.pol_lint.specs.declared.finding.Finding.TheVariants.{Space, NamedClass, Count, Comment}
 use Rattle.pol_lint.specs.declared.finding.Finding.TheVariants.{BlankBefore, BlankAfter}
 use Rattle.pol_lint.specs.declared.remark.Remark.{Remark}
 
@@ -31,22 +35,32 @@ abbrev pub count_habit : Version → List ℕ → Option Finding
 count_habit One rest = if is_count rest then Some Count else None
 count_habit Two rest = None
 
--- `\d`, `\w`, `\s`, `[[:alpha:]]` and `{1,3}`, where a pattern has one from here on
-abbrev pub habit_of : Version → List ℕ → Option Finding
-habit_of version rest =
+-- `\d`, `\w` and `\s`, where a pattern has one from here on
+abbrev pub letter_habit : List ℕ → Option Finding
+letter_habit rest =
     if begins rest (codes "\\d") then Some Digit
     else if begins rest (codes "\\w") then Some WordByte
-    else if begins rest (codes "\\s") then Some Space
-    else if begins rest (codes "[[:") then Some NamedClass
+    else if begins rest (codes "\\s") then Some Space else None
+
+-- `[[:alpha:]]`, ` # ` and `{1,3}`
+abbrev pub outer_habit : Version → List ℕ → Option Finding
+outer_habit version rest =
+    if begins rest (codes "[[:") then Some NamedClass
+    else if begins rest (codes " # ") then Some Comment
     else count_habit version rest
 
--- such habits in this end of a line; a symbol after a `\` is no beginning of one
-abbrev pub habits_within : Version → ℕ → List ℕ → Bool → List ℕ → List Remark
-habits_within version number line escaped [] = []
-habits_within version number line escaped (byte ∷ rest) =
-    noted number (column_of line (byte ∷ rest))
-    (if escaped then None else habit_of version (byte ∷ rest))
-    ++ habits_within version number line (not escaped && byte == 92) rest
+-- those that may begin at this place: a symbol after a `\` is no beginning of one
+abbrev pub habit_of : Version → Place → List ℕ → Option Finding
+habit_of version Outside rest = option_or (letter_habit rest) (outer_habit version rest)
+habit_of version Class rest = letter_habit rest
+habit_of version _ rest = None
+
+-- such habits in this end of a line
+abbrev pub habits_within : Version → ℕ → List ℕ → Place → List ℕ → List Remark
+habits_within version number line place [] = []
+habits_within version number line place (byte ∷ rest) =
+    noted number (column_of line (byte ∷ rest)) (habit_of version place (byte ∷ rest))
+    ++ habits_within version number line (place_after version place byte) rest
 
 -- a secret or a pattern that begins with a space, or ends with one
 abbrev pub blank_before : List ℕ → Option Finding
@@ -59,17 +73,24 @@ blank_after text = if ends text (codes " ") then Some BlankAfter else None
 abbrev pub first_habit : List ℕ → Option Finding
 first_habit pattern = if begins pattern (codes "^") then Some Caret else blank_before pattern
 
--- `$` at its end, unless a `\` says that it is meant
+-- whether the last symbol stands after a `\` that says that it is meant; `\\` means a `\` itself
+abbrev pub ends_quoted : Bool → List ℕ → Bool
+ends_quoted quoted [] = false
+ends_quoted quoted (byte ∷ []) = quoted
+ends_quoted quoted (byte ∷ next ∷ rest) =
+    ends_quoted (not quoted && byte == 92) (next ∷ rest)
+
+-- `$` at its end, or a space, unless a `\` says that it is meant
 abbrev pub last_habit : List ℕ → Option Finding
 last_habit pattern =
-    if ends pattern (codes "$") && not (ends pattern (codes "\\$")) then Some Dollar
-    else blank_after pattern
+    if ends_quoted false pattern then None
+    else if ends pattern (codes "$") then Some Dollar else blank_after pattern
 
 -- all habits of the pattern, or the secret, at the end of a line
 abbrev pub pattern_habits : Version → ℕ → List ℕ → List ℕ → List Remark
 pattern_habits version number line pattern =
     noted number (column_of line pattern) (first_habit pattern)
-    ++ habits_within version number line false pattern
+    ++ habits_within version number line Outside pattern
     ++ noted number (length line) (last_habit pattern)
 
 abbrev pub secret_habits : ℕ → List ℕ → List ℕ → List Remark

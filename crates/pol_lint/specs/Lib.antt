@@ -2,7 +2,9 @@ pub mod FindingText
 pub mod Words
 pub mod Near
 pub mod Reasons
+pub mod Places
 pub mod Habits
+pub mod Endings
 pub mod Remarks
 pub mod Faults
 pub mod Chains

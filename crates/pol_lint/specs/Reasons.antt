@@ -2,7 +2,7 @@
 -- reasons the first of this order is told: it is another program's; no line begins with its first
 -- word; nothing follows that word; it is a secret, which stands under a group; it ends with a space;
 -- it has two spaces in a row; its fields are wrong.
-use Rattle.std.specs.Prelude.{ℕ, List, [], ◌∷◌, ◌++◌, ◌==◌, length, codes, Bool, not, is_some}
+use Rattle.std.specs.Prelude.{ℕ, List, [], ◌∷◌, ◌++◌, ◌==◌, length, codes, Bool, is_some}
 use Rattle.std.specs.Prelude.{◌&&◌, ◌||◌, Option, Some, None, if◌then◌else◌}
 use Rattle.std.specs.Str.{bytes_eq}
 use Rattle.basics.specs.Lines.{split_at_first, without_leading_spaces}

@@ -1,11 +1,10 @@
 -- What is right in a policy and probably not meant (docs/REVIEW.md).
-use Rattle.std.specs.Prelude.{ℕ, ◌+◌, ◌-◌, ◌^◌, List, [], ◌∷◌, ◌++◌, ◌==◌, length, codes, nat_eq}
+use Rattle.std.specs.Prelude.{ℕ, ◌+◌, ◌-◌, ◌^◌, List, [], ◌∷◌, ◌++◌, ◌==◌, length, nat_eq}
 use Rattle.std.specs.Prelude.{min, Bool, true}
-use Rattle.std.specs.Prelude.{not, is_some, ◌&&◌, ◌||◌, Option, Some, None, option_map}
+use Rattle.std.specs.Prelude.{not, is_some, ◌&&◌, Option, Some, None, option_map}
 use Rattle.std.specs.Prelude.{if◌then◌else◌}
 use Rattle.std.specs.Option.{option_map_or}
 use Rattle.std.specs.List.{list_any, flat_map}
-use Rattle.std.specs.Str.{bytes_eq}
 use Rattle.basics.specs.Lines.{lines_of}
 use Rattle.pol_names.specs.Name.{name_of}
 use Rattle.pol_names.specs.SubjectId.{same_id}
@@ -13,13 +12,15 @@ use Rattle.pol_names.specs.declared.subject_id.Kind.{Kind}
 use Rattle.pol_names.specs.declared.subject_id.Kind.TheVariants.{Group, User}
 use Rattle.pol_names.specs.declared.subject_id.SubjectId.{SubjectId}
 use Rattle.pol_pattern.specs.declared.version.Version.{Version}
+use Rattle.pol_pattern.specs.declared.version.Version.TheVariants.{Two}
 use Rattle.pol_text.specs.declared.subject.Subject.{Subject}
 use Rattle.pol_text.specs.Policy.{find_subject}
 use Rattle.pol_text.specs.Text.{body_of}
 use Rattle.pol_text.specs.Change.{is_parent}
 use Rattle.pol_meaning.specs.declared.Shadowed.{Shadowed}
-use Rattle.pol_lint.specs.Words.{column_of, noted, ends, words_of, words_in, keyword_of}
-use Rattle.pol_lint.specs.Habits.{last_habit, pattern_habits, secret_habits}
+use Rattle.pol_lint.specs.Words.{column_of, noted, words_of, words_in, keyword_of}
+use Rattle.pol_lint.specs.Habits.{pattern_habits, secret_habits}
+use Rattle.pol_lint.specs.Endings.{names_end, lacks_end}
 use Rattle.pol_lint.specs.declared.words.Keyword.{Keyword}
 use Rattle.pol_lint.specs.declared.words.Keyword.TheVariants.{Opens, Secret, Rule}
 use Rattle.pol_lint.specs.declared.finding.Finding.{Finding}
@@ -29,41 +30,20 @@ use Rattle.pol_lint.specs.declared.finding.Finding.TheVariants as findings
 use Rattle.pol_lint.specs.declared.remark.Remark.{Remark}
 use Rattle.pol_lint.specs.declared.remarks.Present.{Present}
 
--- ---- the word `<cr>` that ends a line
+-- ---- the whole policy
 
--- the pattern ends in ` <cr>`, which may stand in parentheses
-abbrev pub names_end : List ℕ → Bool
-names_end pattern =
-    ends pattern (codes " <cr>") || ends pattern (codes " <cr>)") || ends pattern (codes " <cr>)?")
-
--- the pattern ends in `.*` or `.+`, which may stand in parentheses: so it fits ` <cr>` too
-abbrev pub leaves_end_open : List ℕ → Bool
-leaves_end_open pattern =
-    ends pattern (codes ".*") || ends pattern (codes ".*)") || ends pattern (codes ".*)?")
-    || ends pattern (codes ".+") || ends pattern (codes ".+)") || ends pattern (codes ".+)?")
-
--- the pattern of a shell, whose line is empty
-abbrev pub is_shell : List ℕ → Bool
-is_shell pattern = bytes_eq pattern [] || bytes_eq pattern (codes "()")
-
--- the pattern fits no line with ` <cr>`, and nothing else is asked of its end
-abbrev pub lacks_end : List ℕ → Bool
-lacks_end pattern =
-    not (names_end pattern || leaves_end_open pattern || is_shell pattern)
-    && not (is_some (last_habit pattern))
-
--- whether the pattern of any rule passes the test
+-- whether the pattern of any rule passes the test; a policy's patterns are of version 2, whatever
+-- its text is
 abbrev pub any_pattern : (List ℕ → Bool) → List Subject → Bool
 any_pattern test policy =
     list_any (λ subject. list_any (λ rule. test rule.pattern) subject.rules) policy
-
--- ---- the whole policy
 
 -- no subjects; or rules that lack ` <cr>`, and none that has it
 abbrev pub policy_finding : List Subject → Option Finding
 policy_finding policy =
     if length policy == 0 then Some NoSubjects
-    else if not (any_pattern names_end policy) && any_pattern lacks_end policy then Some NoEnds
+    else if not (any_pattern (names_end Two) policy) && any_pattern (lacks_end Two) policy
+    then Some NoEnds
     else None
 
 -- ---- lines
@@ -119,8 +99,9 @@ shadow_finding hidden None = None
 shadow_finding hidden (Some present) =
     if list_any (same_rule present) hidden then Some findings.Shadowed else None
 
-abbrev pub end_finding : Bool → List ℕ → Option Finding
-end_finding others pattern = if others && lacks_end pattern then Some NoEnd else None
+abbrev pub end_finding : Version → Bool → List ℕ → Option Finding
+end_finding version others pattern =
+    if others && lacks_end version pattern then Some NoEnd else None
 
 -- of a rule: its pattern's habits, whether it lacks ` <cr>` where others have it, and whether it
 -- decides nothing
@@ -128,7 +109,7 @@ abbrev pub rule_remarks : Version → Bool → List Present → Option Present �
     → List Remark
 rule_remarks version others hidden present number line pattern =
     pattern_habits version number line pattern
-    ++ noted number (length line + 1) (end_finding others pattern)
+    ++ noted number (length line + 1) (end_finding version others pattern)
     ++ noted number (column_of line pattern) (shadow_finding hidden present)
 
 -- of a line whose first word says this, and what comes after it
@@ -165,8 +146,8 @@ lines_remarks version policy others hidden present number (line ∷ lines) =
 abbrev pub remarks_with : List ℕ → List Subject → List Present → List Remark
 remarks_with text policy hidden =
     noted 1 1 (policy_finding policy)
-    ++ lines_remarks (body_of (lines_of text)).version policy (any_pattern names_end policy) hidden
-    None 1 (lines_of text)
+    ++ lines_remarks (body_of (lines_of text)).version policy (any_pattern (names_end Two) policy)
+    hidden None 1 (lines_of text)
 
 -- what is told of a policy, of whose rules these decide nothing
 abbrev pub policy_remarks : List ℕ → List Subject → List Shadowed → List Remark

@@ -2,8 +2,10 @@
 
 ghost use Rattle.std.specs.Prelude.{◌≡◌, ◌++◌, false, OnOk};
 ghost use Rattle.pol_lint.specs.Habits as habits;
+ghost use Rattle.pol_lint.specs.declared.place.Place.TheVariants.{Outside};
 
 use crate::finding::Finding;
+use crate::place::Place;
 use crate::remark::{Remark, column_of, note};
 use basics::Sequence;
 use pol_pattern::Version;
@@ -45,9 +47,9 @@ fn count_habit(version: Version, rest: &[u8]) -> Option<Finding>
     }
 }
 
-// What a pattern has from here on that stands for something else in other languages.
-fn habit(version: Version, rest: &[u8]) -> Option<Finding>
-    ensures { result ≡ habits.habit_of version rest.now }
+// `\d`, `\w` and `\s`, where a pattern has one from here on.
+fn letter_habit(rest: &[u8]) -> Option<Finding>
+    ensures { result ≡ habits.letter_habit rest.now }
 {
     if rest.starts_with(b"\\d") {
         return Some(Finding::Digit);
@@ -58,10 +60,34 @@ fn habit(version: Version, rest: &[u8]) -> Option<Finding>
     if rest.starts_with(b"\\s") {
         return Some(Finding::Space);
     }
+    None
+}
+
+// `[[:alpha:]]`, ` # ` and `{1,3}`.
+fn outer_habit(version: Version, rest: &[u8]) -> Option<Finding>
+    ensures { result ≡ habits.outer_habit version rest.now }
+{
     if rest.starts_with(b"[[:") {
         return Some(Finding::NamedClass);
     }
+    if rest.starts_with(b" # ") {
+        return Some(Finding::Comment);
+    }
     count_habit(version, rest)
+}
+
+// What a pattern has from this place on that stands for something else in other languages.
+fn habit(version: Version, place: Place, rest: &[u8]) -> Option<Finding>
+    ensures { result ≡ habits.habit_of version place rest.now }
+{
+    match place {
+        Place::Outside => match letter_habit(rest) {
+            Some(finding) => Some(finding),
+            None => outer_habit(version, rest),
+        },
+        Place::Class => letter_habit(rest),
+        Place::Quoted | Place::QuotedInClass | Place::Count => None,
+    }
 }
 
 // Adds the habits within the pattern at the end of a line.
@@ -73,14 +99,14 @@ fn note_within(
     pattern: &[u8],
 ) -> Result<(), AllocError>
     ensures { OnOk result (remarks.new
-        ≡ remarks.old ++ habits.habits_within version number line.now false pattern.now) }
+        ≡ remarks.old ++ habits.habits_within version number line.now Outside pattern.now) }
 {
-    let mut escaped = false;
+    let mut place = Place::Outside;
     let mut rest = pattern;
     'symbols: while let [byte, after @ ..] = rest {
-        let finding = if escaped { None } else { habit(version, rest) };
+        let finding = habit(version, place, rest);
         note(remarks, number, column_of(line, rest), finding)?;
-        escaped = !escaped && *byte == b'\\';
+        place = place.after(version, *byte);
         rest = after;
     }
     Ok(())
@@ -115,11 +141,30 @@ fn first_habit(pattern: &[u8]) -> Option<Finding>
     blank_before(pattern)
 }
 
+// Whether the last symbol stands after a `\` that says that it is meant.
+fn ends_quoted(pattern: &[u8]) -> bool
+    ensures { result ≡ habits.ends_quoted false pattern.now }
+{
+    let mut quoted = false;
+    let mut rest = pattern;
+    while let [byte, after @ ..] = rest {
+        if after.is_empty() {
+            return quoted;
+        }
+        quoted = !quoted && *byte == b'\\';
+        rest = after;
+    }
+    false
+}
+
 /// `$` at a pattern's end, or a space.
 pub(crate) fn last_habit(pattern: &[u8]) -> Option<Finding>
     ensures { result ≡ habits.last_habit pattern.now }
 {
-    if pattern.ends_with(b"$") && !pattern.ends_with(b"\\$") {
+    if ends_quoted(pattern) {
+        return None;
+    }
+    if pattern.ends_with(b"$") {
         return Some(Finding::Dollar);
     }
     blank_after(pattern)

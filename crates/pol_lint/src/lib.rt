@@ -2,11 +2,13 @@
 #![tactic(auto)]
 
 mod chains;
+mod ending;
 mod faults;
 mod finding;
 mod habits;
 mod hidden;
 mod near;
+mod place;
 mod reason;
 mod remark;
 mod remarks;

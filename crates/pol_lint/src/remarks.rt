@@ -3,9 +3,12 @@
 ghost use Rattle.std.specs.Prelude.{◌≡◌, ◌++◌, IfOk, OnOk};
 ghost use Rattle.std.specs.List.{list_any};
 ghost use Rattle.pol_lint.specs.Remarks as wanted;
+ghost use Rattle.pol_lint.specs.Endings as endings;
+ghost use Rattle.pol_pattern.specs.declared.version.Version.TheVariants.{Two};
 
+use crate::ending::{lacks_end, names_end};
 use crate::finding::Finding;
-use crate::habits::{last_habit, note_pattern, note_secret};
+use crate::habits::{note_pattern, note_secret};
 use crate::hidden::hidden_of;
 use crate::remark::{Remark, column_of, note};
 use crate::words::{Keyword, keyword_of, words_in, words_of};
@@ -36,68 +39,62 @@ struct Known<'a> {
     hidden: &'a IndexSet<Present>,
 }
 
-fn names_end(pattern: &[u8]) -> bool
-    ensures { result ≡ wanted.names_end pattern.now }
-{
-    pattern.ends_with(b" <cr>") || pattern.ends_with(b" <cr>)") || pattern.ends_with(b" <cr>)?")
-}
-
-fn leaves_end_open(pattern: &[u8]) -> bool
-    ensures { result ≡ wanted.leaves_end_open pattern.now }
-{
-    pattern.ends_with(b".*")
-        || pattern.ends_with(b".*)")
-        || pattern.ends_with(b".*)?")
-        || pattern.ends_with(b".+")
-        || pattern.ends_with(b".+)")
-        || pattern.ends_with(b".+)?")
-}
-
-fn lacks_end(pattern: &[u8]) -> bool
-    ensures { result ≡ wanted.lacks_end pattern.now }
-{
-    let is_shell = pattern == b"".as_slice() || pattern == b"()".as_slice();
-    !(names_end(pattern) || leaves_end_open(pattern) || is_shell) && !last_habit(pattern).is_some()
-}
-
 fn has_end(subject: &Subject) -> bool
-    ensures { result ≡ list_any (λ rule. wanted.names_end rule.pattern) subject.now.rules }
+    ensures { result ≡ list_any (λ rule. endings.names_end Two rule.pattern) subject.now.rules }
 {
     let rules = subject.rules.as_slice();
-    rules.iter().any(|rule| names_end(rule.pattern.source()))
+    rules
+        .iter()
+        .any(|rule| names_end(Version::Two, rule.pattern.source()))
 }
 
-fn has_no_end(subject: &Subject) -> bool
-    ensures { result ≡ list_any (λ rule. wanted.lacks_end rule.pattern) subject.now.rules }
+fn has_no_end(alloc: Global, subject: &Subject) -> Result<bool, AllocError>
+    ensures { IfOk result (λ lacks.
+        lacks ≡ list_any (λ rule. endings.lacks_end Two rule.pattern) subject.now.rules) }
 {
     let rules = subject.rules.as_slice();
-    rules.iter().any(|rule| lacks_end(rule.pattern.source()))
+    'rules: for rule in rules {
+        if lacks_end(alloc, Version::Two, rule.pattern.source())? {
+            return Ok(true);
+        }
+    }
+    Ok(false)
 }
 
 // Whether a rule ends in ` <cr>`.
 fn has_ends(policy: &Policy) -> bool
-    ensures { result ≡ wanted.any_pattern wanted.names_end policy.now }
+    ensures { result ≡ wanted.any_pattern (endings.names_end Two) policy.now }
 {
     policy.subjects().iter().any(|subject| has_end(subject))
 }
 
 // Whether a rule lacks it.
-fn has_lack(policy: &Policy) -> bool
-    ensures { result ≡ wanted.any_pattern wanted.lacks_end policy.now }
+fn has_lack(alloc: Global, policy: &Policy) -> Result<bool, AllocError>
+    ensures { IfOk result (λ lacks.
+        lacks ≡ wanted.any_pattern (endings.lacks_end Two) policy.now) }
 {
-    policy.subjects().iter().any(|subject| has_no_end(subject))
+    let subjects = policy.subjects();
+    'subjects: for subject in subjects {
+        if has_no_end(alloc, subject)? {
+            return Ok(true);
+        }
+    }
+    Ok(false)
 }
 
-fn policy_finding(policy: &Policy) -> Option<Finding>
-    ensures { result ≡ wanted.policy_finding policy.now }
+fn policy_finding(alloc: Global, policy: &Policy) -> Result<Option<Finding>, AllocError>
+    ensures { IfOk result (λ finding. finding ≡ wanted.policy_finding policy.now) }
 {
     if policy.len() == 0 {
-        return Some(Finding::NoSubjects);
+        return Ok(Some(Finding::NoSubjects));
     }
-    if !has_ends(policy) && has_lack(policy) {
-        return Some(Finding::NoEnds);
+    if has_ends(policy) {
+        return Ok(None);
     }
-    None
+    if has_lack(alloc, policy)? {
+        return Ok(Some(Finding::NoEnds));
+    }
+    Ok(None)
 }
 
 // The subject that a line begins.
@@ -170,18 +167,26 @@ fn shadow_finding(hidden: &IndexSet<Present>, present: Option<Present>) -> Optio
     }
 }
 
-fn end_finding(others: bool, pattern: &[u8]) -> Option<Finding>
-    ensures { result ≡ wanted.end_finding others pattern.now }
+fn end_finding(
+    alloc: Global,
+    version: Version,
+    others: bool,
+    pattern: &[u8],
+) -> Result<Option<Finding>, AllocError>
+    ensures { IfOk result (λ finding. finding ≡ wanted.end_finding version others pattern.now) }
 {
-    if others && lacks_end(pattern) {
-        Some(Finding::NoEnd)
-    } else {
-        None
+    if !others {
+        return Ok(None);
     }
+    if lacks_end(alloc, version, pattern)? {
+        return Ok(Some(Finding::NoEnd));
+    }
+    Ok(None)
 }
 
 // Adds what is told of a rule.
 fn note_rule(
+    alloc: Global,
     remarks: &mut Sequence<Remark>,
     known: &Known<'_>,
     present: Option<Present>,
@@ -194,12 +199,8 @@ fn note_rule(
         present number line.now pattern.now) }
 {
     note_pattern(remarks, known.version, number, line, pattern)?;
-    note(
-        remarks,
-        number,
-        line.len() + 1,
-        end_finding(known.others, pattern),
-    )?;
+    let finding = end_finding(alloc, known.version, known.others, pattern)?;
+    note(remarks, number, line.len() + 1, finding)?;
     note(
         remarks,
         number,
@@ -218,6 +219,7 @@ fn after_line(present: &Option<Present>, line: &[u8]) -> Option<Present>
 
 // Adds what is told of a line, after which this subject is the present one.
 fn note_line(
+    alloc: Global,
     remarks: &mut Sequence<Remark>,
     known: &Known<'_>,
     present: &Option<Present>,
@@ -235,7 +237,7 @@ fn note_line(
             note(remarks, number, column_of(line, rest), finding)
         }
         Keyword::Secret => note_secret(remarks, number, line, rest),
-        Keyword::Rule => note_rule(remarks, known, *present, number, line, rest),
+        Keyword::Rule => note_rule(alloc, remarks, known, *present, number, line, rest),
         Keyword::Level | Keyword::Nothing => Ok(()),
     }
 }
@@ -259,12 +261,13 @@ fn told_of<'a>(
         hidden,
     };
     let mut remarks = Sequence::new(alloc);
-    note(&mut remarks, 1, 1, policy_finding(policy))?;
+    let finding = policy_finding(alloc, policy)?;
+    note(&mut remarks, 1, 1, finding)?;
     let mut present = None;
     let mut lines = Lines::new(text);
     'lines: while let Some((number, line)) = lines.take_line() {
         present = after_line(&present, line);
-        note_line(&mut remarks, &known, &present, number, line)?;
+        note_line(alloc, &mut remarks, &known, &present, number, line)?;
     }
     Ok(remarks)
 }

@@ -135,6 +135,48 @@ fn ends_of_lines(rt: HostRuntime) -> Result<(), Fail> {
     )
 }
 
+// What is asked of a quoted `\\`, of dots, of few repeats, of a comment, and in a class.
+#[test]
+fn asked(rt: HostRuntime) -> Result<(), Fail> {
+    tells(
+        &rt,
+        "policy 2
+user bob
+login x
+permit exit <cr>
+permit dir c:\\\\$
+permit show \\.*
+permit show[^x]{0,3}
+permit show # all <cr>
+permit vlan [\\d] <cr>
+",
+        "line 5 column 16: '$' is a symbol here, and a pattern fits whole lines: is it meant?
+line 6 column 16: other rules end in ' <cr>': is it meant that this one doesn't?
+line 7 column 21: other rules end in ' <cr>': is it meant that this one doesn't?
+line 8 column 12: '#' is a symbol here, and begins no comment after a rule: is it meant?
+line 9 column 14: '\\d' is the letter d here: is a digit meant, as '[0-9]'?
+",
+    )
+}
+
+// What fits ` <cr>` isn't asked for it, and a class isn't asked about counts and comments.
+#[test]
+fn not_asked(rt: HostRuntime) -> Result<(), Fail> {
+    is_quiet(
+        &rt,
+        "policy 2
+user bob
+login x
+permit exit <cr>
+permit show( <cr>){0,1}
+permit dir[^x]{0,30}
+permit (ping|vlan [ # ]x .+)?
+permit a \\# b <cr>
+",
+    )?;
+    is_quiet(&rt, "user bob\nlogin x\npermit vlan [{1}] <cr>\n")
+}
+
 #[test]
 fn subjects(rt: HostRuntime) -> Result<(), Fail> {
     let empty = "line 1 column 1: the policy is empty, and so permits nothing: is that meant?\n";

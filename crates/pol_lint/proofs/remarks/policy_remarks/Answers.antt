@@ -2,7 +2,9 @@ use Rattle.std.proofs.Common.{◌++◌, List, ap, ◌∙◌, None}
 use Rattle.basics.specs.Lines.{lines_of}
 use Rattle.pol_text.specs.Text.{body_of}
 use Rattle.pol_lint.specs.Words.{noted}
+use Rattle.pol_lint.specs.Endings.{names_end}
 use Rattle.pol_lint.specs.Remarks as wanted
+use Rattle.pol_pattern.specs.declared.version.Version.TheVariants.{Two}
 use Rattle.pol_lint.specs.declared.remark.Remark.{Remark}
 use Rattle.pol_lint.proofs.HiddenFacts.{ok_so, lines_alike}
 use Rattle.pol_lint.proofs.remarks.policy_remarks.Goals as goal
@@ -10,7 +12,7 @@ use Rattle.pol_lint.proofs.remarks.policy_remarks.Goals as goal
 pub returns : goal.returns
 returns c =
     let policy = c.args.policy.now in
-    let others = wanted.any_pattern wanted.names_end policy in
+    let others = wanted.any_pattern (names_end Two) policy in
     ok_so c.told_of.result
     (λ remarks told. told
     ∙ ap (λ (later : List Remark). noted 1 1 (wanted.policy_finding policy) ++ later)
