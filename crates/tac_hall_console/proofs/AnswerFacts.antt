@@ -11,7 +11,7 @@ use Rattle.tac_hall_console.specs.Operating.{Tells, IsUntold, Sends, LeavesBatch
 use Rattle.tac_hall_console.proofs.GoingFacts.{makes_none, text_one}
 
 -- its answer was written, or a beginning of that
-pub answers_sent : (result : Result (Unit {0}) OperatorFault) (line text : List ℕ) (was now : Console) (old new : Option (List ℕ)) → Tells (LineComesTo was.batch line) was.seat now.seat text
+pub answers_sent : (result : Result (Unit {0}) OperatorFault) (line text : List ℕ) (was now : Console) (old new : Option (List ℕ)) → Tells (LineComesTo was.batch was.seat.seat line) was.seat now.seat text
     → LeavesBatch (Ok tt) line was now → Sends result text old new → Answers result line was now old new
 answers_sent (Ok u) line text was now old new t leaves sent = (
   tt,
@@ -47,7 +47,7 @@ answers_sent (Err faults.Memory) line text was now old new t leaves sent = absur
 none_made : (was now : ConsoleSeat) → now ≡ was → Makes was now [] []
 none_made was now same = rw same (makes_none was)
 
-untold : (line : List ℕ) (was now : Console) (old : Option (List ℕ)) → IsUntold (LineComesTo was.batch line) was.seat now.seat → EndsAt (Err faults.Memory) (line ∷ []) was now old old
+untold : (line : List ℕ) (was now : Console) (old : Option (List ℕ)) → IsUntold (LineComesTo was.batch was.seat.seat line) was.seat now.seat → EndsAt (Err faults.Memory) (line ∷ []) was now old old
 untold line was now old (inl same) = record {
   answered = [];
   left = line ∷ [];
@@ -71,6 +71,6 @@ untold line was now old (inr c) = record {
 
 -- memory ran out at it
 pub answers_untold : (result : Result (Unit {0}) OperatorFault) (line : List ℕ) (was now : Console) (old : Option (List ℕ)) → IsErrAnd result (λ fault. fault ≡ faults.Memory)
-    → IsUntold (LineComesTo was.batch line) was.seat now.seat → Answers result line was now old old
+    → IsUntold (LineComesTo was.batch was.seat.seat line) was.seat now.seat → Answers result line was now old old
 answers_untold (Ok u) line was now old is u' = absurd is
 answers_untold (Err fault) line was now old is u = rw is (tt, tt, untold line was now old u)

@@ -7,13 +7,14 @@ use Rattle.std.proofs.lemmas.List.Elements.{filter_map-append}
 use Rattle.basics.specs.Lines.{split_at_first, lines_of}
 use Rattle.pol_edit.specs.declared.edit.Edit.{Edit}
 use Rattle.tac_hall.specs.declared.entry.Made.{Made}
+use Rattle.tac_hall.specs.Seat.{Sitting}
 use Rattle.tac_chain.specs.declared.chain.Rotated.{Rotated}
 use Rattle.tac_hall_console.specs.declared.answering.Console.{Console}
 use Rattle.tac_hall_console.specs.declared.answering.ConsoleSeat.{ConsoleSeat}
 use Rattle.tac_hall_console.specs.declared.fault.OperatorFault.{OperatorFault}
 use Rattle.tac_hall_console.specs.declared.fault.OperatorFault.TheVariants as faults
 use Rattle.tac_hall_console.specs.Commands.{ended_lines, is_quit, commands, quits}
-use Rattle.tac_hall_console.specs.Operated.{Outcome, batch_by, CameTo, told, entry_of, rotation_of, text_of, entries_of, rotations_of, Makes, WritesBeginning}
+use Rattle.tac_hall_console.specs.Operated.{Outcome, seat_after, batch_by, CameTo, told, entry_of, rotation_of, text_of, entries_of, rotations_of, Makes, WritesBeginning}
 use Rattle.tac_hall_console.specs.Operating.{batch_left, GoesOn, WritesTo, EndsAt, IsRead, LeavesBatch}
 use Rattle.tac_hall_console.proofs.LineFacts.{split_more, split_shorter, lines_split, ended_split, command_first, quits_later}
 
@@ -21,20 +22,32 @@ pub batch_append : (batch : Option (List Edit)) (lines later : List (List ℕ)) 
 batch_append batch [] later = refl
 batch_append batch (line ∷ lines) later = batch_append (batch_by batch line) lines later
 
-pub came_append : (batch : Option (List Edit)) (lines : List (List ℕ)) (outcomes : List Outcome) (later : List (List ℕ)) (others : List Outcome)
-    → CameTo batch lines outcomes → CameTo (batch_left batch lines) later others → CameTo batch (lines ++ later) (outcomes ++ others)
-came_append batch [] [] later others a b = b
-came_append batch [] (outcome ∷ outcomes) later others a b = absurd a
-came_append batch (line ∷ lines) [] later others a b = absurd a
-came_append batch (line ∷ lines) (outcome ∷ outcomes) later others a b = (a.0, came_append (batch_by batch line) lines outcomes later others a.1 b)
+seat_append : (seat : Sitting) (entries others : List Made) → seat_after seat (entries ++ others) ≡ seat_after (seat_after seat entries) others
+seat_append seat [] others = refl
+seat_append seat (entry ∷ entries) others = seat_append (seat_after seat (entry ∷ [])) entries others
 
--- the same, where this batch is found after the first lines
-came_after : (batch between : Option (List Edit)) (lines : List (List ℕ)) (outcomes : List Outcome) (later : List (List ℕ)) (others : List Outcome)
-    → CameTo batch lines outcomes → between ≡ batch_left batch lines → CameTo between later others → CameTo batch (lines ++ later) (outcomes ++ others)
-came_after batch between lines outcomes later others a is b = came_append batch lines outcomes later others a (rw is at b)
+-- the seat after some calls, and then others
+seat_then : (seat : Sitting) (outcomes others : List Outcome) → seat_after seat (entries_of (outcomes ++ others)) ≡ seat_after (seat_after seat (entries_of outcomes)) (entries_of others)
+seat_then seat outcomes others = ap (seat_after seat) (filter_map-append entry_of outcomes others) ∙ seat_append seat (entries_of outcomes) (entries_of others)
+
+pub came_append : (batch : Option (List Edit)) (seat : Sitting) (lines : List (List ℕ)) (outcomes : List Outcome) (later : List (List ℕ)) (others : List Outcome)
+    → CameTo batch seat lines outcomes → CameTo (batch_left batch lines) (seat_after seat (entries_of outcomes)) later others → CameTo batch seat (lines ++ later) (outcomes ++ others)
+came_append batch seat [] [] later others a b = b
+came_append batch seat [] (outcome ∷ outcomes) later others a b = absurd a
+came_append batch seat (line ∷ lines) [] later others a b = absurd a
+came_append batch seat (line ∷ lines) (outcome ∷ outcomes) later others a b = (
+  a.0,
+  came_append (batch_by batch line) (seat_after seat (entries_of (outcome ∷ []))) lines outcomes later others a.1
+      (subst (λ (s : Sitting). CameTo (batch_left batch (line ∷ lines)) s later others) (seat_then seat (outcome ∷ []) outcomes) b),
+)
+
+-- the same, where this batch and this seat are found after the first lines
+came_after : (batch between : Option (List Edit)) (seat then : Sitting) (lines : List (List ℕ)) (outcomes : List Outcome) (later : List (List ℕ)) (others : List Outcome)
+    → CameTo batch seat lines outcomes → between ≡ batch_left batch lines → then ≡ seat_after seat (entries_of outcomes) → CameTo between then later others → CameTo batch seat (lines ++ later) (outcomes ++ others)
+came_after batch between seat then lines outcomes later others a is same b = came_append batch seat lines outcomes later others a (rw (is, same) at b)
 
 pub makes_none : (was : ConsoleSeat) → Makes was was [] []
-makes_none was = record { number = refl; view = sym (append-nil was.seat.view); rotations = sym (append-nil was.rotations) }
+makes_none was = record { number = refl; view = sym (append-nil was.seat.view); seat = refl; rotations = sym (append-nil was.rotations) }
 
 -- some calls, and then others
 pub makes_then : (was mid now : ConsoleSeat) (outcomes others : List Outcome) → Makes was mid (entries_of outcomes) (rotations_of outcomes) → Makes mid now (entries_of others) (rotations_of others)
@@ -44,6 +57,7 @@ makes_then was mid now outcomes others a b = record {
   view =
       b.view ∙ ap (λ (v : List Made). v ++ entries_of others) a.view ∙ append_assoc was.seat.view (entries_of outcomes) (entries_of others)
       ∙ ap (λ (v : List Made). was.seat.view ++ v) (sym (filter_map-append entry_of outcomes others));
+  seat = b.seat ∙ ap (λ (s : Sitting). seat_after s (entries_of others)) a.seat ∙ sym (seat_then was.seat outcomes others);
   rotations =
       b.rotations ∙ ap (λ (l : List Rotated). l ++ rotations_of others) a.rotations ∙ append_assoc was.rotations (rotations_of outcomes) (rotations_of others)
       ∙ ap (λ (l : List Rotated). was.rotations ++ l) (sym (filter_map-append rotation_of outcomes others));
@@ -94,7 +108,7 @@ module _ (bytes left : List ℕ) (was mid : Console) (old between : Option (List
     quitting = λ more. g.quitting more ∙ h.quitting more;
     within = (let a = g.within in let b = h.within in omega arith);
     outcomes = g.outcomes ++ h.outcomes;
-    came = came_after was.batch mid.batch g.answered g.outcomes h.answered h.outcomes g.came g.batch h.came;
+    came = came_after was.batch mid.batch was.seat.seat mid.seat.seat g.answered g.outcomes h.answered h.outcomes g.came g.batch g.makes.seat h.came;
     batch = h.batch ∙ ap (λ (b : Option (List Edit)). batch_left b h.answered) g.batch ∙ sym (batch_append was.batch g.answered h.answered);
     makes = makes_then was.seat mid.seat now.seat g.outcomes h.outcomes g.makes h.makes;
     written = written_then g.outcomes h.outcomes old between new g.written h.written;
@@ -230,7 +244,7 @@ writes_after (Err faults.Memory) outcomes others old mid new a b = record {
 }
 
 ends_after : (end : Result (Unit {0}) OperatorFault) (answered lines : List (List ℕ)) (outcomes : List Outcome) (was mid now : Console) (old between new : Option (List ℕ))
-    → CameTo was.batch answered outcomes → mid.batch ≡ batch_left was.batch answered → Makes was.seat mid.seat (entries_of outcomes) (rotations_of outcomes) → Appends old between (text_of outcomes)
+    → CameTo was.batch was.seat.seat answered outcomes → mid.batch ≡ batch_left was.batch answered → Makes was.seat mid.seat (entries_of outcomes) (rotations_of outcomes) → Appends old between (text_of outcomes)
     → EndsAt end lines mid now between new → EndsAt end (answered ++ lines) was now old new
 ends_after end answered lines outcomes was mid now old between new came batch makes written e = record {
   answered = answered ++ e.answered;
@@ -238,7 +252,7 @@ ends_after end answered lines outcomes was mid now old between new came batch ma
   parts = ap (λ (l : List (List ℕ)). answered ++ l) e.parts ∙ sym (append_assoc answered e.answered e.left);
   leaves = e.leaves;
   outcomes = outcomes ++ e.outcomes;
-  came = came_after was.batch mid.batch answered outcomes e.answered e.outcomes came batch e.came;
+  came = came_after was.batch mid.batch was.seat.seat mid.seat.seat answered outcomes e.answered e.outcomes came batch makes.seat e.came;
   makes = makes_then was.seat mid.seat now.seat outcomes e.outcomes makes e.makes;
   writes = writes_after end outcomes e.outcomes old between new written e.writes;
 }

@@ -8,11 +8,11 @@ use Rattle.tac_hall_console.specs.declared.answering.ConsoleSeat.{ConsoleSeat}
 use Rattle.tac_hall_console.specs.declared.fault.OperatorFault.{OperatorFault}
 use Rattle.tac_hall_console.specs.declared.fault.OperatorFault.TheVariants as faults
 use Rattle.tac_hall_console.specs.Operated.{Outcome, noticed, made, rotated, refused, told, text_of, WritesBeginning, Wants, begins, IsOperated}
-use Rattle.tac_hall_console.specs.Operating.{IsRefused, Stops, IsHeard}
+use Rattle.tac_hall_console.specs.Operating.{IsRefusal, Stops, IsHeard}
 use Rattle.tac_hall_console.proofs.GoingFacts.{makes_then, text_append, text_one, written_then, beginning_then}
 
 -- nothing is wanted of a Stop that was refused
-wants_refused : (input : List ℕ) (stop : Outcome) → IsRefused stop → Wants (Err faults.Memory) input stop
+wants_refused : (input : List ℕ) (stop : Outcome) → IsRefusal stop → Wants (Err faults.Memory) input stop
 wants_refused input (noticed notice) is = absurd is
 wants_refused input (made entry) is = absurd is
 wants_refused input (rotated rotation) is = absurd is
@@ -47,9 +47,9 @@ module _ (seat : Sitting) (was mid : Console) (now : ConsoleSeat) (before after 
     leaves = h.ends.leaves;
     whole = h.whole;
     outcomes = h.ends.outcomes;
-    came = rw closed at h.ends.came;
+    came = rw (closed, first) at h.ends.came;
     stop = s.stop;
-    stops = s.came.comes;
+    stops = rw (h.ends.makes.seat, first) at s.came.comes;
     wants = tt;
     found = s.ends.2;
     makes = makes_then (begins seat) mid.seat now h.ends.outcomes (s.stop ∷ []) (rw first at h.ends.makes) s.came.makes;
@@ -66,9 +66,9 @@ module _ (seat : Sitting) (was mid : Console) (now : ConsoleSeat) (before after 
     leaves = tt;
     whole = h.whole;
     outcomes = h.ends.outcomes;
-    came = rw closed at h.ends.came;
+    came = rw (closed, first) at h.ends.came;
     stop = s.stop;
-    stops = s.came.comes;
+    stops = rw (h.ends.makes.seat, first) at s.came.comes;
     wants = tt;
     found = tt;
     makes = makes_then (begins seat) mid.seat now h.ends.outcomes (s.stop ∷ []) (rw first at h.ends.makes) s.came.makes;
@@ -86,9 +86,9 @@ module _ (seat : Sitting) (was mid : Console) (now : ConsoleSeat) (before after 
     leaves = tt;
     whole = h.whole;
     outcomes = h.ends.outcomes;
-    came = rw closed at h.ends.came;
+    came = rw (closed, first) at h.ends.came;
     stop = s.stop;
-    stops = s.came.comes;
+    stops = rw (h.ends.makes.seat, first) at s.came.comes;
     wants = wants_refused h.input s.stop (s.ends.1 refl);
     found = tt;
     makes = makes_then (begins seat) mid.seat now h.ends.outcomes (s.stop ∷ []) (rw first at h.ends.makes) s.came.makes;
@@ -113,9 +113,9 @@ module _ (seat : Sitting) (was mid : Console) (now : ConsoleSeat) (before after 
     leaves = h.ends.leaves;
     whole = h.whole;
     outcomes = h.ends.outcomes;
-    came = rw closed at h.ends.came;
+    came = rw (closed, first) at h.ends.came;
     stop = s.stop;
-    stops = s.came.comes;
+    stops = rw (h.ends.makes.seat, first) at s.came.comes;
     wants = tt;
     found = tt;
     makes = makes_then (begins seat) mid.seat now h.ends.outcomes (s.stop ∷ []) (rw first at h.ends.makes) s.came.makes;
@@ -131,9 +131,9 @@ module _ (seat : Sitting) (was mid : Console) (now : ConsoleSeat) (before after 
     leaves = tt;
     whole = h.whole;
     outcomes = h.ends.outcomes;
-    came = rw closed at h.ends.came;
+    came = rw (closed, first) at h.ends.came;
     stop = s.stop;
-    stops = s.came.comes;
+    stops = rw (h.ends.makes.seat, first) at s.came.comes;
     wants = tt;
     found = tt;
     makes = makes_then (begins seat) mid.seat now h.ends.outcomes (s.stop ∷ []) (rw first at h.ends.makes) s.came.makes;
@@ -149,9 +149,9 @@ module _ (seat : Sitting) (was mid : Console) (now : ConsoleSeat) (before after 
     leaves = tt;
     whole = h.whole;
     outcomes = h.ends.outcomes;
-    came = rw closed at h.ends.came;
+    came = rw (closed, first) at h.ends.came;
     stop = s.stop;
-    stops = s.came.comes;
+    stops = rw (h.ends.makes.seat, first) at s.came.comes;
     wants = wants_some h.input s.stop (h.wants refl);
     found = tt;
     makes = makes_then (begins seat) mid.seat now h.ends.outcomes (s.stop ∷ []) (rw first at h.ends.makes) s.came.makes;

@@ -1,5 +1,5 @@
 -- What was done at the console of a hall (docs/CONSOLE.md, "The console of a hall").
-use Rattle.std.specs.Prelude.{◌≡◌, ◌≢◌, ◌<◌, ◌≤◌, ◌⊎◌, ℕ, List, [], ◌∷◌, ◌++◌, length, codes, false}
+use Rattle.std.specs.Prelude.{◌≡◌, ◌≢◌, ◌<◌, ◌≤◌, ◌⊎◌, ℕ, suc, List, [], ◌∷◌, ◌++◌, length, codes, false}
 use Rattle.std.specs.Prelude.{Option, Some, None, Result, Ok, Err, flat_map, filter_map, MatchBool}
 use Rattle.std.specs.Prelude.{if◌then◌else◌}
 use Rattle.std.specs.Fmt.{decimal}
@@ -21,10 +21,10 @@ use Rattle.tac_hall.specs.declared.fault.HallFault.{HallFault}
 use Rattle.tac_hall.specs.declared.fault.HallFault.TheVariants as hall
 use Rattle.tac_hall.specs.FaultText.{fault_text}
 use Rattle.tac_hall.specs.History.{IsOfKind}
-use Rattle.tac_hall.specs.Seat.{Sitting}
+use Rattle.tac_hall.specs.Seat.{Sitting, IsRefused}
 use Rattle.tac_chain.specs.declared.chain.Rotated.{Rotated}
 use Rattle.tac_chain.specs.Chain.{Chained, IsChained}
-use Rattle.tac_chain.specs.Keeping.{IsKept}
+use Rattle.tac_chain.specs.Keeping.{IsKept, IsUnkept}
 use Rattle.tac_hall_console.specs.declared.answering.ConsoleSeat.{ConsoleSeat}
 use Rattle.tac_hall_console.specs.declared.fault.OperatorFault.{OperatorFault}
 use Rattle.tac_hall_console.specs.declared.fault.OperatorFault.TheVariants as faults
@@ -40,19 +40,45 @@ pub data Outcome : Type 0 where
   rotated : Rotated → Outcome
   refused : HallFault → Outcome
 
--- a call that was taken is the one that was asked for, and its answer is of its kind
-abbrev pub CallsFor : Call → Outcome → Type 0
-CallsFor call (noticed notice) = ⊥
-CallsFor call (made entry) = (entry.call ≡ call) × IsOfKind call entry.answer
-CallsFor call (rotated rotation) = ⊥
-CallsFor call (refused fault) = Unit {0}
+-- the seat after these calls
+abbrev pub seat_after : Sitting → List Made → Sitting
+seat_after seat [] = seat
+seat_after seat (entry ∷ entries) = seat_after (record {
+  number = seat.number;
+  segment = entry.segment;
+  next = suc entry.place;
+  view = seat.view ++ entry ∷ [];
+}) entries
+
+-- what a view has of it
+abbrev pub entry_of : Outcome → Option Made
+entry_of (noticed notice) = None
+entry_of (made entry) = Some entry
+entry_of (rotated rotation) = None
+entry_of (refused fault) = None
+
+abbrev pub entries_of : List Outcome → List Made
+entries_of outcomes = filter_map entry_of outcomes
+
+-- a call of this seat that was taken is the one that was asked for, and its answer is of its kind;
+-- one that was refused was refused so
+abbrev pub CallsFor : Sitting → Call → Outcome → Type 0
+CallsFor seat call (noticed notice) = ⊥
+CallsFor seat call (made entry) = (entry.call ≡ call) × IsOfKind call entry.answer
+CallsFor seat call (rotated rotation) = ⊥
+CallsFor seat call (refused fault) = IsRefused seat call fault
 
 -- the edits of a batch are one call, and only a notice makes none
-abbrev pub ComesTo : Action → Outcome → Type 0
-ComesTo (actions.Edit edit) = CallsFor (calls.Edit edit)
-ComesTo (actions.Commit edits) = CallsFor (calls.Batch edits)
-ComesTo (actions.Query query) = CallsFor (calls.Query query)
-ComesTo (actions.Tell notice) = λ outcome. outcome ≡ noticed notice
+abbrev pub ComesTo : Sitting → Action → Outcome → Type 0
+ComesTo seat (actions.Edit edit) = CallsFor seat (calls.Edit edit)
+ComesTo seat (actions.Commit edits) = CallsFor seat (calls.Batch edits)
+ComesTo seat (actions.Query query) = CallsFor seat (calls.Query query)
+ComesTo seat (actions.Tell notice) = λ outcome. outcome ≡ noticed notice
+
+-- of some chain a rotation wasn't kept, for this reason
+abbrev pub IsUnrotated : HallFault → Type 0
+IsUnrotated fault =
+    (chain : Chained) × IsChained chain.logs chain.ends × IsUnkept chain fault
 
 -- the log that is told of follows those of some chain, and stands after them from then on
 abbrev pub IsRotation : Outcome → Type 0
@@ -60,13 +86,22 @@ IsRotation (noticed notice) = ⊥
 IsRotation (made entry) = ⊥
 IsRotation (rotated rotation) =
     (was : Chained) × (now : Chained) × IsChained was.logs was.ends × IsKept was rotation now
-IsRotation (refused fault) = Unit {0}
+IsRotation (refused fault) = IsUnrotated fault
 
--- what may come of a line at a console with this batch: `rotate` is no line of a desk's console
-abbrev pub LineComesTo : Option (List Edit) → List ℕ → Outcome → Type 0
-LineComesTo batch line outcome =
+-- a Stop was made by this seat, or refused so; or it was refused since the log was full, and that
+-- couldn't be taken out
+abbrev pub StopComesTo : Sitting → Outcome → Type 0
+StopComesTo seat (refused fault) =
+    IsRefused seat calls.Stop fault
+    ⊎ (IsRefused seat calls.Stop hall.LogFull × IsUnrotated fault)
+StopComesTo seat outcome = CallsFor seat calls.Stop outcome
+
+-- what may come of a line at a console with this batch and seat: `rotate` is no line of a desk's
+-- console
+abbrev pub LineComesTo : Option (List Edit) → Sitting → List ℕ → Outcome → Type 0
+LineComesTo batch seat line outcome =
     MatchBool (is_rotate line) (IsRotation outcome)
-    (ComesTo (action_of batch (asked_by line)) outcome)
+    (ComesTo seat (action_of batch (asked_by line)) outcome)
 
 -- the batch that the line leaves
 abbrev pub batch_by : Option (List Edit) → List ℕ → Option (List Edit)
@@ -97,26 +132,17 @@ told (refused fault) = refusal_line fault
 
 -- ---- lines, one after another
 
--- what came of each, if this batch is open before the first
-abbrev pub CameTo : Option (List Edit) → List (List ℕ) → List Outcome → Type 0
-CameTo batch [] [] = Unit {0}
-CameTo batch [] (outcome ∷ outcomes) = ⊥
-CameTo batch (line ∷ lines) [] = ⊥
-CameTo batch (line ∷ lines) (outcome ∷ outcomes) =
-    LineComesTo batch line outcome × CameTo (batch_by batch line) lines outcomes
+-- what came of each, if before the first this batch is open, and the seat is this
+abbrev pub CameTo : Option (List Edit) → Sitting → List (List ℕ) → List Outcome → Type 0
+CameTo batch seat [] [] = Unit {0}
+CameTo batch seat [] (outcome ∷ outcomes) = ⊥
+CameTo batch seat (line ∷ lines) [] = ⊥
+CameTo batch seat (line ∷ lines) (outcome ∷ outcomes) =
+    LineComesTo batch seat line outcome
+    × CameTo (batch_by batch line) (seat_after seat (entries_of (outcome ∷ []))) lines outcomes
 
 abbrev pub text_of : List Outcome → List ℕ
 text_of outcomes = flat_map told outcomes
-
--- what a view has of it
-abbrev pub entry_of : Outcome → Option Made
-entry_of (noticed notice) = None
-entry_of (made entry) = Some entry
-entry_of (rotated rotation) = None
-entry_of (refused fault) = None
-
-abbrev pub entries_of : List Outcome → List Made
-entries_of outcomes = filter_map entry_of outcomes
 
 -- what was rotated
 abbrev pub rotation_of : Outcome → Option Rotated
@@ -132,6 +158,7 @@ rotations_of outcomes = filter_map rotation_of outcomes
 pub record Makes (was now : ConsoleSeat) (entries : List Made) (kept : List Rotated) : Type 0 where
   pub number : now.seat.number ≡ was.seat.number
   pub view : now.seat.view ≡ was.seat.view ++ entries
+  pub seat : now.seat ≡ seat_after was.seat entries
   pub rotations : now.rotations ≡ was.rotations ++ kept
 
 -- a seat of which no rotation is remembered yet
@@ -222,9 +249,9 @@ pub record IsOperated (end : Result (Unit {0}) OperatorFault) (was : Sitting) (n
   pub leaves : Leaves end left
   pub whole : HaveEnded input answered ⊎ IsAtEnd after
   pub outcomes : List Outcome
-  pub came : CameTo None answered outcomes
+  pub came : CameTo None was answered outcomes
   pub stop : Outcome
-  pub stops : CallsFor calls.Stop stop
+  pub stops : StopComesTo (seat_after was (entries_of outcomes)) stop
   pub wants : Wants end input stop
   pub found : HasFound end stop
   pub makes : Makes (begins was) now

@@ -4,7 +4,6 @@ use Rattle.std.specs.Prelude.{Option, None, Result, Ok, Err}
 use Rattle.std.specs.Io.KnownBytes.{Appends, Consumes, IsAtEnd}
 use Rattle.basics.specs.Lines.{split_at_first, lines_of}
 use Rattle.pol_edit.specs.declared.edit.Edit.{Edit}
-use Rattle.tac_hall.specs.declared.call.Call.TheVariants as calls
 use Rattle.tac_hall_console.specs.declared.answering.Console.{Console}
 use Rattle.tac_hall_console.specs.declared.answering.ConsoleSeat.{ConsoleSeat}
 use Rattle.tac_hall_console.specs.declared.fault.OperatorFault.{OperatorFault}
@@ -12,7 +11,7 @@ use Rattle.tac_hall_console.specs.declared.fault.OperatorFault.TheVariants as fa
 use Rattle.tac_hall_console.specs.declared.operator.Went.{Went}
 use Rattle.tac_hall_console.specs.declared.operator.Went.TheVariants.{On, Quits}
 use Rattle.tac_hall_console.specs.Commands.{ended_lines, commands, quits}
-use Rattle.tac_hall_console.specs.Operated.{Outcome, noticed, made, rotated, refused, CallsFor}
+use Rattle.tac_hall_console.specs.Operated.{Outcome, noticed, made, rotated, refused, StopComesTo}
 use Rattle.tac_hall_console.specs.Operated.{batch_by, CameTo, told, text_of}
 use Rattle.tac_hall_console.specs.Operated.{entries_of, rotations_of, Makes}
 use Rattle.tac_hall_console.specs.Operated.{WritesBeginning, WritesMost}
@@ -76,7 +75,7 @@ pub record GoesOn (bytes left : List ℕ) (was now : Console) (old new : Option 
         → quits (ended_lines (bytes ++ more)) ≡ quits (ended_lines (left ++ more))
     pub within : length left ≤ length bytes
     pub outcomes : List Outcome
-    pub came : CameTo was.batch answered outcomes
+    pub came : CameTo was.batch was.seat.seat answered outcomes
     pub batch : now.batch ≡ batch_left was.batch answered
     pub makes : Makes was.seat now.seat (entries_of outcomes) (rotations_of outcomes)
     pub written : Appends old new (text_of outcomes)
@@ -97,7 +96,7 @@ pub record EndsAt (end : Result (Unit {0}) OperatorFault) (lines : List (List �
   pub parts : lines ≡ answered ++ left
   pub leaves : Leaves end left
   pub outcomes : List Outcome
-  pub came : CameTo was.batch answered outcomes
+  pub came : CameTo was.batch was.seat.seat answered outcomes
   pub makes : Makes was.seat now.seat (entries_of outcomes) (rotations_of outcomes)
   pub writes : WritesTo end outcomes old new
 
@@ -157,23 +156,23 @@ EndsWhole end input was now old new =
 
 -- ---- the Stop
 
-abbrev pub IsRefused : Outcome → Type 0
-IsRefused (noticed notice) = ⊥
-IsRefused (made entry) = ⊥
-IsRefused (rotated rotation) = ⊥
-IsRefused (refused fault) = Unit {0}
+abbrev pub IsRefusal : Outcome → Type 0
+IsRefusal (noticed notice) = ⊥
+IsRefusal (made entry) = ⊥
+IsRefusal (rotated rotation) = ⊥
+IsRefusal (refused fault) = Unit {0}
 
 -- after lines that went so the Stop was made, and it ends so: what came of it is told, unless the
 -- lines ended in a fault
 abbrev pub StopEnds : Result (Unit {0}) OperatorFault → Result (Unit {0}) OperatorFault → Outcome
     → Option (List ℕ) → Option (List ℕ) → Type 0
 StopEnds (Ok _) end stop old new =
-    SendsUnlessMemory end (told stop) old new × (end ≡ Err faults.Memory → IsRefused stop)
+    SendsUnlessMemory end (told stop) old new × (end ≡ Err faults.Memory → IsRefusal stop)
     × HasFound end stop
 StopEnds (Err fault) end stop old new = (end ≡ Err fault) × (new ≡ old)
 
 pub record Stops (heard end : Result (Unit {0}) OperatorFault) (was now : ConsoleSeat)
     (old new : Option (List ℕ)) : Type 0 where
   pub stop : Outcome
-  pub came : Comes (CallsFor calls.Stop) stop was now
+  pub came : Comes (StopComesTo was.seat) stop was now
   pub ends : StopEnds heard end stop old new

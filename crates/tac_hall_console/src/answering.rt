@@ -120,9 +120,10 @@ fn tell<H: Wait, D: Desk>(
     call: Call,
     out: &mut Vec<u8>,
 ) -> Result<(), AllocError>
-    ensures ok { OnOk result (operating.Adds (CallsFor call) seat.old seat.new
+    ensures ok { OnOk result (operating.Adds (CallsFor seat.old.seat call) seat.old seat.new
         out.old.items out.new.items) }
-    ensures err { OnErr result (operating.IsUntold (CallsFor call) seat.old seat.new) }
+    ensures err { OnErr result (operating.IsUntold (CallsFor seat.old.seat call)
+        seat.old seat.new) }
 {
     if let Err(fault) = hall.call(rt, &mut seat.seat, call) {
         return write_refusal(out, fault);
@@ -142,9 +143,10 @@ fn act<H: Wait, D: Desk>(
     action: Action,
     out: &mut Vec<u8>,
 ) -> Result<(), AllocError>
-    ensures ok { OnOk result (operating.Adds (ComesTo action) seat.old seat.new
+    ensures ok { OnOk result (operating.Adds (ComesTo seat.old.seat action) seat.old seat.new
         out.old.items out.new.items) }
-    ensures err { OnErr result (operating.IsUntold (ComesTo action) seat.old seat.new) }
+    ensures err { OnErr result (operating.IsUntold (ComesTo seat.old.seat action)
+        seat.old seat.new) }
 {
     match action {
         Action::Edit(edit) => tell(rt, alloc, hall, seat, Call::Edit(edit), out),
@@ -170,12 +172,12 @@ fn answer_asked<H: Wait, D: Desk>(
     out: &mut Vec<u8>,
 ) -> Result<(), AllocError>
     ensures ok { OnOk result (operating.Adds
-        (ComesTo (action_of console.old.batch (asked_by line.now)))
+        (ComesTo console.old.seat.seat (action_of console.old.batch (asked_by line.now)))
         console.old.seat console.new.seat out.old.items out.new.items) }
     ensures batch { OnOk result
         (console.new.batch ≡ batch_after console.old.batch (asked_by line.now)) }
     ensures err { OnErr result (operating.IsUntold
-        (ComesTo (action_of console.old.batch (asked_by line.now)))
+        (ComesTo console.old.seat.seat (action_of console.old.batch (asked_by line.now)))
         console.old.seat console.new.seat) }
 {
     let asked = read_console(alloc, line)?;
@@ -194,12 +196,12 @@ pub(crate) fn answer_line<H: Wait, D: Desk>(
     line: &[u8],
 ) -> Result<Vec<u8>, AllocError>
     ensures ok { IfOk result (λ text. operating.Tells
-        (operated.LineComesTo console.old.batch line.now)
+        (operated.LineComesTo console.old.batch console.old.seat.seat line.now)
         console.old.seat console.new.seat text.items) }
     ensures batch { OnOk result
         (console.new.batch ≡ operated.batch_by console.old.batch line.now) }
     ensures err { OnErr result (operating.IsUntold
-        (operated.LineComesTo console.old.batch line.now)
+        (operated.LineComesTo console.old.batch console.old.seat.seat line.now)
         console.old.seat console.new.seat) }
 {
     let mut text = Vec::with_capacity(alloc, LINE)?;

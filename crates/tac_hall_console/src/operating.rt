@@ -1,9 +1,9 @@
 //! The console of a hall, from its first line to the Stop.
 
-ghost use Rattle.std.specs.Prelude.{◌≡◌, IfOk, OnErr};
+ghost use Rattle.std.specs.Prelude.{◌≡◌, IfOk, IfErr, OnErr, IsTrue, IsErrOf};
 ghost use Rattle.tac_hall.specs.Seat.{IsMade};
 ghost use Rattle.tac_hall.specs.declared.call.Call.TheVariants as calls;
-ghost use Rattle.tac_hall_console.specs.Operated.{IsOperated};
+ghost use Rattle.tac_hall_console.specs.Operated.{IsOperated, StopComesTo, refused};
 ghost use Rattle.tac_hall_console.specs.Operating as operating;
 
 use crate::answering::{Console, ConsoleSeat, write_refused};
@@ -18,6 +18,13 @@ use tac_console::Batch;
 use tac_desk::Desk;
 use tac_hall::{Call, Hall, HallFault, Receipt, Seat};
 
+// Whether a call was refused since the log is full.
+fn is_full(called: &Result<Receipt, HallFault>) -> bool
+    ensures { IsTrue result → IsErrOf called.now HallFault.LogFull }
+{
+    matches!(called, Err(HallFault::LogFull))
+}
+
 // Makes the Stop. Where the log is full it is taken out and kept, and the Stop made again; but a
 // log that takes no call takes no Stop. The refusal is that of the last Stop or rotation.
 fn call_stop<H: Wait, D: Desk>(
@@ -28,11 +35,11 @@ fn call_stop<H: Wait, D: Desk>(
 ) -> Result<Receipt, HallFault>
     ensures made { IfOk result (λ receipt. IsMade seat.old calls.Stop receipt seat.new) }
     ensures err { OnErr result (seat.new ≡ seat.old) }
+    ensures refused { IfErr result (λ fault. StopComesTo seat.old (refused fault)) }
 {
     'stops: for _ in rt.forever() {
         let stopped = hall.call(rt, seat, Call::Stop);
-        let is_full = matches!(&stopped, Err(HallFault::LogFull));
-        if !is_full || hall.log_limit() == 0 {
+        if !is_full(&stopped) || hall.log_limit() == 0 {
             return stopped;
         }
         if let Err(fault) = archive.rotate(rt, hall) {

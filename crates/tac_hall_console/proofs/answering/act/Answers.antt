@@ -6,5 +6,5 @@ use Rattle.tac_hall_console.proofs.answering.act.Goals as goal
 pub returns-in-Tell-clause-ok : goal.returns-in-Tell-clause-ok
 returns-in-Tell-clause-ok g c =
     rw c.in-Tell.is
-    (tells_ok (ComesTo (actions.Tell c.in-Tell.notice)) (noticed c.in-Tell.notice) c.args.seat.now c.args.seat.now c.args.out.now.items c.write_notice.new.out.items c.write_notice.result
+    (tells_ok (ComesTo c.args.seat.now.seat (actions.Tell c.in-Tell.notice)) (noticed c.in-Tell.notice) c.args.seat.now c.args.seat.now c.args.out.now.items c.write_notice.new.out.items c.write_notice.result
     (comes_noticed c.in-Tell.notice c.args.seat.now) c.write_notice.ensures.ok)

@@ -1,6 +1,6 @@
 use Rattle.std.proofs.Common.{refl}
 use Rattle.tac_hall_console.specs.Operated.{IsRotation, rotated, refused}
-use Rattle.tac_hall_console.proofs.CallFacts.{comes_rotated, comes_unrotated, tells_ok, tells_err}
+use Rattle.tac_hall_console.proofs.CallFacts.{comes_rotated, comes_unrotated, unrotated_by, tells_ok, tells_err}
 use Rattle.tac_hall_console.proofs.answering.rotate.Goals as goal
 
 pub returns-in_ok-push-in-Ok-clause-ok : goal.returns-in_ok-push-in-Ok-clause-ok
@@ -18,4 +18,4 @@ returns-in_ok-push-in-Ok-clause-err g c =
 pub returns-in-Err-clause-ok : goal.returns-in-Err-clause-ok
 returns-in-Err-clause-ok g c =
     tells_ok IsRotation (refused c.in-Err.fault) c.args.seat.now c.args.seat.now c.args.out.now.items c.write_refusal.new.out.items c.write_refusal.result
-    (comes_unrotated c.in-Err.fault c.args.seat.now) c.write_refusal.ensures
+    (comes_unrotated c.in-Err.fault c.args.seat.now (unrotated_by c.in-Err.fault c.in-Err.ensures)) c.write_refusal.ensures
