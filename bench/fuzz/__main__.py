@@ -8,12 +8,16 @@ and what is at a limit. Output and status have to be the same, byte by byte. A s
 aren't is made smaller and printed, with both outputs.
 
     python3 bench/fuzz [--seed N] [--count N] [--first N] [PROGRAM]
+    python3 bench/fuzz pairs [--seed N] [--count N] [--first N] [PROGRAM]
     python3 bench/fuzz selfcheck [--seed N] [--count N]
     python3 bench/fuzz show [--seed N] NUMBER
 
 The program is crates/tacd/out/tacd unless another path is given; build it by `./tacd --version`.
 Script number K of a seed is the same whatever the count is: `show` prints it, and what the
 reference makes of it. 30,000 scripts, the default, take about twenty minutes of one core.
+
+`pairs` draws pairs of policies, 3,000 of them, and types what `tacd diff --edits` prints of each at
+a console of the reference that has the first, which then has to have the second (pairs.py).
 
 `selfcheck` needs no program. It takes wrong bodies of the reference, one mistake each, for programs
 with such a mistake, and each has to be found by a script (wrong_bodies.py).
@@ -26,6 +30,7 @@ import argparse
 import pathlib
 import sys
 
+import pairs
 import selfcheck
 from comparing import Program, compare
 from generator.choices import Choices
@@ -44,20 +49,22 @@ def main():
     if not arguments.program.is_file():
         sys.exit(f"{arguments.program} is not there: build it by ./tacd --version")
     numbers = range(arguments.first, arguments.first + arguments.count)
+    if arguments.command == "pairs":
+        return pairs.compare(arguments.program, arguments.seed, numbers)
     return compare(Program(arguments.program), arguments.seed, numbers)
 
 
 def read_arguments():
     words = sys.argv[1:]
-    command = words.pop(0) if words and words[0] in ("selfcheck", "show") else "compare"
+    command = words.pop(0) if words and words[0] in ("pairs", "selfcheck", "show") else "compare"
     reader = argparse.ArgumentParser("bench/fuzz", description=__doc__.partition("\n")[0])
     reader.add_argument("--seed", type=int, default=1)
     if command == "show":
         reader.add_argument("number", type=int)
     else:
-        count = 6_000 if command == "selfcheck" else 30_000
-        reader.add_argument("--count", type=int, default=count)
-    if command == "compare":
+        counts = {"compare": 30_000, "pairs": 3_000, "selfcheck": 6_000}
+        reader.add_argument("--count", type=int, default=counts[command])
+    if command in ("compare", "pairs"):
         reader.add_argument("--first", type=int, default=0)
         reader.add_argument("program", type=pathlib.Path, nargs="?", default=BUILT)
     return reader.parse_args(words, argparse.Namespace(command=command))
