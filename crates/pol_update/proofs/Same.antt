@@ -42,7 +42,7 @@ same_from one other back there id = by (find_subject id other) refl
 
 -- ---- what they tell is all that there is
 
-found_any : (id : SubjectId) (p : List Subject) (s : Subject) → find_subject id p ≡ Some s → list_any (same_id id) (map id_of p) ≡ true
+pub found_any : (id : SubjectId) (p : List Subject) (s : Subject) → find_subject id p ≡ Some s → list_any (same_id id) (map id_of p) ≡ true
 found_any id [] s e = absurd cc
 found_any id (x ∷ p) s e = by (same_id id (id_of x)) e (found_any id p s)
   where
@@ -50,7 +50,7 @@ found_any id (x ∷ p) s e = by (same_id id (id_of x)) e (found_any id p s)
     by true e rest = refl
     by false e rest = rest e
 
-found_after : (x : Subject) (p : List Subject) → list_any (same_id (id_of x)) (map id_of p) ≡ false → (id : SubjectId) (s : Subject) → find_subject id p ≡ Some s
+pub found_after : (x : Subject) (p : List Subject) → list_any (same_id (id_of x)) (map id_of p) ≡ false → (id : SubjectId) (s : Subject) → find_subject id p ≡ Some s
     → find_subject id (x ∷ p) ≡ Some s
 found_after x p apart id s e = by (same_id id (id_of x)) refl
   where
@@ -61,7 +61,7 @@ found_after x p apart id s e = by (same_id id (id_of x)) refl
         let same = same_id_is id (id_of x) t in
         absurd (true≢false (sym there ∙ ap (λ (i : SubjectId). list_any (same_id i) (map id_of p)) same ∙ apart))
 
-found_first : (x : Subject) (p : List Subject) → find_subject (id_of x) (x ∷ p) ≡ Some x
+pub found_first : (x : Subject) (p : List Subject) → find_subject (id_of x) (x ∷ p) ≡ Some x
 found_first x p = rw (same_id_self (id_of x)) refl
 
 pub all_from : (policy subjects : List Subject) → all_distinct (map id_of subjects) ≡ true → ((id : SubjectId) (s : Subject) → find_subject id subjects ≡ Some s → find_subject id policy ≡ Some s)
@@ -76,3 +76,10 @@ all_from policy (x ∷ rest) distinct holds =
 
 pub all_of_same : (one other : List Subject) → all_distinct (map id_of other) ≡ true → HaveSame one other → list_all (has_subject one) other ≡ true
 all_of_same one other distinct same = all_from one other distinct (λ id s e. same id ∙ e)
+
+-- two subjects are the same exactly if their test tells so
+pub some_alike : (s t : Subject) (b : Bool) → b ≡ same_subject s t → (b ≡ true → Some s ≡ Some t) × (Some s ≡ Some t → b ≡ true)
+some_alike s t b e = (
+  λ yes. ap Some ((same_subject-Decides s t).0 (sym e ∙ yes)),
+  λ same. let one : s ≡ t = cc in e ∙ (same_subject-Decides s t).1 one,
+)

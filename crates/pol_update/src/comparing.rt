@@ -2,9 +2,31 @@
 
 ghost use Rattle.std.specs.Prelude.{◌≡◌, ◌↔◌, IsTrue};
 ghost use Rattle.std.specs.List.{list_all};
-ghost use Rattle.pol_update.specs.Update.{HaveSame, has_subject as subject_test};
+ghost use Rattle.std.specs.Option.{option_copied};
+ghost use Rattle.pol_text.specs.Policy.{WellFormed};
+ghost use Rattle.pol_update.specs.Update.{HaveSame, IsAlike, has_subject as subject_test};
 
+use pol_names::SubjectId;
 use pol_text::{Policy, Subject};
+
+/// Whether both are the same subject, or there is none.
+pub(crate) fn are_alike(one: Option<&Subject>, other: Option<&Subject>) -> bool
+    ensures { IsTrue result ↔ (option_copied one.entry ≡ option_copied other.entry) }
+{
+    match (one, other) {
+        (Some(one), Some(other)) => one == other,
+        (None, None) => true,
+        (Some(_), None) | (None, Some(_)) => false,
+    }
+}
+
+/// Whether both policies have the subject alike, or neither has it. Two look-ups.
+pub(crate) fn is_alike(one: &Policy, other: &Policy, id: &SubjectId) -> bool
+    ensures alike { IsTrue result ↔ IsAlike one.now other.now id.now }
+    ensures well_formed { WellFormed one.now }
+{
+    are_alike(one.find(id), other.find(id))
+}
 
 // Whether the policy has this subject, with all that it has.
 fn has_subject(policy: &Policy, subject: &Subject) -> bool

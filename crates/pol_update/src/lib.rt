@@ -2,16 +2,17 @@
 #![tactic(auto)]
 
 mod comparing;
-mod fault;
+mod judging;
 mod matching;
 mod placing;
+mod plain;
 mod plan;
 mod row;
 mod ruling;
 mod setting;
+mod turning;
 mod updating;
 mod writing;
 
-pub use fault::UpdateFault;
 pub use updating::edits_between;
 pub use writing::write_edit;

@@ -1,17 +1,17 @@
 //! The edits between two policies.
 
-ghost use Rattle.std.specs.Prelude.{◌≡◌, [], Ok, IfOk};
-ghost use Rattle.pol_edit.specs.Batches.{applied_all};
+ghost use Rattle.std.specs.Prelude.{◌≡◌, [], IfOk};
 ghost use Rattle.pol_update.specs.Update.{HaveSame, Updates};
 
 use crate::comparing::have_same;
-use crate::fault::UpdateFault;
+use crate::judging::are_right;
 use crate::placing::place_subjects;
+use crate::plain::plain;
 use crate::plan::Plan;
 use crate::ruling::{arrange_rules, drop_rules};
 use crate::setting::set;
 use basics::Sequence;
-use pol_edit::{Edit, EditFault, edited};
+use pol_edit::Edit;
 use pol_text::Policy;
 use std::alloc::{AllocError, Global};
 
@@ -29,30 +29,23 @@ fn found(alloc: Global, old: &Policy, new: &Policy) -> Result<Sequence<Edit>, Al
     Ok(plan.into_edits())
 }
 
-// What the edits make of the old policy.
-fn made(alloc: Global, old: &Policy, edits: &[Edit]) -> Result<Policy, UpdateFault>
-    ensures { IfOk result (λ made. applied_all old.now edits.now ≡ Ok made) }
-{
-    match edited(alloc, old, edits) {
-        Ok(made) => Ok(made),
-        Err(fault) if fault.fault == EditFault::Memory => Err(UpdateFault::Memory),
-        Err(_) => Err(UpdateFault::NotMade),
-    }
-}
-
 /// The edits that make the new policy of the old one, but for the order of its subjects. They were
-/// applied to the old policy, and what they made was compared with the new one.
+/// made on a copy of the old policy, and what that became was compared with the new one.
 ///
 /// What is the same in both policies isn't touched: a rule that moved is one `MoveRule`, and of a
 /// subject's rules as many stay as can, where none stands twice. Rules are dropped first, then
 /// subjects go, come and move, and then secrets, levels and rules are set; so no limit is exceeded
 /// in between. The cost is quadratic in the rules of each subject that is changed, and a look
 /// through all chains for each subject that moves.
+///
+/// If these edits were not right, those of a plain plan would take their place, which make any
+/// policy of any other. The error is out of memory.
 pub fn edits_between(
     alloc: Global,
     old: &Policy,
     new: &Policy,
-) -> Result<Sequence<Edit>, UpdateFault>
+) -> Result<Sequence<Edit>, AllocError>
+    // They make it, each of them changes something, and none is of a subject that both have alike.
     ensures found { IfOk result (λ edits. Updates old.now edits new.now) }
 
     // Where nothing differs there is no edit.
@@ -62,9 +55,8 @@ pub fn edits_between(
         return Ok(Sequence::new(alloc));
     }
     let edits = found(alloc, old, new)?;
-    let made = made(alloc, old, edits.as_slice())?;
-    if !have_same(&made, new) {
-        return Err(UpdateFault::NotMade);
+    if are_right(alloc, old, new, edits.as_slice())? {
+        return Ok(edits);
     }
-    Ok(edits)
+    plain(alloc, old, new)
 }

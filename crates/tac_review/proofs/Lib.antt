@@ -1,4 +1,5 @@
 pub mod OnlyFacts
 pub mod TableFacts
 pub mod ReadingFacts
+pub mod LineFacts
 pub mod LoadingFacts

@@ -1,12 +1,11 @@
 //! The edits that make one policy of another, in batches that a console takes.
 
-ghost use Rattle.std.specs.Prelude.{◌≡◌, ◌⊎◌, ◌++◌, codes, List, Ok, Err, IfOk, IfErr, OnOk};
+ghost use Rattle.std.specs.Prelude.{◌≡◌, ◌⊎◌, ◌++◌, List, [], Ok, Err, IfOk, IfErr, OnOk};
 ghost use Rattle.pol_meaning.specs.Sizes.{IsSmall};
 ghost use Rattle.pol_edit.specs.Batches.{applied_all};
 ghost use Rattle.pol_text.specs.declared.subject.Subject.{Subject as SubjectValue};
 ghost use Rattle.pol_live.specs.Live.{PreparesAll};
-ghost use Rattle.pol_update.specs.Update.{Updates};
-ghost use Rattle.tac_console.specs.Faults.{fault_line};
+ghost use Rattle.pol_update.specs.Update.{HaveSame, Updates};
 ghost use Rattle.tac_review.specs.Loading as loading;
 
 use crate::task::ReviewEnd;
@@ -14,13 +13,14 @@ use pol_automaton::Meter;
 use pol_edit::{BatchFault, Edit, EditFault};
 use pol_live::Live;
 use pol_text::Policy;
-use pol_update::{UpdateFault, edits_between, write_edit};
+use pol_update::{edits_between, write_edit};
 use std::alloc::{AllocError, Global};
 use std::io::Write;
 use tac_console::Batch;
 
 fn add_edits(text: &mut Vec<u8>, edits: &[Edit]) -> Result<(), AllocError>
-    ensures { OnOk result (text.new.items ≡ text.old.items ++ loading.edit_lines edits.now) }
+    ensures text { OnOk result (text.new.items ≡ text.old.items ++ loading.edit_lines edits.now) }
+    ensures spelled { OnOk result (loading.AreSpelled edits.now) }
 {
     'edits: for edit in edits {
         write_edit(text, edit)?;
@@ -30,7 +30,8 @@ fn add_edits(text: &mut Vec<u8>, edits: &[Edit]) -> Result<(), AllocError>
 
 // Adds the lines of edits that are made together.
 fn add_batch(text: &mut Vec<u8>, batch: &[Edit]) -> Result<(), AllocError>
-    ensures { OnOk result (text.new.items ≡ text.old.items ++ loading.batch_text batch.now) }
+    ensures text { OnOk result (text.new.items ≡ text.old.items ++ loading.batch_text batch.now) }
+    ensures spelled { OnOk result (loading.AreSpelled batch.now) }
 {
     text.extend_from_slice(b"begin\n")?;
     add_edits(text, batch)?;
@@ -86,7 +87,8 @@ fn end_of(batches: usize) -> ReviewEnd
 
 // What is printed of edits. Each batch is made first, as a server makes it.
 fn printed(alloc: Global, old: Live, edits: &[Edit]) -> Result<(Vec<u8>, ReviewEnd), AllocError>
-    ensures { (new : List SubjectValue) → Updates old edits.now new → IfOk result (λ output.
+    ensures { (new : List SubjectValue) → Updates old edits.now new
+        → (HaveSame old new → edits.now ≡ []) → IfOk result (λ output.
         loading.ArePrinted old new output.0.items output.1
         ⊎ loading.AreRefused old new output.0.items output.1) }
 {
@@ -109,15 +111,6 @@ fn printed(alloc: Global, old: Live, edits: &[Edit]) -> Result<(Vec<u8>, ReviewE
     Ok((text, end_of(batches)))
 }
 
-// How it is told that no edits were found.
-fn not_found(alloc: Global) -> Result<(Vec<u8>, ReviewEnd), AllocError>
-    ensures { IfOk result (λ output. loading.AreNotFound output.0.items output.1) }
-{
-    let mut text = Vec::new(alloc);
-    text.extend_from_slice(b"fault NoEdits\n")?;
-    Ok((text, ReviewEnd::Refused))
-}
-
 /// How the edits are printed that make the new policy of the old one: in batches of as many as a
 /// console keeps, each of which was made here before it is printed.
 pub(crate) fn load(
@@ -127,9 +120,6 @@ pub(crate) fn load(
 ) -> Result<(Vec<u8>, ReviewEnd), AllocError>
     ensures { IfOk result (λ output. loading.Loads old new.now output.0.items output.1) }
 {
-    match edits_between(alloc, old.policy(), new) {
-        Ok(edits) => printed(alloc, old, edits.as_slice()),
-        Err(UpdateFault::Memory) => Err(AllocError),
-        Err(UpdateFault::NotMade) => not_found(alloc),
-    }
+    let edits = edits_between(alloc, old.policy(), new)?;
+    printed(alloc, old, edits.as_slice())
 }

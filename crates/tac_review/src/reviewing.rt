@@ -2,6 +2,7 @@
 
 ghost use Rattle.std.specs.Prelude.{OnOk};
 ghost use Rattle.std.specs.Io.KnownBytes.{IsAtEnd};
+ghost use Rattle.pol_pattern.specs.Matching.{MatchLaw};
 ghost use Rattle.tac_io.specs.Answering.{IsWorked};
 ghost use Rattle.tac_review.specs.Review.{IsRight, Reviews};
 ghost use Rattle.tac_review.specs.Reading.{AreAnswered, IsNotRead};
@@ -63,6 +64,10 @@ pub fn review<R: Read, S: Read, W: Write>(
         (Reviews review names.entry.0.now names.entry.1.now one two) output end)
         (R.remaining first.old) (S.remaining second.old)
         (W.contents writer.old) (W.contents writer.new) result }
+
+    // Whether a pattern matches a line by the definitions is whether its set of texts has it: so the
+    // least line that a policy permits is the least of these sets.
+    ensures matching { MatchLaw }
 {
     let one = match read_whole(alloc, first, MAX_INPUT) {
         Ok(text) => text,

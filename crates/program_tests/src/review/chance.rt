@@ -11,8 +11,11 @@ add group GROUP in GROUP
 remove SUBJECT
 move SUBJECT PARENT
 move SUBJECT PARENT
-login USER x
-priv SUBJECT 7
+login USER SECRET
+enable USER SECRET
+clear CREDENTIAL USER
+priv SUBJECT LEVEL
+clear priv SUBJECT
 insert SUBJECT PLACE VERDICT PATTERN
 insert SUBJECT PLACE VERDICT PATTERN
 insert SUBJECT PLACE VERDICT PATTERN
@@ -30,6 +33,9 @@ fn choices(word: &str) -> Option<&'static str> {
             "group ops\ngroup net\ngroup lab\nuser bob\nuser eve\nuser ann\nuser zed",
         ),
         "PARENT" => Some("in ops\nin net\nin lab\nout"),
+        "SECRET" => Some("x\ny"),
+        "CREDENTIAL" => Some("login\nenable"),
+        "LEVEL" => Some("0\n7\n15"),
         "PLACE" => Some("1\n1\n2\n3"),
         "VERDICT" => Some("permit\ndeny"),
         "PATTERN" => Some("a\na.*\n[^a]*\nab\nb+\na|b\n(ab)*"),

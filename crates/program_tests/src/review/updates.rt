@@ -171,6 +171,81 @@ insert user left 1 deny y
     reviews(&rt, Review::Edits, SUBJECTS, other_order, "done\n")
 }
 
+const SETTINGS: &str = "user ann
+login one
+enable two
+priv 3
+user bob
+priv 0
+user eve
+group ops
+priv 15
+";
+
+// Each of these is printed again as the one edit that makes what it makes.
+const SETTING_EDITS: &str = "login ann two
+clear login ann
+login eve one
+enable ann one
+clear enable ann
+enable eve two
+priv user ann 0
+priv user ann 4
+clear priv user ann
+priv user bob 1
+clear priv user bob
+priv user eve 0
+priv group ops 0
+clear priv group ops
+";
+
+#[test]
+fn each_setting(rt: HostRuntime) -> Result<(), Fail> {
+    for line in SETTING_EDITS.lines() {
+        let mut policy = Policy::read(rt.alloc(), SETTINGS.as_bytes())?;
+        edit_by(rt.alloc(), &mut policy, line)?;
+        let new = printed(rt.alloc(), &policy)?;
+        let edit = format!(in rt.alloc(); "{line}\n")?;
+        makes(&rt, SETTINGS, new.as_str(), edit.as_str())?;
+    }
+    Ok(())
+}
+
+const EIGHT: &str = "group h in g
+group d in c
+group f in e
+group b in a
+group g in f
+group c in b
+group e in d
+group a
+";
+
+// A chain of eight comes from above, and goes from below, in whatever order its text says it.
+#[test]
+fn eight_groups(rt: HostRuntime) -> Result<(), Fail> {
+    let added = "add group a
+add group b in a
+add group c in b
+add group d in c
+add group e in d
+add group f in e
+add group g in f
+add group h in g
+";
+    let removed = "remove group h
+remove group g
+remove group f
+remove group e
+remove group d
+remove group c
+remove group b
+remove group a
+";
+    makes(&rt, "", EIGHT, added)?;
+    makes(&rt, EIGHT, "", removed)
+}
+
 const CHAINS: &str = "group a
 group b in a
 group c in b

@@ -4,7 +4,7 @@ use crate::starved::findings::{Finding, Trouble, must_be_made};
 use crate::starved::scene::{POLICY, policy_of};
 use pol_edit::Edit;
 use pol_text::Policy;
-use pol_update::{UpdateFault, edits_between, write_edit};
+use pol_update::{edits_between, write_edit};
 use std::alloc::Global;
 
 // Another policy, and the edits that make it of the first.
@@ -49,8 +49,7 @@ fn finding_of(lines: Option<Vec<u8>>) -> Result<Finding, Trouble> {
 fn updated(alloc: Global, old: &Policy, new: &Policy) -> Result<Finding, Trouble> {
     match edits_between(alloc, old, new) {
         Ok(edits) => finding_of(lines_of(alloc, edits.as_slice())),
-        Err(UpdateFault::Memory) => Ok(Finding::Memory),
-        Err(UpdateFault::NotMade) => Err(Trouble::Wrong("no edits were found")),
+        Err(_) => Ok(Finding::Memory),
     }
 }
 

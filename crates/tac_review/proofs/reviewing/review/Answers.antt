@@ -1,4 +1,5 @@
 use Rattle.std.proofs.Common.{◌≤◌, length, arith}
+use Rattle.pol_pattern.proofs.HeldTexts.{match_law}
 use Rattle.tac_io.proofs.Answered.{answered}
 use Rattle.tac_review.specs.Reading.{given, Wanted}
 use Rattle.tac_review.specs.Review.{IsRight, Reviews}
@@ -22,3 +23,9 @@ returns-clause-answered g c =
     rw c.in-Err-write_answer.is at
     (answered (given first wanted) _ _ _ _ _
     (worked_given wanted c.in-Ok.text.items first _ _ _ c.in-Ok.ensures.bytes c.in-Ok.ensures.end few (rw c.as_slice.ensures.value at c.answer.ensures.worked)) c.write_answer.ensures)
+
+pub returns-in-Ok-write_answer-clause-matching : goal.returns-in-Ok-write_answer-clause-matching
+returns-in-Ok-write_answer-clause-matching g c = match_law
+
+pub returns-clause-matching : goal.returns-clause-matching
+returns-clause-matching g c = match_law

@@ -1,0 +1,312 @@
+//! Edits of one subject, each of which is added only if it changes the subject.
+
+ghost use Rattle.std.specs.Prelude.{◌≡◌, ◌<◌, ◌≤◌, ◌&&◌, List, [], Some, None, length, nat_le};
+ghost use Rattle.std.specs.Prelude.{false, is_some, IsTrue, IfOk, OnOk};
+ghost use Rattle.std.specs.Option.{option_map};
+ghost use Rattle.pol_names.specs.Secret.{is_secret};
+ghost use Rattle.pol_names.specs.SubjectId.{same_kind, user_id};
+ghost use Rattle.pol_names.specs.declared.subject_id.Kind.TheVariants.{Group};
+ghost use Rattle.pol_text.specs.Policy.{WellFormed, all_of, find_subject, id_of, is_right_subject};
+ghost use Rattle.pol_text.specs.Change.{with_changed, is_parent, with_parent, with_secret};
+ghost use Rattle.pol_text.specs.Change.{with_priv, with_rule_at, without_rule_at};
+ghost use Rattle.pol_text.specs.Setting.{secret_for};
+ghost use Rattle.pol_text.specs.Text.{new_subject};
+ghost use Rattle.pol_text.specs.declared.subject.Subject.{Subject as SubjectValue};
+ghost use Rattle.pol_edit.specs.Applying.{has_group};
+ghost use Rattle.pol_update.specs.Planning as planning;
+ghost use Rattle.pol_update.specs.Planning.{IsTurned, IsWithin, with_rules};
+
+use crate::plan::Plan;
+use basics::Bytes;
+use pol_edit::Edit;
+use pol_names::{Credential, Kind, Name, SubjectId};
+use pol_text::{Rule, Secret, Subject};
+use std::alloc::{AllocError, Global};
+
+// The secret's text, if there is one.
+fn text_of(alloc: Global, secret: &Option<Secret>) -> Result<Option<Bytes>, AllocError>
+    ensures { IfOk result (λ text. text ≡ secret.now) }
+{
+    match secret {
+        Some(secret) => {
+            let text = Bytes::from_slice(alloc, secret.as_slice())?;
+            Ok(Some(text))
+        }
+        None => Ok(None),
+    }
+}
+
+// The secret of this kind.
+fn secret_of(subject: &Subject, credential: Credential) -> &Option<Secret>
+    ensures { result.now ≡ secret_for credential subject.now }
+{
+    match credential {
+        Credential::Login => &subject.login,
+        Credential::Enable => &subject.enable,
+    }
+}
+
+fn is_group(kind: Kind) -> bool
+    ensures { result ≡ same_kind kind Group }
+{
+    match kind {
+        Kind::Group => true,
+        Kind::User => false,
+    }
+}
+
+// The same level, as edits have it.
+fn wide(level: Option<u8>) -> Option<u16>
+    ensures { result ≡ level }
+{
+    match level {
+        Some(level) => Some(u16::from(level)),
+        None => None,
+    }
+}
+
+// The edit that sets a secret.
+fn secret_edit(credential: Credential, user: Name, secret: Option<Bytes>) -> Edit
+    ensures { result ≡ planning.secret_edit credential user secret }
+{
+    match credential {
+        Credential::Login => Edit::SetLogin { user, secret },
+        Credential::Enable => Edit::SetEnable { user, secret },
+    }
+}
+
+// The edit that adds a subject to no group.
+fn bare_edit(kind: Kind, name: Name) -> Edit
+    ensures { result ≡ planning.bare_edit kind name }
+{
+    match kind {
+        Kind::Group => Edit::AddGroup { name, parent: None },
+        Kind::User => Edit::AddUser { name, parent: None },
+    }
+}
+
+impl Plan {
+    /// Puts a subject below another group, or below none.
+    pub(crate) fn put_below(
+        &mut self,
+        alloc: Global,
+        id: &SubjectId,
+        parent: Option<Name>,
+    ) -> Result<(), AllocError>
+        requires group { IsTrue (has_group parent self.old.made) }
+        requires within { IsWithin (with_changed id.now (with_parent parent) self.old.made) }
+        ensures { OnOk result (IsTurned id.now
+            (option_map (with_parent parent) (find_subject id.now self.old.made))
+            self.old self.new) }
+    {
+        let Some(present) = self.made.find(id) else {
+            return Ok(());
+        };
+        if present.parent == parent {
+            return Ok(());
+        }
+        let subject = *id;
+        self.add(alloc, Edit::SetParent { subject, parent })
+    }
+
+    /// Removes a subject.
+    pub(crate) fn remove(&mut self, alloc: Global, id: &SubjectId) -> Result<(), AllocError>
+        requires unused { WellFormed self.old.made
+            → (same_kind id.now.kind Group && is_parent id.now.name self.old.made) ≡ false }
+        ensures { OnOk result (IsTurned id.now None self.old self.new) }
+    {
+        if self.made.find(id).is_none() {
+            return Ok(());
+        }
+        self.add(alloc, Edit::Remove { subject: *id })
+    }
+
+    /// Adds a subject to no group.
+    pub(crate) fn add_bare(
+        &mut self,
+        alloc: Global,
+        kind: Kind,
+        name: Name,
+    ) -> Result<(), AllocError>
+        requires absent { find_subject (record { kind = kind; name = name }) self.old.made ≡ None }
+        requires room { length self.old.made < 1024 }
+        ensures { OnOk result (IsTurned (record { kind = kind; name = name })
+            (Some (new_subject kind name None)) self.old self.new) }
+    {
+        self.add(alloc, bare_edit(kind, name))
+    }
+
+    // Gives a user another secret, or none.
+    fn put_secret(
+        &mut self,
+        alloc: Global,
+        user: &Name,
+        credential: Credential,
+        secret: &Option<Secret>,
+    ) -> Result<(), AllocError>
+        requires { IsTrue (all_of is_secret secret.now) }
+        ensures { OnOk result (IsTurned (user_id user.now)
+            (option_map (with_secret credential secret.now)
+            (find_subject (user_id user.now) self.old.made)) self.old self.new) }
+    {
+        let Some(present) = self.made.find(&SubjectId::user(*user)) else {
+            return Ok(());
+        };
+        if secret_of(present, credential) == secret {
+            return Ok(());
+        }
+        let secret = text_of(alloc, secret)?;
+        self.add(alloc, secret_edit(credential, *user, secret))
+    }
+
+    // Gives a subject another level, or none.
+    fn put_level(
+        &mut self,
+        alloc: Global,
+        id: &SubjectId,
+        level: Option<u8>,
+    ) -> Result<(), AllocError>
+        requires { IsTrue (all_of (λ n. nat_le n 15) level) }
+        ensures { OnOk result (IsTurned id.now
+            (option_map (with_priv level) (find_subject id.now self.old.made))
+            self.old self.new) }
+    {
+        let Some(present) = self.made.find(id) else {
+            return Ok(());
+        };
+        if present.priv_lvl == level {
+            return Ok(());
+        }
+        let subject = *id;
+        let level = wide(level);
+        self.add(alloc, Edit::SetPriv { subject, level })
+    }
+
+    // Drops the first rule of a subject, if it has one.
+    fn drop_rule(&mut self, alloc: Global, id: &SubjectId) -> Result<(), AllocError>
+        ensures { OnOk result (IsTurned id.now
+            (option_map (without_rule_at 0) (find_subject id.now self.old.made))
+            self.old self.new) }
+    {
+        let Some(present) = self.made.find(id) else {
+            return Ok(());
+        };
+        if present.rules.is_empty() {
+            return Ok(());
+        }
+        self.add(
+            alloc,
+            Edit::RemoveRule {
+                subject: *id,
+                at: 1,
+            },
+        )
+    }
+
+    // How many rules a subject has; none if it isn't there.
+    fn count_rules(&self, id: &SubjectId) -> usize
+        ensures { (subject : SubjectValue) → find_subject id.now self.now.made ≡ Some subject
+            → result ≡ length subject.rules }
+    {
+        match self.made.find(id) {
+            Some(present) => present.rules.len(),
+            None => 0,
+        }
+    }
+
+    // Drops all rules of a subject.
+    fn drop_rules(&mut self, alloc: Global, id: &SubjectId) -> Result<(), AllocError>
+        ensures { OnOk result (IsTurned id.now
+            (option_map (with_rules []) (find_subject id.now self.old.made))
+            self.old self.new) }
+    {
+        let count = self.count_rules(id);
+        'rules: for _ in 0..count {
+            self.drop_rule(alloc, id)?;
+        }
+        Ok(())
+    }
+
+    // Adds a rule after so many others of a subject.
+    fn add_rule(
+        &mut self,
+        alloc: Global,
+        id: &SubjectId,
+        place: usize,
+        rule: &Rule,
+    ) -> Result<(), AllocError>
+        requires last { (subject : SubjectValue) → find_subject id.now self.old.made ≡ Some subject
+            → length subject.rules ≡ place }
+        requires room { place < 256 }
+        ensures { OnOk result (IsTurned id.now
+            (option_map (with_rule_at place rule.now) (find_subject id.now self.old.made))
+            self.old self.new) }
+    {
+        if self.made.find(id).is_none() {
+            return Ok(());
+        }
+        let subject = *id;
+        let at = place as u16 + 1;
+        let verdict = rule.verdict;
+        let pattern = Bytes::from_slice(alloc, rule.pattern.source())?;
+        self.add(
+            alloc,
+            Edit::InsertRule {
+                subject,
+                at,
+                verdict,
+                pattern,
+            },
+        )
+    }
+
+    // Adds rules to a subject that has none.
+    fn add_rules(&mut self, alloc: Global, id: &SubjectId, rules: &[Rule]) -> Result<(), AllocError>
+        requires fresh { (subject : SubjectValue) → find_subject id.now self.old.made ≡ Some subject
+            → subject.rules ≡ [] }
+        requires few { length rules.now ≤ 256 }
+        ensures { OnOk result (IsTurned id.now
+            (option_map (with_rules rules.now) (find_subject id.now self.old.made))
+            self.old self.new) }
+    {
+        'rules: for (place, rule) in rules.iter().enumerate() {
+            self.add_rule(alloc, id, place, rule)?;
+        }
+        Ok(())
+    }
+
+    // Gives a subject the secrets of this one. A group has none.
+    fn put_secrets(&mut self, alloc: Global, subject: &Subject) -> Result<(), AllocError>
+        requires { IsTrue (is_right_subject subject.now) }
+        ensures { OnOk result (IsTurned (id_of subject.now)
+            (option_map (planning.with_secrets subject.now)
+            (find_subject (id_of subject.now) self.old.made)) self.old self.new) }
+    {
+        let Some(present) = self.made.find(&subject.id()) else {
+            return Ok(());
+        };
+        if is_group(present.kind) {
+            return Ok(());
+        }
+        self.put_secret(alloc, &subject.name, Credential::Login, &subject.login)?;
+        self.put_secret(alloc, &subject.name, Credential::Enable, &subject.enable)
+    }
+
+    /// Gives a subject that is there all that this one has.
+    pub(crate) fn settle(&mut self, alloc: Global, subject: &Subject) -> Result<(), AllocError>
+        requires there { IsTrue (is_some (find_subject (id_of subject.now) self.old.made)) }
+        requires right { IsTrue (is_right_subject subject.now) }
+        requires group { IsTrue (has_group subject.now.parent self.old.made) }
+        requires within { IsWithin
+            (with_changed (id_of subject.now) (with_parent subject.now.parent) self.old.made) }
+        ensures { OnOk result
+            (IsTurned (id_of subject.now) (Some subject.now) self.old self.new) }
+    {
+        let id = subject.id();
+        self.put_below(alloc, &id, subject.parent)?;
+        self.put_secrets(alloc, subject)?;
+        self.put_level(alloc, &id, subject.priv_lvl)?;
+        self.drop_rules(alloc, &id)?;
+        self.add_rules(alloc, &id, subject.rules.as_slice())
+    }
+}
