@@ -62,8 +62,9 @@ where
     {
         match seats.take() {
             Some(seats) => {
-                let served =
-                    serve_rotating(rt, listener, hall, settings, archive, seats, vigil, log);
+                let served = serve_rotating(
+                    rt, listener, hall, settings, archive, seats, vigil, log,
+                );
                 port.leave();
                 served
             }

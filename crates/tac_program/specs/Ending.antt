@@ -39,6 +39,7 @@ abbrev pub status_of_review : Status → Result ReviewEnd ReviewFault → Status
 status_of_review told (Ok reviews.Done) = Done
 status_of_review told (Ok reviews.Differs) = told
 status_of_review told (Ok (reviews.Edited batches)) = told
+status_of_review told (Ok (reviews.BadPolicy input)) = Refused
 status_of_review told (Ok reviews.Refused) = Refused
 status_of_review told (Err fault) = status_of fault.fault
 

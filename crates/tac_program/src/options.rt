@@ -4,7 +4,8 @@
 //! could be written.
 
 use crate::command_line::{
-    ADDRESS, CONNECTIONS, FILE, IDLE, KEY, KEY_FILE, LOG, NO_CONSOLE, PORT, ROTATE_AT, SYNC, WORKERS,
+    ADDRESS, CONNECTIONS, FILE, IDLE, KEY, KEY_FILE, LOG, NO_CONSOLE, PORT, ROTATE_AT, SYNC,
+    WORKERS,
 };
 use crate::opening::open_secret;
 use crate::status::Status;

@@ -1,7 +1,7 @@
 //! The reviews of policies in files.
 
 use crate::command_line::{CASES, EDITS, EXIT_CODE, FILE, LINE, NEW, OLD, USER};
-use crate::complaint::{complain, tell_batches};
+use crate::complaint::{complain, name_lint, tell_batches};
 use crate::opening::open_file;
 use crate::status::Status;
 use clap::ArgMatches;
@@ -14,6 +14,13 @@ use tac_review::{Input as Which, Review, ReviewEnd, ReviewFault, Table, review};
 
 /// What standard input is called where it is refused or can't be read.
 const STANDARD_INPUT: &str = "standard input";
+
+fn name_of<'a>(names: (&'a str, &'a str), input: Which) -> &'a str {
+    match input {
+        Which::First => names.0,
+        Which::Second => names.1,
+    }
+}
 
 // Reviews a policy's file and another input, each with its name.
 fn review_inputs<R, S>(
@@ -29,12 +36,10 @@ where
 {
     let bytes = (names.0.as_bytes(), names.1.as_bytes());
     let outcome = review(rt.alloc(), what, bytes, file, other, &mut io::writer(rt));
-    if let Err(fault) = outcome {
-        let name = match fault.input {
-            Which::First => names.0,
-            Which::Second => names.1,
-        };
-        complain(rt, name, fault.fault);
+    match outcome {
+        Ok(ReviewEnd::BadPolicy(input)) => name_lint(rt, name_of(names, input)),
+        Ok(_) => {}
+        Err(fault) => complain(rt, name_of(names, fault.input), fault.fault),
     }
     outcome
 }

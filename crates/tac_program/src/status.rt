@@ -92,7 +92,7 @@ impl Status {
         match outcome {
             Ok(ReviewEnd::Done) => Status::Done,
             Ok(ReviewEnd::Differs | ReviewEnd::Edited(_)) => differs,
-            Ok(ReviewEnd::Refused) => Status::Refused,
+            Ok(ReviewEnd::BadPolicy(_) | ReviewEnd::Refused) => Status::Refused,
             Err(fault) => Status::of_answer(fault.fault),
         }
     }

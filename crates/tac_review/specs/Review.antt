@@ -16,7 +16,8 @@ use Rattle.tac_review.specs.Loading.{Loads}
 use Rattle.tac_review.specs.declared.task.Review.{Review}
 use Rattle.tac_review.specs.declared.task.Review.TheVariants.{Diff, Edits, Why, Each}
 use Rattle.tac_review.specs.declared.task.ReviewEnd.{ReviewEnd}
-use Rattle.tac_review.specs.declared.task.ReviewEnd.TheVariants.{Done, Differs, Refused}
+use Rattle.tac_review.specs.declared.task.ReviewEnd.TheVariants.{Done, Differs, BadPolicy, Refused}
+use Rattle.tac_review.specs.declared.task.Input.TheVariants.{First, Second}
 use Rattle.tac_review.specs.declared.task.Table.{Table}
 
 -- the line that refuses an input, after the input's name
@@ -36,7 +37,7 @@ changes_end (change ∷ changes) = Differs
 
 abbrev pub DiffsTo : List ℕ → List Subject → Result (List Subject) (List ℕ) → List ℕ → ReviewEnd
     → Type 0
-DiffsTo name old (Err line) output end = (output ≡ named name line) × (end ≡ Refused)
+DiffsTo name old (Err line) output end = (output ≡ named name line) × (end ≡ BadPolicy Second)
 DiffsTo name old (Ok new) output end =
     (changes : List Changed) × AreChanges old new changes × (output ≡ changes_text changes)
     × (end ≡ changes_end changes)
@@ -51,7 +52,7 @@ Diffs name text old output end =
 
 abbrev pub EditsTo : List Subject → List ℕ → Result (List Subject) (List ℕ) → List ℕ → ReviewEnd
     → Type 0
-EditsTo old name (Err line) output end = (output ≡ named name line) × (end ≡ Refused)
+EditsTo old name (Err line) output end = (output ≡ named name line) × (end ≡ BadPolicy Second)
 EditsTo old name (Ok new) output end = Loads old new output end
 
 -- the edits in batches, if the new policy may stand
@@ -89,7 +90,7 @@ Continues (Each table) name text policy output end = Tells table name text polic
 abbrev pub ReviewsBy : Review → List ℕ → List ℕ → List ℕ → Result (List Subject) (List ℕ) → List ℕ
     → ReviewEnd → Type 0
 ReviewsBy review first second text (Err line) output end =
-    (output ≡ named first line) × (end ≡ Refused)
+    (output ≡ named first line) × (end ≡ BadPolicy First)
 ReviewsBy review first second text (Ok policy) output end =
     Continues review second text policy output end
 

@@ -11,7 +11,7 @@ use crate::asking::{add_answer, question};
 use crate::judging::judge;
 use crate::loading::load;
 use crate::table::tell;
-use crate::task::{Review, ReviewEnd, Table};
+use crate::task::{Input, Review, ReviewEnd, Table};
 use basics::Bytes;
 use pol_compare::compare;
 use pol_live::Live;
@@ -20,16 +20,21 @@ use std::alloc::{AllocError, Global};
 use std::io::Write;
 use tac_console::write_edit_answer;
 
-// The line that refuses an input, after the input's name.
-fn refused(alloc: Global, name: &[u8], line: &[u8]) -> Result<(Vec<u8>, ReviewEnd), AllocError>
+// The line that refuses an input, after the input's name. The review ends so.
+fn refused(
+    alloc: Global,
+    name: &[u8],
+    line: &[u8],
+    end: ReviewEnd,
+) -> Result<(Vec<u8>, ReviewEnd), AllocError>
     ensures { IfOk result (λ output. (output.0.items ≡ reviews.named name.now line.now)
-        × (output.1 ≡ ReviewEnd.Refused)) }
+        × (output.1 ≡ end)) }
 {
     let mut text = Vec::new(alloc);
     text.extend_from_slice(name)?;
     text.extend_from_slice(b": ")?;
     text.extend_from_slice(line)?;
-    Ok((text, ReviewEnd::Refused))
+    Ok((text, end))
 }
 
 // The lines of changes: those of an edit's answer after its `ok`.
@@ -81,7 +86,12 @@ fn diff(
             let changes = compare(alloc, old, &new)?;
             show(alloc, &changes)
         }
-        Err(line) => refused(alloc, name, line.as_slice()),
+        Err(line) => refused(
+            alloc,
+            name,
+            line.as_slice(),
+            ReviewEnd::BadPolicy(Input::Second),
+        ),
     }
 }
 
@@ -97,7 +107,12 @@ fn edits(
 {
     match judge(alloc, text)? {
         Ok(new) => load(alloc, old, new.policy()),
-        Err(line) => refused(alloc, name, line.as_slice()),
+        Err(line) => refused(
+            alloc,
+            name,
+            line.as_slice(),
+            ReviewEnd::BadPolicy(Input::Second),
+        ),
     }
 }
 
@@ -172,7 +187,7 @@ fn each(
         Ok(text) => told(alloc, table, text),
         Err(number) => {
             let line = bad_line(alloc, table, number)?;
-            refused(alloc, name, line.as_slice())
+            refused(alloc, name, line.as_slice(), ReviewEnd::Refused)
         }
     }
 }
@@ -211,6 +226,11 @@ pub(crate) fn output(
     let (first_text, second_text) = texts;
     match judge(alloc, first_text)? {
         Ok(live) => second(alloc, review, live, second_name, second_text),
-        Err(line) => refused(alloc, first_name, line.as_slice()),
+        Err(line) => refused(
+            alloc,
+            first_name,
+            line.as_slice(),
+            ReviewEnd::BadPolicy(Input::First),
+        ),
     }
 }

@@ -33,7 +33,9 @@ pub enum ReviewEnd {
     Differs,
     /// Edits were printed, in so many batches.
     Edited(usize),
-    /// An input is refused, and the reason was printed.
+    /// The policy of this input is refused, and the reason was printed.
+    BadPolicy(Input),
+    /// A batch, a question or a table is refused, and the reason was printed.
     Refused,
 }
 

@@ -5,7 +5,7 @@ use crate::program::help::{
     DIFF_AFTER_LONG_HELP, DIFF_LONG_ABOUT, LINT_AFTER_LONG_HELP, LINT_LONG_ABOUT,
     TEST_AFTER_LONG_HELP, TEST_LONG_ABOUT, WHY_AFTER_LONG_HELP, WHY_LONG_ABOUT,
 };
-use crate::program::running::run_ends;
+use crate::program::running::{LINT_SAYS_MORE, run_ends};
 use std::alloc::{AllocError, Global};
 use std::net::{Net, TcpListener, TcpStream};
 use std::process::Abort;
@@ -143,8 +143,8 @@ fn diffs_refused(rt: HostRuntime) {
         "tacd diff --exit-code next policy",
         "tacd diff --edits policy next",
     ] {
-        ends(&rt, words, "user bob\nx\n", "", 1, refused, "");
-        ends(&rt, words, dots, "", 1, large, "");
+        ends(&rt, words, "user bob\nx\n", "", 1, refused, LINT_SAYS_MORE);
+        ends(&rt, words, dots, "", 1, large, LINT_SAYS_MORE);
     }
     let nowhere = "tacd: nowhere: entity not found\n";
     let folder = "tacd: folder: it is a folder\n";
@@ -171,7 +171,12 @@ fn explains(rt: HostRuntime) {
     tells(&rt, "tacd why policy bob", 0, "denied by default\n");
     tells(&rt, "tacd why policy eve show", 0, "unknown user\n");
     tells(&rt, "tacd why policy b/b show", 1, "fault BadQuestion\n");
-    tells(&rt, "tacd why policy bob~show run", 1, "fault BadQuestion\n");
+    tells(
+        &rt,
+        "tacd why policy bob~show run",
+        1,
+        "fault BadQuestion\n",
+    );
     tells(
         &rt,
         "tacd why policy bob sh\u{f6}w",
@@ -191,7 +196,15 @@ fn explains(rt: HostRuntime) {
         "tacd: nowhere: entity not found\n",
     );
     let refused = "policy: fault line 1 1 BadLine\n";
-    ends(&rt, "tacd why policy bob", "x", "", 1, refused, "");
+    ends(
+        &rt,
+        "tacd why policy bob",
+        "x",
+        "",
+        1,
+        refused,
+        LINT_SAYS_MORE,
+    );
 }
 
 #[test]
@@ -211,7 +224,7 @@ fn explains_input(rt: HostRuntime) {
         "b/b",
         1,
         "policy: fault line 1 1 BadLine\n",
-        "",
+        LINT_SAYS_MORE,
     );
 }
 
@@ -234,7 +247,7 @@ fn tests_cases(rt: HostRuntime) {
         "",
         1,
         "policy: fault line 1 1 BadLine\n",
-        "",
+        LINT_SAYS_MORE,
     );
     complains(
         &rt,

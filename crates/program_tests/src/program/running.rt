@@ -85,7 +85,7 @@ where
 }
 
 // What is said of the file `policy` where it is refused.
-const LINT_SAYS_MORE: &str = "tacd: 'tacd lint policy' says more\n";
+pub(crate) const LINT_SAYS_MORE: &str = "tacd: 'tacd lint policy' says more\n";
 
 // Checks a policy that is refused, and would serve it.
 fn refused<R>(rt: &R, policy: &'static str, printed: &str)
@@ -326,7 +326,15 @@ fn serves_no_file(rt: HostRuntime) -> Result<(), Fail> {
         ("policy", false, 4, unwritten),
     ] {
         let words = format!(in rt.alloc(); "tacd serve --port 1 --key k {path}")?;
-        ends(&rt, words.as_str(), "x", takes_output, status, "", complained);
+        ends(
+            &rt,
+            words.as_str(),
+            "x",
+            takes_output,
+            status,
+            "",
+            complained,
+        );
     }
     Ok(())
 }
@@ -501,7 +509,11 @@ const KEY_FILES: [(&str, u8, &str); 10] = [
     ("nowhere", 4, "tacd: nowhere: entity not found\n"),
     ("folder", 4, "tacd: folder: it is a folder\n"),
     ("unreadable", 4, "tacd: unreadable: it could not be read\n"),
-    ("longer-key", 4, "tacd: longer-key: it is over 65536 bytes long\n"),
+    (
+        "longer-key",
+        4,
+        "tacd: longer-key: it is over 65536 bytes long\n",
+    ),
     (
         "bad-key",
         2,
