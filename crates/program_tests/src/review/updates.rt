@@ -171,15 +171,20 @@ insert user left 1 deny y
     reviews(&rt, Review::Edits, SUBJECTS, other_order, "done\n")
 }
 
+// Each has a rule, which no setting touches.
 const SETTINGS: &str = "user ann
 login one
 enable two
 priv 3
+permit a
 user bob
 priv 0
+permit b
 user eve
+permit c
 group ops
 priv 15
+permit d
 ";
 
 // Each of these is printed again as the one edit that makes what it makes.
@@ -212,16 +217,16 @@ fn each_setting(rt: HostRuntime) -> Result<(), Fail> {
 }
 
 const EIGHT: &str = "group h in g
-group d in c
-group f in e
-group b in a
 group g in f
-group c in b
+group f in e
 group e in d
+group d in c
+group c in b
+group b in a
 group a
 ";
 
-// A chain of eight comes from above, and goes from below, in whatever order its text says it.
+// A chain of eight comes from above, and goes from below, though its text says it the other way.
 #[test]
 fn eight_groups(rt: HostRuntime) -> Result<(), Fail> {
     let added = "add group a
