@@ -2,6 +2,7 @@
 
 ghost use Rattle.std.specs.Prelude.{OnOk};
 ghost use Rattle.std.specs.Io.KnownBytes.{IsAtEnd};
+ghost use Rattle.pol_pattern.specs.Matching.{MatchLaw};
 ghost use Rattle.tac_io.specs.Answering.{IsAnswered, IsWorked};
 ghost use Rattle.tac_lint.specs.Lint.{IsOnlyLint};
 
@@ -46,6 +47,9 @@ pub fn lint<R: Read, W: Write>(
     // or what a fault leaves: nothing, a beginning of the output, or of the line that says Memory.
     ensures answered { IsAnswered IsOnlyLint (R.remaining reader.old)
         (W.contents writer.old) (W.contents writer.new) result }
+
+    // Whether a pattern matches a line by the definitions is whether its set of texts has it.
+    ensures matching { MatchLaw }
 {
     write_answer(writer, answer(alloc, reader))
 }

@@ -1,3 +1,4 @@
+use Rattle.pol_pattern.proofs.HeldTexts.{match_law}
 use Rattle.tac_io.proofs.Answered.{answered, at_end}
 use Rattle.tac_lint.specs.Lint.{IsOnlyLint}
 use Rattle.tac_lint.proofs.linting.lint.Goals as goal
@@ -7,3 +8,6 @@ returns-clause-read g c = at_end IsOnlyLint (g.R.Read.remaining c.args.reader.no
 
 pub returns-clause-answered : goal.returns-clause-answered
 returns-clause-answered g c = answered IsOnlyLint _ _ _ _ _ c.answer.ensures.worked c.write_answer.ensures
+
+pub returns-clause-matching : goal.returns-clause-matching
+returns-clause-matching g c = match_law
