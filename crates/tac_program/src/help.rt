@@ -230,9 +230,10 @@ pub(crate) const LINT_LONG_ABOUT: &str =
 and subjects, each with its line and column. What it says never changes what the policy means.
 
 It asks about what other pattern languages read otherwise ('^', '$', '\\d', '[[:alpha:]]', '{1,3}'),
-about spaces round patterns and secrets, rules without the word <cr> that Cisco IOS ends each line
-with, groups that nobody is in, users without a login, an empty policy, and it names rules that decide
-nothing. Of a policy that is refused it prints every wrong line, and not only the first.";
+about ' # ' in a pattern, about spaces round patterns and secrets, rules without the word <cr> that
+Cisco IOS ends each line with, groups that nobody is in, users without a login, an empty policy, and
+it names rules that decide nothing. Of a policy that is refused it prints every wrong line, and not
+only the first, and why each is wrong.";
 
 pub(crate) const LINT_AFTER_HELP: &str = "Example:
   tacd lint campus.policy

@@ -269,7 +269,9 @@ fn lints(rt: HostRuntime) {
     let asked = "line 3 column 6: this user has no login: is that meant?\n";
     tells(&rt, words, 5, asked);
     ends(&rt, words, "user bob\nlogin x\n", "", 0, "", "");
-    let faults = "line 1 column 6: refused: 2 BadName\nline 2 column 1: refused: 1 BadLine\n";
+    let faults = "line 1 column 6: refused: 2 BadName
+line 2 column 1: refused: 1 BadLine: no line of a policy begins with this word
+";
     ends(&rt, words, "user b/b\nx\n", "", 1, faults, "");
     let large = "line 2 column 1: refused: TooManyStates: \
                  the rules along this chain have over 16384 states\n";
