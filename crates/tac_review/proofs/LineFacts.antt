@@ -1,5 +1,7 @@
 -- The lines of batches spell what they ask of a console.
-use Rattle.std.proofs.Common.{◌≡◌, ℕ, Bool, true, false, cond, List, [], ◌∷◌, ◌++◌, ◌==◌, map, codes, Ok, inl, inr, refl, sym, ap, subst, ◌∙◌, append_assoc, arith}
+use Rattle.std.proofs.Common.{◌≡◌, ℕ, suc, ◌+◌, ◌<◌, Bool, true, false, cond, List, [], ◌∷◌, ◌++◌, ◌==◌, length, take, get_or, map, codes, Ok, inl, inr, refl, sym, ap, subst, ◌∙◌, append_assoc, append-nil, arith}
+use Rattle.std.proofs.Math.Seq.{take-suc}
+use Rattle.std.proofs.lemmas.List.Concat.{flat_map-append}
 use Rattle.std.specs.List.{flat_map}
 use Rattle.std.proofs.lemmas.Bool.{and_parts}
 use Rattle.std.proofs.lemmas.Bool.Decides.{nat_tests}
@@ -76,3 +78,21 @@ all_ask [] all = tt
 all_ask (batch ∷ batches) all =
     let later = flat_map (λ (edits : List Edit). edits) batches in
     batch_asks_so batch (flat_map batch_text batches) (flat_map batch_asks batches) (front batch later all) (all_ask batches (back batch later all))
+
+-- ---- one edit more
+
+taken_more : (edits : List Edit) (i : ℕ) (edit : Edit) → i < length edits → edit ≡ get_or edits i edit → take (i + 1) edits ≡ take i edits ++ edit ∷ []
+taken_more edits i edit lt item =
+    let next : i + 1 ≡ suc i = omega arith in
+    rw next (take-suc edits i edit lt ∙ ap (λ (e : Edit). take i edits ++ e ∷ []) (sym item))
+
+pub lines_more : (edits : List Edit) (i : ℕ) (edit : Edit) (base before after : List ℕ) → i < length edits → edit ≡ get_or edits i edit → before ≡ base ++ edit_lines (take i edits)
+    → after ≡ before ++ (edit_line edit ++ 10 ∷ []) → after ≡ base ++ edit_lines (take (i + 1) edits)
+lines_more edits i edit base before after lt item so_far added =
+    let line : List ℕ = edit_line edit ++ 10 ∷ [] in
+    let more : edit_lines (take (i + 1) edits) ≡ edit_lines (take i edits) ++ line =
+    ap edit_lines (taken_more edits i edit lt item) ∙ flat_map-append (λ (e : Edit). edit_line e ++ 10 ∷ []) (take i edits) (edit ∷ []) ∙ ap (λ (l : List ℕ). edit_lines (take i edits) ++ l) (append-nil line) in
+    added ∙ ap (λ (t : List ℕ). t ++ line) so_far ∙ append_assoc base (edit_lines (take i edits)) line ∙ ap (λ (l : List ℕ). base ++ l) (sym more)
+
+pub spelled_next : (edits : List Edit) (i : ℕ) (edit : Edit) → i < length edits → edit ≡ get_or edits i edit → AreSpelled (take i edits) → IsSpelled edit → AreSpelled (take (i + 1) edits)
+spelled_next edits i edit lt item so_far spelled = rw (taken_more edits i edit lt item) (more_spelled (take i edits) (edit ∷ []) so_far (spelled, tt))
