@@ -71,7 +71,9 @@ batch_asks_so batch rest more all later =
     let inner : Ask (lines_of (edit_lines batch ++ (close ++ rest))) (map (λ edit. asks.Edit edit) batch ++ asks.Commit ∷ more) = edits_ask batch (close ++ rest) (asks.Commit ∷ more) all last in
     let lines : Ask (lines_of ((edit_lines batch ++ close) ++ rest)) ((map (λ edit. asks.Edit edit) batch ++ asks.Commit ∷ []) ++ more) =
     rw (append_assoc (edit_lines batch) close rest, append_assoc (map (λ edit. asks.Edit edit) batch) (asks.Commit ∷ []) more) inner in
-    line_asks (codes "begin") ((edit_lines batch ++ close) ++ rest) asks.Begin ((map (λ edit. asks.Edit edit) batch ++ asks.Commit ∷ []) ++ more) refl refl lines
+    let all_lines : Ask (lines_of (codes "begin" ++ 10 ∷ ((edit_lines batch ++ close) ++ rest))) (batch_asks batch ++ more) =
+    line_asks (codes "begin") ((edit_lines batch ++ close) ++ rest) asks.Begin ((map (λ edit. asks.Edit edit) batch ++ asks.Commit ∷ []) ++ more) refl refl lines in
+    subst (λ (text : List ℕ). Ask (lines_of text) (batch_asks batch ++ more)) (sym (append_assoc (codes "begin") (10 ∷ (edit_lines batch ++ close)) rest)) all_lines
 
 pub all_ask : (batches : List (List Edit)) → AllSpelled (flat_map (λ edits. edits) batches) → Ask (lines_of (flat_map batch_text batches)) (flat_map batch_asks batches)
 all_ask [] all = tt

@@ -2,8 +2,11 @@ use Rattle.std.proofs.Common.{◌≡◌, ◌++◌, List, Result, Ok, Err, IfOk, 
 use Rattle.std.proofs.lemmas.List.{take-append-drop}
 use Rattle.pol_edit.specs.declared.edit.Edit.{Edit}
 use Rattle.tac_review.specs.Loading.{IsBatch}
-use Rattle.tac_review.proofs.LoadingFacts.{Printed, one_more, all_printed, one_refused, fits_batch, full_batch, none_left}
+use Rattle.tac_review.proofs.LoadingFacts.{Printed, none_printed, one_more, all_printed, one_refused, fits_batch, full_batch, none_left}
 use Rattle.tac_review.proofs.loading.printed.Goals as goal
+
+pub batches-init : goal.batches-init
+batches-init c = rw c.new-text.ensures.items (none_printed c.args.old c.args.edits.now)
 
 pub batches-preserved : goal.batches-preserved
 batches-preserved c =

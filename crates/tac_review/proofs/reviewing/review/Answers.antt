@@ -29,3 +29,6 @@ returns-in-Ok-write_answer-clause-matching g c = match_law
 
 pub returns-clause-matching : goal.returns-clause-matching
 returns-clause-matching g c = match_law
+
+pub returns-in-Err-clause-matching : goal.returns-in-Err-clause-matching
+returns-in-Err-clause-matching g c = match_law
