@@ -1,1 +1,2 @@
+mod DiskFacts
 mod TailFacts

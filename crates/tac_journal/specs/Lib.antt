@@ -1,4 +1,6 @@
 pub mod Appended
+pub mod Disk
+pub mod Logged
 pub mod Lines
 pub mod Typing
 pub mod Told

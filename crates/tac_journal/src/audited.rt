@@ -1,10 +1,9 @@
 //! The stream of a device, with a line for each reply.
 
-use crate::lines::lines_of;
+use crate::entry::Entry;
 use crate::log::{Log, Refused};
 use crate::moment::Moments;
-use crate::opening::LogFiles;
-use crate::telling::send_told;
+use crate::telling::{log_told, send_told};
 use basics::{Bytes, Sequence};
 use std::alloc::Global;
 use std::cell::RefCell;
@@ -13,30 +12,6 @@ use std::sync::Wait;
 use std::time::Clock;
 use tac_trail::{Noted, Trail};
 use tac_wire::Key;
-
-// A log as a writer. A write that it doesn't take whole is a fault, though the file may have a
-// part of it.
-#[derive(Drop)]
-struct Entry<'a, H, L> {
-    host: &'a H,
-    log: &'a L,
-}
-
-impl<H, L: Log> Write for Entry<'_, H, L>
-where
-    H: Wait + Clock + Eprint + LogFiles,
-{
-    fn write(&mut self, buf: &[u8]) -> io::Result<usize> {
-        match self.log.append(self.host, buf) {
-            Ok(()) => Ok(buf.len()),
-            Err(Refused) => Err(io::Error::from(ErrorKind::Other)),
-        }
-    }
-
-    fn flush(&mut self) -> io::Result<()> {
-        Ok(())
-    }
-}
 
 /// The stream of a device, read and written by the one who serves it. A reply is written to it only
 /// once the log has the line that tells of it; otherwise the write fails, and nothing of the reply
@@ -57,7 +32,7 @@ pub struct Audited<'a, S, H, L> {
 
 impl<'a, S: Read + Write + Copy, H, L: Log> Audited<'a, S, H, L>
 where
-    H: Wait + Clock + AllocGlobal + Eprint + LogFiles,
+    H: Wait + Clock + AllocGlobal + Eprint,
 {
     /// The stream of this device, from its beginning.
     pub fn new(
@@ -147,14 +122,18 @@ where
     pub fn end(&self) -> Result<(), Refused> {
         let noted = self.last()?;
         let time = self.time(&noted)?;
-        let lines = lines_of(self.alloc, &time, &self.device, noted)?;
-        self.log.append(self.host, lines.as_slice())
+        let mut entry = Entry {
+            host: self.host,
+            log: self.log,
+        };
+        log_told(self.alloc, &mut entry, &time, &self.device, noted)?;
+        Ok(())
     }
 }
 
 impl<S: Read + Write + Copy, H, L: Log> Read for &Audited<'_, S, H, L>
 where
-    H: Wait + Clock + AllocGlobal + Eprint + LogFiles,
+    H: Wait + Clock + AllocGlobal + Eprint,
 {
     fn read(&mut self, buf: &mut [u8]) -> io::Result<usize> {
         let mut stream = self.stream;
@@ -168,7 +147,7 @@ where
 
 impl<S: Read + Write + Copy, H, L: Log> Write for &Audited<'_, S, H, L>
 where
-    H: Wait + Clock + AllocGlobal + Eprint + LogFiles,
+    H: Wait + Clock + AllocGlobal + Eprint,
 {
     fn write(&mut self, buf: &[u8]) -> io::Result<usize> {
         match self.reply(buf) {

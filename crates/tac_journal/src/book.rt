@@ -1,10 +1,10 @@
 //! A file as it is open now, and what takes lines into it.
 
-use crate::disk::Disk;
+use crate::disk::{Disk, Fate};
 use crate::log::Refused;
 use crate::opening::{LogFiles, open};
 use crate::tail::{Tail, Untaken};
-use std::fs::{File, OpenFile};
+use std::fs::OpenFile;
 use std::io;
 use std::sync::{Mutex, Wait};
 use std::time::{Clock, Duration, Instant};
@@ -14,8 +14,8 @@ const FRESH: u64 = 500;
 
 /// A file as it is open now.
 #[derive(Drop)]
-pub(crate) struct Book {
-    tail: Tail<File>,
+pub(crate) struct Book<F> {
+    tail: Tail<F>,
     // when it was opened; nothing where no clock said so
     opened: Option<Instant>,
     // how many appends it had taken when it last took none, which was said; nothing where it takes
@@ -25,9 +25,10 @@ pub(crate) struct Book {
     appends: u64,
 }
 
-/// Where a file is, and what of it is on the disk, where its lines count only then.
+/// Who opens a file and where, and what of it is on the disk, where its lines count only then.
 #[derive(Drop)]
-pub(crate) struct Place<'a> {
+pub(crate) struct Place<'a, O> {
+    pub(crate) files: &'a O,
     pub(crate) path: &'a str,
     pub(crate) disk: Option<Disk>,
 }
@@ -43,19 +44,19 @@ fn is_stale<C: Clock>(clock: &C, opened: Option<Instant>) -> bool {
     }
 }
 
-impl Place<'_> {
+impl<O: LogFiles> Place<'_, O> {
     /// Opens the file.
-    pub(crate) fn open<H: Clock + LogFiles>(&self, host: &H) -> io::Result<Book> {
+    pub(crate) fn open<C: Clock>(&self, clock: &C) -> io::Result<Book<O::LogFile>> {
         Ok(Book {
-            tail: open(host, self.path)?,
-            opened: Instant::now(host).ok(),
+            tail: open(self.files, self.path)?,
+            opened: Instant::now(clock).ok(),
             complained: None,
             appends: 0,
         })
     }
 
     // Sends what a file took to the disk before another takes its place.
-    fn leave<H: Wait>(&self, host: &H, book: &Book) -> io::Result<()> {
+    fn leave<H: Wait>(&self, host: &H, book: &Book<O::LogFile>) -> io::Result<()> {
         let Some(disk) = &self.disk else {
             return Ok(());
         };
@@ -65,11 +66,11 @@ impl Place<'_> {
     }
 
     // Opens the file again.
-    fn reopen<H>(&self, host: &H, book: &mut Book) -> io::Result<()>
+    fn reopen<H>(&self, host: &H, book: &mut Book<O::LogFile>) -> io::Result<()>
     where
-        H: Wait + Clock + LogFiles,
+        H: Wait + Clock,
     {
-        let tail = open(host, self.path)?;
+        let tail = open(self.files, self.path)?;
         self.leave(host, book)?;
         book.tail = tail;
         book.opened = Instant::now(host).ok();
@@ -77,9 +78,9 @@ impl Place<'_> {
     }
 
     // Appends lines, to the file that is at the path now.
-    fn write<H>(&self, host: &H, book: &mut Book, lines: &[u8]) -> Result<(), Untaken>
+    fn write<H>(&self, host: &H, book: &mut Book<O::LogFile>, lines: &[u8]) -> Result<(), Untaken>
     where
-        H: Wait + Clock + LogFiles,
+        H: Wait + Clock,
     {
         if is_stale(host, book.opened) {
             self.reopen(host, book).map_err(Untaken::Failed)?;
@@ -89,7 +90,7 @@ impl Place<'_> {
 
     // Says on standard error that the file takes no lines, once until it takes some again. It
     // doesn't matter whether that can be written.
-    fn complain<H: Eprint>(&self, host: &H, book: &mut Book, why: &Untaken) {
+    fn complain<H: Eprint>(&self, host: &H, book: &mut Book<O::LogFile>, why: &Untaken) {
         if book.complained.is_none() {
             let path = self.path;
             let _ = eprintln!(host;
@@ -101,7 +102,7 @@ impl Place<'_> {
 
     // Says that the file takes lines again, where the lines of an append count that came after it
     // last took none.
-    fn relent<H: Eprint>(&self, host: &H, book: &mut Book, number: u64) {
+    fn relent<H: Eprint>(&self, host: &H, book: &mut Book<O::LogFile>, number: u64) {
         let Some(before) = book.complained else {
             return;
         };
@@ -114,9 +115,14 @@ impl Place<'_> {
 
     /// Appends lines, and answers the number of the append. The lines count at once, or where the
     /// file is sent to the disk once that is [done](Place::send).
-    pub(crate) fn append<H>(&self, host: &H, book: &mut Book, lines: &[u8]) -> Result<u64, Refused>
+    pub(crate) fn append<H>(
+        &self,
+        host: &H,
+        book: &mut Book<O::LogFile>,
+        lines: &[u8],
+    ) -> Result<u64, Refused>
     where
-        H: Wait + Clock + Eprint + LogFiles,
+        H: Wait + Clock + Eprint,
     {
         match self.write(host, book, lines) {
             Ok(()) => {
@@ -136,7 +142,7 @@ impl Place<'_> {
 
     // Sends the file as it is now to the disk. Others append to it meanwhile, and the system tells
     // a fault once: so it may be of their lines too, and none counts that was appended by then.
-    fn send_all<H>(&self, host: &H, disk: &Disk, book: &Mutex<Book>)
+    fn send_all<H>(&self, host: &H, disk: &Disk, book: &Mutex<Book<O::LogFile>>)
     where
         H: Wait + Eprint,
     {
@@ -164,17 +170,16 @@ impl Place<'_> {
         &self,
         host: &H,
         disk: &Disk,
-        book: &Mutex<Book>,
+        book: &Mutex<Book<O::LogFile>>,
         number: u64,
     ) -> Result<(), Refused>
     where
         H: Wait + Eprint,
     {
         let _sending = disk.sending.lock(host);
-        if let Some(outcome) = disk.outcome(host, number) {
-            return outcome;
+        if disk.fate(host, number) == Fate::Open {
+            self.send_all(host, disk, book);
         }
-        self.send_all(host, disk, book);
-        disk.outcome(host, number).unwrap_or(Err(Refused))
+        disk.fate(host, number).counts()
     }
 }

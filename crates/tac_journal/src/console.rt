@@ -3,12 +3,13 @@
 ghost use Rattle.std.specs.Prelude.{◌≡◌, IfOk};
 ghost use Rattle.tac_audit.specs.Event.{typed_line as line_of};
 ghost use Rattle.tac_audit.specs.Masking.{typed_of};
+ghost use Rattle.tac_journal.specs.Logged.{IsLogged};
 ghost use Rattle.tac_journal.specs.Typing.{TypesOn};
 ghost use Rattle.tac_journal.specs.declared.console.Typing.TheVariants.{Coming};
 
+use crate::entry::{Entry, Unlogged, log_lines};
 use crate::log::{Log, Refused};
 use crate::moment::now;
-use crate::opening::LogFiles;
 use basics::Bytes;
 use std::alloc::{AllocError, Global};
 use std::cell::RefCell;
@@ -70,6 +71,20 @@ fn line_of_answer(
     typed_line(alloc, &typed)
 }
 
+/// Appends it to a log by one write.
+pub(crate) fn log_answer<F: Write>(
+    alloc: Global,
+    log: &mut F,
+    time: Bytes,
+    line: &[u8],
+    answer: &[u8],
+) -> Result<(), Unlogged>
+    ensures { IsLogged result (line_of (typed_of time line.now answer.now))
+        (F.contents log.old) (F.contents log.new) }
+{
+    log_lines(log, line_of_answer(alloc, time, line, answer))
+}
+
 /// What is typed at a console. Its [`AuditedInput`] and its [`AuditedOutput`] are read and written
 /// by the one who answers. Each line is told to the log before its answer is written, which has to
 /// come by one write, whole, before the next read. A line without an answer is told at the next
@@ -87,7 +102,7 @@ pub struct AuditedConsole<'a, H, L> {
 
 impl<'a, H, L: Log> AuditedConsole<'a, H, L>
 where
-    H: Wait + Clock + AllocGlobal + Eprint + LogFiles,
+    H: Wait + Clock + AllocGlobal + Eprint,
 {
     /// A console at which nothing was typed.
     pub fn new(host: &'a H, log: &'a L) -> AuditedConsole<'a, H, L> {
@@ -127,8 +142,12 @@ where
 
     fn append(&self, line: &Bytes, answer: &[u8]) -> Result<(), Refused> {
         let time = now(self.alloc, self.host)?;
-        let text = line_of_answer(self.alloc, time, line.as_slice(), answer)?;
-        self.log.append(self.host, text.as_slice())
+        let mut entry = Entry {
+            host: self.host,
+            log: self.log,
+        };
+        log_answer(self.alloc, &mut entry, time, line.as_slice(), answer)?;
+        Ok(())
     }
 
     // Tells the log of a line that was answered so, if there is one of which nothing is told.
@@ -156,7 +175,7 @@ pub struct AuditedInput<'a, H, L, I> {
 
 impl<H, L: Log, I: Read> Read for AuditedInput<'_, H, L, I>
 where
-    H: Wait + Clock + AllocGlobal + Eprint + LogFiles,
+    H: Wait + Clock + AllocGlobal + Eprint,
 {
     ghost remaining = { λ reader. I.remaining reader.input };
 
@@ -182,7 +201,7 @@ pub struct AuditedOutput<'a, H, L, O> {
 
 impl<H, L: Log, O: Write> Write for AuditedOutput<'_, H, L, O>
 where
-    H: Wait + Clock + AllocGlobal + Eprint + LogFiles,
+    H: Wait + Clock + AllocGlobal + Eprint,
 {
     ghost contents = { λ writer. O.contents writer.output };
 

@@ -6,6 +6,7 @@ mod audited;
 mod book;
 mod console;
 mod disk;
+mod entry;
 mod journal;
 mod lines;
 mod log;

@@ -32,8 +32,8 @@ pub(crate) struct Tail<F> {
     pub(crate) is_cut: bool,
 }
 
-// Writes these bytes once. Ok if the file took all of them.
-fn write_once<F: Write>(file: &mut F, bytes: &[u8]) -> (usize, Result<(), Untaken>)
+/// Writes these bytes once. Ok if the file took all of them.
+pub(crate) fn write_once<F: Write>(file: &mut F, bytes: &[u8]) -> (usize, Result<(), Untaken>)
     ensures { Takes result bytes.now (F.contents file.old) (F.contents file.new) }
 {
     match file.write(bytes) {

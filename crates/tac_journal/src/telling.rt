@@ -1,10 +1,12 @@
-//! A reply that is sent only once the log has what is told of it.
+//! What is told of a device's packets, at the end of its connection or before a reply is sent.
 
 ghost use Rattle.std.specs.Prelude.{List};
 ghost use Rattle.tac_witness.specs.Witness.{Pair, Sides, AreWritten};
 ghost use Rattle.tac_journal.specs.Lines.{lines_of as lines};
+ghost use Rattle.tac_journal.specs.Logged.{IsLogged};
 ghost use Rattle.tac_journal.specs.Told.{IsSent};
 
+use crate::entry::{Unlogged, log_lines};
 use crate::lines::lines_of;
 use basics::{Bytes, Sequence};
 use std::alloc::{AllocError, Global};
@@ -48,4 +50,18 @@ pub(crate) fn send_told<F: Write, W: Write>(
         Ok(()) => Ok(()),
         Err(unsent) => Err(Untold::Unsent(unsent)),
     }
+}
+
+/// Appends the lines of what is told to a log by one write.
+pub(crate) fn log_told<F: Write>(
+    alloc: Global,
+    log: &mut F,
+    time: &Bytes,
+    device: &Bytes,
+    noted: Sequence<Noted>,
+) -> Result<(), Unlogged>
+    ensures { IsLogged result (lines time.now device.now noted)
+        (F.contents log.old) (F.contents log.new) }
+{
+    log_lines(log, lines_of(alloc, time, device, noted))
 }

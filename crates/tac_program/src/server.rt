@@ -61,15 +61,15 @@ fn hall_of<R: Eprint + AllocGlobal>(rt: &R, desk: LiveDesk) -> Result<Hall<LiveD
 // The file that takes the lines of an auditor.
 fn journal_at<'a, R: Eprint, H>(
     rt: &R,
-    host: &H,
+    host: &'a H,
     path: &'a str,
     syncs: bool,
-) -> Result<Journal<'a>, Status>
+) -> Result<Journal<'a, H>, Status>
 where
     H: Clock + LogFiles,
     ensures { IfErr result (λ status. (status ≡ Status.OutOfMemory) ⊎ (status ≡ Status.Failed)) }
 {
-    match Journal::open(host, path, syncs) {
+    match Journal::open(host, host, path, syncs) {
         Ok(journal) => Ok(journal),
         Err(error) => {
             let _ = eprintln!(rt; "tacd: {path}: {error}");
@@ -81,9 +81,9 @@ where
 // The same, where one is asked for.
 fn journal_of<'a, R: Eprint, H>(
     rt: &R,
-    host: &H,
+    host: &'a H,
     options: &Options<'a>,
-) -> Result<Option<Journal<'a>>, Status>
+) -> Result<Option<Journal<'a, H>>, Status>
 where
     H: Clock + LogFiles,
     ensures { IfErr result (λ status. (status ≡ Status.OutOfMemory) ⊎ (status ≡ Status.Failed)) }
@@ -165,6 +165,7 @@ pub(crate) fn serve_by<R, H>(rt: &R, host: &H, options: &Options<'_>) -> Result<
 where
     R: Files + Input + Print + Eprint + AllocGlobal,
     H: Threads + Wait + Clock + Sync + AllocGlobal + Eprint + LogFiles,
+    H::LogFile: Send,
     H: Net<Listener = TcpListener, Stream = TcpStream>,
 {
     let desk = desk_of_file(rt, options.path)?;

@@ -4,5 +4,6 @@
 
 mod consoles;
 mod files;
+mod host;
 mod secrets;
 mod streams;
