@@ -118,13 +118,14 @@ fn serve_console<R, H, I: Read + Drop>(
     host: &H,
     options: &Options<'_>,
     hall: Hall<LiveDesk>,
-    journal: &Option<Journal<'_>>,
+    journal: &Option<Journal<'_, H>>,
     port: &Port,
     input: I,
 ) -> Result<(), ServeFault>
 where
     R: Print,
     H: Threads + Wait + Clock + Sync + AllocGlobal + Eprint + LogFiles,
+    H::LogFile: Send,
 {
     let console = AuditedConsole::new(host, journal);
     let outcome = serve(
