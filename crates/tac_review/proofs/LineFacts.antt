@@ -67,13 +67,15 @@ edits_ask (edit ∷ edits) rest more all later =
 batch_asks_so : (batch : List Edit) (rest : List ℕ) (more : List Asked) → AllSpelled batch → Ask (lines_of rest) more → Ask (lines_of (batch_text batch ++ rest)) (batch_asks batch ++ more)
 batch_asks_so batch rest more all later =
     let close : List ℕ = codes "commit" ++ 10 ∷ [] in
+    let begun : List ℕ = codes "begin" ++ 10 ∷ edit_lines batch in
+    let middle : List Asked = map (λ edit. asks.Edit edit) batch in
     let last : Ask (lines_of (close ++ rest)) (asks.Commit ∷ more) = line_asks (codes "commit") rest asks.Commit more refl refl later in
-    let inner : Ask (lines_of (edit_lines batch ++ (close ++ rest))) (map (λ edit. asks.Edit edit) batch ++ asks.Commit ∷ more) = edits_ask batch (close ++ rest) (asks.Commit ∷ more) all last in
-    let lines : Ask (lines_of ((edit_lines batch ++ close) ++ rest)) ((map (λ edit. asks.Edit edit) batch ++ asks.Commit ∷ []) ++ more) =
-    rw (append_assoc (edit_lines batch) close rest, append_assoc (map (λ edit. asks.Edit edit) batch) (asks.Commit ∷ []) more) inner in
-    let all_lines : Ask (lines_of (codes "begin" ++ 10 ∷ ((edit_lines batch ++ close) ++ rest))) (batch_asks batch ++ more) =
-    line_asks (codes "begin") ((edit_lines batch ++ close) ++ rest) asks.Begin ((map (λ edit. asks.Edit edit) batch ++ asks.Commit ∷ []) ++ more) refl refl lines in
-    subst (λ (text : List ℕ). Ask (lines_of text) (batch_asks batch ++ more)) (sym (append_assoc (codes "begin") (10 ∷ (edit_lines batch ++ close)) rest)) all_lines
+    let inner : Ask (lines_of (edit_lines batch ++ (close ++ rest))) (middle ++ asks.Commit ∷ more) = edits_ask batch (close ++ rest) (asks.Commit ∷ more) all last in
+    let whole : Ask (lines_of (begun ++ (close ++ rest))) (asks.Begin ∷ (middle ++ asks.Commit ∷ more)) =
+    line_asks (codes "begin") (edit_lines batch ++ (close ++ rest)) asks.Begin (middle ++ asks.Commit ∷ more) refl refl inner in
+    let text : batch_text batch ++ rest ≡ begun ++ (close ++ rest) = ap (λ (t : List ℕ). t ++ rest) (append_assoc begun (codes "commit") (10 ∷ [])) ∙ append_assoc begun close rest in
+    let asked : batch_asks batch ++ more ≡ asks.Begin ∷ (middle ++ asks.Commit ∷ more) = ap (λ (l : List Asked). asks.Begin ∷ l) (append_assoc middle (asks.Commit ∷ []) more) in
+    subst (λ (t : List ℕ). Ask (lines_of t) (batch_asks batch ++ more)) (sym text) (subst (λ (l : List Asked). Ask (lines_of (begun ++ (close ++ rest))) l) (sym asked) whole)
 
 pub all_ask : (batches : List (List Edit)) → AllSpelled (flat_map (λ edits. edits) batches) → Ask (lines_of (flat_map batch_text batches)) (flat_map batch_asks batches)
 all_ask [] all = tt
