@@ -1,8 +1,8 @@
 -- Seats that have shed the logs that were taken out of their hall.
-use Rattle.std.proofs.Common.{◌≡◌, ℕ, List, [], ◌∷◌, ◌++◌, Bool, true, false, ◌||◌, ◌&&◌, ◌==◌, IsTrue, refl, sym, ap, subst, ◌∙◌, append_assoc, append-nil}
+use Rattle.std.proofs.Common.{◌≡◌, ℕ, zero, suc, List, [], ◌∷◌, ◌++◌, length, Bool, true, false, ◌||◌, ◌&&◌, ◌==◌, IsTrue, refl, sym, ap, subst, ◌∙◌, append_assoc, append-nil}
 use Rattle.tac_desk.specs.Meaning.{Meaning}
 use Rattle.tac_hall.specs.declared.entry.Entry.{Entry}
-use Rattle.tac_hall.specs.Closing.{is_there, are_theirs}
+use Rattle.tac_hall.specs.Closing.{is_there, are_theirs, are_there}
 use Rattle.tac_hall.specs.History.{Legal}
 use Rattle.tac_hall.specs.Opening.{Opening}
 use Rattle.tac_hall.specs.Seat.{Sitting}
@@ -46,10 +46,26 @@ theirs_same logs wholes seats h [] = refl
 theirs_same logs wholes seats h (entry ∷ log) =
     ap (λ (b : Bool). b && are_theirs log seats) (there_same logs entry.seat wholes seats h) ∙ ap (λ (b : Bool). is_there entry.seat wholes && b) (theirs_same logs wholes seats h log)
 
+all_there_same : (logs : List (List Entry)) (wholes seats : List Sitting) → HaveShed logs wholes seats → (number : ℕ) → are_there number seats ≡ are_there number wholes
+all_there_same logs wholes seats h zero = refl
+all_there_same logs wholes seats h (suc number) =
+    ap (λ (b : Bool). b && are_there number seats) (there_same logs number wholes seats h) ∙ ap (λ (b : Bool). is_there number wholes && b) (all_there_same logs wholes seats h number)
+
+as_many : (logs : List (List Entry)) (wholes seats : List Sitting) → HaveShed logs wholes seats → length wholes ≡ length seats
+as_many logs [] [] h = refl
+as_many logs [] (other ∷ seats) h = absurd h
+as_many logs (other ∷ wholes) [] h = absurd h
+as_many logs (one ∷ wholes) (other ∷ seats) h = ap suc (as_many logs wholes seats h.2)
+
+-- they are different ones still
+there_before : (logs : List (List Entry)) (wholes seats : List Sitting) → HaveShed logs wholes seats → are_there (length seats) seats ≡ true → are_there (length wholes) wholes ≡ true
+there_before logs wholes seats h there =
+    ap (λ (n : ℕ). are_there n wholes) (as_many logs wholes seats h) ∙ sym (all_there_same logs wholes seats h (length seats)) ∙ there
+
 -- the hall was closed with seats that have shed all logs
 pub settled : (hall : Opening) (rotations : List Rotated) (logs : List (List Entry)) (log : List Entry) (last : Meaning) (wholes seats : List Sitting) → AreOf logs 0 rotations → HaveShed logs wholes seats → Legal hall.meaning (joined logs ++ log) last
-    → AreWithin hall.limit (logs ++ log ∷ []) → AreViewsAlong (logs ++ log ∷ []) wholes → are_theirs (joined logs ++ log) seats ≡ true → IsSettled hall rotations wholes
-settled hall rotations logs log last wholes seats rotated shed legal within views theirs =
+    → AreWithin hall.limit (logs ++ log ∷ []) → AreViewsAlong (logs ++ log ∷ []) wholes → are_theirs (joined logs ++ log) seats ≡ true → are_there (length seats) seats ≡ true → IsSettled hall rotations wholes
+settled hall rotations logs log last wholes seats rotated shed legal within views theirs there =
     let all = sym (joined_last logs log) in
     record {
       earlier = logs;
@@ -59,5 +75,6 @@ settled hall rotations logs log last wholes seats rotated shed legal within view
       within = within;
       views = views;
       rotated = rotated;
+      there = there_before logs wholes seats shed there;
       theirs = ap (λ (l : List Entry). are_theirs l wholes) (sym all) ∙ sym (theirs_same logs wholes seats shed (joined logs ++ log)) ∙ theirs;
     }

@@ -1,9 +1,9 @@
 -- How a server leaves its hall.
-use Rattle.std.specs.Prelude.{◌≡◌, ℕ, List, [], ◌∷◌, ◌++◌, codes, true, Option}
+use Rattle.std.specs.Prelude.{◌≡◌, ℕ, List, [], ◌∷◌, ◌++◌, length, codes, true, Option}
 use Rattle.std.specs.Prelude.{Result, Ok, Err}
 use Rattle.std.specs.Io.KnownBytes.{Appends}
 use Rattle.tac_desk.specs.Meaning.{Meaning}
-use Rattle.tac_hall.specs.Closing.{are_theirs}
+use Rattle.tac_hall.specs.Closing.{are_theirs, are_there}
 use Rattle.tac_hall.specs.History.{Legal}
 use Rattle.tac_hall.specs.Opening.{Opening}
 use Rattle.tac_hall.specs.Seat.{Sitting}
@@ -28,7 +28,8 @@ Refuses fault old new = ⊥
 -- what these seats did is one legal history of a desk that represented this at first: the logs that
 -- were taken out of the hall, one after another, and the last, none of which is longer than the
 -- hall's log may be. It has of each seat exactly its view, each call at its place of its segment,
--- and no other call. What was told of rotations is so
+-- and no other call. The seats are different ones: they have the numbers below their count, each
+-- once. What was told of rotations is so
 pub record IsSettled (hall : Opening) (rotations : List Rotated) (seats : List Sitting) : Type 0
   where
     pub earlier : List (List Entry)
@@ -38,6 +39,7 @@ pub record IsSettled (hall : Opening) (rotations : List Rotated) (seats : List S
     pub within : AreWithin hall.limit (earlier ++ log ∷ [])
     pub views : AreViewsAlong (earlier ++ log ∷ []) seats
     pub theirs : are_theirs (joined (earlier ++ log ∷ [])) seats ≡ true
+    pub there : are_there (length seats) seats ≡ true
     pub rotated : AreOf earlier 0 rotations
 
 -- these seats are there too, and have shed all of these logs

@@ -4,3 +4,5 @@ pub mod Ending
 pub mod Program
 pub mod Shared
 pub mod Places
+pub mod Patience
+pub mod Pause

@@ -20,4 +20,4 @@ Announces (Err fault) port old new = ⊥
 
 -- a seat that made no call
 abbrev pub IsFresh : Sitting → Type 0
-IsFresh seat = seat.view ≡ []
+IsFresh seat = (seat.segment ≡ 0) × (seat.next ≡ 0) × (seat.view ≡ [])

@@ -1,7 +1,14 @@
 //! How long a worker pauses where no connection can be accepted.
 
+ghost use Rattle.std.specs.Prelude.{◌≡◌, IfErr};
+ghost use Rattle.tac_net.specs.Pause as pauses;
+ghost use Rattle.tac_net.specs.Serving.{IsUnaccepted};
+
+use crate::vigil::Vigil;
+use std::io;
 use std::thread::sleep;
 use std::time::{Clock, Duration};
+use tac_worker::End;
 
 /// The first pause, in milliseconds.
 const FIRST: u64 = 50;
@@ -9,28 +16,60 @@ const FIRST: u64 = 50;
 /// The longest pause, in milliseconds.
 const LONGEST: u64 = 1_000;
 
-/// How long the next pause is: each is twice as long as the one before, up to a second.
-#[derive(Clone, Copy)]
-pub(crate) struct Pause {
+/// How long the next pause is, in a row of failures.
+#[derive(Clone, Copy, Debug, PartialEq, Eq)]
+pub struct Pause {
     milliseconds: u64,
 }
 
 impl Pause {
-    /// Pauses that begin with the shortest.
-    pub(crate) fn new() -> Pause {
+    /// The first pause in a row.
+    pub fn first() -> Pause
+        ensures { result ≡ pauses.first }
+    {
         Pause {
             milliseconds: FIRST,
         }
     }
 
-    /// Pauses, and doubles the next pause, up to a second.
-    pub(crate) fn take<C: Clock>(&mut self, clock: &C) {
-        sleep(clock, Duration::from_millis(self.milliseconds));
-        self.milliseconds = self.milliseconds.saturating_mul(2).min(LONGEST);
+    /// The pause after this one: twice as long, and a second at most.
+    pub fn next(self) -> Pause
+        ensures { result ≡ pauses.next self }
+    {
+        Pause {
+            milliseconds: self.milliseconds.saturating_mul(2).min(LONGEST),
+        }
     }
 
-    /// Ends a row of pauses: the next one is the shortest again.
-    pub(crate) fn end(&mut self) {
-        self.milliseconds = FIRST;
+    /// How long it is, in milliseconds.
+    pub fn milliseconds(self) -> u64
+        ensures { result ≡ self.milliseconds }
+    {
+        self.milliseconds
+    }
+}
+
+/// What is done with what came of waiting for a connection: where there is none it is paused, so
+/// that a lasting fault of the system costs no processor; but not where the server stops.
+pub fn accepted<T: Drop, C: Clock>(
+    clock: &C,
+    vigil: &Vigil,
+    pause: &mut Pause,
+    came: io::Result<T>,
+) -> Result<T, End>
+    ensures fault { IfErr result IsUnaccepted }
+    ensures pause { pauses.Goes result pause.old pause.new }
+{
+    match came {
+        Ok(connection) => {
+            *pause = Pause::first();
+            Ok(connection)
+        }
+        Err(_) if vigil.is_stopping() => Err(End::Stopped),
+        Err(_) => {
+            sleep(clock, Duration::from_millis(pause.milliseconds()));
+            *pause = pause.next();
+            Err(End::ReadFault)
+        }
     }
 }

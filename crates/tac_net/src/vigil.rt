@@ -1,11 +1,10 @@
-//! What a server's threads tell one another, and how long they are patient with a device.
+//! What a server's threads tell one another.
+
+ghost use Rattle.std.specs.Prelude.{◌≡◌};
 
 use std::sync::atomic::{AtomicBool, AtomicU64, Ordering};
 use std::thread::sleep;
 use std::time::{Clock, Duration};
-
-/// How long a device may be silent before its first reply, in seconds.
-const FIRST_IDLE: u64 = 10;
 
 /// How long a wait for new workers pauses between two glances, in milliseconds.
 const GLANCE: u64 = 1;
@@ -16,8 +15,8 @@ const MOST_GLANCES: u32 = 2_000;
 /// How patient a server is with its devices, how many of its workers have begun, and whether it is
 /// stopping.
 #[derive(Drop)]
-pub(crate) struct Vigil {
-    idle: u64,
+pub struct Vigil {
+    idle: u32,
     begun: AtomicU64,
     stops: AtomicBool,
 }
@@ -25,25 +24,21 @@ pub(crate) struct Vigil {
 impl Vigil {
     /// The vigil of a server that gives a connection up after so many seconds without a reply;
     /// never, if that is 0.
-    pub(crate) fn new(idle: u32) -> Vigil {
+    pub fn new(idle: u32) -> Vigil
+        ensures { result.idle ≡ idle }
+    {
         Vigil {
-            idle: u64::from(idle),
+            idle,
             begun: AtomicU64::new(0),
             stops: AtomicBool::new(false),
         }
     }
 
-    /// How long a connection may be silent, if not for ever.
-    pub(crate) fn patience(&self, has_replied: bool) -> Option<Duration> {
-        if self.idle == 0 {
-            return None;
-        }
-        let seconds = if has_replied {
-            self.idle
-        } else {
-            self.idle.min(FIRST_IDLE)
-        };
-        Some(Duration::from_secs(seconds))
+    /// After how many seconds without a reply a connection is given up; 0 means never.
+    pub fn idle(&self) -> u32
+        ensures { result ≡ self.now.idle }
+    {
+        self.idle
     }
 
     /// A worker has begun, in a thread of its own.
@@ -76,12 +71,12 @@ impl Vigil {
     }
 
     /// The server is to end.
-    pub(crate) fn stop(&self) {
+    pub fn stop(&self) {
         self.stops.store(true, Ordering::SeqCst);
     }
 
     /// Whether the server is to end.
-    pub(crate) fn is_stopping(&self) -> bool {
+    pub fn is_stopping(&self) -> bool {
         self.stops.load(Ordering::SeqCst)
     }
 }

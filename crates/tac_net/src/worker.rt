@@ -1,10 +1,11 @@
 //! A worker: one seat that serves connections, one after another.
 
 ghost use Rattle.std.specs.Prelude.{◌≡◌, ◌⊎◌, IfErr, true};
+ghost use Rattle.tac_net.specs.Pause as pauses;
 ghost use Rattle.tac_net.specs.Serving as serving;
 
-use crate::line::Line;
-use crate::pause::Pause;
+use crate::line::{Line, limit_waits};
+use crate::pause::{Pause, accepted};
 use crate::vigil::Vigil;
 use basics::Bytes;
 use std::alloc::{AllocError, Global};
@@ -27,30 +28,20 @@ fn goes_on(end: End) -> bool
     }
 }
 
-// Waits for a connection. Where none can be accepted it pauses, so that a lasting fault of the
-// system costs no processor.
+// Waits for a connection. Where none can be accepted it pauses.
 fn accept<C: Clock>(
     clock: &C,
     listener: &TcpListener,
     vigil: &Vigil,
     pause: &mut Pause,
 ) -> Result<(TcpStream, SocketAddr), End>
-    ensures { IfErr result serving.IsUnaccepted }
+    ensures fault { IfErr result serving.IsUnaccepted }
+    ensures pause { pauses.Goes result pause.old pause.new }
 {
     if vigil.is_stopping() {
         return Err(End::Stopped);
     }
-    match listener.accept() {
-        Ok(accepted) => {
-            pause.end();
-            Ok(accepted)
-        }
-        Err(_) if vigil.is_stopping() => Err(End::Stopped),
-        Err(_) => {
-            pause.take(clock);
-            Err(End::ReadFault)
-        }
-    }
+    accepted(clock, vigil, pause, listener.accept())
 }
 
 // How a device is named in a log: by its address and its port.
@@ -66,7 +57,7 @@ fn serve_line<'a, R: Wait + Clock, D: Desk, G: Gate>(
     key: &Key,
     seat: Seat,
     gate: &G,
-    line: &'a Line<'a, R>,
+    line: &'a Line<'a, &'a TcpStream, R>,
 ) -> (Seat, End)
     ensures { serving.Connects key.now seat result.1 result.0 }
 {
@@ -87,7 +78,7 @@ fn serve_audited<'a, R, D: Desk, G: Gate, L: Log>(
     key: &Key,
     seat: Seat,
     gate: &G,
-    audited: &Audited<'a, &'a Line<'a, R>, R, L>,
+    audited: &Audited<'a, &'a Line<'a, &'a TcpStream, R>, R, L>,
 ) -> (Seat, End)
 where
     R: Wait + Clock + AllocGlobal + Eprint + LogFiles,
@@ -121,9 +112,10 @@ where
     R: Wait + Clock + AllocGlobal + Eprint + LogFiles,
     ensures { serving.Connects key.now seat result.1 result.0 }
 {
-    let Ok(line) = Line::new(stream, rt, vigil) else {
+    if let Err(_) = limit_waits(stream) {
         return (seat, End::ReadFault);
-    };
+    }
+    let line = Line::new(stream, rt, vigil);
     if !log.is_kept() {
         return serve_line(rt, hall, key, seat, gate, &line);
     }
@@ -179,7 +171,7 @@ where
     vigil.begin();
     let mut seat = seat;
     let mut end = End::Finished;
-    let mut pause = Pause::new();
+    let mut pause = Pause::first();
     'connections: for _ in 0..connections {
         let (next, last) = serve_one(rt, listener, hall, key, seat, gate, vigil, log, &mut pause);
         seat = next;

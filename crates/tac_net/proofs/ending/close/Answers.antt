@@ -11,4 +11,4 @@ returns-in-Ok g c =
     let shed = c.in_ok-add_all.ensures c.if-not-branch.false [] (rw c.requires tt) in
     let told = c.in-Ok.ensures in
     let rotated : AreOf c.args.chain.now.logs 0 c.args.console.rotations = search rules in
-    (settled c.args.hall c.args.console.rotations c.args.chain.now.logs c.in-Ok.field-0.log.items _ wholes _ rotated shed told.legal told.within (told.views wholes shed) told.theirs, refl)
+    (settled c.args.hall c.args.console.rotations c.args.chain.now.logs c.in-Ok.field-0.log.items _ wholes _ rotated shed told.legal told.within (told.views wholes shed) told.theirs told.there, refl)

@@ -36,11 +36,11 @@ returns-in_err-operated-clause-runs g c =
     elim c.match-served-2.branch [
       | in-Ok-served w ↦ rw (p.1, p.2, w.output-is)
           (ran c.args.settings.now c.args.hall c.in-Ok-seats_of.seats.items c.in-Ok.console ended.0 (Err c.in_err-operated.field-0.0)
-          _ _ _ attended.announced _ attended.announces c.in-Ok-seats_of.ensures.count c.in-Ok-seats_of.ensures.fresh c.in-Ok.ensures.fresh.2 operates
+          _ _ _ attended.announced _ attended.announces c.in-Ok-seats_of.ensures.count c.in-Ok-seats_of.ensures.fresh c.in-Ok.ensures.fresh operates
           w.in-Ok-served.served.items w.close-closed.result _ (rw w.in-Ok-served.is at both.ensures.served) w.close-closed.ensures)
       | in-Err-served w ↦ rw (p.1, p.2, w.output-is)
           (ran_out c.args.settings.now c.args.hall c.in-Ok-seats_of.seats.items c.in-Ok.console ended.0 (Err c.in_err-operated.field-0.0)
-          _ _ _ attended.announced _ attended.announces c.in-Ok-seats_of.ensures.count c.in-Ok-seats_of.ensures.fresh c.in-Ok.ensures.fresh.2 operates)
+          _ _ _ attended.announced _ attended.announces c.in-Ok-seats_of.ensures.count c.in-Ok-seats_of.ensures.fresh c.in-Ok.ensures.fresh operates)
     ]
 
 pub returns-clause-runs : goal.returns-clause-runs
@@ -52,9 +52,9 @@ returns-clause-runs g c =
     elim c.match-served-2.branch [
       | in-Ok-served w ↦ rw (w.closed-is, w.output-is)
           (ran c.args.settings.now c.args.hall c.in-Ok-seats_of.seats.items c.in-Ok.console ended.0 (Ok c.in_ok-operated.field-0)
-          _ _ _ attended.announced _ attended.announces c.in-Ok-seats_of.ensures.count c.in-Ok-seats_of.ensures.fresh c.in-Ok.ensures.fresh.2 operates
+          _ _ _ attended.announced _ attended.announces c.in-Ok-seats_of.ensures.count c.in-Ok-seats_of.ensures.fresh c.in-Ok.ensures.fresh operates
           w.in-Ok-served.served.items w.close-closed.result _ (rw w.in-Ok-served.is at both.ensures.served) w.close-closed.ensures)
       | in-Err-served w ↦ rw (w.closed-is, w.output-is)
           (ran_out c.args.settings.now c.args.hall c.in-Ok-seats_of.seats.items c.in-Ok.console ended.0 (Ok c.in_ok-operated.field-0)
-          _ _ _ attended.announced _ attended.announces c.in-Ok-seats_of.ensures.count c.in-Ok-seats_of.ensures.fresh c.in-Ok.ensures.fresh.2 operates)
+          _ _ _ attended.announced _ attended.announces c.in-Ok-seats_of.ensures.count c.in-Ok-seats_of.ensures.fresh c.in-Ok.ensures.fresh operates)
     ]
