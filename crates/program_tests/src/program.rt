@@ -4,5 +4,7 @@
 mod devices;
 mod fake;
 mod help;
+mod host;
+mod logs;
 mod reviews;
 mod running;

@@ -3,11 +3,9 @@
 
 use crate::program::fake::Fake;
 use std::alloc::Global;
-use std::env::temp_dir;
-use std::fs;
 use std::io::{self, ErrorKind, Read, Write};
 use std::net::{Ipv4Addr, Net, SocketAddr, TcpListener, TcpStream};
-use std::process::{self, ExitCode};
+use std::process::ExitCode;
 use std::sync::Wait;
 use std::sync::atomic::{AtomicBool, Ordering};
 use std::test::Fail;
@@ -15,6 +13,9 @@ use std::thread::{Threads, join, sleep};
 use std::time::{Clock, Duration, Instant};
 use tac_journal::LogFiles;
 use tac_program::run;
+
+/// The policy of these servers.
+pub(crate) const POLICY: &str = "group ops\npermit show .*\nuser bob in ops\n";
 
 // Bob asks for `show version`, on a connection of its own.
 const ASK: &str =
@@ -35,8 +36,6 @@ const LOGIN: &str = "c0010100000000010000000cd0cc6454bd5ba688b08e66a7";
 
 // The question for the name, after which the connection stays open.
 const NAME_WANTED: &str = "c00102000000000100000010d049912c37db4f2b7d26db3c07a2abf5";
-
-const POLICY: &str = "group ops\npermit show .*\nuser bob in ops\n";
 
 /// What devices do at the server.
 #[derive(Clone, Copy, Debug, PartialEq, Eq)]
@@ -63,8 +62,8 @@ fn decoded(alloc: Global, digits: &str) -> io::Result<Vec<u8>> {
     }
 }
 
-// A connection to the server, as soon as it listens.
-fn connect<R>(rt: &R, address: SocketAddr) -> io::Result<TcpStream>
+/// A connection to the server, as soon as it listens.
+pub(crate) fn connect<R>(rt: &R, address: SocketAddr) -> io::Result<TcpStream>
 where
     R: Clock + Net<Listener = TcpListener, Stream = TcpStream>,
 {
@@ -78,8 +77,13 @@ where
     Err(io::Error::from(ErrorKind::TimedOut))
 }
 
-// Whether this is answered so. Nothing more is read.
-fn is_answered(alloc: Global, stream: &TcpStream, sent: &str, wanted: &str) -> io::Result<bool> {
+/// Whether this is answered so. Nothing more is read.
+pub(crate) fn is_answered(
+    alloc: Global,
+    stream: &TcpStream,
+    sent: &str,
+    wanted: &str,
+) -> io::Result<bool> {
     let sent = decoded(alloc, sent)?;
     let wanted = decoded(alloc, wanted)?;
     let mut answer = vec![in alloc; 0; wanted.len()]?;
@@ -211,7 +215,10 @@ impl Visit {
     }
 }
 
-fn free_port<R: Net<Listener = TcpListener, Stream = TcpStream>>(rt: &R) -> Result<u16, Fail> {
+pub(crate) fn free_port<R>(rt: &R) -> Result<u16, Fail>
+where
+    R: Net<Listener = TcpListener, Stream = TcpStream>,
+{
     let listener = TcpListener::bind(rt, "0.0.0.0:0")?;
     Ok(listener.local_addr()?.port())
 }
@@ -226,6 +233,7 @@ fn visit_it<R>(
 ) -> (bool, ExitCode)
 where
     R: Threads + Wait + Clock + Sync + AllocGlobal + LogFiles + Eprint,
+    R::LogFile: Send,
     R: Net<Listener = TcpListener, Stream = TcpStream>,
 {
     join(
@@ -251,6 +259,7 @@ fn serves<R>(
 ) -> bool
 where
     R: Threads + Wait + Clock + Sync + AllocGlobal + LogFiles + Eprint,
+    R::LogFile: Send,
     R: Net<Listener = TcpListener, Stream = TcpStream>,
 {
     let is_over = AtomicBool::new(false);
@@ -271,6 +280,7 @@ fn operated<R>(
 ) -> Result<(), Fail>
 where
     R: Threads + Wait + Clock + Sync + AllocGlobal + LogFiles + Eprint,
+    R::LogFile: Send,
     R: Net<Listener = TcpListener, Stream = TcpStream>,
 {
     let port = address.port();
@@ -286,6 +296,7 @@ where
 fn visited<R>(rt: &R, options: &str, host: [u8; 4], visit: Visit) -> Result<(), Fail>
 where
     R: Threads + Wait + Clock + Sync + AllocGlobal + LogFiles + Eprint,
+    R::LogFile: Send,
     R: Net<Listener = TcpListener, Stream = TcpStream>,
 {
     let port = free_port(rt)?;
@@ -332,28 +343,6 @@ fn a_log_that_is_put_away(rt: HostRuntime) -> Result<(), Fail> {
 fn a_silent_device_is_given_up(rt: HostRuntime) -> Result<(), Fail> {
     let options = "--idle 1 --workers 1";
     visited(&rt, options, HERE, Visit::AfterASilentOne)
-}
-
-// Each request has a line in the file, and so has what is typed.
-#[test]
-fn lines_in_a_log(rt: HostRuntime) -> Result<(), Fail> {
-    let (folder, id) = (temp_dir(&rt)?, process::id(rt.process()));
-    let path = format!(in rt.alloc(); "{}/tacd-{id}-lines.log", folder.as_str())?;
-    // where a run has failed before, its file may be there
-    let _ = fs::remove_file(&rt, path.as_str());
-    let options = format!(in rt.alloc(); "--sync --log {path} --workers 1")?;
-    visited(&rt, options.as_str(), HERE, Visit::TenTimes)?;
-    let text = fs::read_to_string(&rt, path.as_str())?;
-    fs::remove_file(&rt, path.as_str())?;
-    let permitted = "\"line\":\"show version\",\"status\":\"PASS_ADD\",\"text\":\"\"}";
-    let told = text
-        .lines()
-        .filter(|line| line.ends_with(permitted))
-        .count();
-    assert_eq!(rt; told, 10);
-    assert_eq!(rt; text.lines().count(), 11);
-    assert!(rt; text.ends_with(",\"console\":\"quit\",\"answer\":[]}\n"));
-    Ok(())
 }
 
 #[test]

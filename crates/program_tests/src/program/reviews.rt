@@ -40,6 +40,7 @@ where
         + LogFiles
         + Eprint
         + Net<Listener = TcpListener, Stream = TcpStream>,
+    R::LogFile: Send,
 {
     let fake = Fake::new(rt.alloc(), words, policy, input, true);
     run_ends(rt, &fake, status, printed, complained);
@@ -57,6 +58,7 @@ where
         + LogFiles
         + Eprint
         + Net<Listener = TcpListener, Stream = TcpStream>,
+    R::LogFile: Send,
 {
     ends(rt, words, POLICY, "", status, printed, "");
 }
@@ -73,6 +75,7 @@ where
         + LogFiles
         + Eprint
         + Net<Listener = TcpListener, Stream = TcpStream>,
+    R::LogFile: Send,
 {
     ends(rt, words, POLICY, "", status, "", complained);
 }

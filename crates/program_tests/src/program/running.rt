@@ -36,6 +36,7 @@ where
         + LogFiles
         + Eprint
         + Net<Listener = TcpListener, Stream = TcpStream>,
+    R::LogFile: Send,
 {
     let words = fake.words;
     assert_eq!(rt; run(fake, rt), ExitCode::from(status), "by {words:?}");
@@ -63,6 +64,7 @@ where
         + LogFiles
         + Eprint
         + Net<Listener = TcpListener, Stream = TcpStream>,
+    R::LogFile: Send,
 {
     let fake = Fake::new(rt.alloc(), words, input, input, takes_output);
     run_ends(rt, &fake, status, printed, complained);
@@ -80,6 +82,7 @@ where
         + LogFiles
         + Eprint
         + Net<Listener = TcpListener, Stream = TcpStream>,
+    R::LogFile: Send,
 {
     ends(rt, "tacd check policy", policy, true, 0, printed, "");
 }
@@ -99,6 +102,7 @@ where
         + LogFiles
         + Eprint
         + Net<Listener = TcpListener, Stream = TcpStream>,
+    R::LogFile: Send,
 {
     let words = "tacd serve --port 1 --key k policy";
     for words in ["tacd check policy", words] {
@@ -214,6 +218,7 @@ where
         + LogFiles
         + Eprint
         + Net<Listener = TcpListener, Stream = TcpStream>,
+    R::LogFile: Send,
 {
     let port = free_port(rt)?;
     let words = format!(in rt.alloc(); "tacd serve --key k --workers 3 policy --port {port}")?;
@@ -436,6 +441,7 @@ where
         + LogFiles
         + Eprint
         + Net<Listener = TcpListener, Stream = TcpStream>,
+    R::LogFile: Send,
 {
     let words = format!(in rt.alloc(); "tacd serve --key k {option} policy")?;
     let value = option.split(' ').last().unwrap_or("");
