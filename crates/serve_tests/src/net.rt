@@ -3,4 +3,5 @@
 mod clients;
 mod consoles;
 mod gates;
+mod patience;
 mod workers;

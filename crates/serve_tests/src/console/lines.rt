@@ -317,3 +317,19 @@ fn sixty_five_edits(rt: HostRuntime) -> Result<(), Fail> {
     )?;
     converses(&rt, 9, talk.as_str(), 5)
 }
+
+// So many times the same line, with its answer.
+fn repeated(alloc: Global, exchange: &str, times: usize) -> Result<String, AllocError> {
+    let mut talk = String::new(alloc);
+    for _ in 0..times {
+        talk.push_str(exchange)?;
+    }
+    Ok(talk)
+}
+
+#[test]
+fn three_hundred_lines(rt: HostRuntime) -> Result<(), Fail> {
+    let exchange = "> why bob show version\npermitted by group ops rule 1\n";
+    let talk = repeated(rt.alloc(), exchange, 300)?;
+    converses(&rt, 301, talk.as_str(), 301)
+}

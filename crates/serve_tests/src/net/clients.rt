@@ -234,18 +234,43 @@ pub(crate) fn visits<R: Net<Listener = TcpListener, Stream = TcpStream> + AllocG
     speaks(rt.alloc(), &device)
 }
 
-// The first client was permitted, and the second one denied.
-fn are_answered(alloc: Global, one: &TcpStream, two: &TcpStream) -> io::Result<bool> {
-    let permission = permission(alloc)?;
-    let denial = sent_as(alloc, DENIED)?;
-    let is_first = is_answered(alloc, one, permission.as_slice())?;
-    let is_second = is_answered(alloc, two, denial.as_slice())?;
-    Ok(is_first && is_second)
+// What the client of this number asks, and what it is answered: one line and the other in turn.
+fn exchange_of(at: usize) -> (&'static str, &'static str) {
+    if at % 2 == 0 {
+        (SHOW, PERMITTED)
+    } else {
+        (RELOAD, DENIED)
+    }
 }
 
-/// Two clients ask, each for another line, and then these seats serve a connection each. Each
-/// client has its own answer.
-pub(crate) fn two_asked<R, G: Gate + Sync>(
+// So many clients that have asked.
+fn all_ask<R: Net<Listener = TcpListener, Stream = TcpStream> + AllocGlobal>(
+    rt: &R,
+    address: SocketAddr,
+    count: usize,
+) -> io::Result<Vec<TcpStream>> {
+    let mut clients = Vec::new(rt.alloc());
+    for at in 0..count {
+        let client = sends(rt, address, exchange_of(at).0)?;
+        clients.push(client)?;
+    }
+    Ok(clients)
+}
+
+// Each client has its own answer.
+fn are_answered(alloc: Global, clients: &[TcpStream]) -> io::Result<bool> {
+    for (at, client) in clients.iter().enumerate() {
+        let wanted = sent_as(alloc, exchange_of(at).1)?;
+        if !is_answered(alloc, client, wanted.as_slice())? {
+            return Ok(false);
+        }
+    }
+    Ok(true)
+}
+
+/// As many clients as there are seats ask, one in two for another line, and then these seats serve
+/// a connection each. Each client has its own answer.
+pub(crate) fn all_asked<R, G: Gate + Sync>(
     rt: &R,
     hall: &Hall<PlainDesk>,
     seats: Vec<Seat>,
@@ -257,11 +282,9 @@ where
 {
     let key = key()?;
     let listener = listen(rt)?;
-    let address = listener.local_addr()?;
-    let one = asks(rt, address)?;
-    let two = sends(rt, address, RELOAD)?;
+    let clients = all_ask(rt, listener.local_addr()?, seats.len())?;
     let served = serve_on(rt, &listener, hall, &key, seats, 1, gate)?;
-    if are_answered(rt.alloc(), &one, &two)? {
+    if are_answered(rt.alloc(), clients.as_slice())? {
         Ok(served)
     } else {
         Err(Fail::from("answered otherwise"))

@@ -1,7 +1,7 @@
 //! Two workers at a gate that lets neither finish before the other has begun. A server that holds
 //! one of them up for the other never opens it.
 
-use crate::net::clients::{hall_of, key, permissions, questions, seats_of, two_asked};
+use crate::net::clients::{all_asked, hall_of, key, permissions, questions, seats_of};
 use std::alloc::{AllocError, Global};
 use std::net::{Net, TcpListener, TcpStream};
 use std::sync::Wait;
@@ -266,7 +266,7 @@ where
     let hall = hall_of(rt, 9)?;
     let seats = seats_of(rt, &hall, 2)?;
     let gate = Holding::new(rt);
-    let served = two_asked(rt, &hall, seats, &gate)?;
+    let served = all_asked(rt, &hall, seats, &gate)?;
     let mut seats = Vec::new(rt.alloc());
     for (seat, end) in served {
         if end != End::ByProtocol {

@@ -1,6 +1,0 @@
-use denote.Param.Send.{sendable}
-use Rattle.std.proofs.Crossing.{crosses}
-use Rattle.serve_tests.proofs.net.workers.two_served.Goals as goal
-
-pub two_asked-requires-sync-G : goal.two_asked-requires-sync-G
-two_asked-requires-sync-G g c κs within = search (crosses, sendable) depth 60 fits 20000
