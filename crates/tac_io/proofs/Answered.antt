@@ -4,7 +4,7 @@ use Rattle.std.specs.Global.{Vec}
 use Rattle.tac_io.specs.declared.reading.InputFault.{InputFault}
 use Rattle.tac_io.specs.declared.answering.AnswerFault.{AnswerFault}
 use Rattle.tac_io.specs.declared.answering.AnswerFault.TheVariants.{ReadFault, TooLong}
-use Rattle.tac_io.specs.declared.answering.AnswerFault.TheVariants.{WriteFault, Memory}
+use Rattle.tac_io.specs.declared.answering.AnswerFault.TheVariants.{WriteFault, Memory, Untold}
 use Rattle.tac_io.specs.Answering.{ComesTo, IsWorked, IsWritten, IsAnswered}
 
 module _ {End : Type 0} (works : List ℕ → List ℕ → End → Type 0) (input before after : Option (List ℕ)) where
@@ -18,6 +18,7 @@ module _ {End : Type 0} (works : List ℕ → List ℕ → End → Type 0) (inpu
   answered (Ok output) (Err WriteFault) worked written = (output.0.items, output.1, worked, written)
   answered (Err fault) (Err WriteFault) worked written = absurd written
   answered answer (Err Memory) worked written = written.1
+  answered answer (Err Untold) worked written = written.1
 
   -- what holds of each output holds of each end
   pub at_end : (P : Type 0) (answer : Result (Vec ℕ × End) InputFault) (result : Result End AnswerFault)

@@ -8,7 +8,7 @@ use Rattle.tac_io.specs.declared.reading.InputFault.{InputFault}
 use Rattle.tac_io.specs.declared.reading.InputFault.TheVariants as inputs
 use Rattle.tac_io.specs.declared.answering.AnswerFault.{AnswerFault}
 use Rattle.tac_io.specs.declared.answering.AnswerFault.TheVariants.{ReadFault, TooLong}
-use Rattle.tac_io.specs.declared.answering.AnswerFault.TheVariants.{WriteFault, Memory}
+use Rattle.tac_io.specs.declared.answering.AnswerFault.TheVariants.{WriteFault, Memory, Untold}
 
 -- the most bytes that an input has
 abbrev pub max_input : ℕ
@@ -42,7 +42,7 @@ IsWorked works input (Err inputs.Failed) = Unit {0}
 IsWorked works input (Err inputs.Memory) = Unit {0}
 
 -- ---- what was written of an answer, and what a fault leaves: nothing, a beginning of the output,
--- or of the line that says Memory
+-- the line that says Memory, or a beginning of that
 
 abbrev pub IsWritten : {End : Type 0} → Option (List ℕ) → Option (List ℕ)
     → Result (Vec ℕ × End) InputFault → Result End AnswerFault → Type 0
@@ -55,7 +55,9 @@ IsWritten before after answer (Err TooLong) =
 IsWritten before after answer (Err WriteFault) =
     IsOkAnd answer (λ output. IsCutOff before after output.0.items)
 IsWritten before after answer (Err Memory) =
-    (answer ≡ Err inputs.Memory) × ((n : ℕ) × Appends before after (take n memory_line))
+    (answer ≡ Err inputs.Memory) × Appends before after memory_line
+IsWritten before after answer (Err Untold) =
+    (answer ≡ Err inputs.Memory) × IsCutOff before after memory_line
 
 -- what was written is the output of the input, and the end is its end
 abbrev pub IsAnswered : {End : Type 0} → (List ℕ → List ℕ → End → Type 0) → Option (List ℕ)
@@ -67,5 +69,5 @@ IsAnswered works input before after (Err TooLong) = IsOver input × Keeps before
 IsAnswered {End} works input before after (Err WriteFault) =
     (output : List ℕ) × (end : End) × ComesTo works input output end
     × IsCutOff before after output
-IsAnswered works input before after (Err Memory) =
-    (n : ℕ) × Appends before after (take n memory_line)
+IsAnswered works input before after (Err Memory) = Appends before after memory_line
+IsAnswered works input before after (Err Untold) = IsCutOff before after memory_line

@@ -22,9 +22,12 @@ pub enum AnswerFault {
     /// The output could not be written whole.
     #[error("the output could not be written")]
     WriteFault,
-    /// Memory ran out.
+    /// Memory ran out, and that was written.
     #[error("memory ran out")]
     Memory,
+    /// Memory ran out, and that could not be written whole.
+    #[error("memory ran out")]
+    Untold,
 }
 
 /// The line that is written where memory ran out.
@@ -49,8 +52,11 @@ pub fn write_answer<W: Write, E: Drop>(
         Err(InputFault::Failed) => Err(AnswerFault::ReadFault),
         Err(InputFault::TooLong) => Err(AnswerFault::TooLong),
         Err(InputFault::Memory) => {
-            let (_, _) = send(writer, MEMORY_LINE);
-            Err(AnswerFault::Memory)
+            let (_, sent) = send(writer, MEMORY_LINE);
+            match sent {
+                Ok(()) => Err(AnswerFault::Memory),
+                Err(_) => Err(AnswerFault::Untold),
+            }
         }
     }
 }

@@ -18,6 +18,7 @@ use Rattle.tac_program.specs.declared.status.Status.TheVariants.{Differs}
 -- out of memory is told apart from all else that keeps an input from being answered
 abbrev pub status_of : AnswerFault → Status
 status_of answers.Memory = OutOfMemory
+status_of answers.Untold = OutOfMemory
 status_of answers.ReadFault = Failed
 status_of answers.TooLong = Failed
 status_of answers.WriteFault = Failed

@@ -7,7 +7,9 @@ use tac_io::AnswerFault;
 pub(crate) fn complain<R: Eprint>(rt: &R, path: &str, fault: AnswerFault) {
     let _ = match fault {
         AnswerFault::ReadFault | AnswerFault::TooLong => eprintln!(rt; "tacd: {path}: {fault}"),
-        AnswerFault::WriteFault | AnswerFault::Memory => eprintln!(rt; "tacd: {fault}"),
+        AnswerFault::WriteFault | AnswerFault::Memory | AnswerFault::Untold => {
+            eprintln!(rt; "tacd: {fault}")
+        }
     };
 }
 

@@ -55,7 +55,7 @@ impl Status {
         ensures { result ≡ status_of fault }
     {
         match fault {
-            AnswerFault::Memory => Status::OutOfMemory,
+            AnswerFault::Memory | AnswerFault::Untold => Status::OutOfMemory,
             AnswerFault::ReadFault | AnswerFault::TooLong | AnswerFault::WriteFault => {
                 Status::Failed
             }

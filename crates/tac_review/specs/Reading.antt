@@ -2,11 +2,11 @@
 -- that is written.
 use Rattle.std.specs.Prelude.{ℕ, List, take, Option, Result, Ok, Err}
 use Rattle.std.specs.Io.KnownBytes.{Appends, Keeps}
-use Rattle.tac_io.specs.Answering.{ComesTo, IsAnswered, IsWritten, IsOver, memory_line}
+use Rattle.tac_io.specs.Answering.{ComesTo, IsAnswered, IsWritten, IsOver, IsCutOff, memory_line}
 use Rattle.tac_io.specs.declared.reading.InputFault.{InputFault}
 use Rattle.tac_io.specs.declared.answering.AnswerFault.{AnswerFault}
 use Rattle.tac_io.specs.declared.answering.AnswerFault.TheVariants.{ReadFault, TooLong}
-use Rattle.tac_io.specs.declared.answering.AnswerFault.TheVariants.{WriteFault, Memory}
+use Rattle.tac_io.specs.declared.answering.AnswerFault.TheVariants.{WriteFault, Memory, Untold}
 use Rattle.tac_review.specs.declared.task.Input.{Input}
 use Rattle.tac_review.specs.declared.task.Input.TheVariants.{First, Second}
 use Rattle.tac_review.specs.declared.task.ReviewEnd.{ReviewEnd}
@@ -31,7 +31,8 @@ abbrev pub IsUnread : Option (List ℕ) → Option (List ℕ) → Option (List �
 IsUnread first before after ReadFault = Keeps before after
 IsUnread first before after TooLong = IsOver first × Keeps before after
 IsUnread first before after WriteFault = ⊥
-IsUnread first before after Memory = (n : ℕ) × Appends before after (take n memory_line)
+IsUnread first before after Memory = Appends before after memory_line
+IsUnread first before after Untold = IsCutOff before after memory_line
 
 abbrev pub IsFaulty : Wanted → Option (List ℕ) → Option (List ℕ) → Option (List ℕ)
     → Option (List ℕ) → Input → AnswerFault → Type 0

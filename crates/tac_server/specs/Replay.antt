@@ -15,6 +15,7 @@ fault_by answers.ReadFault = ReadFault
 fault_by answers.TooLong = ReadFault
 fault_by answers.WriteFault = WriteFault
 fault_by answers.Memory = Memory
+fault_by answers.Untold = Memory
 
 abbrev pub replay_end : Result ReplayEnd AnswerFault → Result ReplayEnd ReplayFault
 replay_end (Ok end) = Ok end

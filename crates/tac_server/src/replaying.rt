@@ -34,7 +34,7 @@ pub enum ReplayFault {
     /// The output could not be written whole.
     #[error("the output could not be written")]
     WriteFault,
-    /// Memory ran out.
+    /// Memory ran out. The line that says so was written, or as much of it as the writer took.
     #[error("memory ran out")]
     Memory,
 }
@@ -49,7 +49,7 @@ impl From<AnswerFault> for ReplayFault {
         match fault {
             AnswerFault::ReadFault | AnswerFault::TooLong => ReplayFault::ReadFault,
             AnswerFault::WriteFault => ReplayFault::WriteFault,
-            AnswerFault::Memory => ReplayFault::Memory,
+            AnswerFault::Memory | AnswerFault::Untold => ReplayFault::Memory,
         }
     }
 }

@@ -7,13 +7,18 @@ use std::test::Fail;
 use tac_io::{AnswerFault, InputFault, write_answer};
 
 // Says that memory ran out. Whether so many bytes of the line are taken, with no letter left: what
-// a writer refused isn't tried again.
+// a writer refused isn't tried again. It is told whether the line was written.
 fn is_said(alloc: Global, letters: &str, wanted: usize) -> bool {
     let line = b"fault Memory\n";
     let mut writer = Scripted::new(alloc, letters);
     let answer: Result<(Vec<u8>, u8), InputFault> = Err(InputFault::Memory);
     let told = write_answer(&mut writer, answer);
-    told == Err(AnswerFault::Memory)
+    let fault = if wanted < 13 {
+        AnswerFault::Untold
+    } else {
+        AnswerFault::Memory
+    };
+    told == Err(fault)
         && writer.taken.as_slice() == &line[..wanted.min(13)]
         && writer.letters.is_empty()
 }
