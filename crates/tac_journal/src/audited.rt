@@ -3,6 +3,7 @@
 use crate::entry::Entry;
 use crate::log::{Log, Refused};
 use crate::moment::Moments;
+use crate::opening::LogFiles;
 use crate::telling::{log_told, send_told};
 use basics::{Bytes, Sequence};
 use std::alloc::Global;
@@ -32,7 +33,7 @@ pub struct Audited<'a, S, H, L> {
 
 impl<'a, S: Read + Write + Copy, H, L: Log> Audited<'a, S, H, L>
 where
-    H: Wait + Clock + AllocGlobal + Eprint,
+    H: Wait + Clock + AllocGlobal + Eprint + LogFiles,
 {
     /// The stream of this device, from its beginning.
     pub fn new(
@@ -133,7 +134,7 @@ where
 
 impl<S: Read + Write + Copy, H, L: Log> Read for &Audited<'_, S, H, L>
 where
-    H: Wait + Clock + AllocGlobal + Eprint,
+    H: Wait + Clock + AllocGlobal + Eprint + LogFiles,
 {
     fn read(&mut self, buf: &mut [u8]) -> io::Result<usize> {
         let mut stream = self.stream;
@@ -147,7 +148,7 @@ where
 
 impl<S: Read + Write + Copy, H, L: Log> Write for &Audited<'_, S, H, L>
 where
-    H: Wait + Clock + AllocGlobal + Eprint,
+    H: Wait + Clock + AllocGlobal + Eprint + LogFiles,
 {
     fn write(&mut self, buf: &[u8]) -> io::Result<usize> {
         match self.reply(buf) {

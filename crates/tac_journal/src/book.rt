@@ -4,7 +4,7 @@ use crate::disk::{Disk, Fate};
 use crate::log::Refused;
 use crate::opening::{LogFiles, open};
 use crate::tail::{Tail, Untaken};
-use std::fs::OpenFile;
+use std::fs::File;
 use std::io;
 use std::sync::{Mutex, Wait};
 use std::time::{Clock, Duration, Instant};
@@ -14,8 +14,8 @@ const FRESH: u64 = 500;
 
 /// A file as it is open now.
 #[derive(Drop)]
-pub(crate) struct Book<F> {
-    tail: Tail<F>,
+pub(crate) struct Book {
+    tail: Tail<File>,
     // when it was opened; nothing where no clock said so
     opened: Option<Instant>,
     // how many appends it had taken when it last took none, which was said; nothing where it takes
@@ -25,10 +25,9 @@ pub(crate) struct Book<F> {
     appends: u64,
 }
 
-/// Who opens a file and where, and what of it is on the disk, where its lines count only then.
+/// Where a file is, and what of it is on the disk, where its lines count only then.
 #[derive(Drop)]
-pub(crate) struct Place<'a, O> {
-    pub(crate) files: &'a O,
+pub(crate) struct Place<'a> {
     pub(crate) path: &'a str,
     pub(crate) disk: Option<Disk>,
 }
@@ -44,33 +43,33 @@ fn is_stale<C: Clock>(clock: &C, opened: Option<Instant>) -> bool {
     }
 }
 
-impl<O: LogFiles> Place<'_, O> {
+impl Place<'_> {
     /// Opens the file.
-    pub(crate) fn open<C: Clock>(&self, clock: &C) -> io::Result<Book<O::LogFile>> {
+    pub(crate) fn open<H: Clock + LogFiles>(&self, host: &H) -> io::Result<Book> {
         Ok(Book {
-            tail: open(self.files, self.path)?,
-            opened: Instant::now(clock).ok(),
+            tail: open(host, self.path)?,
+            opened: Instant::now(host).ok(),
             complained: None,
             appends: 0,
         })
     }
 
     // Sends what a file took to the disk before another takes its place.
-    fn leave<H: Wait>(&self, host: &H, book: &Book<O::LogFile>) -> io::Result<()> {
+    fn leave<H: Wait + LogFiles>(&self, host: &H, book: &Book) -> io::Result<()> {
         let Some(disk) = &self.disk else {
             return Ok(());
         };
-        let sent = book.tail.file.sync_data();
+        let sent = host.sync_log(&book.tail.file);
         disk.settle(host, book.appends, sent.is_ok());
         sent
     }
 
     // Opens the file again.
-    fn reopen<H>(&self, host: &H, book: &mut Book<O::LogFile>) -> io::Result<()>
+    fn reopen<H>(&self, host: &H, book: &mut Book) -> io::Result<()>
     where
-        H: Wait + Clock,
+        H: Wait + Clock + LogFiles,
     {
-        let tail = open(self.files, self.path)?;
+        let tail = open(host, self.path)?;
         self.leave(host, book)?;
         book.tail = tail;
         book.opened = Instant::now(host).ok();
@@ -78,9 +77,9 @@ impl<O: LogFiles> Place<'_, O> {
     }
 
     // Appends lines, to the file that is at the path now.
-    fn write<H>(&self, host: &H, book: &mut Book<O::LogFile>, lines: &[u8]) -> Result<(), Untaken>
+    fn write<H>(&self, host: &H, book: &mut Book, lines: &[u8]) -> Result<(), Untaken>
     where
-        H: Wait + Clock,
+        H: Wait + Clock + LogFiles,
     {
         if is_stale(host, book.opened) {
             self.reopen(host, book).map_err(Untaken::Failed)?;
@@ -90,7 +89,7 @@ impl<O: LogFiles> Place<'_, O> {
 
     // Says on standard error that the file takes no lines, once until it takes some again. It
     // doesn't matter whether that can be written.
-    fn complain<H: Eprint>(&self, host: &H, book: &mut Book<O::LogFile>, why: &Untaken) {
+    fn complain<H: Eprint>(&self, host: &H, book: &mut Book, why: &Untaken) {
         if book.complained.is_none() {
             let path = self.path;
             let _ = eprintln!(host;
@@ -102,7 +101,7 @@ impl<O: LogFiles> Place<'_, O> {
 
     // Says that the file takes lines again, where the lines of an append count that came after it
     // last took none.
-    fn relent<H: Eprint>(&self, host: &H, book: &mut Book<O::LogFile>, number: u64) {
+    fn relent<H: Eprint>(&self, host: &H, book: &mut Book, number: u64) {
         let Some(before) = book.complained else {
             return;
         };
@@ -115,14 +114,9 @@ impl<O: LogFiles> Place<'_, O> {
 
     /// Appends lines, and answers the number of the append. The lines count at once, or where the
     /// file is sent to the disk once that is [done](Place::send).
-    pub(crate) fn append<H>(
-        &self,
-        host: &H,
-        book: &mut Book<O::LogFile>,
-        lines: &[u8],
-    ) -> Result<u64, Refused>
+    pub(crate) fn append<H>(&self, host: &H, book: &mut Book, lines: &[u8]) -> Result<u64, Refused>
     where
-        H: Wait + Clock + Eprint,
+        H: Wait + Clock + Eprint + LogFiles,
     {
         match self.write(host, book, lines) {
             Ok(()) => {
@@ -142,15 +136,18 @@ impl<O: LogFiles> Place<'_, O> {
 
     // Sends the file as it is now to the disk. Others append to it meanwhile, and the system tells
     // a fault once: so it may be of their lines too, and none counts that was appended by then.
-    fn send_all<H>(&self, host: &H, disk: &Disk, book: &Mutex<Book<O::LogFile>>)
+    fn send_all<H>(&self, host: &H, disk: &Disk, book: &Mutex<Book>)
     where
-        H: Wait + Eprint,
+        H: Wait + Eprint + LogFiles,
     {
         let (file, appends) = {
             let book = book.lock(host);
             (book.tail.file.try_clone(), book.appends)
         };
-        let sent = file.and_then(|file| file.sync_data());
+        let sent = match file {
+            Ok(file) => host.sync_log(&file),
+            Err(error) => Err(error),
+        };
         let mut book = book.lock(host);
         match sent {
             Ok(()) => {
@@ -170,11 +167,11 @@ impl<O: LogFiles> Place<'_, O> {
         &self,
         host: &H,
         disk: &Disk,
-        book: &Mutex<Book<O::LogFile>>,
+        book: &Mutex<Book>,
         number: u64,
     ) -> Result<(), Refused>
     where
-        H: Wait + Eprint,
+        H: Wait + Eprint + LogFiles,
     {
         let _sending = disk.sending.lock(host);
         if disk.fate(host, number) == Fate::Open {

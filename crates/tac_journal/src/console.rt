@@ -10,6 +10,7 @@ ghost use Rattle.tac_journal.specs.declared.console.Typing.TheVariants.{Coming};
 use crate::entry::{Entry, Unlogged, log_lines};
 use crate::log::{Log, Refused};
 use crate::moment::now;
+use crate::opening::LogFiles;
 use basics::Bytes;
 use std::alloc::{AllocError, Global};
 use std::cell::RefCell;
@@ -102,7 +103,7 @@ pub struct AuditedConsole<'a, H, L> {
 
 impl<'a, H, L: Log> AuditedConsole<'a, H, L>
 where
-    H: Wait + Clock + AllocGlobal + Eprint,
+    H: Wait + Clock + AllocGlobal + Eprint + LogFiles,
 {
     /// A console at which nothing was typed.
     pub fn new(host: &'a H, log: &'a L) -> AuditedConsole<'a, H, L> {
@@ -175,7 +176,7 @@ pub struct AuditedInput<'a, H, L, I> {
 
 impl<H, L: Log, I: Read> Read for AuditedInput<'_, H, L, I>
 where
-    H: Wait + Clock + AllocGlobal + Eprint,
+    H: Wait + Clock + AllocGlobal + Eprint + LogFiles,
 {
     ghost remaining = { λ reader. I.remaining reader.input };
 
@@ -201,7 +202,7 @@ pub struct AuditedOutput<'a, H, L, O> {
 
 impl<H, L: Log, O: Write> Write for AuditedOutput<'_, H, L, O>
 where
-    H: Wait + Clock + AllocGlobal + Eprint,
+    H: Wait + Clock + AllocGlobal + Eprint + LogFiles,
 {
     ghost contents = { λ writer. O.contents writer.output };
 

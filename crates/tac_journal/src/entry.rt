@@ -4,6 +4,7 @@ ghost use Rattle.std.specs.Prelude.{◌≡◌, ℕ, List, IfOk};
 ghost use Rattle.tac_journal.specs.Logged.{IsLogged};
 
 use crate::log::{Log, Refused};
+use crate::opening::LogFiles;
 use crate::tail::write_once;
 use std::alloc::AllocError;
 use std::io::{self, ErrorKind, Write};
@@ -18,7 +19,10 @@ pub(crate) struct Entry<'a, H, L> {
     pub(crate) log: &'a L,
 }
 
-impl<H: Wait + Clock + Eprint, L: Log> Write for Entry<'_, H, L> {
+impl<H, L: Log> Write for Entry<'_, H, L>
+where
+    H: Wait + Clock + Eprint + LogFiles,
+{
     fn write(&mut self, buf: &[u8]) -> io::Result<usize> {
         match self.log.append(self.host, buf) {
             Ok(()) => Ok(buf.len()),

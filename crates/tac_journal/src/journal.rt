@@ -13,24 +13,22 @@ use std::time::Clock;
 /// Twice a second at most it is opened again by its path, and where that fails, or no clock can be
 /// read, at each append. So where it was renamed, lines go to a new file within a second.
 #[derive(Drop)]
-pub struct Journal<'a, O: LogFiles> {
-    place: Place<'a, O>,
-    book: Mutex<Book<O::LogFile>>,
+pub struct Journal<'a> {
+    place: Place<'a>,
+    book: Mutex<Book>,
 }
 
-impl<'a, O: LogFiles> Journal<'a, O> {
+impl<'a> Journal<'a> {
     /// Opens the file at a path, and makes it where there is none. Lines count once the file took
     /// them; or once they are on the disk, where it syncs. The error is the system's, or that it is
     /// no regular file.
-    pub fn open<C: Clock>(
-        clock: &C,
-        files: &'a O,
-        path: &'a str,
-        syncs: bool,
-    ) -> io::Result<Journal<'a, O>> {
+    pub fn open<H>(host: &H, path: &'a str, syncs: bool) -> io::Result<Journal<'a>>
+    where
+        H: Clock + LogFiles,
+    {
         let disk = if syncs { Some(Disk::new()) } else { None };
-        let place = Place { files, path, disk };
-        let book = place.open(clock)?;
+        let place = Place { path, disk };
+        let book = place.open(host)?;
         Ok(Journal {
             place,
             book: Mutex::new(book),
@@ -38,14 +36,14 @@ impl<'a, O: LogFiles> Journal<'a, O> {
     }
 }
 
-impl<O: LogFiles> Log for Journal<'_, O> {
+impl Log for Journal<'_> {
     fn is_kept(&self) -> bool {
         true
     }
 
     fn append<H>(&self, host: &H, lines: &[u8]) -> Result<(), Refused>
     where
-        H: Wait + Clock + Eprint,
+        H: Wait + Clock + Eprint + LogFiles,
     {
         if lines.is_empty() {
             return Ok(());

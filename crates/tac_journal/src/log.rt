@@ -1,5 +1,6 @@
 //! What takes the lines of an auditor.
 
+use crate::opening::LogFiles;
 use std::alloc::{AllocError, AllocFailed};
 use std::sync::Wait;
 use std::time::Clock;
@@ -27,10 +28,11 @@ pub trait Log {
     fn is_kept(&self) -> bool;
 
     /// Appends these lines, each with its LF, at once: no line of another stands between them. It
-    /// may wait for those who append meanwhile. The clock and standard error are the host's.
+    /// may wait for those who append meanwhile. The file, the clock and standard error are the
+    /// host's.
     fn append<H>(&self, host: &H, lines: &[u8]) -> Result<(), Refused>
     where
-        H: Wait + Clock + Eprint;
+        H: Wait + Clock + Eprint + LogFiles;
 }
 
 /// No log: it takes all lines, and keeps none.
@@ -44,7 +46,7 @@ impl Log for Nowhere {
 
     fn append<H>(&self, _host: &H, _lines: &[u8]) -> Result<(), Refused>
     where
-        H: Wait + Clock + Eprint,
+        H: Wait + Clock + Eprint + LogFiles,
     {
         Ok(())
     }
@@ -60,7 +62,7 @@ impl<L: Log> Log for Option<L> {
 
     fn append<H>(&self, host: &H, lines: &[u8]) -> Result<(), Refused>
     where
-        H: Wait + Clock + Eprint,
+        H: Wait + Clock + Eprint + LogFiles,
     {
         match self {
             Some(log) => log.append(host, lines),

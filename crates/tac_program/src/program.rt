@@ -90,7 +90,6 @@ fn serve_clients<R, H>(rt: &R, host: &H, matches: &ArgMatches<'_>) -> Status
 where
     R: Files + Input + Print + Eprint + AllocGlobal,
     H: Threads + Wait + Clock + Sync + AllocGlobal + Eprint + LogFiles,
-    H::LogFile: Send,
     H: Net<Listener = TcpListener, Stream = TcpStream>,
 {
     let outcome = match Options::read(rt, matches) {
@@ -130,7 +129,6 @@ fn carry_out<R, H>(rt: &R, host: &H, matches: &ArgMatches<'_>) -> Status
 where
     R: Files + Input + Print + Eprint + AllocGlobal,
     H: Threads + Wait + Clock + Sync + AllocGlobal + Eprint + LogFiles,
-    H::LogFile: Send,
     H: Net<Listener = TcpListener, Stream = TcpStream>,
 {
     if let Some(options) = matches.subcommand_matches(SERVE) {
@@ -146,7 +144,6 @@ fn obey<R, H>(rt: &R, host: &H, words: &[String]) -> Status
 where
     R: Files + Input + Print + Eprint + AllocGlobal,
     H: Threads + Wait + Clock + Sync + AllocGlobal + Eprint + LogFiles,
-    H::LogFile: Send,
     H: Net<Listener = TcpListener, Stream = TcpStream>,
 {
     match parse(rt.alloc(), words) {
@@ -165,7 +162,6 @@ pub fn run<R, H>(rt: &R, host: &H) -> ExitCode
 where
     R: Env + Files + Input + Print + Eprint + AllocGlobal,
     H: Threads + Wait + Clock + Sync + AllocGlobal + Eprint + LogFiles,
-    H::LogFile: Send,
     H: Net<Listener = TcpListener, Stream = TcpStream>,
 {
     let status = match words_of(rt) {

@@ -61,15 +61,15 @@ fn hall_of<R: Eprint + AllocGlobal>(rt: &R, desk: LiveDesk) -> Result<Hall<LiveD
 // The file that takes the lines of an auditor.
 fn journal_at<'a, R: Eprint, H>(
     rt: &R,
-    host: &'a H,
+    host: &H,
     path: &'a str,
     syncs: bool,
-) -> Result<Journal<'a, H>, Status>
+) -> Result<Journal<'a>, Status>
 where
     H: Clock + LogFiles,
     ensures { IfErr result (λ status. (status ≡ Status.OutOfMemory) ⊎ (status ≡ Status.Failed)) }
 {
-    match Journal::open(host, host, path, syncs) {
+    match Journal::open(host, path, syncs) {
         Ok(journal) => Ok(journal),
         Err(error) => {
             let _ = eprintln!(rt; "tacd: {path}: {error}");
@@ -81,9 +81,9 @@ where
 // The same, where one is asked for.
 fn journal_of<'a, R: Eprint, H>(
     rt: &R,
-    host: &'a H,
+    host: &H,
     options: &Options<'a>,
-) -> Result<Option<Journal<'a, H>>, Status>
+) -> Result<Option<Journal<'a>>, Status>
 where
     H: Clock + LogFiles,
     ensures { IfErr result (λ status. (status ≡ Status.OutOfMemory) ⊎ (status ≡ Status.Failed)) }
@@ -118,14 +118,13 @@ fn serve_console<R, H, I: Read + Drop>(
     host: &H,
     options: &Options<'_>,
     hall: Hall<LiveDesk>,
-    journal: &Option<Journal<'_, H>>,
+    journal: &Option<Journal<'_>>,
     port: &Port,
     input: I,
 ) -> Result<(), ServeFault>
 where
     R: Print,
     H: Threads + Wait + Clock + Sync + AllocGlobal + Eprint + LogFiles,
-    H::LogFile: Send,
 {
     let console = AuditedConsole::new(host, journal);
     let outcome = serve(
@@ -166,7 +165,6 @@ pub(crate) fn serve_by<R, H>(rt: &R, host: &H, options: &Options<'_>) -> Result<
 where
     R: Files + Input + Print + Eprint + AllocGlobal,
     H: Threads + Wait + Clock + Sync + AllocGlobal + Eprint + LogFiles,
-    H::LogFile: Send,
     H: Net<Listener = TcpListener, Stream = TcpStream>,
 {
     let desk = desk_of_file(rt, options.path)?;

@@ -233,7 +233,6 @@ fn visit_it<R>(
 ) -> (bool, ExitCode)
 where
     R: Threads + Wait + Clock + Sync + AllocGlobal + LogFiles + Eprint,
-    R::LogFile: Send,
     R: Net<Listener = TcpListener, Stream = TcpStream>,
 {
     join(
@@ -259,7 +258,6 @@ fn serves<R>(
 ) -> bool
 where
     R: Threads + Wait + Clock + Sync + AllocGlobal + LogFiles + Eprint,
-    R::LogFile: Send,
     R: Net<Listener = TcpListener, Stream = TcpStream>,
 {
     let is_over = AtomicBool::new(false);
@@ -280,7 +278,6 @@ fn operated<R>(
 ) -> Result<(), Fail>
 where
     R: Threads + Wait + Clock + Sync + AllocGlobal + LogFiles + Eprint,
-    R::LogFile: Send,
     R: Net<Listener = TcpListener, Stream = TcpStream>,
 {
     let port = address.port();
@@ -296,7 +293,6 @@ where
 fn visited<R>(rt: &R, options: &str, host: [u8; 4], visit: Visit) -> Result<(), Fail>
 where
     R: Threads + Wait + Clock + Sync + AllocGlobal + LogFiles + Eprint,
-    R::LogFile: Send,
     R: Net<Listener = TcpListener, Stream = TcpStream>,
 {
     let port = free_port(rt)?;

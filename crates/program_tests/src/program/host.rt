@@ -2,70 +2,14 @@
 
 use std::alloc::Global;
 use std::fmt::Display;
-use std::fs::{Metadata, OpenFile};
-use std::io::{self, Read, Seek, SeekFrom, Write};
+use std::fs::File;
+use std::io;
 use std::net::{Net, SocketAddr, TcpListener, TcpStream};
 use std::sync::Wait;
 use std::sync::atomic::{AtomicU64, Ordering};
 use std::thread::Threads;
 use std::time::{Clock, Duration};
 use tac_journal::LogFiles;
-
-/// The file of a log.
-#[derive(Drop)]
-pub(crate) struct Counted<'a, F> {
-    file: F,
-    syncs: &'a AtomicU64,
-}
-
-impl<F: Read> Read for Counted<'_, F> {
-    fn read(&mut self, buf: &mut [u8]) -> io::Result<usize> {
-        self.file.read(buf)
-    }
-}
-
-impl<F: Write> Write for Counted<'_, F> {
-    fn write(&mut self, buf: &[u8]) -> io::Result<usize> {
-        self.file.write(buf)
-    }
-
-    fn flush(&mut self) -> io::Result<()> {
-        self.file.flush()
-    }
-}
-
-impl<F: Seek> Seek for Counted<'_, F> {
-    fn seek(&mut self, to: SeekFrom) -> io::Result<u64> {
-        self.file.seek(to)
-    }
-}
-
-impl<'a, F: OpenFile> OpenFile for Counted<'a, F> {
-    fn metadata(&self) -> io::Result<Metadata> {
-        self.file.metadata()
-    }
-
-    fn set_len(&self, size: u64) -> io::Result<()> {
-        self.file.set_len(size)
-    }
-
-    fn sync_all(&self) -> io::Result<()> {
-        self.file.sync_all()
-    }
-
-    fn sync_data(&self) -> io::Result<()> {
-        self.syncs.fetch_add(1, Ordering::SeqCst);
-        self.file.sync_data()
-    }
-
-    fn try_clone(&self) -> io::Result<Counted<'a, F>> {
-        let file = self.file.try_clone()?;
-        Ok(Counted {
-            file,
-            syncs: self.syncs,
-        })
-    }
-}
 
 /// A host like this one.
 #[derive(Drop)]
@@ -125,14 +69,13 @@ impl<R: Net<Listener = TcpListener, Stream = TcpStream>> Net for Host<'_, R> {
     }
 }
 
-impl<'a, R: LogFiles> LogFiles for Host<'a, R> {
-    type LogFile = Counted<'a, R::LogFile>;
+impl<R: LogFiles> LogFiles for Host<'_, R> {
+    fn open_log(&self, path: &str) -> io::Result<File> {
+        self.rt.open_log(path)
+    }
 
-    fn open_log(&self, path: &str) -> io::Result<Counted<'a, R::LogFile>> {
-        let file = self.rt.open_log(path)?;
-        Ok(Counted {
-            file,
-            syncs: self.syncs,
-        })
+    fn sync_log(&self, file: &File) -> io::Result<()> {
+        self.syncs.fetch_add(1, Ordering::SeqCst);
+        self.rt.sync_log(file)
     }
 }

@@ -84,7 +84,6 @@ where
 fn served<R>(rt: &R, words: &str, syncs: &AtomicU64, address: SocketAddr) -> ((u64, u64), ExitCode)
 where
     R: Threads + Wait + Clock + Sync + AllocGlobal + LogFiles + Eprint,
-    R::LogFile: Send,
     R: Net<Listener = TcpListener, Stream = TcpStream>,
 {
     let is_over = AtomicBool::new(false);
@@ -125,7 +124,6 @@ fn shown<R: AllocGlobal>(rt: &R, text: &str, ports: (u64, u64)) -> Result<String
 fn logs<R>(rt: &R, path: &str, options: &str, least: u64) -> Result<(), Fail>
 where
     R: Abort + Threads + Wait + Clock + Sync + AllocGlobal + LogFiles + Eprint + Files,
-    R::LogFile: Send,
     R: Net<Listener = TcpListener, Stream = TcpStream>,
 {
     // where a run has failed before, its file may be there

@@ -40,7 +40,6 @@ where
         + LogFiles
         + Eprint
         + Net<Listener = TcpListener, Stream = TcpStream>,
-    R::LogFile: Send,
 {
     let fake = Fake::new(rt.alloc(), words, policy, input, true);
     run_ends(rt, &fake, status, printed, complained);
@@ -58,7 +57,6 @@ where
         + LogFiles
         + Eprint
         + Net<Listener = TcpListener, Stream = TcpStream>,
-    R::LogFile: Send,
 {
     ends(rt, words, POLICY, "", status, printed, "");
 }
@@ -75,7 +73,6 @@ where
         + LogFiles
         + Eprint
         + Net<Listener = TcpListener, Stream = TcpStream>,
-    R::LogFile: Send,
 {
     ends(rt, words, POLICY, "", status, "", complained);
 }

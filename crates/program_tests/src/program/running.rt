@@ -36,7 +36,6 @@ where
         + LogFiles
         + Eprint
         + Net<Listener = TcpListener, Stream = TcpStream>,
-    R::LogFile: Send,
 {
     let words = fake.words;
     assert_eq!(rt; run(fake, rt), ExitCode::from(status), "by {words:?}");
@@ -64,7 +63,6 @@ where
         + LogFiles
         + Eprint
         + Net<Listener = TcpListener, Stream = TcpStream>,
-    R::LogFile: Send,
 {
     let fake = Fake::new(rt.alloc(), words, input, input, takes_output);
     run_ends(rt, &fake, status, printed, complained);
@@ -82,7 +80,6 @@ where
         + LogFiles
         + Eprint
         + Net<Listener = TcpListener, Stream = TcpStream>,
-    R::LogFile: Send,
 {
     ends(rt, "tacd check policy", policy, true, 0, printed, "");
 }
@@ -102,7 +99,6 @@ where
         + LogFiles
         + Eprint
         + Net<Listener = TcpListener, Stream = TcpStream>,
-    R::LogFile: Send,
 {
     let words = "tacd serve --port 1 --key k policy";
     for words in ["tacd check policy", words] {
@@ -218,7 +214,6 @@ where
         + LogFiles
         + Eprint
         + Net<Listener = TcpListener, Stream = TcpStream>,
-    R::LogFile: Send,
 {
     let port = free_port(rt)?;
     let words = format!(in rt.alloc(); "tacd serve --key k --workers 3 policy --port {port}")?;
@@ -441,7 +436,6 @@ where
         + LogFiles
         + Eprint
         + Net<Listener = TcpListener, Stream = TcpStream>,
-    R::LogFile: Send,
 {
     let words = format!(in rt.alloc(); "tacd serve --key k {option} policy")?;
     let value = option.split(' ').last().unwrap_or("");

@@ -70,7 +70,7 @@ impl Log for Refusing {
 
     fn append<H>(&self, _host: &H, lines: &[u8]) -> Result<(), Refused>
     where
-        H: Wait + Clock + Eprint,
+        H: Wait + Clock + Eprint + LogFiles,
     {
         if lines.is_empty() {
             return Ok(());

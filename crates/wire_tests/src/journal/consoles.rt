@@ -8,7 +8,7 @@ use std::process::Abort;
 use std::sync::Wait;
 use std::test::Fail;
 use std::time::Clock;
-use tac_journal::{AuditedConsole, AuditedInput, AuditedOutput, Log, Nowhere, Refused};
+use tac_journal::{AuditedConsole, AuditedInput, AuditedOutput, Log, LogFiles, Nowhere, Refused};
 
 // What a log and an output took, one after another.
 #[derive(Drop)]
@@ -55,7 +55,7 @@ impl Log for Book<'_> {
 
     fn append<H>(&self, _host: &H, lines: &[u8]) -> Result<(), Refused>
     where
-        H: Wait + Clock + Eprint,
+        H: Wait + Clock + Eprint + LogFiles,
     {
         if self.is_full {
             return Err(Refused);
@@ -99,7 +99,7 @@ fn read_line<I: Read>(input: &mut I) -> io::Result<()> {
 
 // Reads these lines at a console, and answers each by the next of these answers, where it has one.
 // What the log and the output took then.
-fn converses<R: Abort + Wait + Clock + AllocGlobal + Eprint>(
+fn converses<R: Abort + Wait + Clock + AllocGlobal + Eprint + LogFiles>(
     rt: &R,
     is_full: bool,
     typed: &str,

@@ -11,8 +11,12 @@ use std::thread::{Threads, join, sleep};
 use std::time::{Clock, Duration};
 use tac_journal::{Journal, Log, LogFiles};
 
-// A path of this name, and of the process with this number alone, at which there is no file.
-fn free_path<R: Env + Files + AllocGlobal>(rt: &R, id: u32, name: &str) -> Result<String, Fail> {
+/// A path of this name, and of the process with this number alone, at which there is no file.
+pub(crate) fn free_path<R: Env + Files + AllocGlobal>(
+    rt: &R,
+    id: u32,
+    name: &str,
+) -> Result<String, Fail> {
     let folder = temp_dir(rt)?;
     let path = format!(in rt.alloc(); "{}/tacd-{id}-{name}", folder.as_str())?;
     let _ = fs::remove_file(rt, path.as_str());
@@ -33,7 +37,7 @@ where
     R: Abort + Wait + Clock + AllocGlobal + Eprint + LogFiles + Files,
 {
     fs::write(rt, path, before)?;
-    let journal = Journal::open(rt, rt, path, false)?;
+    let journal = Journal::open(rt, path, false)?;
     assert!(rt;
         journal.append(rt, lines.as_bytes()).is_ok(),
         "{before:?} {lines:?}"
@@ -55,7 +59,7 @@ fn a_line_that_was_cut_off(rt: HostRuntime) -> Result<(), Fail> {
 }
 
 // The file at a path is renamed, and after a while a line goes to a new one there.
-fn renames<R>(rt: &R, journal: &Journal<'_, R>, path: &str, old: &str) -> Result<(), Fail>
+fn renames<R>(rt: &R, journal: &Journal<'_>, path: &str, old: &str) -> Result<(), Fail>
 where
     R: Abort + Wait + Clock + AllocGlobal + Eprint + LogFiles + Files,
 {
@@ -75,7 +79,7 @@ fn follows<R>(rt: &R, path: &str, old: &str, syncs: bool) -> Result<(), Fail>
 where
     R: Abort + Wait + Clock + AllocGlobal + Eprint + LogFiles + Files,
 {
-    let journal = Journal::open(rt, rt, path, syncs)?;
+    let journal = Journal::open(rt, path, syncs)?;
     renames(rt, &journal, path, old)
 }
 
@@ -101,7 +105,7 @@ const TIMES: usize = 20;
 const ALL: usize = 4 * TIMES * LEN;
 
 // Whether all appends of a thread are taken.
-fn appends<R>(rt: &R, journal: &Journal<'_, R>, lines: &str) -> bool
+fn appends<R>(rt: &R, journal: &Journal<'_>, lines: &str) -> bool
 where
     R: Wait + Clock + Eprint + LogFiles,
 {
@@ -114,10 +118,9 @@ where
 }
 
 // The same of two threads.
-fn both_append<R>(rt: &R, journal: &Journal<'_, R>, one: &str, other: &str) -> bool
+fn both_append<R>(rt: &R, journal: &Journal<'_>, one: &str, other: &str) -> bool
 where
     R: Threads + Wait + Clock + Sync + Eprint + LogFiles,
-    R::LogFile: Send,
 {
     let (one, other) = join(
         rt,
@@ -128,10 +131,9 @@ where
 }
 
 // The same of all four.
-fn all_append<R>(rt: &R, journal: &Journal<'_, R>) -> bool
+fn all_append<R>(rt: &R, journal: &Journal<'_>) -> bool
 where
     R: Threads + Wait + Clock + Sync + Eprint + LogFiles,
-    R::LogFile: Send,
 {
     let [a, b, c, d] = PAIRS;
     let (ours, theirs) = join(
@@ -153,9 +155,8 @@ fn count(file: &[u8], lines: &str) -> usize {
 fn filled<R>(rt: &R, path: &str) -> Result<Vec<u8>, Fail>
 where
     R: Abort + Threads + Wait + Clock + Sync + AllocGlobal + Eprint + LogFiles + Files,
-    R::LogFile: Send,
 {
-    let journal = Journal::open(rt, rt, path, true)?;
+    let journal = Journal::open(rt, path, true)?;
     assert!(rt; all_append(rt, &journal));
     Ok(fs::read(rt, path)?)
 }
@@ -174,7 +175,7 @@ fn lines_of_several_threads(rt: HostRuntime) -> Result<(), Fail> {
 
 // Whether what is at a path is refused so.
 fn is_refused<R: Clock + LogFiles>(rt: &R, path: &str, kind: ErrorKind) -> bool {
-    match Journal::open(rt, rt, path, false) {
+    match Journal::open(rt, path, false) {
         Ok(_) => false,
         Err(error) => error.kind() == kind,
     }

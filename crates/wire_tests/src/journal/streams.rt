@@ -1,19 +1,21 @@
 //! The stream of a device: what time its lines have, and when it is answered where they count only
 //! once they are on the disk.
 
-use crate::journal::host::{Disk, Files, Host};
+use crate::journal::files::free_path;
+use crate::journal::host::Host;
 use basics::Bytes;
 use std::alloc::Global;
 use std::cell::{Cell, RefCell};
 use std::fmt::Write as _;
+use std::fs;
 use std::io::{self, ErrorKind, Read, Write};
-use std::process::Abort;
+use std::process::{self, Abort};
 use std::sync::Wait;
-use std::sync::atomic::Ordering;
+use std::sync::atomic::{AtomicU64, Ordering};
 use std::test::Fail;
 use std::thread::{Threads, join, yield_now};
-use std::time::{Clock, Duration};
-use tac_journal::{Audited, Journal, Log, Refused};
+use std::time::Clock;
+use tac_journal::{Audited, Journal, Log, LogFiles, Refused};
 use tac_wire::{Header, Key, PacketType, pad_in_place};
 
 // A log of which a test reads the lines.
@@ -29,7 +31,7 @@ impl Log for Lines {
 
     fn append<H>(&self, _host: &H, lines: &[u8]) -> Result<(), Refused>
     where
-        H: Wait + Clock + Eprint,
+        H: Wait + Clock + Eprint + LogFiles,
     {
         match self.taken.try_borrow_mut() {
             Ok(mut taken) => Ok(taken.extend_from_slice(lines)?),
@@ -38,28 +40,26 @@ impl Log for Lines {
     }
 }
 
-// How a device was answered.
+// How often a device was answered, and how many turns the disk had had then.
 #[derive(Drop)]
 struct Answers<'a> {
-    disk: &'a Disk,
+    turns: &'a AtomicU64,
     count: Cell<u64>,
-    // how many writes to the log's file weren't on the disk then, at most
-    behind: Cell<u64>,
+    after: Cell<u64>,
 }
 
 impl<'a> Answers<'a> {
-    fn new(disk: &'a Disk) -> Answers<'a> {
+    fn new(turns: &'a AtomicU64) -> Answers<'a> {
         Answers {
-            disk,
+            turns,
             count: Cell::new(0),
-            behind: Cell::new(0),
+            after: Cell::new(0),
         }
     }
 
     fn note(&self) {
-        let behind = self.disk.behind.load(Ordering::SeqCst);
         self.count.set(self.count.get().saturating_add(1));
-        self.behind.set(self.behind.get().max(behind));
+        self.after.set(self.turns.load(Ordering::SeqCst));
     }
 }
 
@@ -123,7 +123,7 @@ fn exchange<'a, R, L: Log>(
     reply: &[u8],
 ) -> io::Result<()>
 where
-    R: Wait + AllocGlobal,
+    R: Wait + AllocGlobal + LogFiles,
 {
     let mut stream = audited;
     let mut chunk = [0; 99];
@@ -142,10 +142,10 @@ fn asks<'a, R, L: Log>(
     key: &'a Key,
     device: Device<'a>,
     reply: &[u8],
-    pause: Option<Duration>,
+    pause: Option<u64>,
 ) -> io::Result<()>
 where
-    R: Wait + AllocGlobal,
+    R: Wait + AllocGlobal + LogFiles,
 {
     let name = Bytes::from_slice(host.alloc(), b"d")?;
     let audited = Audited::new(host, log, key, name, device);
@@ -181,89 +181,80 @@ fn each_line_has_its_time(rt: HostRuntime) -> Result<(), Fail> {
     let lines = Lines {
         taken: RefCell::new(Vec::new(alloc)),
     };
-    let disk = Disk::new();
-    let answers = Answers::new(&disk);
+    let host = Host::at(&rt, 1_709_251_199_999);
+    let answers = Answers::new(&host.turns);
     let device = Device {
         sends: asked.as_slice(),
         answers: &answers,
     };
-    let host = Host::at(&rt, Duration::from_millis(1_709_251_199_999));
-    let pause = Some(Duration::from_millis(1));
-    asks(&host, &lines, &key, device, permitted.as_slice(), pause)?;
+    asks(&host, &lines, &key, device, permitted.as_slice(), Some(1))?;
     match lines.taken.try_borrow() {
         Ok(taken) if times(alloc, taken.as_slice())?.as_str() == TIMES => Ok(()),
         _ => Err(Fail::from("other times")),
     }
 }
 
-// What a device does at a log, and what is so then: how often the file was written and sent to the
-// disk, how many answers the device has, and how many writes weren't on the disk at one of these.
-const SYNCED: &str = "asks: 1 written 1 sent 1 answered 0 behind
-asks: 2 written 2 sent 2 answered 0 behind
-fails: 3 written 3 sent 2 answered 0 behind
-asks: 4 written 4 sent 3 answered 0 behind
-later: 5 written 6 sent 4 answered 0 behind
+// What a device does at a log whose lines are to be on the disk, and then how many turns the disk had,
+// how many answers the device has, and how many turns there were before the last.
+const SYNCED: &str = "asks: 1 turns, 1 answers, the last after 1
+asks: 2 turns, 2 answers, the last after 2
+fails: 3 turns, 2 answers, the last after 2
+asks: 4 turns, 3 answers, the last after 4
+later: 6 turns, 4 answers, the last after 6
+later and fails: 7 turns, 4 answers, the last after 6
+asks: 9 turns, 5 answers, the last after 9
 ";
 
-const UNSYNCED: &str = "asks: 1 written 0 sent 1 answered 1 behind
-asks: 2 written 0 sent 2 answered 2 behind
-later: 3 written 0 sent 3 answered 3 behind
+// The same at another one.
+const UNSYNCED: &str = "asks: 0 turns, 1 answers, the last after 0
+later: 0 turns, 2 answers, the last after 0
 ";
 
-// What a device does: it asks, while the disk fails, or a second later.
-fn begins<R>(host: &Host<'_, R>, disk: &Disk, event: &str) {
-    if event.starts_with("fails") {
-        let turns = disk.turns.load(Ordering::SeqCst);
-        disk.fault.store(turns.saturating_add(1), Ordering::SeqCst);
-    }
+// What a device does: it asks, also a second later, when the file is opened again, or while the disk
+// fails.
+fn begins<R>(host: &Host<'_, R>, event: &str) {
     if event.starts_with("later") {
-        host.pass(Duration::from_secs(1));
+        host.pass(1000);
+    }
+    if event.contains("fails") {
+        let turns = host.turns.load(Ordering::SeqCst);
+        host.fault.store(turns.saturating_add(1), Ordering::SeqCst);
     }
 }
 
 // Adds what is so after an event.
-fn push_state(
-    told: &mut String,
-    event: &str,
-    disk: &Disk,
-    answers: &Answers<'_>,
-) -> Result<(), Fail> {
+fn push_state(told: &mut String, event: &str, answers: &Answers<'_>) -> Result<(), Fail> {
     let name = event.split(':').next().unwrap_or("");
-    let (writes, turns) = (
-        disk.writes.load(Ordering::SeqCst),
-        disk.turns.load(Ordering::SeqCst),
-    );
-    let (count, behind) = (answers.count.get(), answers.behind.get());
+    let turns = answers.turns.load(Ordering::SeqCst);
+    let (count, after) = (answers.count.get(), answers.after.get());
     writeln!(
         told,
-        "{name}: {writes} written {turns} sent {count} answered {behind} behind"
+        "{name}: {turns} turns, {count} answers, the last after {after}"
     )?;
     Ok(())
 }
 
-// Whether all is so as these lines say, after each of their events.
-fn goes<R>(rt: &R, syncs: bool, events: &str) -> Result<(), Fail>
+// All is so as these lines say, after each of their events, at a log in the file at this path.
+fn goes<R>(rt: &R, path: &str, syncs: bool, events: &str) -> Result<(), Fail>
 where
-    R: Abort + Wait + AllocGlobal,
+    R: Abort + Wait + AllocGlobal + LogFiles,
 {
     let key = key()?;
     let asked = packet(rt.alloc(), &key, 1, ASKED)?;
     let permitted = packet(rt.alloc(), &key, 2, PERMITTED)?;
-    let disk = Disk::new();
-    let answers = Answers::new(&disk);
-    let host = Host::at(rt, Duration::from_secs(1));
-    let files = Files { disk: &disk };
-    let journal = Journal::open(&host, &files, "log", syncs)?;
+    let host = Host::at(rt, 0);
+    let answers = Answers::new(&host.turns);
+    let journal = Journal::open(&host, path, syncs)?;
     let device = Device {
         sends: asked.as_slice(),
         answers: &answers,
     };
     let mut told = String::new(rt.alloc());
     for event in events.lines() {
-        begins(&host, &disk, event);
+        begins(&host, event);
         // whether it is answered is noted
         let _ = asks(&host, &journal, &key, device, permitted.as_slice(), None);
-        push_state(&mut told, event, &disk, &answers)?;
+        push_state(&mut told, event, &answers)?;
     }
     assert_eq!(rt; told.as_str(), events);
     Ok(())
@@ -271,22 +262,27 @@ where
 
 #[test]
 fn an_answer_after_its_turn(rt: HostRuntime) -> Result<(), Fail> {
-    goes(&rt, true, SYNCED)?;
-    goes(&rt, false, UNSYNCED)
+    let path = free_path(&rt, process::id(rt.process()), "turns.log")?;
+    goes(&rt, path.as_str(), true, SYNCED)?;
+    goes(&rt, path.as_str(), false, UNSYNCED)?;
+    fs::remove_file(&rt, path.as_str())?;
+    // a host's own turn is one: this device can't be sent to a disk
+    assert!(&rt; rt.sync_log(&rt.open_log("/dev/null")?).is_err());
+    Ok(())
 }
 
 // Whether the lines that two threads append count, where the second begins once the disk has the
 // first one's turn.
-fn both_count<R>(rt: &R, journal: &Journal<'_, Files<'_>>, disk: &Disk) -> (bool, bool)
+fn both_count<R>(rt: &R, turns: &AtomicU64, journal: &Journal<'_>) -> (bool, bool)
 where
-    R: Threads + Wait + Clock + Sync + Eprint,
+    R: Threads + Wait + Clock + Sync + Eprint + LogFiles,
 {
     join(
         rt,
         || -> bool { journal.append(rt, b"1\n").is_ok() },
         || -> bool {
             for _ in 0..u64::MAX {
-                if disk.turns.load(Ordering::SeqCst) > 0 {
+                if turns.load(Ordering::SeqCst) > 0 {
                     break;
                 }
                 yield_now();
@@ -299,12 +295,13 @@ where
 // A turn that fails may have lost what was appended meanwhile, though the next turn goes well.
 #[test]
 fn lost_with_another(rt: HostRuntime) -> Result<(), Fail> {
-    let disk = Disk::new();
-    disk.fault.store(1, Ordering::SeqCst);
-    disk.awaited.store(2, Ordering::SeqCst);
-    let files = Files { disk: &disk };
-    let journal = Journal::open(&rt, &files, "log", true)?;
-    assert_eq!(&rt; both_count(&rt, &journal, &disk), (false, false));
-    assert!(&rt; journal.append(&rt, b"3\n").is_ok());
+    let path = free_path(&rt, process::id(rt.process()), "lost.log")?;
+    let host = Host::at(&rt, 0);
+    host.fault.store(1, Ordering::SeqCst);
+    host.awaited.store(4, Ordering::SeqCst);
+    let journal = Journal::open(&host, path.as_str(), true)?;
+    assert_eq!(&rt; both_count(&host, &host.turns, &journal), (false, false));
+    assert!(&rt; journal.append(&host, b"3\n").is_ok());
+    fs::remove_file(&rt, path.as_str())?;
     Ok(())
 }
