@@ -4,7 +4,7 @@ use pol_text::Policy;
 use std::alloc::{AllocError, Global};
 use std::process::Abort;
 use std::test::Fail;
-use tac_review::{Review, ReviewEnd, ReviewFault, review};
+use tac_review::{Input, Review, ReviewEnd, ReviewFault, review};
 
 // The texts are called `one` and `two`.
 fn run(
@@ -42,6 +42,8 @@ fn push_end(alloc: Global, text: &mut String, end: ReviewEnd) -> Result<(), Allo
             let line = format!(in alloc; "batches {batches}\n")?;
             text.push_str(line.as_str())
         }
+        ReviewEnd::BadPolicy(Input::First) => text.push_str("first refused\n"),
+        ReviewEnd::BadPolicy(Input::Second) => text.push_str("second refused\n"),
         ReviewEnd::Refused => text.push_str("refused\n"),
     }
 }

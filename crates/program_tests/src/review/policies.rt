@@ -87,14 +87,14 @@ fn same(rt: HostRuntime) -> Result<(), Fail> {
 
 // A text that is refused as the old policy, which is judged first.
 fn refused_as_old<R: Abort + AllocGlobal>(rt: &R, text: &str, fault: &str) -> Result<(), Fail> {
-    let printed = format!(in rt.alloc(); "refused\none: {fault}\n")?;
+    let printed = format!(in rt.alloc(); "first refused\none: {fault}\n")?;
     reviews(rt, DIFF, text, OLD, printed.as_str())?;
     reviews(rt, DIFF, text, "user bob\n\nshow\n", printed.as_str())
 }
 
 // A text that is refused as the new policy.
 fn refused_as_new<R: Abort + AllocGlobal>(rt: &R, text: &str, fault: &str) -> Result<(), Fail> {
-    let printed = format!(in rt.alloc(); "refused\ntwo: {fault}\n")?;
+    let printed = format!(in rt.alloc(); "second refused\ntwo: {fault}\n")?;
     reviews(rt, DIFF, OLD, text, printed.as_str())
 }
 
@@ -102,7 +102,7 @@ fn refused_as_new<R: Abort + AllocGlobal>(rt: &R, text: &str, fault: &str) -> Re
 fn refused<R: Abort + AllocGlobal>(rt: &R, text: &str, fault: &str) -> Result<(), Fail> {
     refused_as_old(rt, text, fault)?;
     refused_as_new(rt, text, fault)?;
-    let printed = "refused\none: fault line 1 1 BadLine\n";
+    let printed = "first refused\none: fault line 1 1 BadLine\n";
     reviews(rt, DIFF, "x", text, printed)
 }
 

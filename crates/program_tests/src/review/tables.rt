@@ -72,7 +72,7 @@ fn one_question(rt: HostRuntime) -> Result<(), Fail> {
         WHY,
         "permit x",
         "",
-        "refused\none: fault line 1 4 NoSubject\n",
+        "first refused\none: fault line 1 4 NoSubject\n",
     )
 }
 
@@ -114,7 +114,7 @@ bob ping: permitted by user bob rule 1
         QUESTIONS,
         "x",
         "b/b",
-        "refused\none: fault line 1 1 BadLine\n",
+        "first refused\none: fault line 1 1 BadLine\n",
     )
 }
 
@@ -178,6 +178,6 @@ fn bad_cases(rt: HostRuntime) -> Result<(), Fail> {
         CASES,
         "x",
         "x",
-        "refused\none: fault line 1 1 BadLine\n",
+        "first refused\none: fault line 1 1 BadLine\n",
     )
 }
