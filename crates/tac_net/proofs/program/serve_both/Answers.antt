@@ -11,7 +11,7 @@ use Rattle.tac_hall.specs.contracts.seat.Seat as Seat
 use Rattle.std.proofs.Crossing.{crosses}
 use Rattle.tac_hall.proofs.Crossing.{Seat-send, Hall-sync}
 use Rattle.tac_chain.proofs.Crossing.{Archive-sync}
-use Rattle.tac_net.proofs.Crossing.{Listener-sync, Settings-sync, Vigil-sync}
+use Rattle.tac_net.proofs.Crossing.{Listener-sync, Port-sync, Settings-sync, Vigil-sync}
 use Rattle.tac_worker.proofs.worked.End.TheSendSync as ends
 use Rattle.tac_net.proofs.program.serve_both.Goals as goal
 
@@ -45,7 +45,10 @@ join_mut-requires-send-F g c κs within =
                       (tt, Vigil-sync.shared d.6.now d.6.ref_ptr.0 d.6.ref_ptr.1 _),
                       (
                         (tt, log.shared d.7.now d.7.ref_ptr.0 d.7.ref_ptr.1 _),
-                        tt,
+                        (
+                          (tt, Port-sync.shared d.8.now d.8.ref_ptr.0 d.8.ref_ptr.1 []),
+                          tt,
+                        ),
                       ),
                     ),
                   ),
