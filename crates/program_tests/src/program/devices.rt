@@ -46,6 +46,8 @@ enum Visit {
     TenTimes,
     /// Bob asks on two connections, one after the other.
     Twice,
+    /// Bob asks on a connection that is kept open, and again after a second and a half.
+    AfterAPause,
     /// Bob asks on a connection that is silent afterwards, and asks on another one, where he is
     /// answered within five seconds.
     AfterASilentOne,
@@ -158,6 +160,16 @@ where
     Ok(is_first && is_second)
 }
 
+fn after_a_pause<R>(rt: &R, address: SocketAddr) -> io::Result<bool>
+where
+    R: Clock + AllocGlobal + Net<Listener = TcpListener, Stream = TcpStream>,
+{
+    let stream = connect(rt, address)?;
+    let is_first = is_answered(rt.alloc(), &stream, ASK_AGAIN, PERMITTED_AGAIN)?;
+    sleep(rt, Duration::from_millis(1_500));
+    Ok(is_first && is_answered(rt.alloc(), &stream, ASK_AGAIN, PERMITTED_AGAIN)?)
+}
+
 // Whether bob is permitted, and waits for less than five seconds.
 fn asks_in_time<R>(rt: &R, address: SocketAddr) -> io::Result<bool>
 where
@@ -208,6 +220,7 @@ impl Visit {
             Visit::AtOnce(count) => at_once(rt, address, count),
             Visit::TenTimes => ten_times(rt, address),
             Visit::Twice => twice(rt, address),
+            Visit::AfterAPause => after_a_pause(rt, address),
             Visit::AfterASilentOne => after_a_silent_one(rt, address),
             Visit::EightAndNoMore => eight_and_no_more(rt, address),
         };
@@ -338,7 +351,9 @@ fn a_log_that_is_put_away(rt: HostRuntime) -> Result<(), Fail> {
 #[test]
 fn a_silent_device_is_given_up(rt: HostRuntime) -> Result<(), Fail> {
     let options = "--idle 1 --workers 1";
-    visited(&rt, options, HERE, Visit::AfterASilentOne)
+    visited(&rt, options, HERE, Visit::AfterASilentOne)?;
+    // With 0 it never is.
+    visited(&rt, "--idle 0", HERE, Visit::AfterAPause)
 }
 
 #[test]
