@@ -46,7 +46,7 @@ join_mut-requires-send-F g c κs within =
                       (
                         (tt, log.shared d.7.now d.7.ref_ptr.0 d.7.ref_ptr.1 _),
                         (
-                          (tt, Port-sync.shared d.8.now d.8.ref_ptr.0 d.8.ref_ptr.1 []),
+                          (tt, Port-sync.shared d.8.now d.8.ref_ptr.0 d.8.ref_ptr.1 _),
                           tt,
                         ),
                       ),
