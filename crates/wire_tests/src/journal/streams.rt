@@ -234,6 +234,34 @@ fn push_state(told: &mut String, event: &str, answers: &Answers<'_>) -> Result<(
     Ok(())
 }
 
+// What is so after each event of these lines, at this log, of a device that asks so and is to be
+// answered so.
+fn told<'a, R>(
+    host: &'a Host<'a, R>,
+    journal: &'a Journal<'a>,
+    key: &'a Key,
+    answers: &'a Answers<'a>,
+    asked: &'a [u8],
+    reply: &'a [u8],
+    events: &'a str,
+) -> Result<String, Fail>
+where
+    R: Wait + AllocGlobal + LogFiles,
+{
+    let device = Device {
+        sends: asked,
+        answers,
+    };
+    let mut told = String::new(host.alloc());
+    for event in events.lines() {
+        begins(host, event);
+        // whether it is answered is noted
+        let _ = asks(host, journal, key, device, reply, None);
+        push_state(&mut told, event, answers)?;
+    }
+    Ok(told)
+}
+
 // All is so as these lines say, after each of their events, at a log in the file at this path.
 fn goes<R>(rt: &R, path: &str, syncs: bool, events: &str) -> Result<(), Fail>
 where
@@ -245,18 +273,16 @@ where
     let host = Host::at(rt, 0);
     let answers = Answers::new(&host.turns);
     let journal = Journal::open(&host, path, syncs)?;
-    let device = Device {
-        sends: asked.as_slice(),
-        answers: &answers,
-    };
-    let mut told = String::new(rt.alloc());
-    for event in events.lines() {
-        begins(&host, event);
-        // whether it is answered is noted
-        let _ = asks(&host, &journal, &key, device, permitted.as_slice(), None);
-        push_state(&mut told, event, &answers)?;
-    }
-    assert_eq!(rt; told.as_str(), events);
+    let found = told(
+        &host,
+        &journal,
+        &key,
+        &answers,
+        asked.as_slice(),
+        permitted.as_slice(),
+        events,
+    )?;
+    assert_eq!(rt; found.as_str(), events);
     Ok(())
 }
 
