@@ -1,5 +1,5 @@
 -- With which status the program ends.
-use Rattle.std.specs.Prelude.{Result, Unit, Ok, Err}
+use Rattle.std.specs.Prelude.{Result, Ok, Err}
 use Rattle.tac_io.specs.declared.answering.AnswerFault.{AnswerFault}
 use Rattle.tac_io.specs.declared.answering.AnswerFault.TheVariants as answers
 use Rattle.tac_check.specs.declared.checking.CheckEnd.{CheckEnd}
