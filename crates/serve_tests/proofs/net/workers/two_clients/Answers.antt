@@ -3,4 +3,4 @@ use Rattle.std.proofs.Crossing.{crosses}
 use Rattle.serve_tests.proofs.net.workers.two_clients.Goals as goal
 
 pub all_served-requires-sync-G : goal.all_served-requires-sync-G
-all_served-requires-sync-G g c κs within = search (crosses, sendable) depth 60 fits 20000
+all_served-requires-sync-G g c κs = search (crosses, sendable) depth 60 fits 20000
