@@ -306,35 +306,47 @@ impl OpenFile for FakeFile {
     }
 }
 
+// So many letters come after what the file at a path has.
+fn letters_at(path: &str) -> usize {
+    match path {
+        "long-key" => 65_533,
+        "longer-key" => 65_534,
+        _ => 0,
+    }
+}
+
+impl Fake<'_> {
+    // What the file at a path has.
+    fn bytes_at(&self, path: &str) -> io::Result<&'static [u8]> {
+        match path {
+            "policy" => Ok(self.policy.as_bytes()),
+            "next" => Ok(NEXT.as_bytes()),
+            "cases" => Ok("permit bob show version\ndeny bob reload\n".as_bytes()),
+            "key" => Ok("k \nthe second line\n".as_bytes()),
+            "long-key" | "longer-key" => Ok("k \n".as_bytes()),
+            "other-key" => Ok("key = tundra\n".as_bytes()),
+            "open-key" => Ok("key=tundra".as_bytes()),
+            "open-policy" => Ok("x".as_bytes()),
+            "bad-key" => Ok("tun\tdra\n".as_bytes()),
+            "no-key" | "unreadable" => Ok("".as_bytes()),
+            "no-memory" => Err(io::Error::from(ErrorKind::OutOfMemory)),
+            _ => Err(io::Error::from(ErrorKind::NotFound)),
+        }
+    }
+}
+
 impl Files for Fake<'_> {
     type File = FakeFile;
 
     type Dir = &'static [u8];
 
     fn open_file(&self, _how: &OpenOptions, path: &str) -> io::Result<FakeFile> {
-        let text = match path {
-            "policy" => self.policy,
-            "next" => NEXT,
-            "cases" => "permit bob show version\ndeny bob reload\n",
-            "key" => "k \nthe second line\n",
-            "long-key" | "longer-key" => "k \n",
-            "other-key" => "key = tundra\n",
-            "open-key" => "key=tundra",
-            "open-policy" => "x",
-            "bad-key" => "tun\tdra\n",
-            "no-key" | "unreadable" => "",
-            "no-memory" => return Err(io::Error::from(ErrorKind::OutOfMemory)),
-            _ => return Err(io::Error::from(ErrorKind::NotFound)),
-        };
+        let rest = self.bytes_at(path)?;
         Ok(FakeFile {
             is_unreadable: path == "unreadable",
             is_open_to_others: path.starts_with("open-"),
-            rest: text.as_bytes(),
-            letters: match path {
-                "long-key" => 65_533,
-                "longer-key" => 65_534,
-                _ => 0,
-            },
+            rest,
+            letters: letters_at(path),
         })
     }
 
