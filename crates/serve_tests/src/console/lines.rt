@@ -329,7 +329,7 @@ fn repeated(alloc: Global, exchange: &str, times: usize) -> Result<String, Alloc
 
 #[test]
 fn three_hundred_lines(rt: HostRuntime) -> Result<(), Fail> {
-    let exchange = "> why bob show version\npermitted by group ops rule 1\n";
+    let exchange = "> why bob\ndenied by default\n";
     let talk = repeated(rt.alloc(), exchange, 300)?;
     converses(&rt, 301, talk.as_str(), 301)
 }
