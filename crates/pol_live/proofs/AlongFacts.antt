@@ -4,7 +4,7 @@ use Rattle.std.specs.Option.{option_map_or}
 use Rattle.pol_names.specs.declared.subject_id.SubjectId.{SubjectId}
 use Rattle.pol_text.specs.declared.subject.Rule.{Rule}
 use Rattle.pol_text.specs.declared.subject.Subject.{Subject}
-use Rattle.pol_text.specs.Policy.{parent_of, chain_within, Entry, numbered, own_entries, entries_along}
+use Rattle.pol_text.specs.Policy.{id_of, parent_of, chain_within, Entry, numbered, own_entries, entries_along}
 use Rattle.pol_live.specs.declared.along.ChainRule.{ChainRule}
 use Rattle.pol_meaning.specs.Along.{patterns_of}
 use Rattle.pol_live.specs.ChainRules.{chain_rule}
@@ -55,6 +55,24 @@ more_patterns known rules i rule lt at =
     one_more [] i rule lt at = absurd (omega arith)
     one_more (r ∷ rules) zero rule lt at = ap (λ (x : Rule). x.pattern ∷ []) at
     one_more (r ∷ rules) (suc i) rule lt at = ap (λ (rest : List (List ℕ)). r.pattern ∷ rest) (one_more rules i rule (omega arith) at)
+
+-- the patterns found so far, and those of a subject
+pub patterns_step : (policy : List Subject) (subject : Subject) (i : ℕ) (parent : Option Subject) (found all : List (List ℕ)) → i < 8 → parent_of policy subject ≡ parent
+    → found ++ patterns_of (entries_along (chain_within (8 - i) policy subject)) ≡ all
+    → (found ++ map (λ rule. rule.pattern) subject.rules) ++ patterns_of (entries_along (option_map_or (chain_within (8 - (i + 1)) policy) parent [])) ≡ all
+patterns_step policy subject i parent found all lt e so_far =
+    let own = map (λ (rule : Rule). rule.pattern) subject.rules in
+    let later = entries_along (option_map_or (chain_within (8 - (i + 1)) policy) parent []) in
+    append_assoc found own (patterns_of later)
+    ∙ ap (λ (back : List (List ℕ)). found ++ back)
+    (sym (ap patterns_of (entries_step policy subject i parent lt e) ∙ patterns_append (own_entries subject) later
+    ∙ ap (λ (front : List (List ℕ)). front ++ patterns_of later) (patterns_own (id_of subject) 1 subject.rules)))
+    ∙ so_far
+
+pub patterns_end : (policy : List Subject) (subject : Subject) (i : ℕ) (found all : List (List ℕ)) → 8 ≤ i
+    → found ++ patterns_of (entries_along (chain_within (8 - i) policy subject)) ≡ all → found ≡ all
+patterns_end policy subject i found all past so_far =
+    sym (append-nil found) ∙ ap (λ (back : List Entry). found ++ patterns_of back) (sym (entries_none policy subject i past)) ∙ so_far
 
 -- ---- rules
 

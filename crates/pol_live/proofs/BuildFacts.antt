@@ -1,13 +1,8 @@
 -- The subjects of a policy that aren't large, and the first that is.
-use Rattle.std.proofs.Common.{◌≡◌, ℕ, zero, suc, ◌<◌, List, [], ◌∷◌, length, take, sym, ap, subst, inl, inr, arith, Bool, true, false, get_or}
-use Rattle.basics.specs.Memory.{Except}
+use Rattle.std.proofs.Common.{◌≡◌, ℕ, zero, suc, ◌<◌, ◌≤◌, List, [], ◌∷◌, length, take, Some, refl, sym, ap, subst, inl, inr, arith, get_or, slice_get}
 use Rattle.pol_text.specs.declared.subject.Subject.{Subject}
 use Rattle.pol_text.specs.Policy.{id_of}
-use Rattle.pol_names.specs.declared.subject_id.SubjectId.{SubjectId}
 use Rattle.pol_meaning.specs.Sizes.{IsLarge, AreSmall, IsFirstLarge}
-use Rattle.pol_live.specs.declared.fault.BuildFault.{BuildFault}
-use Rattle.pol_live.specs.declared.fault.BuildFault.TheVariants.{TooManyStates}
-use Rattle.pol_live.specs.Refusing.{IsRefusedFor}
 
 module _ (policy : List Subject) where
   pub more_small : (subjects : List Subject) (i : ℕ) (subject : Subject) → i < length subjects → get_or subjects i subject ≡ subject
@@ -23,11 +18,15 @@ module _ (policy : List Subject) where
   first_large (s ∷ rest) zero subject lt at small here = inl (let P : Subject → Type 0 = λ s. IsLarge policy s in subst P (sym at) here, ap id_of (sym at))
   first_large (s ∷ rest) (suc i) subject lt at small here = inr (small.0, first_large rest i subject (omega arith) at small.1 here)
 
--- ---- faults
+  -- none of the first ones is
+  pub not_before : (subjects : List Subject) (i k : ℕ) (subject : Subject) → AreSmall policy (take i subjects) → slice_get subjects k ≡ Some subject → IsLarge policy subject → i ≤ k
+  not_before [] i k subject small at here = absurd cc
+  not_before (s ∷ rest) zero k subject small at here = omega arith
+  not_before (s ∷ rest) (suc i) zero subject small at here = let same : s ≡ subject = cc in absurd (small.0 (let P : Subject → Type 0 = λ s. IsLarge policy s in subst P (sym same) here))
+  not_before (s ∷ rest) (suc i) (suc k) subject small at here = let later = not_before rest i k subject small.1 at here in omega arith
 
-pub refused_for : (policy : List Subject) (fault : BuildFault) (id : SubjectId) → fault ≡ TooManyStates id → IsFirstLarge policy policy id → IsRefusedFor policy fault
-refused_for policy fault id e first = subst (IsRefusedFor policy) (sym e) first
-
-pub except_so : {A B : Type 0} (memory : Bool) → (A → B) → Except memory A → Except memory B
-except_so true so h = tt
-except_so false so h = so h
+-- the subject at a place within
+pub subject_within : (policy : List Subject) (i : ℕ) → i < length policy → (subject : Subject) × (slice_get policy i ≡ Some subject)
+subject_within [] i lt = absurd (omega arith)
+subject_within (s ∷ rest) zero lt = (s, refl)
+subject_within (s ∷ rest) (suc i) lt = subject_within rest i (omega arith)

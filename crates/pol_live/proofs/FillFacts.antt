@@ -1,5 +1,5 @@
 -- The automaton of a subject's own rules, and that of those it inherits, make that of its chain.
-use Rattle.std.proofs.Common.{◌≡◌, ℕ, zero, suc, ◌-◌, ◌<◌, ◌≤◌, Bool, true, false, true≢false, ◌||◌, ◌&&◌, not, nat_lt, List, [], ◌∷◌, ◌++◌, length, map, Option, None, Some, Result, Ok, Err, OnOk, refl, sym, ap, subst, ◌∙◌, arith, slice_get, is_some, IsTrue, IfSome, Contains}
+use Rattle.std.proofs.Common.{◌≡◌, ℕ, zero, suc, ◌-◌, ◌<◌, ◌≤◌, Bool, true, false, true≢false, ◌||◌, ◌&&◌, not, nat_lt, List, [], ◌∷◌, ◌++◌, length, map, Option, None, Some, Result, Ok, Err, OnOk, OnErr, refl, sym, ap, subst, ◌∙◌, arith, slice_get, is_some, IsTrue, IfSome, Contains}
 use Rattle.std.specs.List.{list_all}
 use Rattle.std.specs.Option.{option_map_or, option_and_then, option_copied}
 use Rattle.std.specs.Borrow.{Bor}
@@ -22,17 +22,13 @@ use Rattle.pol_live.specs.Rise.{is_joined}
 use Rattle.pol_live.proofs.AlongFacts.{patterns_append, patterns_own}
 use Rattle.pol_live.proofs.SlotFacts.{whole_put, put_there}
 
--- ---- more entries have no fewer residuals
+-- ---- more entries after these have no fewer residuals
 
 same_front : (xs ys : List (List ℕ)) (text other : List ℕ) → SameResiduals (xs ++ ys) text other → SameResiduals xs text other
 same_front xs ys text other same k d lt =
     let long = length-append xs ys in
     let within : k < length (xs ++ ys) = omega arith in
     rw (← get_or_append_left xs ys d k lt) (same k d within)
-
-same_back : (xs ys : List (List ℕ)) (text other : List ℕ) → SameResiduals (xs ++ ys) text other → SameResiduals ys text other
-same_back [] ys text other same = same
-same_back (x ∷ xs) ys text other same = same_back xs ys text other (λ k d lt. same (suc k) d (omega arith))
 
 more_by : (xs ys : List (List ℕ)) (limit : ℕ) → ((text other : List ℕ) → SameResiduals ys text other → SameResiduals xs text other) → HasMoreResiduals xs limit → HasMoreResiduals ys limit
 more_by xs ys limit so more = record {
@@ -43,9 +39,6 @@ more_by xs ys limit so more = record {
 
 pub more_front : (xs ys : List (List ℕ)) (limit : ℕ) → HasMoreResiduals xs limit → HasMoreResiduals (xs ++ ys) limit
 more_front xs ys limit = more_by xs (xs ++ ys) limit (same_front xs ys)
-
-pub more_back : (xs ys : List (List ℕ)) (limit : ℕ) → HasMoreResiduals ys limit → HasMoreResiduals (xs ++ ys) limit
-more_back xs ys limit = more_by ys (xs ++ ys) limit (same_back xs ys)
 
 -- ---- a subject and what it inherits
 
@@ -129,12 +122,6 @@ pub large_own : (policy : List Subject) (subject : Subject) → InheritsEntries 
 large_own policy subject inherits more =
     subst (λ (es : List (List ℕ)). HasMoreResiduals es most_residuals) (sym (patterns_inherit policy subject inherits)) (more_front (own_patterns subject) (inherited policy subject) most_residuals more)
 
-pub large_above : (policy : List Subject) (subject group : Subject) → InheritsEntries policy subject → parent_of policy subject ≡ Some group → IsLarge policy group → IsLarge policy subject
-large_above policy subject group inherits parent more =
-    let rest : inherited policy subject ≡ patterns_along policy group = ap (λ (p : Option Subject). option_map_or (patterns_along policy) p []) parent in
-    subst (λ (es : List (List ℕ)). HasMoreResiduals es most_residuals) (sym (patterns_inherit policy subject inherits ∙ ap (λ (es : List (List ℕ)). own_patterns subject ++ es) rest))
-    (more_back (own_patterns subject) (patterns_along policy group) most_residuals more)
-
 -- ---- chains that end
 
 pub ends_above : (most : ℕ) (policy : List Subject) (subject group : Subject) → ends_within most policy subject ≡ true → parent_of policy subject ≡ Some group
@@ -155,10 +142,20 @@ pub ok_so2 : {X E A B C : Type 0} (r : Result X E) → (A → B → C) → OnOk 
 ok_so2 (Ok x) so h k = so h k
 ok_so2 (Err e) so h k = tt
 
+-- what was right stays so
+pub right_so : {X E : Type 0} (policy : List Subject) (r : Result X E) (old new : Parts) → AreParts policy old → OnErr r (new ≡ old) → OnOk r (AreParts policy new) → AreParts policy new
+right_so policy (Ok x) old new right same h = h
+right_so policy (Err e) old new right same h = subst (AreParts policy) (sym same) right
+
 -- nothing was found
 pub not_there : (r : Option (Bor Automaton)) (o : Option Automaton) → option_copied r ≡ o → is_some r ≡ false → o ≡ None
 not_there None o e h = sym e
 not_there (Some x) o e h = absurd (true≢false h)
+
+-- something was
+pub found_there : (r : Option (Bor Automaton)) (o : Option Automaton) → option_copied r ≡ o → is_some r ≡ true → IsTrue (is_some o)
+found_there None o e h = absurd (true≢false (sym h))
+found_there (Some x) o e h = ap is_some (sym e)
 
 -- ---- the automata of one more subject
 

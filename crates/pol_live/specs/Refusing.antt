@@ -1,12 +1,17 @@
 -- Why a policy isn't built, and what edits that make such a policy are told.
-use Rattle.std.specs.Prelude.{ℕ, List, ◌++◌, codes, Bool, true, false}
+use Rattle.std.specs.Prelude.{◌≡◌, ℕ, List, ◌++◌, slice_get, Some, codes, Bool, true, false}
 use Rattle.pol_names.specs.SubjectId.{subject_text}
 use Rattle.pol_text.specs.declared.subject.Subject.{Subject}
 use Rattle.pol_edit.specs.declared.fault.EditFault.{EditFault}
 use Rattle.pol_edit.specs.declared.fault.EditFault.TheVariants as edits
-use Rattle.pol_meaning.specs.Sizes.{IsFirstLarge}
+use Rattle.pol_meaning.specs.Sizes.{IsLarge, IsFirstLarge}
 use Rattle.pol_live.specs.declared.fault.BuildFault.{BuildFault}
 use Rattle.pol_live.specs.declared.fault.BuildFault.TheVariants.{TooManyStates, Memory}
+
+-- the subject at this place is large
+abbrev pub IsLargeAt : List Subject → ℕ → Type 0
+IsLargeAt policy at =
+    (subject : Subject) × (slice_get policy at ≡ Some subject) × IsLarge policy subject
 
 -- a policy that may not stand is refused for its first large subject, and for nothing else
 abbrev pub IsRefusedFor : List Subject → BuildFault → Type 0

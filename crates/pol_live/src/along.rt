@@ -7,7 +7,7 @@ ghost use Rattle.pol_automaton.specs.Entries.{AreEntries};
 ghost use Rattle.pol_text.specs.Policy.{parent_of, own_entries, entries};
 ghost use Rattle.pol_text.specs.declared.subject.Subject.{Subject as SubjectValue};
 ghost use Rattle.pol_live.specs.ChainRules.{chain_rule as rule_of, decision_by};
-ghost use Rattle.pol_meaning.specs.Along.{entries_of};
+ghost use Rattle.pol_meaning.specs.Along.{entries_of, patterns_along};
 ghost use Rattle.pol_live.specs.Kept.{AreParents};
 
 use crate::filling::subject_at;
@@ -55,6 +55,26 @@ pub(crate) fn add_patterns(entries: &mut Entries, subject: &Subject) -> Result<(
         entries.add(&rule.pattern)?;
     }
     Ok(())
+}
+
+/// The patterns of the rules along the chain of a subject, the subject's own first.
+pub(crate) fn patterns_from(
+    alloc: Global,
+    policy: &Policy,
+    subject: &Subject,
+) -> Result<Entries, AllocError>
+    ensures { IfOk result (λ found. AreEntries found (patterns_along policy.now subject.now)) }
+{
+    let mut found = Entries::new(alloc);
+    let mut present = subject;
+    'chain: for _ in 0..Policy::MAX_CHAIN {
+        add_patterns(&mut found, present)?;
+        match parent(policy, present) {
+            Some(group) => present = group,
+            None => return Ok(found),
+        }
+    }
+    Ok(found)
 }
 
 // Adds the subject's own rules.

@@ -14,6 +14,7 @@ ghost use Rattle.pol_meaning.specs.Sizes.{IsLarge, most_residuals};
 ghost use Rattle.pol_live.specs.Kept.{IsFit, IsOf, IsPutAt, AreParts, Grows, slot, own_patterns};
 ghost use Rattle.pol_live.specs.Kept.{has_rules as with_rules, is_keeper as keeps};
 ghost use Rattle.pol_live.specs.Counting.{Raised, NotLowered, Counts, weight, states_of};
+ghost use Rattle.pol_live.specs.Refusing.{IsLargeAt};
 
 use crate::along::add_patterns;
 use crate::parts::{Parts, Slots, lookup, put};
@@ -24,7 +25,17 @@ use pol_text::{Policy, Subject};
 use std::alloc::Global;
 
 /// The most residuals that the rules along a subject's chain may have together.
-const MOST_STATES: u16 = 16384;
+pub(crate) const MOST_STATES: u16 = 16384;
+
+/// Why the automata of a subject aren't made.
+#[derive(Clone, Copy)]
+pub(crate) enum FillFault {
+    /// The subject at this place, which is this one or a group that it inherits from, has too many
+    /// residuals.
+    TooManyStates(usize),
+    /// Memory ran out.
+    Memory,
+}
 
 /// Whether the subject has rules of its own.
 pub(crate) fn has_rules(subject: &Subject) -> bool
@@ -125,6 +136,7 @@ fn fill_own(
         (weight (λ _. true) policy parts.old.owns)
         (weight (λ _. true) policy parts.new.owns)) }
     ensures kept { OnErr result (NotLowered meter.old.total meter.new.total) }
+    ensures same { OnErr result (parts.new ≡ parts.old) }
 {
     if !is_keeper(subject) || lookup(&parts.owns, index).is_some() {
         return Ok(());
@@ -195,6 +207,7 @@ fn fill_whole(
         && is_some (option_and_then (slot parts.old.wholes) parent)
         then count whole.table else 0)) }
     ensures kept { OnErr result (NotLowered meter.old.total meter.new.total) }
+    ensures same { OnErr result (parts.new ≡ parts.old) }
 {
     let own = lookup(&parts.owns, index);
     let above = lookup_above(&parts.wholes, parent);
@@ -222,7 +235,7 @@ fn fill_here(
     requires grouped { is_some parent ≡ is_some subject.now.parent }
     requires above { IfSome parent (λ at. IsTrue (is_some (slot parts.old.wholes at))) }
     requires right { AreParts policy.now parts.old }
-    ensures right { OnOk result (AreParts policy.now parts.new) }
+    ensures right { AreParts policy.now parts.new }
     ensures grows { OnOk result (Grows parts.old parts.new) }
     ensures there { OnOk result (IsTrue (is_some (slot parts.new.wholes index))) }
     ensures keeper { OnOk result (keeps subject.now ≡ true
@@ -241,7 +254,8 @@ fn fill_here(
 }
 
 /// Makes the automata of the subject at a place, where there are none yet, and before them those of
-/// the groups that it inherits from. The subject's chain has at most so many subjects.
+/// the groups that it inherits from. The subject's chain has at most so many subjects. What there
+/// is of automata is right whatever the answer.
 pub(crate) fn fill(
     alloc: Global,
     policy: &Policy,
@@ -249,16 +263,16 @@ pub(crate) fn fill(
     most: usize,
     parts: &mut Parts,
     meter: &mut Meter,
-) -> Result<(), DeciderFault>
+) -> Result<(), FillFault>
     requires within { index < length policy.now }
     requires ends { (subject : SubjectValue) → slice_get policy.now index ≡ Some subject
         → ends_within most policy.now subject ≡ true }
     requires right { AreParts policy.now parts.old }
-    ensures right { OnOk result (AreParts policy.now parts.new) }
+    ensures right { AreParts policy.now parts.new }
     ensures grows { OnOk result (Grows parts.old parts.new) }
     ensures there { OnOk result (IsTrue (is_some (slot parts.new.wholes index))) }
-    ensures too_many { IsErrOf result DeciderFault.TooManyStates → (subject : SubjectValue)
-        → slice_get policy.now index ≡ Some subject → IsLarge policy.now subject }
+    ensures too_many { (at : ℕ) → IsErrOf result (FillFault.TooManyStates at)
+        → IsLargeAt policy.now at }
     ensures keeper { OnOk result ((subject : SubjectValue)
         → slice_get policy.now index ≡ Some subject → keeps subject ≡ true
         → IsTrue (is_some (slot parts.new.owns index))) }
@@ -273,5 +287,9 @@ pub(crate) fn fill(
     if let Some(parent) = parent {
         fill(alloc, policy, parent, most - 1, parts, meter)?;
     }
-    fill_here(alloc, policy, subject, index, parent, parts, meter)
+    match fill_here(alloc, policy, subject, index, parent, parts, meter) {
+        Ok(()) => Ok(()),
+        Err(DeciderFault::TooManyStates) => Err(FillFault::TooManyStates(index)),
+        Err(DeciderFault::Memory) => Err(FillFault::Memory),
+    }
 }

@@ -13,6 +13,7 @@ mod parts;
 mod prepared;
 mod reusing;
 mod shared;
+mod sizing;
 mod touching;
 
 pub use along::{ChainRule, rules_along};

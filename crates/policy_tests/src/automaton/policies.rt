@@ -168,6 +168,10 @@ fn policies_that_are_too_large(rt: HostRuntime) -> Result<(), Fail> {
     assert!(rt; is_too_large(alloc, "group g\ndeny .*a..............\n", "group g")?);
     let text = "group all\npermit .*b\nuser u in big\ngroup big in all\ndeny .*a.............\n";
     assert!(rt; is_too_large(alloc, text, "user u")?);
+    // So are both here, between others that aren't, and the group by its own rules alone.
+    let text = "group all\npermit .*b\nuser v in all\nuser u in big\npermit ping\n\
+                user w in all\ngroup big in all\ndeny .*a..............\nuser x in big\n";
+    assert!(rt; is_too_large(alloc, text, "user u")?);
     Ok(())
 }
 

@@ -4,7 +4,7 @@ use Rattle.std.proofs.lemmas.Result.{err_from_is_err_and}
 use Rattle.pol_automaton.specs.Automaton.{Automaton}
 use Rattle.pol_live.specs.Kept.{AreParts, Grows, slot, has_rules}
 use Rattle.pol_live.proofs.SlotFacts.{own_put, grows_on}
-use Rattle.pol_live.proofs.FillFacts.{whole_filled, whole_large, large_own, ok_so, ok_so2, not_there, one_there, joined_is}
+use Rattle.pol_live.proofs.FillFacts.{whole_filled, whole_large, large_own, ok_so, ok_so2, right_so, not_there, one_there, joined_is}
 use Rattle.pol_live.proofs.MeterFacts.{whole_counts}
 use Rattle.pol_live.proofs.filling.fill_here.Goals as goal
 use Rattle.pol_live.proofs.filling.fill_here.Goals.{After-fill_whole}
@@ -51,7 +51,7 @@ filled c =
     c.fill_whole.ensures.owns c.fill_whole.ensures.wholes
 
 pub returns-clause-right : goal.returns-clause-right
-returns-clause-right c = ok_so c.fill_whole.result (λ h. h.0) (filled c)
+returns-clause-right c = right_so c.args.policy.now c.fill_whole.result c.fill_own.new.parts c.fill_whole.new.parts (mid c).0 c.fill_whole.ensures.same (ok_so c.fill_whole.result (λ h. h.0) (filled c))
 
 pub returns-clause-grows : goal.returns-clause-grows
 returns-clause-grows c = ok_so c.fill_whole.result (λ h. grows_on c.args.parts.now c.fill_own.new.parts c.fill_whole.new.parts (mid c).1 h.1) (filled c)
