@@ -12,3 +12,5 @@ pub mod SpanFacts
 pub mod RowFacts
 pub mod Among
 pub mod Steps
+pub mod AnyText
+pub mod Whole

@@ -2,8 +2,7 @@
 use Rattle.std.proofs.Common.{◌≡◌, ◌⊎◌, ◌↔◌, ℕ, Bool, true, false, IsTrue, List, [], ◌∷◌, ◌++◌, cond, map, refl, sym, ap, subst, ◌∙◌, inl, inr}
 use Rattle.std.proofs.lemmas.Bool.{false≢true, or_cases, or_left, or_right, and_parts, and_from}
 use Rattle.std.proofs.lemmas.List.{map-append}
-use Rattle.basics.specs.Symbol.{is_symbol}
-use Rattle.pol_pattern.specs.Flat.{Class, holds_symbol, Factor, class, group, star, Term, empty, put, Terms, none, alt, join_term}
+use Rattle.pol_pattern.specs.Flat.{Class, Factor, class, group, star, Term, empty, put, Terms, none, alt, join_term}
 use Rattle.pol_pattern.specs.Sets.{InFactor, InTerm, InTerms}
 use Rattle.pol_residual.specs.Derivative.{IsAmong, Derivative, of_class, of_group, of_star, after_star}
 use Rattle.pol_deriv.specs.Linear.{factor_holds_empty, term_holds_empty, terms_hold_empty, factor_linear, linear, terms_linear, Leads}
@@ -251,16 +250,3 @@ module _ (symbol : ℕ) where
     ],
     λ h. subst (λ (t : Term). Derivative symbol t next) (join-empty term) (linear_derives term empty next h),
   )
-
--- by a byte that is no symbol a term has no derivative
-holds-no_symbol : (byte : ℕ) → is_symbol byte ≡ false → (c : Class) → holds_symbol c byte ≡ false
-unfolding holds_symbol
-holds-no_symbol byte not c = rw not refl
-
-no_leads : (byte : ℕ) → is_symbol byte ≡ false → (pairs : List (Class × Term)) (next : Term) → Leads byte pairs next → ⊥
-no_leads byte not [] next h = h
-no_leads byte not (pair ∷ pairs) next (inl h) = false≢true (sym (holds-no_symbol byte not pair.0) ∙ h.0)
-no_leads byte not (pair ∷ pairs) next (inr h) = no_leads byte not pairs next h
-
-pub no_derivative : (byte : ℕ) (term next : Term) → is_symbol byte ≡ false → Derivative byte term next → ⊥
-no_derivative byte term next not d = no_leads byte not (linear term empty) next ((linear_is byte term next).0 d)

@@ -15,7 +15,8 @@ use Rattle.pol_deriv.specs.Table.{Means, Keeps, StandsFor, IsSetOf}
 use Rattle.pol_deriv.specs.Forms.{IsForm, reached, IsRowOf}
 use Rattle.pol_deriv.specs.Rows.{place_of, IsRow, AreRows}
 use Rattle.pol_deriv.specs.declared.linear.Monomial.{Monomial}
-use Rattle.pol_deriv.proofs.LinearForms.{linear_is, no_derivative}
+use Rattle.pol_deriv.proofs.AnyText.{no_derivative}
+use Rattle.pol_deriv.proofs.LinearForms.{linear_is}
 use Rattle.pol_deriv.proofs.Tables.{get-append, get-last}
 use Rattle.pol_deriv.proofs.Sets.{stands_none, stands_same, stands_append, stands_one, stands_moved, set_kept}
 

@@ -1,6 +1,7 @@
 pub mod Linear
 pub mod TermCode
 pub mod Table
+pub mod Classes
 pub mod Nodes
 pub mod Forms
 pub mod Spans

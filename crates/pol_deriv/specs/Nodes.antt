@@ -3,6 +3,7 @@ use Rattle.std.specs.Prelude.{◌≡◌, ◌<◌, ℕ, Bool, true, false, IsTrue
 use Rattle.std.specs.Prelude.{slice_get, unwrap_or, fold}
 use Rattle.pol_pattern.specs.Flat.{Factor, class, group, star, Term, empty, put, Terms, none, alt}
 use Rattle.pol_deriv.specs.Linear.{term_holds_empty}
+use Rattle.pol_deriv.specs.Classes.{IsWhole}
 use Rattle.pol_deriv.specs.Table.{Means, IsDistinct}
 use Rattle.pol_deriv.specs.declared.node.Kind.{Kind}
 use Rattle.pol_deriv.specs.declared.node.Kind.TheVariants as kinds
@@ -83,11 +84,11 @@ node_term table (nodes.Alternative first rest mark) =
 abbrev pub terms_of : List Node → List Term
 terms_of list = fold (λ table node. table ++ node_term table node ∷ []) [] list
 
--- the node's parts are below its own number, and its mark says whether its term
--- holds the empty text
+-- the node's parts are below its own number, its class is whole, and its mark says whether its
+-- term holds the empty text
 abbrev pub IsRight : List Term → ℕ → Node → Type 0
 IsRight table number nodes.Empty = Unit {0}
-IsRight table number (nodes.Class c rest) = rest < number
+IsRight table number (nodes.Class c rest) = (rest < number) × IsWhole c
 IsRight table number (nodes.Group rest) = rest < number
 IsRight table number (nodes.Star rest mark) =
     (rest < number) × (mark ≡ term_holds_empty (term_at table rest))

@@ -2,6 +2,7 @@
 
 ghost use Rattle.std.specs.Prelude.{◌≡◌, ◌<◌, length, IfOk};
 ghost use Rattle.pol_pattern.specs.Flat as flat;
+ghost use Rattle.pol_deriv.specs.Classes.{IsWholeFactor, IsWholeTerm, AreWholeTerms};
 ghost use Rattle.pol_deriv.specs.Table.{Means, IsDistinct, Grows, StandsFor};
 ghost use Rattle.pol_residual.specs.Derivative.{IsAmong};
 ghost use Rattle.pol_deriv.specs.Nodes.{term_at, of_kind};
@@ -14,7 +15,8 @@ use std::alloc::AllocError;
 impl Table {
     /// The numbers of the terms, in their order.
     pub(crate) fn add_each(&mut self, terms: &[Term]) -> Result<Vec<Number>, AllocError>
-        requires { IsDistinct self.old }
+        requires distinct { IsDistinct self.old }
+        requires whole { AreWholeTerms (flat.terms_value terms.now) }
         ensures grows { Grows self.old self.new }
         ensures members { let set = IsAmong (flat.terms_value terms.now) in
             IfOk result (λ numbers. StandsFor self.new numbers.items set) }
@@ -29,6 +31,7 @@ impl Table {
     /// The number of the factors.
     #[cycle(adding)]
     pub(crate) fn add_term(&mut self, factors: &[Factor]) -> Result<Number, AllocError>
+        requires { IsWholeTerm (flat.term_value factors.now) }
         ensures grows { Grows self.old self.new }
         ensures meant { IfOk result (λ n. Means self.new n (flat.term_value factors.now)) }
     {
@@ -42,7 +45,8 @@ impl Table {
     /// The number of the factor and then the rest.
     #[cycle(adding)]
     fn add_factor(&mut self, factor: &Factor, rest: Number) -> Result<Number, AllocError>
-        requires { rest < length self.old }
+        requires rest { rest < length self.old }
+        requires whole { IsWholeFactor (flat.factor_value factor.now) }
         ensures grows { Grows self.old self.new }
         ensures meant { let first = flat.factor_value factor.now in
             IfOk result (λ n. Means self.new n (flat.put first (term_at self.old rest))) }
@@ -57,7 +61,8 @@ impl Table {
     /// The number of the group or star of the terms, and then the rest.
     #[cycle(adding)]
     fn add_terms(&mut self, kind: Kind, terms: &[Term], rest: Number) -> Result<Number, AllocError>
-        requires { rest < length self.old }
+        requires rest { rest < length self.old }
+        requires whole { AreWholeTerms (flat.terms_value terms.now) }
         ensures grows { Grows self.old self.new }
         ensures meant { let factor = of_kind kind (flat.terms_value terms.now) in
             IfOk result (λ n. Means self.new n (flat.put factor (term_at self.old rest))) }

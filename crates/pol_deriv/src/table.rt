@@ -1,7 +1,10 @@
 //! Each different term once, under a number.
 
-ghost use Rattle.std.specs.Prelude.{◌≡◌, ◌<◌, [], length, IsTrue, IfOk};
+ghost use Rattle.std.specs.Prelude.{◌≡◌, ◌↔◌, ◌<◌, [], length, IsTrue, IfOk};
 ghost use Rattle.pol_pattern.specs.Flat as flat;
+ghost use Rattle.pol_pattern.specs.Spelling.{any_symbol};
+ghost use Rattle.pol_residual.specs.Residuals.{any_text};
+ghost use Rattle.pol_deriv.specs.Classes.{IsWhole};
 ghost use Rattle.pol_deriv.specs.Linear.{term_holds_empty};
 
 use crate::node::{Kind, Node, Number};
@@ -35,6 +38,19 @@ impl Model for Table {
     ghost view = { λ table. terms_of table.nodes.keys };
 
     ghost invariant = { λ table. IsTable table.nodes.keys };
+}
+
+/// Whether the class holds every symbol.
+fn holds_all(class: &Class) -> bool
+    requires { IsWhole class.now }
+    ensures { IsTrue result ↔ (class.now ≡ any_symbol) }
+{
+    'symbols: for symbol in b' '..=b'~' {
+        if !class.holds(symbol) {
+            return false;
+        }
+    }
+    true
 }
 
 impl Table {
@@ -88,6 +104,52 @@ impl Table {
         self.node(number).holds_empty()
     }
 
+    /// Whether the term has no factors.
+    fn is_empty(&self, number: Number) -> bool
+        requires { number < length self.now }
+        ensures { IsTrue result ↔ (term_at self.now number ≡ flat.empty) }
+    {
+        matches!(self.node(number), Node::Empty)
+    }
+
+    /// Whether the term is a star of no terms alone.
+    fn is_bare_star(&self, number: Number) -> bool
+        requires { number < length self.now }
+        ensures { IsTrue result
+            ↔ (term_at self.now number ≡ flat.put (flat.star flat.none) flat.empty) }
+    {
+        match self.node(number) {
+            Node::Star { rest, .. } => self.is_empty(rest),
+            _ => false,
+        }
+    }
+
+    /// Whether the term is `.`, the class of all symbols alone.
+    fn is_any_symbol(&self, number: Number) -> bool
+        requires { number < length self.now }
+        ensures { IsTrue result
+            ↔ (term_at self.now number ≡ flat.put (flat.class any_symbol) flat.empty) }
+    {
+        match self.node(number) {
+            Node::Class { class, rest } => self.is_empty(rest) && holds_all(&class),
+            _ => false,
+        }
+    }
+
+    /// Whether the term is `.*`. Takes constant time.
+    pub(crate) fn is_any_text(&self, number: Number) -> bool
+        requires { number < length self.now }
+        ensures { IsTrue result ↔ (term_at self.now number ≡ any_text) }
+    {
+        match self.node(number) {
+            // few terms end so, and that is told at once
+            Node::Alternative { first, rest, .. } => {
+                self.is_bare_star(rest) && self.is_any_symbol(first)
+            }
+            _ => false,
+        }
+    }
+
     /// Whether the term begins with a group or with a star, and what follows that.
     pub(crate) fn end(&self, number: Number) -> (Kind, Number)
         requires within { number < length self.now }
@@ -117,7 +179,8 @@ impl Table {
 
     /// The number of the class and then the rest.
     pub(crate) fn put_class(&mut self, class: Class, rest: Number) -> Result<Number, AllocError>
-        requires { rest < length self.old }
+        requires rest { rest < length self.old }
+        requires whole { IsWhole class }
         ensures grows { Grows self.old self.new }
         ensures meant { let term = flat.put (flat.class class) (term_at self.old rest) in
             IfOk result (λ n. Means self.new n term) }

@@ -9,6 +9,7 @@ ghost use Rattle.pol_pattern.specs.Spelling.{Spells};
 ghost use Rattle.pol_residual.specs.Derivative.{Derivatives, Residual};
 ghost use Rattle.pol_residual.specs.Derivative.{DerivativeLaw, ResidualLaw, FirstResidual};
 ghost use Rattle.pol_residual.specs.Derivative.{NextResidual};
+ghost use Rattle.pol_residual.specs.Residuals.{any_text, SureLaw};
 ghost use Rattle.pol_deriv.specs.Table.{Means, Grows, IsSetOf, HasTerm, AreNumbers};
 
 use crate::node::Number;
@@ -156,5 +157,17 @@ impl Terms {
         ensures law { DerivativeLaw }
     {
         self.table.holds_empty(number)
+    }
+
+    /// Whether a term is `.*`, which holds every text, and nothing after it. Takes constant time.
+    pub fn is_any_text(&self, number: Number) -> bool
+        requires { number < length self.now }
+        ensures exact { (term : flat.Term) → Means self.now number term
+            → IsTrue result ↔ (term ≡ any_text) }
+
+        // An entry whose residual has it holds every text that goes on.
+        ensures law { SureLaw }
+    {
+        self.table.is_any_text(number)
     }
 }

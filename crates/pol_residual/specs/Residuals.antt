@@ -1,14 +1,24 @@
 -- The residuals of a list of entries, and how many different ones there are. An entry is a pattern,
 -- by its source; its residuals are those of the pattern (Derivative).
-use Rattle.std.specs.Prelude.{◌≡◌, ◌↔◌, ◌<◌, ◌≤◌, ℕ, IsTrue, List, length, All, AllPairs, Any}
+use Rattle.std.specs.Prelude.{◌≡◌, ◌↔◌, ◌<◌, ◌≤◌, ℕ, IsTrue, List, ◌++◌, length, All}
+use Rattle.std.specs.Prelude.{AllPairs, Any}
 use Rattle.basics.specs.Symbol.{is_text}
-use Rattle.pol_pattern.specs.Flat.{Term, Terms}
-use Rattle.pol_pattern.specs.Spelling.{Spells}
+use Rattle.pol_pattern.specs.Flat.{class, star, Term, empty, put, Terms, none, alt}
+use Rattle.pol_pattern.specs.Spelling.{any_symbol, Spells, Holds}
 use Rattle.pol_residual.specs.Derivative.{Residual}
 
 -- a term of an entry's residual by a text
 abbrev pub InResidual : List ℕ → List ℕ → Term → Type 0
 InResidual source text term = (flat : Terms) × Spells source flat × Residual flat text term
+
+-- the term `.*`, which holds every text
+abbrev pub any_text : Term
+any_text = put (star (alt (put (class any_symbol) empty) none)) empty
+
+-- the entry holds every text that goes on with this one, since its residual has the term `.*`. So
+-- the first match of such a text is the entry or one before it
+abbrev pub IsSure : List ℕ → List ℕ → Type 0
+IsSure source text = InResidual source text any_text
 
 -- each entry has the same residual by the one text as by the other
 abbrev pub SameResiduals : List (List ℕ) → List ℕ → List ℕ → Type 0
@@ -40,3 +50,9 @@ abbrev pub ExcludesLaw : Type 0
 ExcludesLaw =
     (entries : List (List ℕ)) (count limit : ℕ) → IsResidualCount entries count → count ≤ limit
     → ¬ (HasMoreResiduals entries limit)
+
+-- a sure entry holds every text that goes on, and stays sure
+abbrev pub SureLaw : Type 0
+SureLaw =
+    (source text rest : List ℕ) → IsTrue (is_text rest) → IsSure source text
+    → Holds source (text ++ rest) × IsSure source (text ++ rest)

@@ -85,6 +85,87 @@ fn residuals(rt: HostRuntime) -> Result<(), Fail> {
     )
 }
 
+/// Whether one of the terms is `.*`.
+fn has_any_text(terms: &Terms, set: &TermSet) -> bool
+    requires { AreNumbers terms.now set.now }
+{
+    for number in set.numbers() {
+        if terms.is_any_text(*number) {
+            return true;
+        }
+    }
+    false
+}
+
+/// `yes PATTERN/TEXT`: the pattern's residual by the text has the term `.*`; with `no` it doesn't.
+#[derive(Drop)]
+struct AnyTextCases;
+
+impl Judge for AnyTextCases {
+    fn is_so(&mut self, alloc: Global, line: &str) -> Result<bool, Fail> {
+        let (answer, case) = line.split_once(' ').ok_or("no answer")?;
+        let (pattern, text) = case.split_once('/').ok_or("no text")?;
+        let pattern = Pattern::read(alloc, pattern.as_bytes())?;
+        let mut terms = Terms::new(alloc);
+        let set = residual(&mut terms, &pattern, text.as_bytes())?;
+        Ok(has_any_text(&terms, &set) == (answer == "yes"))
+    }
+}
+
+#[test]
+fn any_text(rt: HostRuntime) -> Result<(), Fail> {
+    judges(
+        &rt,
+        &mut AnyTextCases,
+        "
+        yes .*/
+        yes .*/ a~
+        no .*/\u{7f}
+
+        # A star of a group has the group's terms, and a class is the set of its symbols.
+        yes (.)*/
+        yes [ -~]*/
+        yes [ -Zb-~a[-`]*/
+        yes [^a]*|[a-z]|.*/
+        no [^x]*/
+        no [!-~]*/
+        no [ -}]*/
+        no a*/
+
+        # Nothing is simplified: these hold every text, and are other terms.
+        no .*.*/
+        yes .*.*/a
+        no (.*)*/
+        no (.|.)*/
+        no (|.)*/
+        no (.*)/
+        yes (.*)/a
+
+        # What stands before or after it.
+        no x.*/
+        yes x.*/x
+        yes x.*/xyz
+        no x.*/y
+        no .*x/
+        no .*x/x
+        no .+/
+        yes .+/a
+        no .*x.*/a
+        yes .*x.*/ax
+        yes .*x.*/axa
+
+        # Other terms, and stars of them.
+        no /
+        no ./
+        no .?/
+        no ()*/
+        no (..)*/
+        no (a|.)*/
+        no (.|a)*/
+        ",
+    )
+}
+
 #[test]
 fn residual_by_the_end_of_a_line(rt: HostRuntime) -> Result<(), Fail> {
     let found = outcome(rt.alloc(), b".*", b"\n")?;

@@ -4,17 +4,20 @@ use Rattle.pol_pattern.specs.Values.{value_group, value_star}
 use Rattle.pol_deriv.specs.Nodes.{term_at}
 use Rattle.pol_deriv.proofs.Tables.{grows_on, means_within, term_means, alternative_means, begins_of}
 use Rattle.pol_deriv.proofs.Descent.{factor_weight, term_weight-item, terms_weight-item, terms_value-before}
+use Rattle.pol_deriv.proofs.Whole.{whole-factor, whole-term}
 use Rattle.pol_deriv.proofs.table.Table.+adding.Goals as goal
 
 pub add_factor-add_terms-requires : goal.add_factor-add_terms-requires
 add_factor-add_terms-requires t c =
     let e = ap factor_weight (ap flat.factor_value c.in-Group.is ∙ value_group c.in-Group.terms) in
-    rw c.deref.ensures.value (omega (arith, c.decreases, e), c.requires)
+    let whole = rw (c.in-Group.is, value_group c.in-Group.terms) at c.requires.whole in
+    rw c.deref.ensures.value (omega (arith, c.decreases, e), (c.requires.rest, whole))
 
 pub add_factor-add_terms-requires-in-Star : goal.add_factor-add_terms-requires-in-Star
 add_factor-add_terms-requires-in-Star t c =
     let e = ap factor_weight (ap flat.factor_value c.in-Star.is ∙ value_star c.in-Star.terms) in
-    rw c.deref-in-Star.ensures.value (omega (arith, c.decreases, e), c.requires)
+    let whole = rw (c.in-Star.is, value_star c.in-Star.terms) at c.requires.whole in
+    rw c.deref-in-Star.ensures.value (omega (arith, c.decreases, e), (c.requires.rest, whole))
 
 pub add_factor-returns-in-Group-clause-meant : goal.add_factor-returns-in-Group-clause-meant
 add_factor-returns-in-Group-clause-meant t c =
@@ -27,12 +30,14 @@ add_factor-returns-in-Star-clause-meant t c =
 pub add_term-add_factor-requires : goal.add_term-add_factor-requires
 add_term-add_factor-requires t c =
     let falls = term_weight-item c.args.factors.now (c.factors.i - 1) c.index-factors-i.result (omega arith) c.index-factors-i.is in
-    (omega (arith, c.decreases, falls), means_within c.factors.self c.factors.number _ c.factors.invariant.meant)
+    let whole = whole-factor c.args.factors.now (c.factors.i - 1) c.index-factors-i.result (omega arith) c.index-factors-i.is c.requires in
+    (omega (arith, c.decreases, falls), (means_within c.factors.self c.factors.number _ c.factors.invariant.meant, whole))
 
 pub add_terms-add_term-requires : goal.add_terms-add_term-requires
 add_terms-add_term-requires t c =
     let falls = terms_weight-item c.args.terms.now (c.terms.i - 1) c.index-terms-i.result (omega arith) c.index-terms-i.is in
-    rw c.deref.ensures.value (omega (arith, c.decreases, falls), tt)
+    let whole = whole-term c.args.terms.now (c.terms.i - 1) c.index-terms-i.result (omega arith) c.index-terms-i.is c.requires.whole in
+    rw c.deref.ensures.value (omega (arith, c.decreases, falls), whole)
 
 pub add_terms-put_alternative-requires-clause-first : goal.add_terms-put_alternative-requires-clause-first
 add_terms-put_alternative-requires-clause-first t c = means_within c.add_term.new.self c.in_ok-first.first _ c.in_ok-first.ensures.meant

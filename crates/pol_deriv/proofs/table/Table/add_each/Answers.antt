@@ -2,7 +2,12 @@ use Rattle.pol_pattern.specs.Flat.{term_value}
 use Rattle.pol_deriv.proofs.Tables.{grows_on}
 use Rattle.pol_deriv.proofs.Sets.{stands_same, stands_kept, stands_push}
 use Rattle.pol_deriv.proofs.Among.{among_more}
+use Rattle.pol_deriv.proofs.Whole.{whole-term}
 use Rattle.pol_deriv.proofs.table.Table.add_each.Goals as goal
+
+pub add_term-requires : goal.add_term-requires
+add_term-requires c =
+    rw c.deref.ensures.value (whole-term c.args.terms.now c.loop-term.term-index c.term-item.result c.loop-term-test.true c.term-item.is c.requires.whole)
 
 pub loop-term-preserved : goal.loop-term-preserved
 loop-term-preserved c =

@@ -5,6 +5,7 @@ use Rattle.pol_deriv.specs.Table.{IsSetOf}
 use Rattle.pol_deriv.proofs.Residuals.{first_residual, residual_law}
 use Rattle.pol_deriv.proofs.Sets.{stands_same, stands_moved, stands_within}
 use Rattle.pol_deriv.proofs.RowFacts.{rows_kept}
+use Rattle.pol_deriv.proofs.Whole.{spelled_whole}
 use Rattle.pol_deriv.proofs.terms.Terms.start.Goals as goal
 
 pub invariant_of-self : goal.invariant_of-self
@@ -52,3 +53,6 @@ returns-clause-spelled c = (_, c.terms.ensures.spelled)
 
 pub returns-in_err-numbers-clause-spelled : goal.returns-in_err-numbers-clause-spelled
 returns-in_err-numbers-clause-spelled c = (_, c.terms.ensures.spelled)
+
+pub add_each-requires-clause-whole : goal.add_each-requires-clause-whole
+add_each-requires-clause-whole c = spelled_whole c.args.pattern.now _ c.terms.ensures.spelled
