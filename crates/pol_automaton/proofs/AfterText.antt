@@ -1,8 +1,5 @@
 -- The residuals of entries by texts, and what the scan keeps of them.
-use Rattle.std.proofs.Common.{◌≡◌, ◌<◌, ◌≤◌, ◌↔◌, ◌⊎◌, inl, inr, ℕ, List, [], ◌∷◌, ◌++◌, length, sym, subst, append_assoc, append-nil, arith}
-use Rattle.std.specs.List.{slice_index_or}
-use Rattle.std.proofs.lemmas.Bool.{cases_lt}
-use Rattle.std.proofs.lemmas.List.{get_or_default}
+use Rattle.std.proofs.Common.{◌<◌, ◌≤◌, ◌↔◌, inl, inr, ℕ, zero, suc, List, [], ◌∷◌, ◌++◌, length, sym, subst, append_assoc, append-nil, arith}
 use Rattle.std.proofs.lemmas.List.Elements.{All-contains}
 use Rattle.pol_pattern.specs.Flat.{Term, Terms}
 use Rattle.pol_pattern.specs.Sets.{InTerm}
@@ -11,7 +8,8 @@ use Rattle.pol_residual.specs.Derivative.{Derivatives, Residual, at_first, by_mo
 use Rattle.pol_automaton.specs.declared.entry_term.EntryTerm.{EntryTerm}
 use Rattle.pol_automaton.specs.After.{After, after_more, after_same, after_push}
 use Rattle.pol_automaton.specs.Decision.{entry_at}
-use Rattle.pol_residual.specs.Residuals.{InResidual, SameResiduals}
+use Rattle.pol_residual.specs.Residuals.{InResidual, any_text, SameResiduals}
+use Rattle.pol_automaton.specs.Cutting.{TermSets, SameUpTo, AreSame}
 use Rattle.pol_automaton.specs.Scanning.{item_of, HasTerm}
 use Rattle.pol_automaton.specs.Entries.{Entries, AreWhole, AreEntries}
 
@@ -50,30 +48,63 @@ after_none e entries whole are entry le text term h =
     let lt : entry < e.count = All-contains (λ (x : EntryTerm). x.entry < e.count) e.start (item_of entry w.1.0) whole.below w.1.1 in
     absurd (omega (arith, are.many))
 
--- the residuals after two texts are the same exactly if the entries' are
-abbrev pub SameAfter : Entries → List ℕ → List ℕ → Type 0
-SameAfter e text other = (entry : ℕ) (term : Term) → After (HasTerm e.terms e.start entry) text term ↔ After (HasTerm e.terms e.start entry) other term
+-- the sets are the residuals of the sources by the text, and there are no more
+pub record AreOf (sets : TermSets) (sources : List (List ℕ)) (text : List ℕ) : Type 0 where
+  pub each : (k : ℕ) → k < length sources → (term : Term) → sets k term ↔ InResidual (entry_at sources k) text term
+  pub none : (k : ℕ) → length sources ≤ k → (term : Term) → ¬ (sets k term)
 
-pub same_after : (e : Entries) (entries : List (List ℕ)) → AreWhole e → AreEntries e entries → (text other : List ℕ) → SameAfter e text other ↔ SameResiduals entries text other
-same_after e entries whole are text other = (to, from)
-  where
-    to : SameAfter e text other → SameResiduals entries text other
-    to same entry d lt term =
-        let at : entry_at entries entry ≡ slice_index_or entries entry d = get_or_default entries entry [] d lt in
-        let now = after_is e entries are entry lt text term in
-        let then = after_is e entries are entry lt other term in
-        subst (λ (s : List ℕ). InResidual s text term ↔ InResidual s other term) at
-        (λ h. then.0 ((same entry term).0 (now.1 h)), λ h. now.0 ((same entry term).1 (then.1 h)))
+later : (sets : TermSets) (source : List ℕ) (sources : List (List ℕ)) (text : List ℕ) → AreOf sets (source ∷ sources) text → AreOf (λ k. sets (suc k)) sources text
+later sets source sources text are = record { each = λ k lt. are.each (suc k) (omega arith); none = λ k le. are.none (suc k) (omega arith) }
 
-    from : SameResiduals entries text other → SameAfter e text other
-    from same entry term = by (cases_lt entry (length entries))
-      where
-        by : (entry < length entries) ⊎ (length entries ≤ entry) → After (HasTerm e.terms e.start entry) text term ↔ After (HasTerm e.terms e.start entry) other term
-        by (inl lt) =
-            let now = after_is e entries are entry lt text term in
-            let then = after_is e entries are entry lt other term in
-            (λ h. then.1 ((same entry [] lt term).0 (now.0 h)), λ h. now.1 ((same entry [] lt term).1 (then.0 h)))
-        by (inr le) = (λ h. absurd (after_none e entries whole are entry le text term h), λ h. absurd (after_none e entries whole are entry le other term h))
+none_later : (sets : TermSets) (text : List ℕ) → AreOf sets [] text → AreOf (λ k. sets (suc k)) [] text
+none_later sets text are = record { each = λ k lt. absurd (omega arith); none = λ k le. are.none (suc k) (omega arith) }
+
+same_sets : (many : ℕ) (sources : List (List ℕ)) (a b : TermSets) (text other : List ℕ) → AreOf a sources text → AreOf b sources other → SameResiduals sources text other → SameUpTo many a b
+same_sets zero sources a b text other p q same = tt
+same_sets (suc many) [] a b text other p q same =
+    inr (
+      λ term. (λ h. absurd (p.none 0 (omega arith) term h), λ h. absurd (q.none 0 (omega arith) term h)),
+      same_sets many [] (λ k. a (suc k)) (λ k. b (suc k)) text other (none_later a text p) (none_later b other q) tt,
+    )
+same_sets (suc many) (source ∷ sources) a b text other p q (inl sure) =
+    inl ((p.each 0 (omega arith) any_text).1 sure.0, (q.each 0 (omega arith) any_text).1 sure.1)
+same_sets (suc many) (source ∷ sources) a b text other p q (inr same) =
+    inr (
+      λ term.
+          let now = p.each 0 (omega arith) term in
+          let then = q.each 0 (omega arith) term in
+          (λ h. then.1 ((same.0 term).0 (now.0 h)), λ h. now.1 ((same.0 term).1 (then.0 h))),
+      same_sets many sources (λ k. a (suc k)) (λ k. b (suc k)) text other (later a source sources text p) (later b source sources other q) same.1,
+    )
+
+same_sources : (sources : List (List ℕ)) (a b : TermSets) (text other : List ℕ) → AreOf a sources text → AreOf b sources other → SameUpTo (length sources) a b → SameResiduals sources text other
+same_sources [] a b text other p q same = tt
+same_sources (source ∷ sources) a b text other p q (inl sure) =
+    inl ((p.each 0 (omega arith) any_text).0 sure.0, (q.each 0 (omega arith) any_text).0 sure.1)
+same_sources (source ∷ sources) a b text other p q (inr same) =
+    inr (
+      λ term.
+          let now = p.each 0 (omega arith) term in
+          let then = q.each 0 (omega arith) term in
+          (λ h. then.0 ((same.0 term).0 (now.1 h)), λ h. now.0 ((same.0 term).1 (then.1 h))),
+      same_sources sources (λ k. a (suc k)) (λ k. b (suc k)) text other (later a source sources text p) (later b source sources other q) same.1,
+    )
+
+-- of entries
+abbrev pub sets_after : Entries → List ℕ → TermSets
+sets_after e text entry = After (HasTerm e.terms e.start entry) text
+
+pub after_are : (e : Entries) (entries : List (List ℕ)) → AreWhole e → AreEntries e entries → (text : List ℕ) → AreOf (sets_after e text) entries text
+after_are e entries whole are text = record { each = λ k lt. after_is e entries are k lt text; none = λ k le. after_none e entries whole are k le text }
+
+-- the residuals after two texts are the same, as far as they count, exactly if the entries' are
+pub same_after : (e : Entries) (entries : List (List ℕ)) → AreWhole e → AreEntries e entries → (text other : List ℕ) → AreSame (sets_after e text) (sets_after e other) ↔ SameResiduals entries text other
+same_after e entries whole are text other =
+    let p = after_are e entries whole are text in
+    let q = after_are e entries whole are other in (
+      λ same. same_sources entries (sets_after e text) (sets_after e other) text other p q (same (length entries)),
+      λ same many. same_sets many entries (sets_after e text) (sets_after e other) text other p q same,
+    )
 
 -- ---- which texts an entry holds
 

@@ -1,10 +1,12 @@
 -- Alike symbols give the same derivatives, and so alike texts the same residuals.
 use Rattle.std.proofs.Common.{inl, inr, ◌<◌, ℕ, IsTrue, List, [], ◌∷◌, length, sym, subst, ◌∙◌}
 use Rattle.std.specs.List.{slice_index_or}
+use Rattle.std.specs.Prelude.{All}
+use Rattle.std.proofs.lemmas.List.Elements.{All-head, All-tail}
 use Rattle.pol_pattern.specs.Flat.{Class, Factor, class, group, star, Term, empty, put, Terms, none, alt, join_term}
 use Rattle.pol_residual.specs.Derivative.{IsAmong, Derivative, of_class, of_group, of_star, after_star, Derivatives, Residual, at_first, by_more}
 use Rattle.pol_automaton.specs.After.{After, after_more}
-use Rattle.pol_residual.specs.Residuals.{InResidual, SameResiduals}
+use Rattle.pol_residual.specs.Residuals.{InResidual, SameTerms, SameResiduals}
 use Rattle.pol_automaton.specs.Alike.{AllInFactor, AllInTerm, AllInTerms, HoldsAlike, AreAlike}
 use Rattle.pol_automaton.proofs.AfterText.{residual_after, after_residual}
 
@@ -121,8 +123,13 @@ in_residual_alike entries text other r k d lt term h = (
       (related_more (AreAlike entries) (λ a b. AllInTerms (HoldsAlike a b) h.0) (λ a b alike. alike k d lt h.0 h.1) text other r) term h.2,
 )
 
+same_all : (entries : List (List ℕ)) (text other : List ℕ) → All (λ source. SameTerms source text other) entries → SameResiduals entries text other
+same_all [] text other all = tt
+same_all (source ∷ entries) text other all =
+    inr (All-head (λ s. SameTerms s text other) source entries all, same_all entries text other (All-tail (λ s. SameTerms s text other) source entries all))
+
 pub same_alike : (entries : List (List ℕ)) (text other : List ℕ) → AreRelated (AreAlike entries) text other → SameResiduals entries text other
-same_alike entries text other r = λ k d lt term. (
+same_alike entries text other r = same_all entries text other (λ k d lt term. (
   in_residual_alike entries text other r k d lt term,
   in_residual_alike entries other text (related_back (AreAlike entries) (AreAlike entries) (alike_symmetric entries) text other r) k d lt term,
-)
+))

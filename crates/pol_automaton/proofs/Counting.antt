@@ -7,7 +7,7 @@ use Rattle.std.proofs.lemmas.List.{get_or_past, get_or_default}
 use Rattle.std.proofs.lemmas.Map.Keys.{IsDistinct-cons, IsDistinct-from_apart}
 use Rattle.std.proofs.lemmas.Map.Steps.{length-le_from_distinct_below}
 use Rattle.basics.specs.Symbol.{is_symbol, is_text}
-use Rattle.pol_residual.specs.Residuals.{SameResiduals, IsResidualCount, ExcludesLaw}
+use Rattle.pol_residual.specs.Residuals.{any_text, SameResiduals, IsResidualCount, ExcludesLaw}
 use Rattle.pol_automaton.specs.Alike.{AreAlike, IsClassCount}
 use Rattle.pol_automaton.proofs.Alikes.{alike_symmetric, alike_transitive}
 
@@ -102,10 +102,17 @@ module _ {X : Type 0} (Right : X → Type 0) (Same : X → X → Type 0) (symmet
 -- ---- texts and their residuals
 
 pub same_symmetric : (entries : List (List ℕ)) (t u : List ℕ) → SameResiduals entries t u → SameResiduals entries u t
-same_symmetric entries t u same = λ k d lt term. ((same k d lt term).1, (same k d lt term).0)
+same_symmetric [] t u same = tt
+same_symmetric (source ∷ entries) t u (inl sure) = inl (sure.1, sure.0)
+same_symmetric (source ∷ entries) t u (inr same) = inr (λ term. ((same.0 term).1, (same.0 term).0), same_symmetric entries t u same.1)
 
 pub same_transitive : (entries : List (List ℕ)) (t u v : List ℕ) → SameResiduals entries t u → SameResiduals entries u v → SameResiduals entries t v
-same_transitive entries t u v p q = λ k d lt term. (λ h. (q k d lt term).0 ((p k d lt term).0 h), λ h. (p k d lt term).1 ((q k d lt term).1 h))
+same_transitive [] t u v p q = tt
+same_transitive (source ∷ entries) t u v (inl p) (inl q) = inl (p.0, q.1)
+same_transitive (source ∷ entries) t u v (inl p) (inr q) = inl (p.0, (q.0 any_text).0 p.1)
+same_transitive (source ∷ entries) t u v (inr p) (inl q) = inl ((p.0 any_text).1 q.0, q.1)
+same_transitive (source ∷ entries) t u v (inr p) (inr q) =
+    inr (λ term. (λ h. (q.0 term).0 ((p.0 term).0 h), λ h. (p.0 term).1 ((q.0 term).1 h)), same_transitive entries t u v p.1 q.1)
 
 pub excludes : ExcludesLaw
 excludes entries count limit has few above =

@@ -1,5 +1,6 @@
 -- What the scan finds of any machine that tells words apart by the residuals of entries is the Decider of these.
-use Rattle.std.proofs.Common.{◌≡◌, ◌<◌, ◌↔◌, ℕ, IsTrue, List, [], map, Option, Some, length, sym, subst, ap, ◌∙◌, arith}
+use Rattle.std.proofs.Common.{◌≡◌, ◌<◌, ◌↔◌, ℕ, Bool, IsTrue, List, [], map, Option, Some, length, sym, subst, ap, ◌∙◌, arith}
+use Rattle.std.specs.Prelude.{Any}
 use Rattle.std.specs.List.{slice_index_or}
 use Rattle.std.proofs.lemmas.List.{get_or-map, length-map}
 use Rattle.basics.specs.Symbol.{is_text}
@@ -8,10 +9,10 @@ use Rattle.pol_scan.specs.Alphabet.{Alphabet, IsAlphabet, HasClasses, word_of, t
 use Rattle.pol_scan.specs.Words.{IsWord, IsWordThat, word_at}
 use Rattle.pol_scan.specs.Congruence.{Congruence, AreDifferent, HasIndex, HasIndexAbove}
 use Rattle.pol_scan.specs.Table.{Table, count, walk, IsAutomatonOf}
-use Rattle.pol_residual.specs.Residuals.{SameResiduals, IsResidualCount, HasMoreResiduals}
+use Rattle.pol_residual.specs.Residuals.{SameResiduals, IsResidualCount, HasMoreResiduals, IsSure}
 use Rattle.pol_residual.specs.Residuals.{AreDifferent as AreDifferentTexts}
 use Rattle.pol_automaton.specs.Decision.{IsFirstMatch}
-use Rattle.pol_automaton.specs.Automaton.{Automaton, state_of, first_of, IsWhole, IsDecider}
+use Rattle.pol_automaton.specs.Automaton.{Automaton, state_of, first_of, is_sure, IsWhole, IsDecider}
 use Rattle.pol_automaton.specs.Alike.{AreAlike}
 use Rattle.pol_automaton.proofs.Words.{is_word, spells_text}
 use Rattle.pol_automaton.proofs.Alikes.{same_alike}
@@ -31,17 +32,24 @@ pub record IsFound (machine : Congruence) (table : Table) : Type 0 where
   pub automaton : IsAutomatonOf machine table
   pub index : HasIndex machine (count table)
 
-abbrev pub automaton_of : Alphabet → Table → List (Option ℕ) → ℕ → Automaton
-automaton_of alphabet table firsts many = record { alphabet = alphabet; table = table; firsts = firsts; entries = many }
+-- what is kept of each state: its first match, and whether an entry is sure
+pub record Marks : Type 0 where
+  pub firsts : List (Option ℕ)
+  pub sures : List Bool
 
-pub is_whole : (alphabet : Alphabet) (machine : Congruence) (table : Table) (firsts : List (Option ℕ)) (many : ℕ)
-    → IsAlphabet alphabet → machine.width ≡ alphabet.width → IsAutomatonOf machine table → length firsts ≡ count table
-    → ((state i : ℕ) → state < count table → first_of (automaton_of alphabet table firsts many) state ≡ Some i → i < many)
-    → IsWhole (automaton_of alphabet table firsts many)
-is_whole alphabet machine table firsts many letters columns found size below = record {
+abbrev pub automaton_of : Alphabet → Table → Marks → ℕ → Automaton
+automaton_of alphabet table marks many =
+    record { alphabet = alphabet; table = table; firsts = marks.firsts; sures = marks.sures; entries = many }
+
+pub is_whole : (alphabet : Alphabet) (machine : Congruence) (table : Table) (marks : Marks) (many : ℕ)
+    → IsAlphabet alphabet → machine.width ≡ alphabet.width → IsAutomatonOf machine table → length marks.firsts ≡ count table → length marks.sures ≡ count table
+    → ((state i : ℕ) → state < count table → first_of (automaton_of alphabet table marks many) state ≡ Some i → i < many)
+    → IsWhole (automaton_of alphabet table marks many)
+is_whole alphabet machine table marks many letters columns found size sizes below = record {
   letters = letters;
   columns = found.columns ∙ columns;
   firsts = size;
+  sures = sizes;
   within = λ word w. found.within word (subst (λ n. IsWord n word) found.columns w);
   words = λ state lt. subst (λ n. IsWord n (word_at table.words state)) (sym found.columns) (found.least state lt).0.0;
   below = below;
@@ -129,11 +137,13 @@ module _ (alphabet : Alphabet) (machine : Congruence) (sources : List (List ℕ)
         let least = (found.automaton.least (walk table word) (found.automaton.within word (read text h))).0 in
         (found.automaton.tells word (word_at table.words (walk table word)) (read text h) least.0).0 (sym least.1)
 
-    pub is_decider : (firsts : List (Option ℕ)) (many : ℕ) → many ≡ length sources
+    pub is_decider : (marks : Marks) (many : ℕ) → many ≡ length sources
         → ((text : List ℕ) → IsTrue (is_text text) → IsFirstMatch sources text
-        (first_of (automaton_of alphabet table firsts many) (state_of (automaton_of alphabet table firsts many) text)))
-        → IsDecider (automaton_of alphabet table firsts many) sources
-    is_decider firsts many size matched = record {
+        (first_of (automaton_of alphabet table marks many) (state_of (automaton_of alphabet table marks many) text)))
+        → ((text : List ℕ) → IsTrue (is_text text) → IsTrue (is_sure (automaton_of alphabet table marks many) (state_of (automaton_of alphabet table marks many) text))
+        ↔ Any (λ source. IsSure source text) sources)
+        → IsDecider (automaton_of alphabet table marks many) sources
+    is_decider marks many size matched sure = record {
       many = size;
       classes = is.classes;
       tells = λ text other h k.
@@ -142,6 +152,7 @@ module _ (alphabet : Alphabet) (machine : Congruence) (sources : List (List ℕ)
           (λ at. by_texts.0 (by_words.0 at), λ same. by_words.1 (by_texts.1 same));
       index = residual_count (count table) found.index;
       firsts = matched;
+      sures = sure;
       leasts = λ test state lt passes none.
           subst (λ (n : ℕ). IsLeast (IsWordThat n (λ word. IsTrue (test (walk table word)))) (word_at table.words state)) (sym found.automaton.columns)
           (found.automaton.firsts test state lt passes none);

@@ -9,7 +9,7 @@ pub both : (a b : Bool) → IsTrue (a && b) → IsTrue a × IsTrue b
 both true b h = (refl, h)
 both false b h = absurd cc
 
-from_both : (a b : Bool) → IsTrue a → IsTrue b → IsTrue (a && b)
+pub from_both : (a b : Bool) → IsTrue a → IsTrue b → IsTrue (a && b)
 from_both true b h k = k
 from_both false b h k = absurd cc
 

@@ -1,10 +1,12 @@
 -- What is decided of a text: by the first entry whose set holds it. And the least texts of which
 -- something is decided.
-use Rattle.std.specs.Prelude.{◌≡◌, ◌<◌, ℕ, List, [], length, All, Option, None, Some, slice_get}
-use Rattle.std.specs.Prelude.{slice_index_or}
+use Rattle.std.specs.Prelude.{◌≡◌, ◌↔◌, ◌<◌, ℕ, IsTrue, List, [], ◌++◌, length, All, Option, None}
+use Rattle.std.specs.Prelude.{Some, slice_get, slice_index_or}
 use Rattle.std.specs.Prelude.{unwrap_or}
+use Rattle.basics.specs.Symbol.{is_text}
 use Rattle.basics.specs.TextOrder.{IsLeast}
 use Rattle.pol_pattern.specs.Spelling.{Holds}
+use Rattle.pol_residual.specs.Residuals.{SameResiduals}
 use Rattle.pol_names.specs.declared.decision.Verdict.{Verdict}
 use Rattle.pol_names.specs.declared.decision.Verdict.TheVariants.{Permit, Deny}
 use Rattle.pol_scan.specs.Alphabet.{IsTextThat}
@@ -19,6 +21,13 @@ abbrev pub IsFirstMatch : List (List ℕ) → List ℕ → Option ℕ → Type 0
 IsFirstMatch entries text None = All (λ source. ¬ (Holds source text)) entries
 IsFirstMatch entries text (Some i) = (i < length entries) × Holds (entry_at entries i) text
     × ((k : ℕ) → k < i → ¬ (Holds (entry_at entries k) text))
+
+-- texts with the same residuals have the same first match, whatever text follows both
+abbrev pub SameMatchLaw : Type 0
+SameMatchLaw =
+    (entries : List (List ℕ)) (text other rest : List ℕ) (first : Option ℕ)
+    → IsTrue (is_text rest) → SameResiduals entries text other
+    → IsFirstMatch entries (text ++ rest) first ↔ IsFirstMatch entries (other ++ rest) first
 
 -- the texts that an entry decides, and the least of them
 abbrev pub Decides : List (List ℕ) → ℕ → List ℕ → Type 0

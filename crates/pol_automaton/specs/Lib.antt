@@ -4,6 +4,7 @@ pub mod Faults
 pub mod Automaton
 pub mod Reaching
 pub mod After
+pub mod Cutting
 pub mod Scanning
 pub mod Entries
 pub mod Stepping
@@ -12,3 +13,4 @@ pub mod Order
 pub mod Having
 pub mod Telling
 pub mod Pairs
+pub mod Joining

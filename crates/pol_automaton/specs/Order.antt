@@ -8,7 +8,7 @@ use Rattle.std.specs.Cmp.{IsTotalOrder, IsEquivalence, unsigned_ties, tied_then}
 use Rattle.std.specs.Ordering.{eq_by_cmp, ordering_reverse, nat_cmp}
 use Rattle.std.specs.declared.cmp.Ordering.{Ordering}
 use Rattle.std.specs.List.Sorted.{IsStrictlySortedBy}
-use Rattle.std.proofs.lemmas.Bool.{and_parts, eqb-true}
+use Rattle.std.proofs.lemmas.Bool.{and_parts, and_from, eqb-true, eq-eqb}
 use Rattle.std.proofs.lemmas.Cmp.{nat_cmp_total, nat_eq_equiv, on_total, then_total, on_equiv}
 use Rattle.std.proofs.lemmas.Cmp.{and_equiv}
 use Rattle.std.proofs.lemmas.List.Elements.{All-from_recursion, All-contains, Contains-append_right}
@@ -47,18 +47,23 @@ same_is x y e =
     let with_term : ℕ → EntryTerm = λ n. record { entry = y.entry; term = n } in
     ap with_entry entries ∙ ap with_term terms
 
+pub item_itself : (x : EntryTerm) → same_item x x ≡ true
+item_itself x =
+    and_from (x.entry == x.entry) (x.term == x.term) (eq-eqb x.entry x.entry refl)
+    (eq-eqb x.term x.term refl)
+
 -- ---- ordered lists of the same elements
 
 none_contained : {A : Type 0} (x : A) → Contains [] x → ⊥
 none_contained x c = absurd (omega (arith, c.1))
 
-first_contained : {A : Type 0} (x : A) (xs : List A) → Contains (x ∷ xs) x
+pub first_contained : {A : Type 0} (x : A) (xs : List A) → Contains (x ∷ xs) x
 first_contained x xs = (0, omega arith, refl)
 
-later_contained : {A : Type 0} (x : A) (xs : List A) (y : A) → Contains xs y → Contains (x ∷ xs) y
+pub later_contained : {A : Type 0} (x : A) (xs : List A) (y : A) → Contains xs y → Contains (x ∷ xs) y
 later_contained x xs y c = Contains-append_right (x ∷ []) xs y c
 
-contained_cases : {A : Type 0} (x : A) (xs : List A) (y : A) → Contains (x ∷ xs) y
+pub contained_cases : {A : Type 0} (x : A) (xs : List A) (y : A) → Contains (x ∷ xs) y
     → (y ≡ x) ⊎ Contains xs y
 contained_cases {A} x xs y c = by (Contains-append_cases (x ∷ []) xs y c)
   where

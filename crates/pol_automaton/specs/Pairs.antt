@@ -1,10 +1,7 @@
 -- Two automata that read one text, side by side.
-use Rattle.std.specs.Prelude.{◌≡◌, ◌↔◌, ◌<◌, ◌&&◌, ◌==◌, ◌+◌, ℕ, Bool, true, false, IsTrue, Option}
-use Rattle.std.specs.Prelude.{None, Some, List}
-use Rattle.std.specs.Prelude.{refl}
+use Rattle.std.specs.Prelude.{◌≡◌, ◌↔◌, ◌<◌, ◌&&◌, ◌==◌, ℕ, Bool, true, false, IsTrue, List, refl}
 use Rattle.std.proofs.Common.{sym, ap, subst, ◌∙◌}
 use Rattle.std.proofs.lemmas.Bool.{and_parts, and_from, eqb-true, eq-eqb}
-use Rattle.std.specs.List.{AllZip}
 use Rattle.std.proofs.lemmas.List.{map_push}
 use Rattle.std.proofs.lemmas.List.Sums.{fold_push}
 use Rattle.pol_names.specs.declared.decision.Verdict.{Verdict}
@@ -72,17 +69,6 @@ told_pairs alphabet a b u v s t p q = (
       (eq-eqb s.1 t.1 (p.second_is ∙ same.1 ∙ sym q.second_is)),
 )
 
--- ---- joined entries
-
--- the first match among entries and others after them
-abbrev pub first_of_both : ℕ → Option ℕ → Option ℕ → Option ℕ
-first_of_both many (Some i) other = Some i
-first_of_both many None None = None
-first_of_both many None (Some j) = Some (many + j)
-
-abbrev pub joined_first : Automaton → Automaton → ℕ → ℕ → Option ℕ
-joined_first a b first second = first_of_both a.entries (first_of a first) (first_of b second)
-
 -- ---- changes
 
 abbrev pub is_change : Way → Verdict → Verdict → Bool
@@ -148,17 +134,6 @@ pairs_kept al am a b c d p q r =
     (subst (λ (x : Automaton). PairKeeps al a b am x b) q
     (subst (λ (x : Alphabet). PairKeeps al a b x a b) p
     (keeps_itself (pairs al a b) (λ word state. ArePair al a b word state.0 state.1))))
-
--- what was led by the one is led by the other
-pub led_back : (al am : Alphabet) (a b c d : Automaton) → al ≡ am → a ≡ c → b ≡ d
-    → (words : List (List ℕ)) (states : List (ℕ × ℕ))
-    → AllZip (λ word s. ArePair am c d word s.0 s.1) words states
-    → AllZip (λ word s. ArePair al a b word s.0 s.1) words states
-led_back al am a b c d p q r words states led =
-    subst (λ (x : Alphabet). AllZip (λ word s. ArePair x a b word s.0 s.1) words states) (sym p)
-    (subst (λ (x : Automaton). AllZip (λ word s. ArePair am x b word s.0 s.1) words states) (sym q)
-    (subst (λ (x : Automaton). AllZip (λ word s. ArePair am c x word s.0 s.1) words states)
-    (sym r) led))
 
 pub comparing_kept : (al am : Alphabet) (c d : Comparison) → al ≡ am → c ≡ d
     → PairKeeps al c.old c.new am d.old d.new

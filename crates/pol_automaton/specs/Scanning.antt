@@ -11,7 +11,9 @@ use Rattle.pol_scan.specs.Alphabet.{Alphabet, text_of, least_of}
 use Rattle.pol_scan.specs.Words.{longer}
 use Rattle.pol_scan.specs.Congruence.{Congruence}
 use Rattle.pol_automaton.specs.declared.entry_term.EntryTerm.{EntryTerm}
-use Rattle.pol_automaton.specs.After.{After, after_push, derivatives_more}
+use Rattle.pol_automaton.specs.After.{After, after_push}
+use Rattle.pol_automaton.specs.Cutting.{Counts, IsDecided, AreSame, Stepped, same_itself, same_back}
+use Rattle.pol_automaton.specs.Cutting.{same_on, same_each, same_stepped}
 
 abbrev pub item_of : ℕ → ℕ → EntryTerm
 item_of entry number = record { entry = entry; term = number }
@@ -36,48 +38,58 @@ abbrev pub AfterText : Alphabet → List Term → List EntryTerm → List ℕ �
 AfterText alphabet table start word entry term =
     After (HasTerm table start entry) (text_of alphabet word) term
 
--- the word leads to the residuals
+-- the word leads to what counts of the residuals, and which entry is sure is known
 pub record LeadsTo (alphabet : Alphabet) (table : List Term) (start : List EntryTerm)
     (word : List ℕ)
     (items : List EntryTerm) : Type 0 where
   pub right : AreResiduals table items
   pub members : (entry : ℕ) (term : Term)
-      → HasTerm table items entry term ↔ AfterText alphabet table start word entry term
+      → HasTerm table items entry term ↔ Counts (AfterText alphabet table start word) entry term
+  pub decided : (entry : ℕ) → IsDecided (HasTerm table items) entry
 
--- words are the same if the residuals after them are
+-- words are the same if the residuals after them are, as far as they count
 abbrev pub AlikeAfter : Alphabet → List Term → List EntryTerm → List ℕ → List ℕ → Type 0
 AlikeAfter alphabet table start u v =
-    (entry : ℕ) (term : Term) → AfterText alphabet table start u entry term
-    ↔ AfterText alphabet table start v entry term
+    AreSame (AfterText alphabet table start u) (AfterText alphabet table start v)
 
+-- the residuals after one column more
 pub after_longer : (alphabet : Alphabet) (table : List Term) (start : List EntryTerm)
-    (u v : List ℕ) (column : ℕ)
-    → AlikeAfter alphabet table start u v → (entry : ℕ) (term : Term)
-    → AfterText alphabet table start (longer u column) entry term
-    → AfterText alphabet table start (longer v column) entry term
-after_longer alphabet table start u v column same entry term h =
+    (word : List ℕ) (column entry : ℕ) (term : Term)
+    → AfterText alphabet table start (longer word column) entry term
+    ↔ Stepped (least_of alphabet column) (AfterText alphabet table start word) entry term
+after_longer alphabet table start word column entry term =
     let set = HasTerm table start entry in
     let at : List ℕ → Type 0 = λ text. After set text term in
-    let stepped = (after_push set (text_of alphabet u) (least_of alphabet column) term).0
-    (subst at (map-append (least_of alphabet) u (column ∷ [])) h) in
-    let other = derivatives_more (After set (text_of alphabet u)) (After set (text_of alphabet v))
-    (least_of alphabet column) (λ t. (same entry t).0) term stepped in
-    subst at (sym (map-append (least_of alphabet) v (column ∷ [])))
-    ((after_push set (text_of alphabet v) (least_of alphabet column) term).1 other)
+    let spelled = map-append (least_of alphabet) word (column ∷ []) in
+    let pushed = after_push set (text_of alphabet word) (least_of alphabet column) term in
+    (λ h. pushed.0 (subst at spelled h), λ d. subst at (sym spelled) (pushed.1 d))
+
+pub alike_longer : (alphabet : Alphabet) (table : List Term) (start : List EntryTerm)
+    (u v : List ℕ) (column : ℕ) → AlikeAfter alphabet table start u v
+    → AlikeAfter alphabet table start (longer u column) (longer v column)
+alike_longer alphabet table start u v column same many =
+    let symbol = least_of alphabet column in
+    let before = AfterText alphabet table start u in
+    let other = AfterText alphabet table start v in
+    let now = AfterText alphabet table start (longer u column) in
+    let then = AfterText alphabet table start (longer v column) in
+    same_on many now (Stepped symbol before) then
+    (same_each many now (Stepped symbol before) (after_longer alphabet table start u column))
+    (same_on many (Stepped symbol before) (Stepped symbol other) then
+    (same_stepped symbol many before other (same many))
+    (same_back many then (Stepped symbol other)
+    (same_each many then (Stepped symbol other) (after_longer alphabet table start v column))))
 
 -- words are told apart by the residuals after them
 abbrev pub residuals : Alphabet → List Term → List EntryTerm → Congruence
 residuals alphabet table start = record {
   width = alphabet.width;
   same = AlikeAfter alphabet table start;
-  reflexive = λ u entry term. (λ h. h, λ h. h);
-  symmetric = λ u v same entry term. ((same entry term).1, (same entry term).0);
-  transitive = λ u v w one two entry term. (
-    λ h. (two entry term).0 ((one entry term).0 h),
-    λ h. (one entry term).1 ((two entry term).1 h),
-  );
-  followed = λ u v column in_range same entry term. (
-    after_longer alphabet table start u v column same entry term,
-    after_longer alphabet table start v u column (λ e t. ((same e t).1, (same e t).0)) entry term,
-  );
+  reflexive = λ u. same_itself (AfterText alphabet table start u);
+  symmetric = λ u v same many.
+      same_back many (AfterText alphabet table start u) (AfterText alphabet table start v) (same many);
+  transitive = λ u v w one two many.
+      same_on many (AfterText alphabet table start u) (AfterText alphabet table start v)
+      (AfterText alphabet table start w) (one many) (two many);
+  followed = λ u v column in_range same. alike_longer alphabet table start u v column same;
 }

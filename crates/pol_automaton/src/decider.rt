@@ -7,7 +7,7 @@ ghost use Rattle.pol_pattern.specs.Matching.{MatchLaw};
 ghost use Rattle.pol_scan.specs.Table.{count};
 ghost use Rattle.pol_residual.specs.Residuals.{HasMoreResiduals, ExcludesLaw, IsResidualCount};
 ghost use Rattle.pol_automaton.specs.Entries.{AreEntries};
-ghost use Rattle.pol_automaton.specs.Decision.{IsFirstMatch, Decides, IsReachText};
+ghost use Rattle.pol_automaton.specs.Decision.{IsFirstMatch, Decides, IsReachText, SameMatchLaw};
 ghost use Rattle.pol_automaton.specs.Alike.{IsClassCount};
 
 use crate::entries::Entries;
@@ -21,12 +21,14 @@ use std::marker::Model;
 /// An automaton over the residuals of entries: for each text it tells the first entry whose pattern
 /// holds it. It doesn't keep the patterns.
 ///
-/// A state takes a row of cells, one for each column, and 33 bytes.
+/// A state takes a row of cells, one for each column, and 34 bytes.
 pub struct Decider {
     pub(crate) alphabet: Alphabet,
     pub(crate) table: Table,
     // by state
     pub(crate) firsts: Vec<Option<usize>>,
+    // by state: whether an entry holds every text that goes on
+    pub(crate) sures: Vec<bool>,
     pub(crate) entries: usize,
 }
 
@@ -37,6 +39,7 @@ impl Drop for Decider {
             alphabet: _,
             table: _,
             firsts: _,
+            sures: _,
             entries: _,
         } = self;
     }
@@ -47,15 +50,25 @@ impl Model for Decider {
 
     ghost Value = { Deciding };
 
-    ghost view = { λ d. record
-        { alphabet = d.alphabet; table = d.table; firsts = d.firsts.items; entries = d.entries } };
+    ghost view = { λ d. record {
+      alphabet = d.alphabet;
+      table = d.table;
+      firsts = d.firsts.items;
+      sures = d.sures.items;
+      entries = d.entries;
+    } };
 
-    ghost invariant = { λ d. IsWhole (record
-        { alphabet = d.alphabet; table = d.table; firsts = d.firsts.items; entries = d.entries }) };
+    ghost invariant = { λ d. IsWhole (record {
+      alphabet = d.alphabet;
+      table = d.table;
+      firsts = d.firsts.items;
+      sures = d.sures.items;
+      entries = d.entries;
+    }) };
 }
 
 impl Decider {
-    ghost use Rattle.pol_automaton.specs.Automaton.{IsDecider, IsWhole, state_of, first_of};
+    ghost use Rattle.pol_automaton.specs.Automaton.{IsDecider, IsWhole, state_of, first_of, is_sure};
     ghost use Rattle.pol_automaton.specs.Pairs.{state_after};
     ghost use Rattle.pol_automaton.specs.Reaching.{IsFirstState, NoState};
 
@@ -89,11 +102,13 @@ impl Decider {
         let count = entries.count();
         let Automaton { table, states } = scan(entries.alloc(), &mut entries, limit)?;
         let firsts = entries.firsts(states.as_slice())?;
+        let sures = entries.sures(states.as_slice())?;
         meter.raise(table.states());
         Ok(Decider {
             alphabet: entries.alphabet(),
             table,
             firsts,
+            sures,
             entries: count,
         })
     }
@@ -147,6 +162,9 @@ impl Decider {
         // There is one such number.
         ensures only { (entries : List (List ℕ)) (count : ℕ) → IsDecider self.now entries
             → IsResidualCount entries count → result ≡ count }
+
+        // A state is enough to decide whatever goes on.
+        ensures law { SameMatchLaw }
     {
         self.table.states()
     }
@@ -219,6 +237,14 @@ impl Decider {
         ensures below { IfSome result (λ i. i < self.now.entries) }
     {
         self.firsts[state as usize]
+    }
+
+    // Whether an entry is sure by the texts that lead to a state.
+    pub(crate) fn is_sure(&self, state: StateNumber) -> bool
+        requires { state < count self.now.table }
+        ensures { result ≡ is_sure self.now state }
+    {
+        self.sures[state as usize]
     }
 
     // How texts are read.

@@ -1,11 +1,14 @@
 //! Entries of which an automaton is to be made.
 
-ghost use Rattle.std.specs.Prelude.{◌≡◌, ◌++◌, ◌∷◌, [], ℕ, List, map, All, IfOk, OnOk, OnErr};
+ghost use Rattle.std.specs.Prelude.{◌≡◌, ◌↔◌, ◌++◌, ◌∷◌, [], ℕ, List, map, All, IsTrue, IfOk, OnOk};
+ghost use Rattle.std.specs.Prelude.{OnErr};
 ghost use Rattle.std.specs.List.{AllZip};
 ghost use Rattle.pol_automaton.specs.Entries.{AreEntries, AreWhole};
-ghost use Rattle.pol_automaton.specs.Scanning.{item_of, AreResiduals};
+ghost use Rattle.pol_residual.specs.Residuals.{any_text};
+ghost use Rattle.pol_automaton.specs.Scanning.{item_of, HasTerm, AreResiduals};
 ghost use Rattle.pol_automaton.specs.Matching.{IsFirstAccepted};
 
+use crate::cutting::{cut, is_sure};
 use crate::dividing::divide_by_terms;
 use crate::entry_term::EntryTerm;
 use crate::matching::first_accepted;
@@ -147,6 +150,20 @@ impl Entries {
         }
         Ok(firsts)
     }
+
+    /// Of each of the residuals, whether an entry is sure.
+    pub(crate) fn sures(&self, states: &[Vec<EntryTerm>]) -> Result<Vec<bool>, AllocError>
+        requires { All (λ state. AreResiduals self.now.terms state.items) states.now }
+        ensures { IfOk result (λ sures. AllZip (λ state sure. IsTrue sure
+            ↔ ((entry : ℕ) × HasTerm self.now.terms state.items entry any_text))
+            states.now sures.items) }
+    {
+        let mut sures = Vec::new(self.alloc);
+        for state in states {
+            sures.push(is_sure(&self.terms, state))?;
+        }
+        Ok(sures)
+    }
 }
 
 impl Machine for Entries {
@@ -167,7 +184,9 @@ impl Machine for Entries {
     }
 
     fn start(&mut self) -> Result<Vec<EntryTerm>, AllocError> {
-        Vec::from_slice(self.alloc, &self.start)
+        let mut start = Vec::from_slice(self.alloc, &self.start)?;
+        cut(&self.terms, &mut start);
+        Ok(start)
     }
 
     fn step(

@@ -5,12 +5,13 @@ ghost use Rattle.std.specs.Prelude.{OnErr, IsErrOf};
 ghost use Rattle.std.specs.List.{AllZip};
 ghost use Rattle.pol_scan.specs.Table.{count};
 ghost use Rattle.pol_residual.specs.Residuals.{HasMoreResiduals, ExcludesLaw, IsResidualCount};
-ghost use Rattle.pol_automaton.specs.Pairs.{joined_first};
+ghost use Rattle.pol_automaton.specs.Joining.{joined_first, joined_sure};
 
 use crate::decider::Decider;
 use crate::fault::DeciderFault;
+use crate::joined_pairs::Joining;
 use crate::meter::Meter;
-use crate::pairs::{Joining, Pair};
+use crate::pairs::Pair;
 use pol_scan::{Automaton, StateNumber, scan};
 use std::alloc::{AllocError, Global};
 
@@ -48,6 +49,34 @@ fn firsts_of_pairs(
         firsts.push(first_of_pair(first, rest, pair))?;
     }
     Ok(firsts)
+}
+
+// Whether an entry of either is sure.
+fn is_sure_pair(first: &Decider, rest: &Decider, pair: &Pair) -> bool
+    requires first { pair.now.0 < count first.now.table }
+    requires rest { pair.now.1 < count rest.now.table }
+    ensures { result ≡ joined_sure first.now rest.now pair.now.0 pair.now.1 }
+{
+    first.is_sure(pair.0) || rest.is_sure(pair.1)
+}
+
+// Whether an entry is sure, of each pair.
+fn sures_of_pairs(
+    alloc: Global,
+    first: &Decider,
+    rest: &Decider,
+    pairs: &[Pair],
+) -> Result<Vec<bool>, AllocError>
+    requires { All (λ pair. (pair.0 < count first.now.table)
+        × (pair.1 < count rest.now.table)) pairs.now }
+    ensures { IfOk result (λ sures. AllZip (λ pair sure.
+        sure ≡ joined_sure first.now rest.now pair.0 pair.1) pairs.now sures.items) }
+{
+    let mut sures = Vec::new(alloc);
+    for pair in pairs {
+        sures.push(is_sure_pair(first, rest, pair))?;
+    }
+    Ok(sures)
 }
 
 impl Decider {
@@ -88,11 +117,13 @@ impl Decider {
         };
         let Automaton { table, states } = scan(alloc, &mut joining, limit)?;
         let firsts = firsts_of_pairs(alloc, first, rest, states.as_slice())?;
+        let sures = sures_of_pairs(alloc, first, rest, states.as_slice())?;
         meter.raise(table.states());
         Ok(Decider {
             alphabet,
             table,
             firsts,
+            sures,
             entries,
         })
     }

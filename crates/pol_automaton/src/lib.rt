@@ -2,12 +2,14 @@
 #![tactic(auto)]
 
 mod arranging;
+mod cutting;
 mod decider;
 mod differing;
 mod dividing;
 mod entries;
 mod entry_term;
 mod fault;
+mod joined_pairs;
 mod joining;
 mod matching;
 mod meter;

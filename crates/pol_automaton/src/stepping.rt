@@ -1,11 +1,13 @@
 //! One step of the scan.
 
-ghost use Rattle.std.specs.Prelude.{◌≡◌, ◌<◌, ◌++◌, length, map, IfOk, OnOk};
+ghost use Rattle.std.specs.Prelude.{◌≡◌, ◌<◌, ◌++◌, List, length, map, IfOk, OnOk};
 ghost use Rattle.pol_deriv.specs.Table.{Grows};
+ghost use Rattle.pol_automaton.specs.declared.entry_term.EntryTerm.{EntryTerm};
 ghost use Rattle.pol_automaton.specs.Scanning.{item_of, AreResiduals};
-ghost use Rattle.pol_automaton.specs.Stepping.{AreWithin, AreDerivatives, AddsDerivatives};
+ghost use Rattle.pol_automaton.specs.Stepping.{AreWithin, AreDerivatives, AddsDerivatives, AreCut};
 
 use crate::arranging::arrange;
+use crate::cutting::cut;
 use crate::entry_term::EntryTerm;
 use pol_deriv::{Number, Terms};
 use std::alloc::{AllocError, Global};
@@ -43,9 +45,8 @@ fn push_derivatives(
     Ok(())
 }
 
-/// The residuals to which residuals and a symbol lead. Takes the time to ask for the derivatives of
-/// each term, and to put them in order.
-pub(crate) fn step(
+// The derivatives of residuals by a symbol.
+fn derivatives(
     alloc: Global,
     terms: &mut Terms,
     items: &[EntryTerm],
@@ -62,5 +63,25 @@ pub(crate) fn step(
         push_derivatives(terms, *item, symbol, &mut next)?;
     }
     arrange(&mut next);
+    Ok(next)
+}
+
+/// What counts of the residuals to which residuals and a symbol lead. Takes the time to ask for the
+/// derivatives of each term, and to put them in order.
+pub(crate) fn step(
+    alloc: Global,
+    terms: &mut Terms,
+    items: &[EntryTerm],
+    symbol: u8,
+) -> Result<Vec<EntryTerm>, AllocError>
+    requires { AreResiduals terms.old items.now }
+    ensures grows { Grows terms.old terms.new }
+    ensures right { IfOk result (λ next. AreResiduals terms.new next.items) }
+    ensures exact { IfOk result (λ next. (derived : List EntryTerm)
+        × AreDerivatives terms.old terms.new symbol items.now derived
+        × AreCut terms.new derived next.items) }
+{
+    let mut next = derivatives(alloc, terms, items, symbol)?;
+    cut(terms, &mut next);
     Ok(next)
 }

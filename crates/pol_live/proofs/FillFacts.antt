@@ -1,11 +1,10 @@
 -- The automaton of a subject's own rules, and that of those it inherits, make that of its chain.
-use Rattle.std.proofs.Common.{◌≡◌, ℕ, zero, suc, ◌-◌, ◌<◌, ◌≤◌, Bool, true, false, true≢false, ◌||◌, ◌&&◌, not, nat_lt, List, [], ◌∷◌, ◌++◌, length, map, Option, None, Some, Result, Ok, Err, OnOk, OnErr, refl, sym, ap, subst, ◌∙◌, arith, slice_get, is_some, IsTrue, IfSome, Contains}
+use Rattle.std.proofs.Common.{◌≡◌, inl, inr, ℕ, zero, suc, ◌-◌, ◌<◌, ◌≤◌, Bool, true, false, true≢false, ◌||◌, ◌&&◌, not, nat_lt, List, [], ◌∷◌, ◌++◌, length, map, Option, None, Some, Result, Ok, Err, OnOk, OnErr, refl, sym, ap, subst, ◌∙◌, arith, slice_get, is_some, IsTrue, IfSome, Contains}
 use Rattle.std.specs.List.{list_all}
 use Rattle.std.specs.Option.{option_map_or, option_and_then, option_copied}
 use Rattle.std.specs.Borrow.{Bor}
 use Rattle.std.proofs.lemmas.Bool.{and_parts}
 use Rattle.std.proofs.lemmas.Bool.Decides.{nat_tests}
-use Rattle.std.proofs.lemmas.List.{length-append, get_or_append_left}
 use Rattle.std.proofs.lemmas.Option.{slice_get-get_or, slice_get_within, slice_get_read, get_or_from_slice_get}
 use Rattle.pol_automaton.specs.Automaton.{Automaton}
 use Rattle.pol_names.specs.SubjectId.{group_id}
@@ -25,10 +24,9 @@ use Rattle.pol_live.proofs.SlotFacts.{whole_put, put_there}
 -- ---- more entries after these have no fewer residuals
 
 same_front : (xs ys : List (List ℕ)) (text other : List ℕ) → SameResiduals (xs ++ ys) text other → SameResiduals xs text other
-same_front xs ys text other same k d lt =
-    let long = length-append xs ys in
-    let within : k < length (xs ++ ys) = omega arith in
-    rw (← get_or_append_left xs ys d k lt) (same k d within)
+same_front [] ys text other same = tt
+same_front (x ∷ xs) ys text other (inl sure) = inl sure
+same_front (x ∷ xs) ys text other (inr same) = inr (same.0, same_front xs ys text other same.1)
 
 more_by : (xs ys : List (List ℕ)) (limit : ℕ) → ((text other : List ℕ) → SameResiduals ys text other → SameResiduals xs text other) → HasMoreResiduals xs limit → HasMoreResiduals ys limit
 more_by xs ys limit so more = record {

@@ -1,6 +1,6 @@
 -- The residuals of a list of entries, and how many different ones there are. An entry is a pattern,
 -- by its source; its residuals are those of the pattern (Derivative).
-use Rattle.std.specs.Prelude.{◌≡◌, ◌↔◌, ◌<◌, ◌≤◌, ℕ, IsTrue, List, ◌++◌, length, All}
+use Rattle.std.specs.Prelude.{◌≡◌, ◌⊎◌, ◌↔◌, ◌<◌, ◌≤◌, ℕ, IsTrue, List, [], ◌∷◌, ◌++◌, length, All}
 use Rattle.std.specs.Prelude.{AllPairs, Any}
 use Rattle.basics.specs.Symbol.{is_text}
 use Rattle.pol_pattern.specs.Flat.{class, star, Term, empty, put, Terms, none, alt}
@@ -20,11 +20,17 @@ any_text = put (star (alt (put (class any_symbol) empty) none)) empty
 abbrev pub IsSure : List ℕ → List ℕ → Type 0
 IsSure source text = InResidual source text any_text
 
--- each entry has the same residual by the one text as by the other
+-- the entry has the same residual by the one text as by the other
+abbrev pub SameTerms : List ℕ → List ℕ → List ℕ → Type 0
+SameTerms source text other =
+    (term : Term) → InResidual source text term ↔ InResidual source other term
+
+-- each entry up to the first that is sure by both has the same residual by the one text as by the
+-- other. What comes after a sure entry decides nothing
 abbrev pub SameResiduals : List (List ℕ) → List ℕ → List ℕ → Type 0
-SameResiduals entries text other =
-    All (λ source. (term : Term) → InResidual source text term
-    ↔ InResidual source other term) entries
+SameResiduals [] text other = Unit {0}
+SameResiduals (source ∷ rest) text other = (IsSure source text × IsSure source other)
+    ⊎ (SameTerms source text other × SameResiduals rest text other)
 
 -- texts of which no two have the same residuals
 pub record AreDifferent (entries texts : List (List ℕ)) : Type 0 where

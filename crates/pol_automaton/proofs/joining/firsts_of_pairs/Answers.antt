@@ -1,7 +1,7 @@
 use Rattle.std.proofs.Common.{◌≡◌, ℕ, Option, List, subst}
 use Rattle.std.specs.List.{AllZip, slice_index_or}
 use Rattle.std.proofs.lemmas.List.{take_all, get_or_default}
-use Rattle.pol_automaton.specs.Pairs.{joined_first}
+use Rattle.pol_automaton.specs.Joining.{joined_first}
 use Rattle.pol_automaton.proofs.Zips.{zip_more}
 use Rattle.pol_automaton.proofs.joining.firsts_of_pairs.Goals as goal
 

@@ -1,6 +1,6 @@
 use Rattle.std.proofs.Common.{◌≡◌, take}
 use Rattle.std.specs.List.{AllZip}
-use Rattle.pol_automaton.specs.Pairs.{joined_first}
+use Rattle.pol_automaton.specs.Joining.{joined_first}
 use Rattle.pol_automaton.proofs.joining.firsts_of_pairs.Given as goal
 
 abbrev pub invariant-loop-pair : goal.invariant-loop-pair

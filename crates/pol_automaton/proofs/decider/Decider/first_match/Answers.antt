@@ -9,7 +9,7 @@ use Rattle.pol_automaton.proofs.decider.Decider.first_match.Goals as goal
 pub returns-clause-below : goal.returns-clause-below
 returns-clause-below c =
     let i = c.self.inside in
-    let a : Automaton = record { alphabet = i.alphabet; table = i.table; firsts = i.firsts.items; entries = i.entries } in
+    let a : Automaton = record { alphabet = i.alphabet; table = i.table; firsts = i.firsts.items; sures = i.sures.items; entries = i.entries } in
     let lt : c.args.state < count a.table = subst (λ (x : Automaton). c.args.state < count x.table) (sym c.self.view_is) c.requires in
     let within : c.args.state < length i.firsts.items = subst (λ (n : ℕ). c.args.state < n) (sym c.self.invariant.firsts) lt in
     subst (λ (x : Automaton). IfSome c.index.result.now (λ n. n < x.entries)) c.self.view_is

@@ -4,10 +4,10 @@ use Rattle.pol_scan.specs.Table.{count}
 use Rattle.pol_scan.specs.declared.fault.ScanFault.TheVariants as scan
 use Rattle.pol_automaton.specs.declared.fault.DeciderFault.TheVariants.{TooManyStates}
 use Rattle.pol_automaton.specs.Faults.{fault_of, too_many_from}
-use Rattle.pol_automaton.specs.Pairs.{ArePair, led_back}
+use Rattle.pol_automaton.specs.Joining.{AreJoined, led_back}
 use Rattle.pol_automaton.proofs.Counting.{excludes, one_count}
 use Rattle.pol_automaton.proofs.Zips.{zip_all}
-use Rattle.pol_automaton.proofs.Machines.{more_residuals, residual_count}
+use Rattle.pol_automaton.proofs.Machines.{Marks, more_residuals, residual_count}
 use Rattle.pol_automaton.proofs.Joined.{IsJoined, first_refined, second_refined, whole_joined, tells_joined, is_joined}
 use Rattle.pol_automaton.proofs.decider.Decider.join.Goals as goal
 use Rattle.pol_automaton.proofs.decider.Decider.join.Goals.{After-raise}
@@ -20,6 +20,9 @@ returns-in_err-table-clause-excludes c = excludes
 
 pub returns-in_err-firsts-clause-excludes : goal.returns-in_err-firsts-clause-excludes
 returns-in_err-firsts-clause-excludes c = excludes
+
+pub returns-in_err-sures-clause-excludes : goal.returns-in_err-sures-clause-excludes
+returns-in_err-sures-clause-excludes c = excludes
 
 pub returns-clause-excludes : goal.returns-clause-excludes
 returns-clause-excludes c = excludes
@@ -35,14 +38,25 @@ returns-in_err-table-clause-too_many c =
     more_residuals _ _ _ (tells_joined letters.result letters.ensures.alphabet c.args.first.now c.args.rest.now both own others d e) c.args.limit
     (c.in_err-table.ensures.too_many (ap Err is)))
 
-pub firsts_of_pairs-requires-clause-within : goal.firsts_of_pairs-requires-clause-within
-firsts_of_pairs-requires-clause-within c =
-    rw c.as_slice.ensures.keys
-    (zip_all (λ (word : List ℕ) (s : ℕ × ℕ). ArePair c.join-alphabet.result c.args.first.now c.args.rest.now word s.0 s.1) (λ (s : ℕ × ℕ). (s.0 < count c.args.first.now.table) × (s.1 < count c.args.rest.now.table)) (λ word s led. (led.first_within, led.second_within))
+pub sures_of_pairs-requires : goal.sures_of_pairs-requires
+sures_of_pairs-requires c =
+    rw c.as_slice-2.ensures.keys
+    (zip_all (λ (word : List ℕ) (s : ℕ × ℕ). AreJoined c.join-alphabet.result c.args.first.now c.args.rest.now word s.0 s.1) (λ (s : ℕ × ℕ). (s.0 < count c.args.first.now.table) × (s.1 < count c.args.rest.now.table)) (λ word s led. (led.first_within, led.second_within))
     c.in_ok-table.field-0.table.words c.in_ok-table.field-0.states.keys
     (led_back _ _ _ _ _ _ c.in_ok-table.ensures.grows.0 c.in_ok-table.ensures.grows.1 c.in_ok-table.ensures.grows.2 c.in_ok-table.field-0.table.words c.in_ok-table.field-0.states.keys c.in_ok-table.ensures.states))
 
-joined : (c : After-raise) → IsJoined c.join-alphabet.result c.args.first.now c.args.rest.now c.in_ok-table.field-0.table c.in_ok-table.field-0.states.keys c.in_ok-firsts.firsts.items
+pub firsts_of_pairs-requires-clause-within : goal.firsts_of_pairs-requires-clause-within
+firsts_of_pairs-requires-clause-within c =
+    rw c.as_slice.ensures.keys
+    (zip_all (λ (word : List ℕ) (s : ℕ × ℕ). AreJoined c.join-alphabet.result c.args.first.now c.args.rest.now word s.0 s.1) (λ (s : ℕ × ℕ). (s.0 < count c.args.first.now.table) × (s.1 < count c.args.rest.now.table)) (λ word s led. (led.first_within, led.second_within))
+    c.in_ok-table.field-0.table.words c.in_ok-table.field-0.states.keys
+    (led_back _ _ _ _ _ _ c.in_ok-table.ensures.grows.0 c.in_ok-table.ensures.grows.1 c.in_ok-table.ensures.grows.2 c.in_ok-table.field-0.table.words c.in_ok-table.field-0.states.keys c.in_ok-table.ensures.states))
+
+marks : (c : After-raise) → Marks
+marks c = record { firsts = c.in_ok-firsts.firsts.items; sures = c.in_ok-sures.sures.items }
+
+joined : (c : After-raise) → IsJoined c.join-alphabet.result c.args.first.now c.args.rest.now c.in_ok-table.field-0.table c.in_ok-table.field-0.states.keys (marks c)
+unfolding marks
 joined c = record {
   letters = c.join-alphabet.ensures.alphabet;
   first = first_refined c.join-alphabet.result c.args.first.now.alphabet c.args.rest.now.alphabet (rw (c.alphabet.ensures, c.alphabet-2.ensures) at c.join-alphabet.ensures.classes);
@@ -50,22 +64,25 @@ joined c = record {
   found = record { automaton = c.in_ok-table.ensures.automaton; index = c.in_ok-table.ensures.index };
   led = led_back _ _ _ _ _ _ c.in_ok-table.ensures.grows.0 c.in_ok-table.ensures.grows.1 c.in_ok-table.ensures.grows.2 c.in_ok-table.field-0.table.words c.in_ok-table.field-0.states.keys c.in_ok-table.ensures.states;
   matched = rw c.as_slice.ensures.keys at c.in_ok-firsts.ensures;
+  sure = rw c.as_slice-2.ensures.keys at c.in_ok-sures.ensures;
 }
 
 pub invariant_of-result : goal.invariant_of-result
+unfolding marks
 invariant_of-result c =
     let sum : c.in-Some.entries ≡ c.args.first.now.entries + c.args.rest.now.entries = omega (arith, c.in-Some.ensures.1, c.entries.ensures.value, c.entries-2.ensures.value) in
     rw sum
-    (whole_joined c.join-alphabet.result c.args.first.now c.args.rest.now c.in_ok-table.field-0.table c.in_ok-table.field-0.states.keys c.in_ok-firsts.firsts.items c.entries.ensures.whole c.entries-2.ensures.whole
+    (whole_joined c.join-alphabet.result c.args.first.now c.args.rest.now c.in_ok-table.field-0.table c.in_ok-table.field-0.states.keys (marks (goal.at.invariant_of-result c).After-raise) c.entries.ensures.whole c.entries-2.ensures.whole
     (joined (goal.at.invariant_of-result c).After-raise))
 
 pub returns-clause-decider : goal.returns-clause-decider
+unfolding marks
 returns-clause-decider c = λ own others d e.
     let sum : c.in-Some.entries ≡ c.args.first.now.entries + c.args.rest.now.entries = omega (arith, c.in-Some.ensures.1, c.entries.ensures.value, c.entries-2.ensures.value) in
     let letters = c.join-alphabet in
     let both = rw (c.alphabet.ensures, c.alphabet-2.ensures) at letters.ensures.classes in
     rw sum
-    (is_joined letters.result letters.ensures.alphabet c.args.first.now c.args.rest.now both own others d e c.in_ok-table.field-0.table c.in_ok-table.field-0.states.keys c.in_ok-firsts.firsts.items
+    (is_joined letters.result letters.ensures.alphabet c.args.first.now c.args.rest.now both own others d e c.in_ok-table.field-0.table c.in_ok-table.field-0.states.keys (marks (goal.at.returns-clause-decider c).After-raise)
     (joined (goal.at.returns-clause-decider c).After-raise))
 
 pub returns-clause-exact : goal.returns-clause-exact

@@ -9,7 +9,7 @@ use Rattle.pol_automaton.specs.Faults.{fault_of, too_many_from}
 use Rattle.pol_automaton.specs.Scanning.{AreResiduals}
 use Rattle.pol_automaton.proofs.Counting.{excludes, one_count}
 use Rattle.pol_automaton.proofs.Zips.{zip_all}
-use Rattle.pol_automaton.proofs.Machines.{more_residuals, residual_count}
+use Rattle.pol_automaton.proofs.Machines.{Marks, more_residuals, residual_count}
 use Rattle.pol_automaton.proofs.Deciding.{IsScanned, tells_residuals, whole_decider, is_scanned}
 use Rattle.pol_automaton.proofs.decider.Decider.of.Goals as goal
 use Rattle.pol_automaton.proofs.decider.Decider.of.Goals.{After-alphabet}
@@ -33,27 +33,42 @@ firsts-requires c =
 pub returns-in_err-firsts-clause-excludes : goal.returns-in_err-firsts-clause-excludes
 returns-in_err-firsts-clause-excludes c = excludes
 
+pub sures-requires : goal.sures-requires
+sures-requires c =
+    rw c.as_slice-2.ensures.keys
+    (zip_all _ (λ (state : Vec EntryTerm). AreResiduals c.scan.new.machine.terms state.items) (λ word state led. led.right) c.in_ok-table.field-0.table.words c.in_ok-table.field-0.states.keys c.in_ok-table.ensures.states)
+
+pub returns-in_err-sures-clause-excludes : goal.returns-in_err-sures-clause-excludes
+returns-in_err-sures-clause-excludes c = excludes
+
 pub returns-clause-excludes : goal.returns-clause-excludes
 returns-clause-excludes c = excludes
 
-scanned : (c : After-alphabet) → IsScanned c.args.entries c.scan.new.machine c.in_ok-table.field-0.table c.in_ok-table.field-0.states.keys c.in_ok-firsts.firsts.items
+marks : (c : After-alphabet) → Marks
+marks c = record { firsts = c.in_ok-firsts.firsts.items; sures = c.in_ok-sures.sures.items }
+
+scanned : (c : After-alphabet) → IsScanned c.args.entries c.scan.new.machine c.in_ok-table.field-0.table c.in_ok-table.field-0.states.keys (marks c)
+unfolding marks
 scanned c = record {
   whole = c.count-count.ensures.whole;
   grows = c.in_ok-table.ensures.grows;
   found = record { automaton = c.in_ok-table.ensures.automaton; index = c.in_ok-table.ensures.index };
   led = c.in_ok-table.ensures.states;
   matched = rw c.as_slice.ensures.keys at c.in_ok-firsts.ensures;
+  sure = rw c.as_slice-2.ensures.keys at c.in_ok-sures.ensures;
 }
 
 pub invariant_of-result : goal.invariant_of-result
+unfolding marks
 invariant_of-result c =
     rw (c.alphabet.ensures, c.in_ok-table.ensures.grows.alphabet, c.count-count.ensures.value)
-    (whole_decider c.args.entries c.scan.new.machine c.in_ok-table.field-0.table c.in_ok-table.field-0.states.keys c.in_ok-firsts.firsts.items (scanned (goal.at.invariant_of-result c).After-alphabet))
+    (whole_decider c.args.entries c.scan.new.machine c.in_ok-table.field-0.table c.in_ok-table.field-0.states.keys (marks (goal.at.invariant_of-result c).After-alphabet) (scanned (goal.at.invariant_of-result c).After-alphabet))
 
 pub returns-clause-decider : goal.returns-clause-decider
+unfolding marks
 returns-clause-decider c = λ sources are.
     rw (c.alphabet.ensures, c.in_ok-table.ensures.grows.alphabet, c.count-count.ensures.value)
-    (is_scanned c.args.entries sources c.count-count.ensures.whole are c.scan.new.machine c.in_ok-table.field-0.table c.in_ok-table.field-0.states.keys c.in_ok-firsts.firsts.items (scanned (goal.at.returns-clause-decider c).After-alphabet))
+    (is_scanned c.args.entries sources c.count-count.ensures.whole are c.scan.new.machine c.in_ok-table.field-0.table c.in_ok-table.field-0.states.keys (marks (goal.at.returns-clause-decider c).After-alphabet) (scanned (goal.at.returns-clause-decider c).After-alphabet))
 
 pub returns-clause-exact : goal.returns-clause-exact
 returns-clause-exact c = λ sources residuals are has.

@@ -11,13 +11,13 @@ returns-in_default-clause-never c = λ entries d. none_decided c.args.self.now e
 
 pub text_of-requires : goal.text_of-requires
 text_of-requires c =
-    let a : Automaton = record { alphabet = c.self.inside.alphabet; table = c.self.inside.table; firsts = c.self.inside.firsts.items; entries = c.self.inside.entries } in
+    let a : Automaton = record { alphabet = c.self.inside.alphabet; table = c.self.inside.table; firsts = c.self.inside.firsts.items; sures = c.self.inside.sures.items; entries = c.self.inside.entries } in
     let first = rw (← c.self.view_is) at c.in-Some.ensures.some in
     rw c.in_ok-word.ensures (subst (λ (n : ℕ). IsWord n (word_of a.table c.in-Some.state)) c.self.invariant.columns (c.self.invariant.words c.in-Some.state first.within))
 
 pub returns-clause-reached : goal.returns-clause-reached
 returns-clause-reached c =
-    let a : Automaton = record { alphabet = c.self.inside.alphabet; table = c.self.inside.table; firsts = c.self.inside.firsts.items; entries = c.self.inside.entries } in
+    let a : Automaton = record { alphabet = c.self.inside.alphabet; table = c.self.inside.table; firsts = c.self.inside.firsts.items; sures = c.self.inside.sures.items; entries = c.self.inside.entries } in
     let first = rw (← c.self.view_is) at c.in-Some.ensures.some in
     rw (← c.self.view_is)
     (λ entries d.

@@ -2,7 +2,7 @@ use Rattle.std.proofs.lemmas.List.{take_all, get_or_default}
 use Rattle.std.specs.Prelude.{slice_index_or}
 use Rattle.pol_automaton.specs.Scanning.{item_of}
 use Rattle.pol_automaton.specs.Having.{within_kept, within_members, grows_by, derive_more, derived_in_order}
-use Rattle.pol_automaton.proofs.stepping.step.Goals as goal
+use Rattle.pol_automaton.proofs.stepping.derivatives.Goals as goal
 
 pub push_derivatives-requires-clause-item : goal.push_derivatives-requires-clause-item
 push_derivatives-requires-clause-item c =
