@@ -68,14 +68,38 @@ WRONG_BODIES = [
     WrongBody(
         "the last rule that matches decides",
         "residuals.py",
-        "for place, residual in enumerate(state):",
-        "for place, residual in reversed(list(enumerate(state))):",
+        "for place, residual in enumerate(state):\n        if is_match",
+        "for place, residual in reversed(list(enumerate(state))):\n        if is_match",
     ),
     WrongBody(
         "columns are spelled by their greatest symbols",
         "residuals.py",
         "for symbol in SYMBOLS:\n        least",
         "for symbol in reversed(SYMBOLS):\n        least",
+    ),
+    WrongBody(
+        "a pattern is sure once it has a term that ends in .*",
+        "residuals.py",
+        "return ANY_TEXT in residual",
+        "return any(term[-1:] == ANY_TEXT for term in residual)",
+    ),
+    WrongBody(
+        "rules after one that is sure are counted",
+        "residuals.py",
+        "    for place, residual in enumerate(state):\n        if is_sure",
+        "    for place, residual in enumerate(state[-1:], len(state) - 1):\n        if is_sure",
+    ),
+    WrongBody(
+        "of a rule that is sure all terms are counted",
+        "residuals.py",
+        "(frozenset([ANY_TEXT]),)",
+        "(residual,)",
+    ),
+    WrongBody(
+        "what comes before a rule that is sure isn't counted",
+        "residuals.py",
+        "return state[:place] + (",
+        "return (NOTHING,) * place + (",
     ),
     WrongBody(
         "a subject may have one state more",
@@ -260,9 +284,9 @@ WRONG_BODIES = [
     WrongBody(
         "all symbols are tried, and not only the least of those that are alike",
         "decisions.py",
-        "for text, state in states_with_least_texts(patterns_of(entries)):",
-        "for text, state in states_with_least_texts(\n"
-        "        patterns_of(entries), lambda _: map(chr, range(0x20, 0x7F))\n    ):",
+        "for text, (state,) in states_with_least_texts(patterns_of(entries)):",
+        "for text, (state,) in states_with_least_texts(\n"
+        "        patterns_of(entries), symbols_of=lambda _: map(chr, range(0x20, 0x7F))\n    ):",
         shows=False,
     ),
 ]

@@ -4,7 +4,8 @@ from reference.wire import AUTHORISATION, Header
 
 
 def policy(choices):
-    return choices.choice([states, states, subjects, rules, chain, lines])(choices)
+    states_or_searches = [states, states, searches, searches]
+    return choices.choice(states_or_searches + [subjects, rules, chain, lines])(choices)
 
 
 def states(choices):
@@ -14,6 +15,22 @@ def states(choices):
     found = ["group g", f"deny .*a{'.' * dots}"]
     found += ["user u in g"] + [other] * (other != "")
     return found + choices.choice([[], ["user v in g"], ["group h in g", "permit x.*"]])
+
+
+def searches(choices):
+    """Rules that search beside a row of dots: 16,384 states, or some more or fewer."""
+    dots, words = choices.choice(
+        [(12, "b"), (11, "sb ss"), (11, "bs h"), (10, "bs bb sb ss"), (10, "b s h c d e f")]
+    )
+    words = words.split()
+    match choices.randrange(6):
+        case 0:
+            words.remove(choices.choice(words))
+        case 1:
+            words.insert(choices.randrange(len(words) + 1), "m")
+    found = ["group g"] + ["permit .*m.*"] * choices.chance(0.2) + [f"deny .*a{'.' * dots}"]
+    found += [f"{choices.choice(['permit', 'deny'])} .*{word}.*" for word in words]
+    return found + ["user u in g"]
 
 
 def subjects(choices):
@@ -67,6 +84,7 @@ def state_edits(choices):
             f"insert group g 1 deny .*a{dots}",
             f"insert user u 1 permit .*a{dots}",
             f"insert user u 1 permit .*[ab]{dots}",
+            "insert group g 2 permit .*m.*",
             "drop group g 1",
             "move user u out",
             "move user u in g",

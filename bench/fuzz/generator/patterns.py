@@ -5,6 +5,8 @@ from reference.patterns import CLASS, STAR
 LITERALS = "aaabbbsh  "
 SPECIAL = "|*+?.[()\\{}"
 ODD_LITERALS = "^-]{}~\"#%0Z"
+COMMANDS = ["show ", "sh", "a", "", ""]
+SEARCHED = "b s h a v n ab ba bb sh hs ss sa bab vlan vn [ab]h (sh|nb) (h|b)s n{2}".split()
 COUNTS = ["{2}", "{0}", "{1}", "{0,1}", "{1,3}", "{02}", "{0,0}", "{3,2}", "{33}", "{,2}"]
 
 
@@ -13,7 +15,7 @@ def pattern(choices, wrong=0.02):
     if choices.chance(wrong):
         kind = choices.choice(["spoiled", "invalid"])
     else:
-        kind = choices.kind({"drawn": 60, "words": 25, "all": 5, "empty": 3})
+        kind = choices.kind({"drawn": 60, "words": 25, "all": 5, "empty": 3, "search": 2})
     match kind:
         case "drawn":
             return alternatives(choices, choices.count(1, 7), 3)
@@ -23,6 +25,8 @@ def pattern(choices, wrong=0.02):
             return choices.choice([".*", ".+", "a.*", ".*b", "[^a]*", "()", "(()*)*", "s.*"])
         case "empty":
             return choices.choice(["", "()", "|", "[^ -~]", "[^ -~]*", "a|", "()*"])
+        case "search":
+            return search(choices, choices.choice(COMMANDS), choices.choice(SEARCHED))
         case "spoiled":
             return choices.spoiled(alternatives(choices, choices.count(1, 7), 3))
     return invalid(choices)
@@ -34,6 +38,11 @@ def words(choices):
         ["", " .*", "( .*)?", " version", " (a|b)", " [a-m]+", " a*", "( a)*", " b?a", "(a|b)+"]
     )
     return command + behind
+
+
+def search(choices, command, word):
+    """Looks for the word anywhere behind the command."""
+    return f"{command}.*{word}" + choices.choice([".*"] * 15 + ["", ".+"])
 
 
 def alternatives(choices, units, depth):

@@ -1,6 +1,6 @@
 """Policy texts, as lists of lines; those that are right, and those with something wrong."""
 
-from .patterns import pattern
+from .patterns import COMMANDS, SEARCHED, pattern, search
 
 GROUPS = ["g", "ops", "staff", "base", "bare", "core", "x-y.z_1@a"]
 USERS = ["u", "bob", "eve", "g", "ann", "B", "n" * 32]
@@ -11,10 +11,13 @@ NO_NAMES = ["", "n" * 33, "a/b", "a:b", "\xe9", "a\tb", "é"]
 def policy(choices):
     """Lines of a policy that is right, but for a pattern now and then."""
     subjects = subject_lines(choices)
+    searched = choices.choice(COMMANDS) if choices.chance(0.06) else None
     lines = []
     for first in subjects:
         lines.append(first)
         lines.extend(settings(choices, first))
+        if searched is not None:
+            lines.extend(searches(choices, searched))
     if choices.chance(0.2):
         lines = [dressed(choices, line) for line in lines]
     if choices.chance(0.4):
@@ -60,6 +63,14 @@ def settings(choices, first):
     if choices.chance(0.1):
         lines.append("permit ()")
     return lines
+
+
+def searches(choices, command):
+    """Rules that each look for another word behind the same command."""
+    return [
+        f"{choices.choice(['permit', 'permit', 'deny'])} {search(choices, command, word)}"
+        for word in choices.sample(SEARCHED, choices.count(0, 10))
+    ]
 
 
 def dressed(choices, line):

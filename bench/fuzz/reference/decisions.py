@@ -69,7 +69,7 @@ def reach_of(policy, subject):
     """Each entry with the least line that it decides, or with None."""
     entries = entries_of(policy, subject)
     least = [None] * len(entries)
-    for text, state in states_with_least_texts(patterns_of(entries)):
+    for text, (state,) in states_with_least_texts(patterns_of(entries)):
         place = first_match(state)
         if place is not None and least[place] is None:
             least[place] = text
@@ -110,9 +110,9 @@ def entries_of_user(policy, name):
 
 def least_changes(old, new):
     permitted = denied = None
-    for text, state in states_with_least_texts(patterns_of(old + new)):
-        was = is_permitted(old, state[: len(old)])
-        now = is_permitted(new, state[len(old) :])
+    for text, (before, after) in states_with_least_texts(patterns_of(old), patterns_of(new)):
+        was = is_permitted(old, before)
+        now = is_permitted(new, after)
         if now and not was and permitted is None:
             permitted = text
         if was and not now and denied is None:

@@ -1,13 +1,17 @@
 """Partial derivatives and residuals (docs/DEFINITIONS.md, "Derivatives" and "Residuals").
 
 A state is what each pattern of a list may still go on with: a tuple of sets of terms, one for each
-pattern. All searches go over the states in the order of the least texts that lead to them.
+pattern. Once one is sure to be held, only what can still come before it is counted. All searches go
+over the states in the order of the least texts that lead to them.
 """
 
 import functools
 
-from .patterns import CLASS, GROUP
+from .patterns import CLASS, EVERY_SYMBOL, GROUP, STAR
 from .texts import SYMBOLS
+
+ANY_TEXT = ((STAR, (((CLASS, EVERY_SYMBOL),),)),)  # The term of `.*`.
+NOTHING = frozenset()
 
 
 # These are remembered only for time: groups that hold the empty text many times over, as in
@@ -52,6 +56,21 @@ def step(state, symbol):
     return tuple(residual_behind(residual, symbol) for residual in state)
 
 
+@functools.lru_cache(maxsize=100_000)
+def is_sure(residual):
+    """Whether the pattern holds every text that goes on from here, by one of its terms."""
+    return ANY_TEXT in residual
+
+
+def cut(state):
+    """What counts: of the first pattern that is sure, that it is, and nothing of those after it."""
+    for place, residual in enumerate(state):
+        if is_sure(residual):
+            behind = len(state) - place - 1
+            return state[:place] + (frozenset([ANY_TEXT]),) + (NOTHING,) * behind
+    return state
+
+
 def first_match(state):
     """The place of the first pattern that holds the text so far, or None."""
     for place, residual in enumerate(state):
@@ -85,17 +104,21 @@ def least_alike(patterns):
     return sorted(least.values())
 
 
-def states_with_least_texts(patterns, symbols_of=least_alike):
-    """Each state once, with the least text that leads there, in the order of these texts."""
-    symbols = list(symbols_of(patterns))
-    found = {start(patterns)}
-    row = [("", start(patterns))]
+def states_with_least_texts(*lists, symbols_of=least_alike):
+    """Each state once, with the least text that leads there, in the order of these texts.
+
+    A state of several lists of patterns is one of each.
+    """
+    symbols = list(symbols_of([pattern for patterns in lists for pattern in patterns]))
+    first = tuple(cut(start(patterns)) for patterns in lists)
+    found = {first}
+    row = [("", first)]
     while row:
         longer = []
-        for text, state in row:
-            yield text, state
+        for text, states in row:
+            yield text, states
             for symbol in symbols:
-                behind = step(state, symbol)
+                behind = tuple(cut(step(state, symbol)) for state in states)
                 if behind not in found:
                     found.add(behind)
                     longer.append((text + symbol, behind))
