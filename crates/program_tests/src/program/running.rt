@@ -754,7 +754,7 @@ Options:
 
 #[test]
 fn help(rt: HostRuntime) -> Result<(), Fail> {
-    ends(&rt, "tacd --version", "", true, 0, "tacd 0.2.0\n", "");
+    ends(&rt, "tacd --version", "", true, 0, "tacd 0.3.0\n", "");
     ends(&rt, "tacd -h", "", true, 0, SUMMARY, "");
     ends(&rt, "tacd replay -h", "", true, 0, REPLAY_SUMMARY, "");
     // What the long help says before and after the options stands in help.rt.
