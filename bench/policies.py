@@ -1,4 +1,4 @@
-"""Policies as a network team writes them, made from a seed, for bench/analysis.
+"""Policies as a network team writes them, made from a seed, for bench/analysis and bench/edits.
 
 A unit is 10 groups of 25 rules, nested to depth 3, and 18 users without rules of their own: 28
 subjects, with 1,475 entries along all chains.
@@ -20,6 +20,17 @@ NOUNS = [
     "inventory", "ntp associations", "cdp neighbors", "lldp neighbors", "processes cpu", "memory",
     "policy-map", "port-security", "arp-cache", "counters", "ip dhcp binding", "crypto isakmp sa",
 ]
+
+SEARCHED = [
+    "vlan", "arp", "version", "interface", "clock", "inventory", "ntp", "bgp", "ospf", "route",
+    "logging", "users", "memory", "processes", "cdp", "lldp", "mac", "spanning", "access", "policy",
+    "qos", "ipv6", "snmp", "aaa", "dhcp", "hsrp",
+]
+
+
+def searches(choose, command, count):
+    """So many rules that each look for another word anywhere behind the command."""
+    return [("permit", f"{command} .*{word}.*") for word in choose.sample(SEARCHED, count)]
 
 
 def pattern(choose):
@@ -43,6 +54,28 @@ def pattern(choose):
 
 def rules(choose):
     return [(choose.choice(["permit", "permit", "deny"]), pattern(choose)) for _ in range(RULES)]
+
+
+def searching(seed, groups, rules_of_each, users):
+    """The text of a policy whose groups have such rules alone, and whose users have none."""
+    choose = random.Random(seed)
+    lines = []
+    for number in range(groups):
+        own = searches(choose, "show", rules_of_each)
+        lines += [f"group search{number}"] + [f"{verdict} {source}" for verdict, source in own]
+    lines += [f"user user{number} in search{number % groups}" for number in range(users)]
+    return "".join(line + "\n" for line in lines)
+
+
+def searching_commands(seed, count, commands):
+    """The text of a policy of one user, with so many such rules behind so many commands."""
+    choose = random.Random(seed)
+    left, lines = count, ["user single"]
+    for number in range(commands):
+        share = left // (commands - number)
+        left -= share
+        lines += [f"permit {source}" for _, source in searches(choose, f"verb{number}", share)]
+    return "".join(line + "\n" for line in lines)
 
 
 class Policy:
