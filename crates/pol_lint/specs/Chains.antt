@@ -8,13 +8,15 @@ use Rattle.basics.specs.Lines.{lines_of}
 use Rattle.pol_names.specs.Name.{name_of}
 use Rattle.pol_names.specs.SubjectId.{same_id, group_id}
 use Rattle.pol_names.specs.declared.subject_id.SubjectId.{SubjectId}
+use Rattle.pol_pattern.specs.declared.version.Version.{Version}
 use Rattle.pol_text.specs.declared.fault.PolicyRefusal.{PolicyRefusal}
 use Rattle.pol_text.specs.Policy.{max_subjects}
 use Rattle.pol_text.specs.Text.{body_of}
 use Rattle.pol_lint.specs.Words.{column_of, noted, words_of, words_in, parent_text, keyword_of}
 use Rattle.pol_lint.specs.Faults.{body_faults}
+use Rattle.pol_lint.specs.Searches.{pattern_searches}
 use Rattle.pol_lint.specs.declared.words.Keyword.{Keyword}
-use Rattle.pol_lint.specs.declared.words.Keyword.TheVariants.{Opens}
+use Rattle.pol_lint.specs.declared.words.Keyword.TheVariants.{Opens, Rule}
 use Rattle.pol_lint.specs.declared.chains.Heading.{Heading}
 use Rattle.pol_lint.specs.declared.finding.Finding.{Finding}
 use Rattle.pol_lint.specs.declared.finding.Finding.TheVariants.{NoParent, Cycle, Refused}
@@ -23,19 +25,24 @@ use Rattle.pol_lint.specs.declared.remark.Remark.{Remark}
 
 -- ---- lines that begin subjects
 
-abbrev pub heading_by : ℕ → List ℕ → Keyword → List ℕ → Option Heading
-heading_by number line (Opens kind) rest =
-    option_map (λ name. record {
-      line = number;
-      column = column_of line (parent_text rest);
-      id = record { kind = kind; name = name };
-      parent = name_of (parent_text rest);
-    }) (name_of (words_of rest).0)
-heading_by number line _ rest = None
+abbrev pub subject_by : Keyword → List ℕ → Option SubjectId
+subject_by (Opens kind) rest =
+    option_map (λ name. record { kind = kind; name = name }) (name_of (words_of rest).0)
+subject_by _ rest = None
 
 -- the subject that a line begins, where it begins one
+abbrev pub subject_of : List ℕ → Option SubjectId
+subject_of line = subject_by (keyword_of (words_in line).0) (words_in line).1
+
+-- the same with its line, its parent, and the column of that
 abbrev pub heading_of : ℕ → List ℕ → Option Heading
-heading_of number line = heading_by number line (keyword_of (words_in line).0) (words_in line).1
+heading_of number line =
+    option_map (λ id. record {
+      line = number;
+      column = column_of line (parent_text (words_in line).1);
+      id = id;
+      parent = name_of (parent_text (words_in line).1);
+    }) (subject_of line)
 
 -- those of these lines, of which the first has this number
 abbrev pub headings : ℕ → List (List ℕ) → List Heading
@@ -97,14 +104,45 @@ chain_faults headings =
 
 -- ---- sizes
 
-abbrev pub too_large : Option Heading → List Remark
-too_large None = []
-too_large (Some heading) = noted heading.line 1 (Some TooManyStates)
+-- the rules of this owner are along the chain of the subject that is too large
+abbrev pub is_along : List Heading → Heading → SubjectId → Bool
+is_along headings large owner =
+    same_id large.id owner || comes_to (length headings) headings owner large.parent
 
--- of a text whose policy is refused since this subject has too many states: its line
+-- the same after a line, which may begin a subject
+abbrev pub along_after : List Heading → Heading → Bool → Option SubjectId → Bool
+along_after headings large along None = along
+along_after headings large along (Some owner) = is_along headings large owner
+
+-- of a line, whether a dot comes after a search in its rule
+abbrev pub searches_by : Version → Bool → ℕ → List ℕ → Keyword → List ℕ → List Remark
+searches_by version along number line Rule rest =
+    if along then pattern_searches version number line rest else []
+searches_by version along number line _ rest = []
+
+abbrev pub line_searches : Version → Bool → ℕ → List ℕ → List Remark
+line_searches version along number line =
+    searches_by version along number line (keyword_of (words_in line).0) (words_in line).1
+
+-- of these lines, of which the first has this number, those of rules along that chain
+abbrev pub searches : Version → List Heading → Heading → Bool → ℕ → List (List ℕ) → List Remark
+searches version headings large along number [] = []
+searches version headings large along number (line ∷ lines) =
+    line_searches version along number line
+    ++ searches version headings large
+    (along_after headings large along (subject_of line)) (number + 1) lines
+
+abbrev pub too_large : List ℕ → List Heading → Option Heading → List Remark
+too_large text headings None = []
+too_large text headings (Some large) =
+    noted large.line 1 (Some TooManyStates)
+    ++ searches (body_of (lines_of text)).version headings large false 1 (lines_of text)
+
+-- of a text whose policy is refused since this subject has too many states: its line, and then the
+-- rules along its chain that go on after a search
 abbrev pub size_faults : List ℕ → SubjectId → List Remark
 size_faults text subject =
-    too_large (heading_for (headings 1 (lines_of text)) subject)
+    too_large text (headings 1 (lines_of text)) (heading_for (headings 1 (lines_of text)) subject)
 
 -- ---- the whole text
 

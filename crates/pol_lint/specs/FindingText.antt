@@ -40,3 +40,5 @@ finding_text (findings.NoParent name) = codes "the policy has no group " ++ name
 finding_text findings.Cycle = codes "the chain of parents comes back to this group"
 finding_text findings.TooManyStates =
     codes "refused: TooManyStates: the rules along this chain have over 16384 states"
+finding_text findings.AfterSearch =
+    codes "a dot after a '.*' may double the states: '.*(vlan|arp).*' takes fewer than two rules"

@@ -7,4 +7,5 @@ pub mod Habits
 pub mod Endings
 pub mod Remarks
 pub mod Faults
+pub mod Searches
 pub mod Chains

@@ -1,18 +1,21 @@
 //! What is wrong with the chains of a text's subjects, and all that is wrong with a text.
 
-ghost use Rattle.std.specs.Prelude.{◌≡◌, ◌++◌, length, nat_eq, IfOk, OnOk};
+ghost use Rattle.std.specs.Prelude.{◌≡◌, ◌++◌, length, nat_eq, false, IfOk, OnOk};
 ghost use Rattle.std.specs.Option.{option_copied, option_to_list};
 ghost use Rattle.std.specs.List.{list_any};
 ghost use Rattle.basics.specs.Lines.{lines_of};
+ghost use Rattle.pol_text.specs.Text.{body_of as body_wanted};
 ghost use Rattle.pol_lint.specs.Chains as chains;
 
 use crate::faults::lines_faults;
 use crate::finding::Finding;
 use crate::remark::{Remark, column_of, note};
+use crate::searching::note_search;
 use crate::words::{Keyword, keyword_of, parent_text, words_in, words_of};
 use basics::{Lines, Sequence};
 use pol_names::{Name, SubjectId};
-use pol_text::{Policy, PolicyRefusal};
+use pol_pattern::Version;
+use pol_text::{Policy, PolicyRefusal, body_of};
 use std::alloc::{AllocError, Global};
 
 /// A line that begins a subject, and the column of its parent's name.
@@ -24,24 +27,35 @@ pub(crate) struct Heading {
     parent: Option<Name>,
 }
 
-// Adds the subject that a line begins, where it begins one.
+// The subject that a line begins, where it begins one.
+fn subject_of(line: &[u8]) -> Option<SubjectId>
+    ensures { result ≡ chains.subject_of line.now }
+{
+    let (word, rest) = words_in(line);
+    let Keyword::Opens(kind) = keyword_of(word) else {
+        return None;
+    };
+    let (field, _) = words_of(rest);
+    match Name::read(field) {
+        Some(name) => Some(SubjectId { kind, name }),
+        None => None,
+    }
+}
+
+// Adds that subject.
 fn add_heading(found: &mut Sequence<Heading>, number: usize, line: &[u8]) -> Result<(), AllocError>
     ensures { OnOk result
         (found.new ≡ found.old ++ option_to_list (chains.heading_of number line.now)) }
 {
-    let (word, rest) = words_in(line);
-    let Keyword::Opens(kind) = keyword_of(word) else {
+    let Some(id) = subject_of(line) else {
         return Ok(());
     };
-    let (field, _) = words_of(rest);
-    let Some(name) = Name::read(field) else {
-        return Ok(());
-    };
+    let (_, rest) = words_in(line);
     let parent = parent_text(rest);
     found.push(Heading {
         line: number,
         column: column_of(line, parent),
-        id: SubjectId { kind, name },
+        id,
         parent: Name::read(parent),
     })?;
     Ok(())
@@ -90,17 +104,16 @@ fn parent_of(headings: &[Heading], name: &Name) -> Option<Name>
     }
 }
 
-// Whether the chain of a subject comes back to it.
-fn comes_back(headings: &[Heading], heading: &Heading) -> bool
-    ensures { result
-        ≡ chains.comes_to (length headings.now) headings.now heading.now.id heading.now.parent }
+// Whether the chain from this parent on comes to the goal.
+fn comes_to(headings: &[Heading], goal: &SubjectId, first: Option<Name>) -> bool
+    ensures { result ≡ chains.comes_to (length headings.now) headings.now goal.now first }
 {
-    let mut parent = heading.parent;
+    let mut parent = first;
     'steps: for _ in 0..headings.len() {
         let Some(name) = parent else {
             return false;
         };
-        if SubjectId::group(name) == heading.id {
+        if SubjectId::group(name) == *goal {
             return true;
         }
         parent = parent_of(headings, &name);
@@ -111,7 +124,7 @@ fn comes_back(headings: &[Heading], heading: &Heading) -> bool
 fn cycle(headings: &[Heading], heading: &Heading) -> Option<Finding>
     ensures { result ≡ chains.cycle headings.now heading.now }
 {
-    if comes_back(headings, heading) {
+    if comes_to(headings, &heading.id, heading.parent) {
         Some(Finding::Cycle)
     } else {
         None
@@ -202,8 +215,69 @@ pub fn text_faults(
     Ok(remarks)
 }
 
+// Whether the rules of this owner are along the chain of the subject that is too large.
+fn is_along(headings: &[Heading], large: &Heading, owner: &SubjectId) -> bool
+    ensures { result ≡ chains.is_along headings.now large.now owner.now }
+{
+    large.id == *owner || comes_to(headings, owner, large.parent)
+}
+
+// The same of the rules after a line, where it is so of those before it.
+fn along_after(headings: &[Heading], large: &Heading, along: bool, line: &[u8]) -> bool
+    ensures { result
+        ≡ chains.along_after headings.now large.now along (chains.subject_of line.now) }
+{
+    match subject_of(line) {
+        Some(owner) => is_along(headings, large, &owner),
+        None => along,
+    }
+}
+
+// Adds what is told of a line, if the rules here are along the chain.
+fn note_line(
+    remarks: &mut Sequence<Remark>,
+    version: Version,
+    along: bool,
+    number: usize,
+    line: &[u8],
+) -> Result<(), AllocError>
+    ensures { OnOk result
+        (remarks.new ≡ remarks.old ++ chains.line_searches version along number line.now) }
+{
+    let (word, rest) = words_in(line);
+    match keyword_of(word) {
+        Keyword::Rule if along => note_search(remarks, version, number, line, rest),
+        _ => Ok(()),
+    }
+}
+
+// Adds what is told of the rules along the chain of the subject that is too large.
+fn note_searches(
+    remarks: &mut Sequence<Remark>,
+    text: &[u8],
+    headings: &[Heading],
+    large: &Heading,
+) -> Result<(), AllocError>
+    ensures { OnOk result (remarks.new ≡ remarks.old ++ chains.searches
+        (body_wanted (lines_of text.now)).version headings.now large.now
+        false 1 (lines_of text.now)) }
+{
+    let (version, _) = body_of(text);
+    let mut along = false;
+    let mut lines = Lines::new(text);
+    'lines: while let Some((number, line)) = lines.take_line() {
+        note_line(remarks, version, along, number, line)?;
+        along = along_after(headings, large, along, line);
+    }
+    Ok(())
+}
+
 /// What is told of a text whose policy is refused since the rules along the chain of this subject
-/// have too many states: the line of the subject. The error means that memory ran out.
+/// have too many states: the line of the subject, and then the rules of that chain which may double
+/// them.
+///
+/// Linear in the text, but for the chains of at most 1,024 subjects. The error means that memory
+/// ran out.
 pub fn size_faults(
     alloc: Global,
     text: &[u8],
@@ -215,6 +289,7 @@ pub fn size_faults(
     let mut remarks = Sequence::new(alloc);
     if let Some(heading) = find(headings.as_slice(), subject) {
         note(&mut remarks, heading.line, 1, Some(Finding::TooManyStates))?;
+        note_searches(&mut remarks, text, headings.as_slice(), heading)?;
     }
     Ok(remarks)
 }

@@ -42,8 +42,8 @@ fn last_after<'a>(
     }
 }
 
-// The pattern from its last atom on, and from the end of that on.
-fn last_atom(version: Version, pattern: &[u8]) -> (&[u8], &[u8])
+/// The pattern from its last atom on, and from the end of that on.
+pub(crate) fn last_atom(version: Version, pattern: &[u8]) -> (&[u8], &[u8])
     ensures { (result.0.now, result.1.now) ≡ endings.last_atom version pattern.now }
 {
     let mut place = Place::Outside;

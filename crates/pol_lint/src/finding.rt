@@ -65,6 +65,8 @@ pub enum Finding {
     Cycle,
     /// The rules along a subject's chain have too many states.
     TooManyStates,
+    /// A rule has a dot after a search.
+    AfterSearch,
 }
 
 impl fmt::Display for Finding {
@@ -151,6 +153,12 @@ impl fmt::Display for Finding {
                 write!(
                     f,
                     "refused: TooManyStates: the rules along this chain have over 16384 states"
+                )
+            }
+            Finding::AfterSearch => {
+                write!(
+                    f,
+                    "a dot after a '.*' may double the states: '.*(vlan|arp).*' takes fewer than two rules"
                 )
             }
             Finding::BadLine(reason) => write!(f, "refused: 1 BadLine: {reason}"),

@@ -12,6 +12,7 @@ mod place;
 mod reason;
 mod remark;
 mod remarks;
+mod searching;
 mod words;
 
 pub use chains::{size_faults, text_faults};

@@ -163,7 +163,7 @@ It asks about what other pattern languages read otherwise ('^', '$', '\\d', '[[:
 about ' # ' in a pattern, about spaces round patterns and secrets, rules without the word <cr> that
 Cisco IOS ends each line with, groups that nobody is in, users without a login, an empty policy, and
 it names rules that decide nothing. Of a policy that is refused it prints every wrong line, and not
-only the first, and why each is wrong.";
+only the first, and why each is wrong; where it is too large, which rules may double its states.";
 
 pub(crate) const LINT_AFTER_LONG_HELP: &str = "'tacd replay --help' describes the lines of a policy.
 

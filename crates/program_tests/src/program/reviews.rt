@@ -274,7 +274,9 @@ line 2 column 1: refused: 1 BadLine: no line of a policy begins with this word
 ";
     ends(&rt, words, "user b/b\nx\n", "", 1, faults, "");
     let large = "line 2 column 1: refused: TooManyStates: \
-                 the rules along this chain have over 16384 states\n";
+                 the rules along this chain have over 16384 states
+line 3 column 9: a dot after a '.*' may double the states: '.*(vlan|arp).*' takes fewer than two rules
+";
     let dots = "user b\ngroup g\ndeny .*a..............\n";
     ends(&rt, words, dots, "", 1, large, "");
     complains(

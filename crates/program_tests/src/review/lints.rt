@@ -391,6 +391,37 @@ fn chains(rt: HostRuntime) -> Result<(), Fail> {
     )
 }
 
+// The rules along the chain of the first subject that is too large: where they have a dot after a
+// search, but for that of the search at their end.
+#[test]
+fn searches(rt: HostRuntime) -> Result<(), Fail> {
+    let dot = "a dot after a '.*' may double the states: '.*(vlan|arp).*' takes fewer than two rules\n";
+    let told = format!(in rt.alloc();
+        "line 4 column 1: refused: TooManyStates: the rules along this chain have over 16384 states
+line 5 column 19: {dot}line 6 column 19: {dot}line 7 column 15: {dot}line 8 column 12: {dot}line 15 column 9: {dot}"
+    )?;
+    refuses(
+        &rt,
+        "policy 2
+group far
+permit .*x.*y
+group g in h
+permit show .*vlan.*brief
+  deny show .*vlan.*( <cr>)?
+permit [.*].+x.
+permit (.*a.{2}|b)c.+
+permit show .*vlan.*
+permit show .*vlan( .*)?
+permit show \\..*[.*]vlan
+user u in g
+deny .*b.*c
+group h
+deny .*a.{14}
+",
+        told.as_str(),
+    )
+}
+
 // The line that was probably meant is denied, and the one that is said is permitted.
 fn shows<R: Abort + AllocGlobal>(
     rt: &R,
