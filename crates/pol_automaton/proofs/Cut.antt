@@ -50,6 +50,13 @@ sorted_left p (x ∷ xs) h =
     cond_both (p x) (x ∷ filter p xs) (filter p xs) (IsStrictlySortedBy order)
     (λ _. (each_left p (λ y. order x y ≡ Less) xs h.0, sorted_left p xs h.1)) (λ _. sorted_left p xs h.1)
 
+-- a list of one item at most is in order
+pub short_sorted : (xs : List EntryTerm) → length xs < 2 → IsStrictlySortedBy order xs
+unfolding IsStrictlySortedBy
+short_sorted [] lt = tt
+short_sorted (x ∷ []) lt = (tt, tt)
+short_sorted (x ∷ y ∷ xs) lt = absurd (omega arith)
+
 -- ---- which items those are
 
 before_or_it : (sure x : EntryTerm) → is_up_to sure x ≡ true → (x.entry < sure.entry) ⊎ (x ≡ sure)

@@ -24,14 +24,25 @@ impl Model for TermSet {
     ghost invariant = { λ set. IsStrictlyIncreasing set.numbers.items };
 }
 
+// Puts numbers in order, each once. Most lists have one number or none, and are as they should be.
+fn arrange(numbers: &mut Vec<Number>)
+    ensures members { (n : ℕ) → Contains numbers.new.items n ↔ Contains numbers.old.items n }
+    ensures sorted { IsStrictlyIncreasing numbers.new.items }
+{
+    if numbers.len() < 2 {
+        return;
+    }
+    numbers.sort_unstable();
+    numbers.dedup();
+}
+
 impl TermSet {
     /// The set of these numbers.
     pub(crate) fn new(mut numbers: Vec<Number>) -> TermSet
         ensures members { (n : ℕ) → Contains result n ↔ Contains numbers.items n }
         ensures sorted { IsStrictlyIncreasing result }
     {
-        numbers.sort_unstable();
-        numbers.dedup();
+        arrange(&mut numbers);
         TermSet { numbers }
     }
 

@@ -3,14 +3,11 @@ use Rattle.std.proofs.lemmas.List.Filters.{dedup_is}
 use Rattle.std.proofs.lemmas.List.Kept.{Contains-dedup_nat, Contains-from_dedup}
 use Rattle.std.proofs.lemmas.List.Sorted.{Contains-permutation, IsPermutation-sym}
 use Rattle.std.proofs.lemmas.Map.Keys.{IsStrictlyIncreasing-dedup}
-use Rattle.pol_deriv.proofs.term_set.TermSet.new.Goals as goal
-use Rattle.pol_deriv.proofs.term_set.TermSet.new.Goals.{After-dedup}
+use Rattle.pol_deriv.proofs.term_set.arrange.Goals as goal
+use Rattle.pol_deriv.proofs.term_set.arrange.Goals.{After-dedup}
 
 sorted : (c : After-dedup) → IsStrictlyIncreasing c.dedup.new.self.items
 sorted c = rw (dedup_is _ _ _ c.dedup.ensures.filtered) (IsStrictlyIncreasing-dedup _ c.sort_unstable.ensures.sorted)
-
-pub invariant_of-result : goal.invariant_of-result
-invariant_of-result c = sorted c
 
 pub returns-clause-sorted : goal.returns-clause-sorted
 returns-clause-sorted c = sorted c
