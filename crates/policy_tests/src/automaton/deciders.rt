@@ -150,8 +150,48 @@ fn sizes(rt: HostRuntime) -> Result<(), Fail> {
         =3
         /.*a....
         =32
-        /[a-m].*;[n-z].*;[a-z]x
+        /(.|.)*;.*a..
         =8
+
+        # Nothing counts after a pattern that holds whatever goes on.
+        /.*;.*a...
+        =1
+        /(.)*;[ -~]*;ping
+        =1
+        /ping;.*;.*a...
+        =6
+        /a.*;.*a...
+        =18
+        /[a-m].*;[n-z].*;[a-z]x
+        =4
+        /(a|ab).*;abc.*;.*
+        =3
+        # Nor do its own other terms.
+        /a.*|.*b;.*c
+        =5
+        /x(.*|y);.*y
+        =5
+        # What comes before it counts.
+        /x.*;.*
+        =3
+        /.*b;a.*;.*c
+        =6
+        /a.*b;a.*;ac
+        =4
+        # The term `.*.*` is another one, and has `.*` behind it.
+        /.*.*;.*b
+        =2
+        /(.*);.*a
+        =2
+        # Patterns that search anywhere.
+        /.*x.*;show .*
+        =8
+        /show .*x.*;show .*
+        =8
+        /show .*vlan.*;show .*arp.*;show .*route.*;show .*bgp.*
+        =39
+        /show .*(vlan|arp|route|bgp).*
+        =19
         ",
     )
 }
@@ -259,6 +299,36 @@ fn decisions(rt: HostRuntime) -> Result<(), Fail> {
         1:b
         0@
         1@b
+
+        # A pattern that holds whatever goes on, and those before and after it.
+        /.*b;a.*;.*c
+        0:ab
+        0:acb
+        1:ac
+        2:c
+        -x
+        0@b
+        1@a
+        2@c
+        /x.*;.*
+        0:xy
+        1:yx
+        -x\u{7f}
+        /.*x.*;.*y.*;.*
+        0:yx
+        1:y
+        2:
+        0@x
+        /a.*|.*b;.*c;.*
+        0:ac
+        0:cb
+        1:c
+        2:b c b 
+        /show;show x.*;show .*
+        0:show
+        1:show xy
+        2:show y
+        2@show 
         ",
     )
 }
@@ -331,6 +401,9 @@ fn limits(rt: HostRuntime) -> Result<(), Fail> {
         3072: .*a..........;.*b
         4096: .*a...........
         16384: .*a.............
+        1: .*;.*a.............
+        113: show .*vlan.*;show .*arp.*;show .*route.*;show .*bgp.*;show .*ospf.*;show .*mac.*;\
+        show .*lldp.*;show .*cdp.*
         none: .*a............
         none: .*a...........;.*b
         ",
@@ -395,6 +468,11 @@ fn limits_of_joined_automata(rt: HostRuntime) -> Result<(), Fail> {
         4096: [] and .*a...........
         3072: .*a.......... and .*b
         6144: .*a........... and .*b
+        1: .* and .*a...........
+        8: .*x.* and show .*
+        18: a.* and .*a...
+        113: show .*vlan.*;show .*arp.* and show .*route.*;show .*bgp.*;show .*ospf.*;\
+        show .*mac.*;show .*lldp.*;show .*cdp.*
         ",
     )
 }

@@ -92,3 +92,49 @@ fn long_words_that_differ_at_their_ends(rt: HostRuntime) -> Result<(), Fail> {
     let lines = asked_of_the_words(rt.alloc(), stem.as_str())?;
     converses(&rt, policy.as_str(), lines.as_str())
 }
+
+/// Words that a line may have anywhere.
+const WORDS: &str = "vlan arp route bgp ospf mac lldp cdp ntp snmp clock users log vrf acl qos \
+                     isis mpls bfd vrrp stp dhcp dns ssh tacacs license";
+
+// A group with a rule for each of the 26 words, and a user in it.
+fn searches(alloc: Global) -> Result<String, AllocError> {
+    let mut text = String::from_str(alloc, "group net\n")?;
+    for word in WORDS.split(' ') {
+        writeln!(text, "permit show .*{word}.*")?;
+    }
+    text.push_str("user u in net\n")?;
+    Ok(text)
+}
+
+#[test]
+fn many_rules_that_search_anywhere(rt: HostRuntime) -> Result<(), Fail> {
+    let policy = searches(rt.alloc())?;
+    converses(
+        &rt,
+        policy.as_str(),
+        "
+        > states group net
+        871
+        > why u show bgp
+        permit by group net rule 4
+        # The first rule whose word is found decides, not the one whose word is found first.
+        > why u show bgp of vlan 5
+        permit by group net rule 1
+        > why u show lice
+        deny by default
+        > insert user u 1 deny show .*secret.*
+        ok
+        user u now denies: show dnsecret
+        > states user u
+        990
+        > insert group net 1 permit show .*
+        ok
+        user u now permits: show 
+        > states group net
+        7
+        > states user u
+        13
+        ",
+    )
+}

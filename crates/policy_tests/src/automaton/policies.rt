@@ -101,6 +101,38 @@ fn sizes(rt: HostRuntime) -> Result<(), Fail> {
     )
 }
 
+// Once a rule decides whatever goes on, no later rule counts. The earlier ones do.
+#[test]
+fn sizes_of_rules_that_search_anywhere(rt: HostRuntime) -> Result<(), Fail> {
+    converses(
+        &rt,
+        "group ops\npermit show .*\nuser bob in ops\ndeny .*x.*\nuser eve in ops\n",
+        "
+        > states user bob
+        8
+        > why bob show axb
+        deny by user bob rule 1
+        > why bob show ab
+        permit by group ops rule 1
+        > insert user eve 1 deny show .*x.*
+        ok
+        user eve now denies: show x
+        > states user eve
+        8
+        > insert user eve 2 deny sh.*
+        ok
+        user eve now denies: show 
+        > states user eve
+        9
+        > insert user bob 1 permit .*
+        ok
+        user bob now permits: 
+        > states user bob
+        1
+        ",
+    )
+}
+
 #[test]
 fn refusals(rt: HostRuntime) -> Result<(), Fail> {
     converses(
@@ -122,7 +154,7 @@ fn refusals(rt: HostRuntime) -> Result<(), Fail> {
         ok
         user u now permits: 
         > states user u
-        16384
+        1
         # The refusals of an edit come first.
         > insert group none 1 deny .*a..............
         refused 2 NoSuch
@@ -172,6 +204,17 @@ fn policies_that_are_too_large(rt: HostRuntime) -> Result<(), Fail> {
     let text = "group all\npermit .*b\nuser v in all\nuser u in big\npermit ping\n\
                 user w in all\ngroup big in all\ndeny .*a..............\nuser x in big\n";
     assert!(rt; is_too_large(alloc, text, "user u")?);
+    // The user's first rule decides every line, so only the group is too large.
+    let text = "group all\npermit .*b\nuser v in all\nuser u in big\npermit .*\n\
+                group big in all\ndeny .*a.............\nuser w in all\n";
+    assert!(rt; is_too_large(alloc, text, "group big")?);
+    let text = "group all\npermit .*b\nuser v in all\nuser u in big\npermit .*\n\
+                group big in all\ndeny .*a..............\nuser w in all\n";
+    assert!(rt; is_too_large(alloc, text, "group big")?);
+    // A later user is named only where none before is too large.
+    let text = "user u in big\npermit .*\nuser v in big\npermit [a-z].*\nuser w in big\n\
+                group big\ndeny .*a..............\n";
+    assert!(rt; is_too_large(alloc, text, "user v")?);
     Ok(())
 }
 
