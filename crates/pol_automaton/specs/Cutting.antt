@@ -130,7 +130,7 @@ counts_same (suc entry) a b (inr same) term c =
       none_before b entry (λ h. c.2 0 (omega arith) ((same.0 any_text).1 h)) later.2,
     )
 
--- whether an entry is sure
+-- it is known whether the entry is sure
 abbrev pub IsDecided : TermSets → ℕ → Type 0
 IsDecided set entry = set entry any_text ⊎ (¬ (set entry any_text))
 

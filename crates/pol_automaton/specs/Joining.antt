@@ -1,5 +1,5 @@
 -- Two automata that read one text, of which the second has the entries after those of the first. Once
--- an entry of the first is sure those decide nothing, and the second stays at its start.
+-- an entry of the first is sure those decide nothing, and the second is put back to its start.
 use Rattle.std.specs.Prelude.{◌≡◌, ◌↔◌, ◌<◌, ◌&&◌, ◌||◌, ◌==◌, ◌+◌, ℕ, Bool, true, false, Option}
 use Rattle.std.specs.Prelude.{None, Some, List, fold, refl}
 use Rattle.std.proofs.Common.{sym, ap, subst, ◌∙◌}

@@ -23,14 +23,14 @@ fn first_sure(terms: &Terms, items: &[EntryTerm]) -> Option<EntryTerm>
     None
 }
 
-// Leaves the terms of the entries before a sure one, and of that its `.*`.
+// Leaves the terms of the entries before a sure one, and of that one only its `.*`.
 fn keep_up_to(items: &mut Vec<EntryTerm>, sure: EntryTerm)
     ensures { items.new.items ≡ filter (is_up_to sure) items.old.items }
 {
     items.retain(|item| item.entry < sure.entry || *item == sure);
 }
 
-/// Leaves of residuals what counts. Linear.
+/// Leaves of residuals only what counts. Linear.
 pub(crate) fn cut(terms: &Terms, items: &mut Vec<EntryTerm>)
     requires { AreResiduals terms.now items.old.items }
     ensures right { AreResiduals terms.now items.new.items }

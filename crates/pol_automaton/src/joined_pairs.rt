@@ -21,7 +21,7 @@ fn start(first: &Decider, rest: &Decider) -> Pair
     (first.start(), rest.start())
 }
 
-// The state of the second automaton, which stays at its start once an entry of the first is sure.
+// The state of the second automaton, which is its start once an entry of the first is sure.
 fn step_rest(
     first: &Decider,
     rest: &Decider,
