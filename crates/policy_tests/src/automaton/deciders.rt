@@ -445,7 +445,44 @@ fn lists_join_to(alloc: Global, first: &str, rest: &str, states: u16) -> Result<
     joins_to(alloc, &first, rest, states)
 }
 
-/// `STATES: LIST and LIST`: as a limit so many are enough to join them, and one less is not.
+fn joined_join_to(
+    alloc: Global,
+    first: &Decider,
+    second: &Decider,
+    rest: &str,
+    states: u16,
+) -> Result<bool, Fail> {
+    let mut meter = Meter::new();
+    let joined = Decider::join(alloc, first, second, 4096, &mut meter)?;
+    joins_to(alloc, &joined, rest, states)
+}
+
+fn three_join_to(
+    alloc: Global,
+    first: &Decider,
+    second: &str,
+    rest: &str,
+    states: u16,
+) -> Result<bool, Fail> {
+    let mut meter = Meter::new();
+    let second = Decider::of(entries(alloc, second)?, 4096, &mut meter)?;
+    joined_join_to(alloc, first, &second, rest, states)
+}
+
+fn all_join_to(
+    alloc: Global,
+    first: &str,
+    second: &str,
+    rest: &str,
+    states: u16,
+) -> Result<bool, Fail> {
+    let mut meter = Meter::new();
+    let first = Decider::of(entries(alloc, first)?, 4096, &mut meter)?;
+    three_join_to(alloc, &first, second, rest, states)
+}
+
+/// `STATES: LIST and LIST`: as a limit so many are enough to join them, and one less is not. With
+/// three lists, to join what the first two were joined to with the last.
 #[derive(Drop)]
 struct JoinCases;
 
@@ -453,7 +490,11 @@ impl Judge for JoinCases {
     fn is_so(&mut self, alloc: Global, line: &str) -> Result<bool, Fail> {
         let (states, lists) = line.split_once(": ").ok_or("no lists")?;
         let (first, rest) = lists.split_once(" and ").ok_or("one list")?;
-        lists_join_to(alloc, first, rest, states.parse::<u16>()?)
+        let states = states.parse::<u16>()?;
+        match rest.split_once(" and ") {
+            Some((second, rest)) => all_join_to(alloc, first, second, rest, states),
+            None => lists_join_to(alloc, first, rest, states),
+        }
     }
 }
 
@@ -471,6 +512,10 @@ fn limits_of_joined_automata(rt: HostRuntime) -> Result<(), Fail> {
         1: .* and .*a...........
         8: .*x.* and show .*
         18: a.* and .*a...
+        1: .* and ping and .*a...
+        6: ping and .* and .*a...
+        8: show .*x.* and show .* and .*
+        12: show .*x.* and deny and show .*
         113: show .*vlan.*;show .*arp.* and show .*route.*;show .*bgp.*;show .*ospf.*;\
         show .*mac.*;show .*lldp.*;show .*cdp.*
         ",
