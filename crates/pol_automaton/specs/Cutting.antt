@@ -1,6 +1,6 @@
--- What of the residuals of entries counts. Once that of an entry has the term `.*`, the entry or one
--- before it is the first match of whatever goes on: nothing after it counts, and of itself only that
--- term.
+-- What of the residuals of entries counts. Once that of an entry has the term `.*`, the entry or
+-- one before it is the first match of whatever goes on: nothing after it counts, and of itself only
+-- that term.
 use Rattle.std.proofs.Common.{◌≡◌, ◌<◌, ◌↔◌, ◌⊎◌, inl, inr, ℕ, zero, suc, Bool, true, false, IsTrue}
 use Rattle.std.proofs.Common.{refl, sym, subst, arith}
 use Rattle.basics.specs.Symbol.{is_symbol}

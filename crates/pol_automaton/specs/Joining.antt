@@ -1,5 +1,5 @@
--- Two automata that read one text, of which the second has the entries after those of the first. Once
--- an entry of the first is sure those decide nothing, and the second is put back to its start.
+-- Two automata that read one text, of which the second has the entries after those of the first.
+-- Once an entry of the first is sure those decide nothing, and the second is put back to its start.
 use Rattle.std.specs.Prelude.{◌≡◌, ◌↔◌, ◌<◌, ◌&&◌, ◌||◌, ◌==◌, ◌+◌, ℕ, Bool, true, false, Option}
 use Rattle.std.specs.Prelude.{None, Some, List, fold, refl}
 use Rattle.std.proofs.Common.{sym, ap, subst, ◌∙◌}
@@ -94,7 +94,8 @@ joined_sure a b first second = is_sure a first || is_sure b second
 
 -- ---- what stays
 
-abbrev pub JoinedKeeps : Alphabet → Automaton → Automaton → Alphabet → Automaton → Automaton → Type 0
+abbrev pub JoinedKeeps : Alphabet → Automaton → Automaton → Alphabet → Automaton → Automaton
+    → Type 0
 JoinedKeeps al a b am c d =
     Keeps {S = ℕ × ℕ} (joined al a b) (λ word state. AreJoined al a b word state.0 state.1)
     (joined am c d)

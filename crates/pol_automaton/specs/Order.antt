@@ -60,7 +60,8 @@ none_contained x c = absurd (omega (arith, c.1))
 pub first_contained : {A : Type 0} (x : A) (xs : List A) → Contains (x ∷ xs) x
 first_contained x xs = (0, omega arith, refl)
 
-pub later_contained : {A : Type 0} (x : A) (xs : List A) (y : A) → Contains xs y → Contains (x ∷ xs) y
+pub later_contained : {A : Type 0} (x : A) (xs : List A) (y : A) → Contains xs y
+    → Contains (x ∷ xs) y
 later_contained x xs y c = Contains-append_right (x ∷ []) xs y c
 
 pub contained_cases : {A : Type 0} (x : A) (xs : List A) (y : A) → Contains (x ∷ xs) y

@@ -1,5 +1,6 @@
 -- One step of the scan: the derivatives of residuals by a symbol, and what of them counts.
-use Rattle.std.specs.Prelude.{◌≡◌, ◌↔◌, ◌<◌, ◌⊎◌, ◌||◌, nat_lt, Bool, ℕ, List, length, All, Contains}
+use Rattle.std.specs.Prelude.{◌≡◌, ◌↔◌, ◌<◌, ◌⊎◌, ◌||◌, nat_lt, Bool, ℕ, List, length, All}
+use Rattle.std.specs.Prelude.{Contains}
 use Rattle.pol_pattern.specs.Flat.{Term}
 use Rattle.pol_residual.specs.Derivative.{Derivative, Derivatives}
 use Rattle.pol_deriv.specs.Table.{Means}
@@ -37,7 +38,8 @@ pub record AreCut (table : List Term) (items cut : List EntryTerm) : Type 0 wher
   pub decided : (entry : ℕ) → IsDecided (HasTerm table cut) entry
 
 -- the item is `.*`, and no entry before its own has that
-pub record IsFirstSure (table : List Term) (items : List EntryTerm) (item : EntryTerm) : Type 0 where
+pub record IsFirstSure (table : List Term) (items : List EntryTerm)
+    (item : EntryTerm) : Type 0 where
   pub there : Contains items item
   pub means : Means table item.term any_text
   pub none : (k : ℕ) → k < item.entry → ¬ (HasTerm table items k any_text)

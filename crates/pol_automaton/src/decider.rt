@@ -68,7 +68,8 @@ impl Model for Decider {
 }
 
 impl Decider {
-    ghost use Rattle.pol_automaton.specs.Automaton.{IsDecider, IsWhole, state_of, first_of, is_sure};
+    ghost use Rattle.pol_automaton.specs.Automaton.{IsDecider, IsWhole, state_of, first_of};
+    ghost use Rattle.pol_automaton.specs.Automaton.{is_sure};
     ghost use Rattle.pol_automaton.specs.Pairs.{state_after};
     ghost use Rattle.pol_automaton.specs.Reaching.{IsFirstState, NoState};
 
