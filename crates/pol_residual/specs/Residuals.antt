@@ -25,8 +25,8 @@ abbrev pub SameTerms : List ℕ → List ℕ → List ℕ → Type 0
 SameTerms source text other =
     (term : Term) → InResidual source text term ↔ InResidual source other term
 
--- each entry up to the first that is sure by both has the same residual by the one text as by the
--- other. What comes after a sure entry decides nothing
+-- each entry before the first that is sure by both has the same residual by the one text as by the
+-- other. Other terms of that one decide nothing, nor does what comes after it
 abbrev pub SameResiduals : List (List ℕ) → List ℕ → List ℕ → Type 0
 SameResiduals [] text other = Unit {0}
 SameResiduals (source ∷ rest) text other = (IsSure source text × IsSure source other)
