@@ -112,7 +112,7 @@ impl Table {
         matches!(self.node(number), Node::Empty)
     }
 
-    /// Whether the term is a star of no terms alone.
+    /// Whether the term is one factor, the star of no terms.
     fn is_bare_star(&self, number: Number) -> bool
         requires { number < length self.now }
         ensures { IsTrue result
@@ -124,7 +124,7 @@ impl Table {
         }
     }
 
-    /// Whether the term is `.`, the class of all symbols alone.
+    /// Whether the term is `.`: one factor, the class of all symbols.
     fn is_any_symbol(&self, number: Number) -> bool
         requires { number < length self.now }
         ensures { IsTrue result
@@ -142,7 +142,7 @@ impl Table {
         ensures { IsTrue result ↔ (term_at self.now number ≡ any_text) }
     {
         match self.node(number) {
-            // few terms end so, and that is told at once
+            // Few terms end in a bare star, which is told without a look at each symbol.
             Node::Alternative { first, rest, .. } => {
                 self.is_bare_star(rest) && self.is_any_symbol(first)
             }
