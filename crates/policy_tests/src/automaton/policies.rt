@@ -215,6 +215,10 @@ fn policies_that_are_too_large(rt: HostRuntime) -> Result<(), Fail> {
     let text = "user u in big\npermit .*\nuser v in big\npermit [a-z].*\nuser w in big\n\
                 group big\ndeny .*a..............\n";
     assert!(rt; is_too_large(alloc, text, "user v")?);
+    // Between the user and the group that is too large stands one that has its automaton.
+    let text = "user v in ok\nuser u in big\npermit .*\ngroup ok\npermit x\n\
+                group big\ndeny .*a..............\n";
+    assert!(rt; is_too_large(alloc, text, "group big")?);
     Ok(())
 }
 
