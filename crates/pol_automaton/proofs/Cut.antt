@@ -11,7 +11,7 @@ use Rattle.pol_residual.specs.Residuals.{any_text}
 use Rattle.pol_deriv.specs.Table.{Means}
 use Rattle.pol_automaton.specs.declared.entry_term.EntryTerm.{EntryTerm}
 use Rattle.pol_automaton.specs.Scanning.{item_of, order, HasTerm, AreResiduals}
-use Rattle.pol_automaton.specs.Cutting.{Counts, IsDecided}
+use Rattle.pol_automaton.specs.Cutting.{Counts, IsSureOrNot}
 use Rattle.pol_automaton.specs.Stepping.{AreCut, IsFirstSure, is_up_to}
 use Rattle.pol_automaton.specs.Order.{same_item, same_is, item_itself, contained_cases, first_contained, later_contained}
 use Rattle.pol_automaton.specs.Having.{means_one}
@@ -118,10 +118,10 @@ module _ (table : List Term) (items : List EntryTerm) (right : AreResiduals tabl
             let is : x ≡ sure = same_is x sure (item_is entry c.0.0 sure at number) in
             subst (λ y. is_up_to sure y ≡ true) (sym is) (is_it sure)
 
-    decided : (entry : ℕ) → IsDecided (HasTerm table (filter (is_up_to sure) items)) entry
+    decided : (entry : ℕ) → IsSureOrNot (HasTerm table (filter (is_up_to sure) items)) entry
     decided entry = by (cases_lt entry sure.entry) (cases_lt sure.entry entry)
       where
-        by : (entry < sure.entry) ⊎ (sure.entry ≤ entry) → (sure.entry < entry) ⊎ (entry ≤ sure.entry) → IsDecided (HasTerm table (filter (is_up_to sure) items)) entry
+        by : (entry < sure.entry) ⊎ (sure.entry ≤ entry) → (sure.entry < entry) ⊎ (entry ≤ sure.entry) → IsSureOrNot (HasTerm table (filter (is_up_to sure) items)) entry
         by (inl lt) r = inr (λ h. first.none entry lt (counts entry any_text h).0)
         by (inr le) (inl more) = inr (λ h. (counts entry any_text h).2 sure.entry more there)
         by (inr le) (inr no_more) =

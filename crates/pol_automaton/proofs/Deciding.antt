@@ -16,7 +16,7 @@ use Rattle.pol_scan.specs.Words.{word_at}
 use Rattle.pol_scan.specs.Table.{Table, walk}
 use Rattle.pol_automaton.specs.declared.entry_term.EntryTerm.{EntryTerm}
 use Rattle.pol_automaton.specs.After.{After}
-use Rattle.pol_automaton.specs.Cutting.{TermSets, Counts, IsDecided, counts_alike}
+use Rattle.pol_automaton.specs.Cutting.{TermSets, Counts, IsSureOrNot, counts_alike}
 use Rattle.pol_automaton.specs.Decision.{entry_at, IsFirstMatch}
 use Rattle.pol_automaton.specs.Automaton.{Automaton, state_of, first_of, is_sure, IsWhole, IsDecider}
 use Rattle.pol_automaton.specs.Scanning.{item_of, HasTerm, LeadsTo, residuals}
@@ -79,7 +79,7 @@ module _ (e : Entries) (sources : List (List ℕ)) (whole : AreWhole e) (are : A
   -- items that a text leads to
   module _ (table : List Term) (items : List EntryTerm) (text : List ℕ)
       (has : (entry : ℕ) (term : Term) → HasTerm table items entry term ↔ Counts (sets_after e text) entry term)
-      (decided : (entry : ℕ) → IsDecided (HasTerm table items) entry) where
+      (decided : (entry : ℕ) → IsSureOrNot (HasTerm table items) entry) where
     within : (entry : ℕ) (term : Term) → sets_after e text entry term → entry < length sources
     within entry term h = by (cases_lt entry (length sources))
       where
@@ -99,7 +99,7 @@ module _ (e : Entries) (sources : List (List ℕ)) (whole : AreWhole e) (are : A
         more (inl w) = inl (w.0, omega (arith, w.1), w.2)
         more (inr none) = at (decided n)
           where
-            at : IsDecided (HasTerm table items) n → Before (suc n)
+            at : IsSureOrNot (HasTerm table items) n → Before (suc n)
             at (inl sure) = inl (n, omega arith, sure)
             at (inr not_sure) = inr (λ k lt. last k (cases_lt k n) lt)
               where
@@ -117,7 +117,7 @@ module _ (e : Entries) (sources : List (List ℕ)) (whole : AreWhole e) (are : A
         by (inl w) = (w.0, omega (arith, w.1), (any_text, w.2, any_holds [] refl))
         by (inr none) = own (decided entry)
           where
-            own : IsDecided (HasTerm table items) entry → (k : ℕ) × (k ≤ entry) × Accepts table items k
+            own : IsSureOrNot (HasTerm table items) entry → (k : ℕ) × (k ≤ entry) × Accepts table items k
             own (inl sure) = (entry, omega arith, (any_text, sure, any_holds [] refl))
             own (inr not_sure) =
                 let w = (holds_after e sources are entry lt text).0 held in

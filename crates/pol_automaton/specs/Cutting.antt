@@ -131,8 +131,8 @@ counts_same (suc entry) a b (inr same) term c =
     )
 
 -- it is known whether the entry is sure
-abbrev pub IsDecided : TermSets → ℕ → Type 0
-IsDecided set entry = set entry any_text ⊎ (¬ (set entry any_text))
+abbrev pub IsSureOrNot : TermSets → ℕ → Type 0
+IsSureOrNot set entry = set entry any_text ⊎ (¬ (set entry any_text))
 
 -- what counts of entries after one that isn't sure
 counts_later : (set : TermSets) → ¬ (set 0 any_text) → (entry : ℕ) (term : Term)
@@ -155,7 +155,7 @@ pub same_counted : (many : ℕ) (a b has other : TermSets)
     → ((entry : ℕ) (term : Term) → has entry term ↔ Counts a entry term)
     → ((entry : ℕ) (term : Term) → other entry term ↔ Counts b entry term)
     → ((entry : ℕ) (term : Term) → has entry term ↔ other entry term)
-    → ((entry : ℕ) → IsDecided has entry) → SameUpTo many a b
+    → ((entry : ℕ) → IsSureOrNot has entry) → SameUpTo many a b
 same_counted zero a b has other p q both decided = tt
 same_counted (suc many) a b has other p q both decided =
     by (decided 0)
@@ -171,7 +171,7 @@ same_counted (suc many) a b has other p q both decided =
     ))
     (λ entry. both (suc entry)) (λ entry. decided (suc entry)))
   where
-    by : IsDecided has 0
+    by : IsSureOrNot has 0
         → (¬ (a 0 any_text) → ¬ (b 0 any_text)
         → SameUpTo many (λ e. a (suc e)) (λ e. b (suc e)))
         → SameUpTo (suc many) a b
@@ -197,12 +197,12 @@ same_counted (suc many) a b has other p q both decided =
 
 module _ (symbol : ℕ) (is : IsTrue (is_symbol symbol)) (a has : TermSets)
     (counted : (entry : ℕ) (term : Term) → has entry term ↔ Counts a entry term)
-    (decided : (entry : ℕ) → IsDecided has entry) where
+    (decided : (entry : ℕ) → IsSureOrNot has entry) where
   -- an entry before which none is sure
-  here : (entry : ℕ) → ((k : ℕ) → k < entry → ¬ (a k any_text)) → IsDecided a entry
+  here : (entry : ℕ) → ((k : ℕ) → k < entry → ¬ (a k any_text)) → IsSureOrNot a entry
   here entry none = by (decided entry)
     where
-      by : IsDecided has entry → IsDecided a entry
+      by : IsSureOrNot has entry → IsSureOrNot a entry
       by (inl h) = inl ((counted entry any_text).0 h).0
       by (inr not_sure) = inr (λ h. not_sure ((counted entry any_text).1 (h, λ _. refl, none)))
 
@@ -223,7 +223,7 @@ module _ (symbol : ℕ) (is : IsTrue (is_symbol symbol)) (a has : TermSets)
           none : (k : ℕ) → k < entry → ¬ (a k any_text)
           none = ((counted entry c.0.0).0 c.0.1).2
 
-          own : IsDecided a entry → Stepped symbol a entry any_text → term ≡ any_text
+          own : IsSureOrNot a entry → Stepped symbol a entry any_text → term ≡ any_text
           own (inl sure) w =
               let source : c.0.0 ≡ any_text = ((counted entry c.0.0).0 c.0.1).1 sure in
               only_derivative symbol term (subst (λ t. Derivative symbol t term) source c.0.2)
@@ -249,7 +249,7 @@ module _ (symbol : ℕ) (is : IsTrue (is_symbol symbol)) (a has : TermSets)
           none : (k : ℕ) → k < entry → ¬ (a k any_text)
           none k below h = c.2 k below (sure_goes_on k h)
 
-          at : IsDecided a entry → Stepped symbol has entry term
+          at : IsSureOrNot a entry → Stepped symbol has entry term
           at (inl sure) =
               let is_any : term ≡ any_text = c.1 (sure_goes_on entry sure) in
               subst (Stepped symbol has entry) (sym is_any)

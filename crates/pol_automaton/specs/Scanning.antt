@@ -12,7 +12,7 @@ use Rattle.pol_scan.specs.Words.{longer}
 use Rattle.pol_scan.specs.Congruence.{Congruence}
 use Rattle.pol_automaton.specs.declared.entry_term.EntryTerm.{EntryTerm}
 use Rattle.pol_automaton.specs.After.{After, after_push}
-use Rattle.pol_automaton.specs.Cutting.{Counts, IsDecided, AreSame, Stepped, same_itself, same_back}
+use Rattle.pol_automaton.specs.Cutting.{Counts, IsSureOrNot, AreSame, Stepped, same_itself, same_back}
 use Rattle.pol_automaton.specs.Cutting.{same_on, same_each, same_stepped}
 
 abbrev pub item_of : ℕ → ℕ → EntryTerm
@@ -45,7 +45,7 @@ pub record LeadsTo (alphabet : Alphabet) (table : List Term) (start : List Entry
   pub right : AreResiduals table items
   pub members : (entry : ℕ) (term : Term)
       → HasTerm table items entry term ↔ Counts (AfterText alphabet table start word) entry term
-  pub decided : (entry : ℕ) → IsDecided (HasTerm table items) entry
+  pub decided : (entry : ℕ) → IsSureOrNot (HasTerm table items) entry
 
 -- words are the same if the residuals after them are, as far as they count
 abbrev pub AlikeAfter : Alphabet → List Term → List EntryTerm → List ℕ → List ℕ → Type 0

@@ -7,7 +7,7 @@ use Rattle.pol_deriv.specs.Table.{Means}
 use Rattle.pol_automaton.specs.declared.entry_term.EntryTerm.{EntryTerm}
 use Rattle.pol_residual.specs.Residuals.{any_text}
 use Rattle.pol_automaton.specs.Scanning.{HasTerm}
-use Rattle.pol_automaton.specs.Cutting.{Counts, IsDecided}
+use Rattle.pol_automaton.specs.Cutting.{Counts, IsSureOrNot}
 use Rattle.pol_automaton.specs.Order.{same_item}
 
 -- each number is one of the table
@@ -35,7 +35,7 @@ pub record AddsDerivatives (old new : List Term) (symbol : ℕ) (item : EntryTer
 pub record AreCut (table : List Term) (items cut : List EntryTerm) : Type 0 where
   pub members : (entry : ℕ) (term : Term)
       → HasTerm table cut entry term ↔ Counts (HasTerm table items) entry term
-  pub decided : (entry : ℕ) → IsDecided (HasTerm table cut) entry
+  pub decided : (entry : ℕ) → IsSureOrNot (HasTerm table cut) entry
 
 -- the item is `.*`, and no entry before its own has that
 pub record IsFirstSure (table : List Term) (items : List EntryTerm)

@@ -12,7 +12,7 @@ returns-then-branch c =
     let lt : i < length policy = omega arith in
     let subject = c.index-subjects-at.result in
     let at : get_or policy i subject ≡ subject = rw (← c.subjects-subjects.ensures.subjects) (sym c.index-subjects-at.is) in
-    rw c.id.ensures (first_large policy policy i subject lt at c.loop-at.invariant (c.in_ok-is_large_at.ensures.0 c.if-branch.true))
+    rw c.id.ensures (first_large policy policy i subject lt at c.loop-at.invariant.small (c.in_ok-is_large_at.ensures.large.0 c.if-branch.true))
 
 pub loop-at-preserved : goal.loop-at-preserved
 loop-at-preserved c =
@@ -22,7 +22,10 @@ loop-at-preserved c =
     let lt : i < length policy = omega arith in
     let subject = c.index-subjects-at.result in
     let at : get_or policy i subject ≡ subject = rw (← c.subjects-subjects.ensures.subjects) (sym c.index-subjects-at.is) in
-    rw add-one (more_small policy policy i subject lt at c.loop-at.invariant (λ more. true≢false (sym (c.in_ok-is_large_at.ensures.1 more) ∙ c.if-branch.false)))
+    record {
+      small = rw add-one (more_small policy policy i subject lt at c.loop-at.invariant.small (λ more. true≢false (sym (c.in_ok-is_large_at.ensures.large.1 more) ∙ c.if-branch.false)));
+      right = c.in_ok-is_large_at.ensures.right;
+    }
 
 pub bounds-subjects-large : goal.bounds-subjects-large
 bounds-subjects-large c =
@@ -41,9 +44,9 @@ returns c =
     let i = c.loop-at.at in
     let large = c.requires.large in
     let past : c.args.large ≤ i = c.loop-at-test.false in
-    let same : i ≡ c.args.large = let before = not_before policy policy i c.args.large large.0 c.loop-at.invariant large.1 large.2 in omega arith in
+    let same : i ≡ c.args.large = let before = not_before policy policy i c.args.large large.0 c.loop-at.invariant.small large.1 large.2 in omega arith in
     let subject = c.index-subjects-large.result in
     let its : large.0 ≡ subject = sym (get_or_from_slice_get policy c.args.large large.0 subject large.1) ∙ rw (← c.subjects-subjects.ensures.subjects) (sym c.index-subjects-large.is) in
     let at : get_or policy c.args.large subject ≡ subject = rw (← c.subjects-subjects.ensures.subjects) (sym c.index-subjects-large.is) in
-    let small = subst (λ (n : ℕ). AreSmall policy (take n policy)) same c.loop-at.invariant in
+    let small = subst (λ (n : ℕ). AreSmall policy (take n policy)) same c.loop-at.invariant.small in
     rw c.id-2.ensures (first_large policy policy c.args.large subject (slice_get_within policy c.args.large large.0 large.1) at small (subst (IsLarge policy) its large.2))
