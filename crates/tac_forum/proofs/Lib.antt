@@ -1,0 +1,4 @@
+pub mod HistoryFacts
+pub mod LogFacts
+pub mod LockedFacts
+pub mod ClosingFacts

@@ -1,0 +1,121 @@
+-- What lies under the lock, after one thing more was done.
+use Rattle.std.proofs.Common.{◌≡◌, ℕ, suc, ◌+◌, ◌<◌, List, [], ◌∷◌, ◌++◌, Bool, false, arith, refl, sym, ap, ◌∙◌, subst}
+use Rattle.tac_desk.specs.Meaning.{Meaning}
+use Rattle.tac_hall.specs.declared.call.Call.{Call}
+use Rattle.tac_hall.specs.declared.call.CallAnswer.{CallAnswer}
+use Rattle.tac_hall.specs.declared.entry.Entry.{Entry}
+use Rattle.tac_hall.specs.declared.entry.Receipt.{Receipt}
+use Rattle.tac_hall.specs.History.{Answers, IsOfKind, is_stop, is_closed, Legal, at_first, and_then}
+use Rattle.tac_hall.proofs.HistoryFacts.{closed_after}
+use Rattle.tac_roll.specs.Roll.{Knows}
+use Rattle.tac_forum.specs.declared.event.Event.{Event}
+use Rattle.tac_forum.specs.declared.event.Event.TheVariants as events
+use Rattle.tac_forum.specs.declared.limits.Limits.{Limits}
+use Rattle.tac_forum.specs.declared.limits.Rotated.{Rotated}
+use Rattle.tac_forum.specs.History.{Place, calls_in, place_of, view_of, rotations_of, next_segment, is_due, place_for, turned, IsLawful, IsCounted}
+use Rattle.tac_forum.specs.Seat.{IsMade, IsRotated}
+use Rattle.tac_forum.proofs.HistoryFacts.{calls_ready, calls_called, calls_rotated, place_ready, place_called, place_rotated, room_ready, room_called, room_rotated}
+use Rattle.tac_forum.proofs.HistoryFacts.{view_same, view_ready, view_called, view_rotated, rotations_same, rotations_ready, rotations_called, rotations_rotated}
+
+pub counted_first : (base meaning : Meaning) (limits : Limits) (history : List (ℕ × Event)) → history ≡ [] → meaning ≡ base → IsCounted base limits history meaning (record { segment = 0; entries = 0 }) false
+counted_first base meaning limits history none same = rw (none, same) (record {
+  lawful = record { legal = at_first; within = (omega arith, tt) };
+  stands = refl;
+  stopped = refl;
+})
+
+-- ---- a call
+
+-- all that is known where a call is made: what is kept, that it may be made, where it stands then, and its answer
+pub record Calling (base : Meaning) (limits : Limits) (history : List (ℕ × Event)) (was now : Meaning) (due : Bool) (segment entries : ℕ) (call : Call) (answer : CallAnswer) : Type 0 where
+  pub lawful : IsLawful base limits history was
+  pub goes_on : is_closed (calls_in history) ≡ false
+  pub turns : due ≡ is_due limits (place_of history)
+  pub place : record { segment = segment; entries = entries } ≡ place_for limits (place_of history)
+  pub room : entries < limits.calls
+  pub answers : Answers was call answer now
+
+module _ {base : Meaning} {limits : Limits} {history : List (ℕ × Event)} {was now : Meaning} {due : Bool} {segment entries : ℕ} {call : Call} {answer : CallAnswer} (c : Calling base limits history was now due segment entries call answer) (seat : ℕ) where
+  abbrev ready : List (ℕ × Event)
+  ready = history ++ turned due seat
+
+  abbrev later : List (ℕ × Event)
+  later = ready ++ (seat, events.Called call answer) ∷ []
+
+  abbrev entry : Entry
+  entry = record { seat = seat; call = call; answer = answer }
+
+  pub at_ready : place_of ready ≡ record { segment = segment; entries = entries }
+  at_ready = place_ready limits history due seat c.turns ∙ sym c.place
+
+  calls_later : calls_in later ≡ calls_in history ++ entry ∷ []
+  calls_later = calls_called ready seat call answer ∙ ap (λ (l : List Entry). l ++ entry ∷ []) (calls_ready history due seat)
+
+  pub counted_called : (stop : Bool) → stop ≡ is_stop call → IsCounted base limits later now (record { segment = segment; entries = entries + 1 }) stop
+  counted_called stop is = record {
+    lawful = record {
+      legal = subst (λ (l : List Entry). Legal base l now) (sym calls_later) (and_then entry c.lawful.legal c.goes_on c.answers);
+      within = room_called limits.calls ready seat call answer (room_ready limits.calls history due seat c.lawful.within) (let same : (place_of ready).entries ≡ entries = ap (λ (p : Place). p.entries) at_ready in let room : entries < limits.calls = c.room in omega arith);
+    };
+    stands = place_called ready seat call answer ∙ (let more : suc entries ≡ entries + 1 = omega arith in ap (λ (p : Place). record { segment = p.segment; entries = suc p.entries }) at_ready ∙ ap (λ (n : ℕ). record { segment = segment; entries = n }) more);
+    stopped = ap is_closed calls_later ∙ closed_after (calls_in history) entry c.goes_on ∙ sym is;
+  }
+
+  -- the seat's own share of it
+  pub made_called : (seen : List (ℕ × Event)) (knows : Knows history seat seen) (receipt : Receipt) → receipt ≡ record { seat = seat; segment = segment; place = entries; answer = answer } → IsOfKind call answer
+      → IsMade base limits (record { number = seat; seen = seen }) call receipt (record { number = seat; seen = later })
+  made_called seen knows receipt is kind =
+      let others = knows.0 in
+      let all : history ≡ seen ++ others = knows.1 in
+      let due_there : due ≡ is_due limits (place_of (seen ++ others)) = c.turns ∙ ap (λ (h : List (ℕ × Event)). is_due limits (place_of h)) all in
+      rw is (record {
+        others = others;
+        apart = knows.2;
+        before = ready;
+        all = (λ i. all i ++ turned (due_there i) seat);
+        seen = refl;
+        number = refl;
+        seat = refl;
+        place = at_ready;
+        kind = kind;
+        meaning = was;
+        then = now;
+        legal = subst (λ (l : List Entry). Legal base l was) (sym (calls_ready history due seat)) c.lawful.legal;
+        answers = c.answers;
+        view = view_called seat ready call answer ∙ (λ i. (view_ready seat history due seat ∙ ap (view_of seat) all ∙ view_same seat seen others knows.2) i ++ record {
+          segment = (at_ready i).segment;
+          place = (at_ready i).entries;
+          call = call;
+          answer = answer;
+        } ∷ []);
+        rotations = rotations_called seat ready call answer ∙ rotations_ready seat history due seat ∙ ap (rotations_of seat) all ∙ rotations_same seat seen others knows.2;
+      })
+
+-- ---- a rotation
+
+pub counted_rotated : (base meaning : Meaning) (limits : Limits) (history : List (ℕ × Event)) (place : Place) (closed : Bool) (seat : ℕ) (next : ℕ) → IsCounted base limits history meaning place closed → next ≡ suc place.segment
+    → IsCounted base limits (history ++ (seat, events.Rotated) ∷ []) meaning (record { segment = next; entries = 0 }) closed
+counted_rotated base meaning limits history place closed seat next h is = record {
+  lawful = record {
+    legal = subst (λ (l : List Entry). Legal base l meaning) (sym (calls_rotated history seat)) h.lawful.legal;
+    within = room_rotated limits.calls history seat h.lawful.within;
+  };
+  stands = place_rotated history seat ∙ ap next_segment h.stands ∙ ap (λ (n : ℕ). record { segment = n; entries = 0 }) (sym is);
+  stopped = ap is_closed (calls_rotated history seat) ∙ h.stopped;
+}
+
+pub made_rotated : (history : List (ℕ × Event)) (place : Place) (seat : ℕ) (seen : List (ℕ × Event)) (rotated : Rotated) → place_of history ≡ place → Knows history seat seen → rotated ≡ record { number = place.segment; entries = place.entries }
+    → IsRotated (record { number = seat; seen = seen }) rotated (record { number = seat; seen = history ++ (seat, events.Rotated) ∷ [] })
+made_rotated history place seat seen rotated at knows is =
+    let others = knows.0 in
+    let all : history ≡ seen ++ others = knows.1 in
+    let told : record { number = (place_of history).segment; entries = (place_of history).entries } ≡ rotated = (λ i. record { number = (at i).segment; entries = (at i).entries }) ∙ sym is in
+    record {
+      others = others;
+      apart = knows.2;
+      seen = ap (λ (h : List (ℕ × Event)). h ++ (seat, events.Rotated) ∷ []) all;
+      number = refl;
+      place = ap place_of (sym all) ∙ at ∙ (λ i. record { segment = (sym is i).number; entries = (sym is i).entries });
+      view = view_rotated seat history ∙ ap (view_of seat) all ∙ view_same seat seen others knows.2;
+      rotations = rotations_rotated seat history ∙ (λ i. (ap (rotations_of seat) all ∙ rotations_same seat seen others knows.2) i ++ told i ∷ []);
+    }

@@ -1,0 +1,75 @@
+-- A seat at a desk that many call, and what a call adds to the history that it has seen.
+use Rattle.std.specs.Prelude.{◌≡◌, ℕ, List, [], ◌∷◌, ◌++◌}
+use Rattle.tac_desk.specs.Meaning.{Meaning}
+use Rattle.tac_hall.specs.declared.call.Call.{Call}
+use Rattle.tac_hall.specs.declared.entry.Receipt.{Receipt}
+use Rattle.tac_hall.specs.declared.fault.HallFault.{HallFault}
+use Rattle.tac_hall.specs.History.{Answers, IsOfKind, Legal}
+use Rattle.tac_hall.specs.Seat.{made_of}
+use Rattle.tac_roll.specs.Roll.{AreOthers, Knows}
+use Rattle.tac_forum.specs.declared.event.Event.{Event}
+use Rattle.tac_forum.specs.declared.event.Event.TheVariants as events
+use Rattle.tac_forum.specs.declared.limits.Limits.{Limits}
+use Rattle.tac_forum.specs.declared.limits.Rotated.{Rotated}
+use Rattle.tac_forum.specs.History.{IsLawful, RefusesCall, RefusesRotation}
+use Rattle.tac_forum.specs.History.{calls_in, place_of, before_call, view_of, rotations_of}
+
+-- its number, and the history up to the last thing that it did
+pub record Seated : Type 0 where
+  pub number : ℕ
+  pub seen : List (ℕ × Event)
+
+-- ---- a call
+
+-- others did these things, and then this seat made this call, and nothing else: before it the next
+-- segment began by itself where that was due. The answer is right after all calls before it
+pub record IsMade (base : Meaning) (limits : Limits) (was : Seated) (call : Call)
+    (receipt : Receipt) (now : Seated) : Type 0 where
+  pub others : List (ℕ × Event)
+  pub apart : AreOthers was.number others
+  pub before : List (ℕ × Event)
+  pub all : before ≡ before_call limits was.number (was.seen ++ others)
+  pub seen : now.seen ≡ before ++ (was.number, events.Called call receipt.answer) ∷ []
+  pub number : now.number ≡ was.number
+  pub seat : receipt.seat ≡ was.number
+  pub place : place_of before ≡ record { segment = receipt.segment; entries = receipt.place }
+  pub kind : IsOfKind call receipt.answer
+  pub meaning : Meaning
+  pub then : Meaning
+  pub legal : Legal base (calls_in before) meaning
+  pub answers : Answers meaning call receipt.answer then
+  pub view : view_of was.number now.seen
+      ≡ view_of was.number was.seen ++ made_of call receipt ∷ []
+  pub rotations : rotations_of was.number now.seen ≡ rotations_of was.number was.seen
+
+-- the call was refused so: after a lawful history that begins with what the seat has seen, and in
+-- which it did nothing since
+pub record IsRefused (base : Meaning) (limits : Limits) (seat : Seated) (call : Call)
+    (fault : HallFault) : Type 0 where
+  pub history : List (ℕ × Event)
+  pub meaning : Meaning
+  pub lawful : IsLawful base limits history meaning
+  pub knows : Knows history seat.number seat.seen
+  pub refuses : RefusesCall limits history call fault
+
+-- ---- a rotation
+
+-- others did these things, and then this seat ended the segment that is told, and nothing else
+pub record IsRotated (was : Seated) (rotated : Rotated) (now : Seated) : Type 0 where
+  pub others : List (ℕ × Event)
+  pub apart : AreOthers was.number others
+  pub seen : now.seen ≡ (was.seen ++ others) ++ (was.number, events.Rotated) ∷ []
+  pub number : now.number ≡ was.number
+  pub place : place_of (was.seen ++ others)
+      ≡ record { segment = rotated.number; entries = rotated.entries }
+  pub view : view_of was.number now.seen ≡ view_of was.number was.seen
+  pub rotations : rotations_of was.number now.seen
+      ≡ rotations_of was.number was.seen ++ rotated ∷ []
+
+pub record IsUnrotated (base : Meaning) (limits : Limits) (seat : Seated) (fault : HallFault)
+    : Type 0 where
+  pub history : List (ℕ × Event)
+  pub meaning : Meaning
+  pub lawful : IsLawful base limits history meaning
+  pub knows : Knows history seat.number seat.seen
+  pub refuses : RefusesRotation history fault

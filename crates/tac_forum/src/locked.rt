@@ -1,0 +1,293 @@
+//! What lies under the lock, and what is done there while it is held.
+
+ghost use Rattle.std.specs.Prelude.{◌≡◌, ◌<◌, ◌++◌, ◌∷◌, [], suc, true, false, Ok, Err};
+ghost use Rattle.std.specs.Prelude.{IsTrue, IfOk, IfErr, OnErr};
+ghost use Rattle.tac_forum.specs.Closing.{HasAll};
+ghost use Rattle.tac_forum.specs.History as history;
+ghost use Rattle.tac_forum.specs.Seat as seats;
+ghost use Rattle.tac_hall.specs.declared.fault.HallFault.TheVariants.{NoSeat};
+ghost use Rattle.tac_roll.specs.Roll.{Knows, AreGiven};
+
+use crate::answering::answer;
+use crate::closing::are_there;
+use crate::event::Event;
+use crate::limits::{Limits, Rotated};
+use crate::run::Run;
+use crate::seat::Seat;
+use std::marker::{Model, PhantomData};
+use std::mem;
+use tac_desk::Desk;
+use tac_hall::laws::MAX_SEATS;
+use tac_hall::{Call, HallFault, Receipt};
+use tac_roll::{Keeper, Member, Roll};
+
+/// A desk, and the history of all that seats did at it. A contract sees that, how many seats were
+/// made, and what the desk represents. At all times the calls are a legal history, and no log is
+/// longer than it may be. Only counts of the history are in memory.
+pub(crate) struct Locked<J: Run, D: Desk> {
+    desk: D,
+    keeper: Keeper<Event>,
+    limits: Limits,
+    // where the next call stands
+    segment: u64,
+    entries: usize,
+    seats: u32,
+    // whether there was a Stop
+    closed: bool,
+    of: PhantomData<J>,
+}
+
+// By hand, so that a proof of an owner has one call at each exit, not a drop of each field.
+impl<J: Run, D: Desk> Drop for Locked<J, D> {
+    fn drop(self) {
+        let Locked {
+            desk: _,
+            keeper: _,
+            limits: _,
+            segment: _,
+            entries: _,
+            seats: _,
+            closed: _,
+            of: _,
+        } = self;
+    }
+}
+
+impl<J: Run, D: Desk> Model for Locked<J, D> {
+    ghost use Rattle.std.specs.Prelude.{◌≡◌};
+    ghost use Rattle.tac_forum.specs.History.{Standing, IsCounted};
+
+    ghost Value = { Standing };
+
+    ghost view = { λ locked. record {
+      history = locked.keeper.all;
+      seats = locked.seats;
+      meaning = D.meaning locked.desk;
+    } };
+
+    ghost invariant = { λ locked. (locked.keeper.roll ≡ J.roll) × (locked.limits ≡ J.limits)
+        × (locked.keeper.members ≡ locked.seats)
+        × IsCounted J.base J.limits locked.keeper.all (D.meaning locked.desk)
+        (record { segment = locked.segment; entries = locked.entries }) locked.closed };
+}
+
+/// Where a call would stand, and whether that is in a segment which has to begin first.
+#[derive(Clone, Copy, Debug)]
+struct NextCall {
+    is_due: bool,
+    segment: u64,
+    entries: usize,
+}
+
+// Has the next segment begin by itself, for a member that makes a call then, if that is due.
+fn begin_segment(
+    roll: &Roll<Event>,
+    keeper: &mut Keeper<Event>,
+    member: Member<Event>,
+    is_due: bool,
+) -> Member<Event>
+    requires { (keeper.old.roll ≡ roll.now) × (member.roll ≡ roll.now) }
+    ensures keeper { keeper.new ≡ record keeper.old {
+      all = keeper.old.all ++ history.turned is_due member.number;
+    } }
+    ensures member { (result.roll ≡ member.roll) × (result.number ≡ member.number) }
+{
+    if is_due {
+        return roll.add(keeper, member, &Event::RotatedByItself);
+    }
+    member
+}
+
+impl<J: Run, D: Desk> Locked<J, D> {
+    /// A desk at which nothing was done.
+    pub(crate) fn new(keeper: Keeper<Event>, desk: D, limits: Limits) -> Locked<J, D>
+        requires keeper { keeper ≡ record { roll = J.roll; all = []; members = 0 } }
+        requires base { (D.meaning desk ≡ J.base) × (limits ≡ J.limits) }
+    {
+        Locked {
+            desk,
+            keeper,
+            limits,
+            segment: 0,
+            entries: 0,
+            seats: 0,
+            closed: false,
+            of: PhantomData,
+        }
+    }
+
+    /// A seat that did nothing, under the next number.
+    pub(crate) fn seat(&mut self, roll: &Roll<Event>) -> Result<Seat<J>, HallFault>
+        requires { roll.now ≡ J.roll }
+        ensures fresh { IfOk result (λ seat. (history.view_of seat.number seat.seen ≡ [])
+            × (history.rotations_of seat.number seat.seen ≡ [])) }
+        ensures fault { IfErr result (λ fault. fault ≡ NoSeat) }
+    {
+        if self.seats >= MAX_SEATS {
+            return Err(HallFault::NoSeat);
+        }
+        let number = self.seats;
+        roll.look(&mut self.keeper);
+        let member = roll.admit(&mut self.keeper);
+        self.seats = number + 1;
+        Ok(Seat {
+            number,
+            member,
+            of: PhantomData,
+        })
+    }
+
+    // Where the next call stands.
+    fn next_call(&self) -> NextCall
+        ensures due { result.is_due
+            ≡ history.is_due J.limits (history.place_of self.now.history) }
+        ensures place { record { segment = result.segment; entries = result.entries }
+            ≡ history.place_for J.limits (history.place_of self.now.history) }
+    {
+        let is_due = self.limits.rotate_at.saturating_sub(1) <= self.entries
+            && self.segment < u64::MAX;
+        if is_due {
+            return NextCall {
+                is_due: true,
+                segment: self.segment + 1,
+                entries: 0,
+            };
+        }
+        NextCall {
+            is_due: false,
+            segment: self.segment,
+            entries: self.entries,
+        }
+    }
+
+    // Where the next call stands, if one may be made.
+    fn judge(&self) -> Result<NextCall, HallFault>
+        ensures { history.Judges J.limits self.now.history result }
+    {
+        if self.closed {
+            return Err(HallFault::Closed);
+        }
+        let next = self.next_call();
+        if next.entries >= self.limits.calls {
+            return Err(HallFault::LogFull);
+        }
+        Ok(next)
+    }
+
+    /// Makes a call.
+    pub(crate) fn call(
+        &mut self,
+        roll: &Roll<Event>,
+        seat: Seat<J>,
+        call: Call,
+    ) -> (Seat<J>, Result<Receipt, HallFault>)
+        requires { roll.now ≡ J.roll }
+        ensures made { IfOk result.1 (λ receipt.
+            seats.IsMade J.base J.limits seat call receipt result.0) }
+        ensures err { OnErr result.1 (result.0 ≡ seat) }
+        ensures refused { IfErr result.1 (seats.IsRefused J.base J.limits seat call) }
+    {
+        let Seat { number, member, of } = seat;
+        let member = roll.compare(&mut self.keeper, member);
+        let NextCall {
+            is_due,
+            segment,
+            entries,
+        } = match self.judge() {
+            Ok(next) => next,
+            Err(fault) => return (Seat { number, member, of }, Err(fault)),
+        };
+        let answer = match answer(&mut self.desk, &call) {
+            Ok(answer) => answer,
+            Err(_) => return (Seat { number, member, of }, Err(HallFault::Memory)),
+        };
+        self.closed = call.is_stop();
+        self.segment = segment;
+        self.entries = entries + 1;
+        let member = begin_segment(roll, &mut self.keeper, member, is_due);
+        let event = Event::Called(call, answer);
+        let member = roll.add(&mut self.keeper, member, &event);
+        let receipt = Receipt {
+            seat: number,
+            segment,
+            place: entries,
+            answer: event.into_answer(),
+        };
+        (Seat { number, member, of }, Ok(receipt))
+    }
+
+    /// Ends the present segment.
+    pub(crate) fn rotate(
+        &mut self,
+        roll: &Roll<Event>,
+        seat: Seat<J>,
+    ) -> (Seat<J>, Result<Rotated, HallFault>)
+        requires { roll.now ≡ J.roll }
+        ensures rotated { IfOk result.1 (λ rotated. seats.IsRotated seat rotated result.0) }
+        ensures err { OnErr result.1 (result.0 ≡ seat) }
+        ensures refused { IfErr result.1 (seats.IsUnrotated J.base J.limits seat) }
+    {
+        let Seat { number, member, of } = seat;
+        let member = roll.compare(&mut self.keeper, member);
+        if self.closed {
+            return (Seat { number, member, of }, Err(HallFault::Closed));
+        }
+        let Some(next) = self.segment.checked_add(1) else {
+            return (Seat { number, member, of }, Err(HallFault::LogFull));
+        };
+        let member = roll.add(&mut self.keeper, member, &Event::Rotated);
+        let rotated = Rotated {
+            number: mem::replace(&mut self.segment, next),
+            entries: mem::replace(&mut self.entries, 0),
+        };
+        (Seat { number, member, of }, Ok(rotated))
+    }
+
+    /// Whether all its seats are there, and no other is.
+    pub(crate) fn has_all(&self, seats: &[Seat<J>]) -> bool
+        ensures { IsTrue result → HasAll self.now.seats seats.now }
+    {
+        seats.len() == self.seats as usize && are_there(self.seats, seats)
+    }
+
+    /// What happened is of its seats.
+    pub(crate) fn look(&mut self, roll: &Roll<Event>)
+        requires { roll.now ≡ J.roll }
+        ensures same { self.new ≡ self.old }
+        ensures given { AreGiven self.old.seats self.old.history }
+    {
+        roll.look(&mut self.keeper);
+    }
+
+    /// The seat has seen a beginning of the history, and did nothing after that.
+    pub(crate) fn compare(&mut self, roll: &Roll<Event>, seat: Seat<J>)
+        requires { roll.now ≡ J.roll }
+        ensures same { self.new ≡ self.old }
+        ensures knows { Knows self.old.history seat.number seat.seen }
+    {
+        let Seat {
+            number: _,
+            member,
+            of: _,
+        } = seat;
+        let _ = roll.compare(&mut self.keeper, member);
+    }
+
+    /// The desk, after a lawful history.
+    pub(crate) fn into_desk(self) -> D
+        ensures meaning { D.meaning result ≡ self.meaning }
+        ensures lawful { history.IsLawful J.base J.limits self.history (D.meaning result) }
+    {
+        let Locked {
+            desk,
+            keeper: _,
+            limits: _,
+            segment: _,
+            entries: _,
+            seats: _,
+            closed: _,
+            of: _,
+        } = self;
+        desk
+    }
+}

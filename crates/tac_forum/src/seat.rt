@@ -1,0 +1,38 @@
+//! Who calls.
+
+ghost use Rattle.std.specs.Prelude.{◌≡◌};
+
+use crate::event::Event;
+use crate::run::Run;
+use std::marker::{Model, PhantomData};
+use tac_roll::Member;
+
+/// A seat at a desk that many threads call: whoever has it makes calls, one after another. A
+/// contract sees its number, and the history up to the last thing that the seat did: no two seats
+/// have one number.
+#[derive(Drop)]
+pub struct Seat<J: Run> {
+    pub(crate) number: u32,
+    pub(crate) member: Member<Event>,
+    pub(crate) of: PhantomData<J>,
+}
+
+impl<J: Run> Model for Seat<J> {
+    ghost use Rattle.std.specs.Prelude.{◌≡◌};
+    ghost use Rattle.tac_forum.specs.Seat.{Seated};
+
+    ghost Value = { Seated };
+
+    ghost view = { λ seat. record { number = seat.member.number; seen = seat.member.seen } };
+
+    ghost invariant = { λ seat. (seat.member.roll ≡ J.roll) × (seat.number ≡ seat.member.number) };
+}
+
+impl<J: Run> Seat<J> {
+    /// The seat's number, from 0.
+    pub fn number(&self) -> u32
+        ensures { result ≡ self.now.number }
+    {
+        self.number
+    }
+}

@@ -1,0 +1,139 @@
+//! A desk that many threads call.
+
+ghost use Rattle.std.specs.Prelude.{◌≡◌, [], All, IfOk, IfErr, OnErr};
+ghost use Rattle.tac_forum.specs.Closing.{HasAll, IsSettled};
+ghost use Rattle.tac_forum.specs.History.{view_of, rotations_of};
+ghost use Rattle.tac_forum.specs.Seat as seats;
+ghost use Rattle.tac_hall.specs.declared.fault.HallFault.TheVariants.{NoSeat};
+ghost use Rattle.tac_roll.specs.Roll.{Knows};
+
+use crate::event::{EmptyHistory, Event};
+use crate::limits::{Limits, Rotated};
+use crate::locked::Locked;
+use crate::locking::take;
+use crate::run::Run;
+use crate::seat::Seat;
+use std::sync::{Mutex, Wait};
+use tac_desk::Desk;
+use tac_hall::{Call, HallFault, Receipt};
+use tac_roll::Roll;
+
+/// A desk that many threads call, one call after another, with the history of all calls. That
+/// exists in proofs alone: however many calls are made, the memory stays that of the desk.
+///
+/// Each call takes the one lock, is answered there, and lets the lock go. What a call may wait for
+/// is that lock alone.
+pub struct SharedDesk<J: Run, D: Desk> {
+    roll: Roll<Event>,
+    locked: Mutex<Locked<J, D>>,
+    ghost named: { roll ≡ J.roll },
+}
+
+// By hand, so that a proof of an owner has one call at each exit, not a drop of each field.
+impl<J: Run, D: Desk> Drop for SharedDesk<J, D> {
+    fn drop(self) {
+        let SharedDesk { roll: _, locked: _ } = self;
+    }
+}
+
+impl<J: Run, D: Desk> SharedDesk<J, D> {
+    /// A desk without seats, of the run that has this history, this desk and these limits.
+    pub fn new(history: EmptyHistory, desk: D, limits: Limits) -> SharedDesk<J, D>
+        requires run { (history ≡ J.roll) × (D.meaning desk ≡ J.base) × (limits ≡ J.limits) }
+    {
+        let EmptyHistory { roll, keeper } = history;
+        SharedDesk {
+            roll,
+            locked: Mutex::new(Locked::new(keeper, desk, limits)),
+        }
+    }
+
+    /// A new seat, which did nothing, under the next number. The only refusal is NoSeat, after 64
+    /// of them; a seat may be asked for after a Stop too. Takes constant time once it has the lock,
+    /// and no memory.
+    pub fn seat<R: Wait>(&self, rt: &R) -> Result<Seat<J>, HallFault>
+        ensures fresh { IfOk result (λ seat. (view_of seat.number seat.seen ≡ [])
+            × (rotations_of seat.number seat.seen ≡ [])) }
+        ensures fault { IfErr result (λ fault. fault ≡ NoSeat) }
+    {
+        take(rt, &self.locked).seat(&self.roll)
+    }
+
+    /// Makes a call. Its answer is right after all calls before it, of this seat and of others; the
+    /// receipt says where it stands, and has the answer. Where the present segment has one call
+    /// less than `rotate_at`, or more, the next begins before. Takes the time that the desk takes
+    /// to answer, and no memory but the desk's.
+    ///
+    /// Refused as Closed after a Stop, then as LogFull, then as Memory, where the desk has none for
+    /// the answer to an ask. Then nothing was done.
+    pub fn call<R: Wait>(
+        &self,
+        rt: &R,
+        seat: Seat<J>,
+        call: Call,
+    ) -> (Seat<J>, Result<Receipt, HallFault>)
+        ensures made { IfOk result.1 (λ receipt.
+            seats.IsMade J.base J.limits seat call receipt result.0) }
+        ensures err { OnErr result.1 (result.0 ≡ seat) }
+        ensures refused { IfErr result.1 (seats.IsRefused J.base J.limits seat call) }
+    {
+        take(rt, &self.locked).call(&self.roll, seat, call)
+    }
+
+    /// Ends the present segment, and the next begins: it is told which it was, and how many calls
+    /// it has. It is no call, and stands in no log. Takes constant time, and no memory.
+    ///
+    /// Refused as Closed after a Stop, then as LogFull where the present segment has the greatest
+    /// number. Then nothing was done.
+    pub fn rotate<R: Wait>(&self, rt: &R, seat: Seat<J>) -> (Seat<J>, Result<Rotated, HallFault>)
+        ensures rotated { IfOk result.1 (λ rotated. seats.IsRotated seat rotated result.0) }
+        ensures err { OnErr result.1 (result.0 ≡ seat) }
+        ensures refused { IfErr result.1 (seats.IsUnrotated J.base J.limits seat) }
+    {
+        take(rt, &self.locked).rotate(&self.roll, seat)
+    }
+
+    /// Ends it, with all its seats. What they did is one legal history, from what the desk
+    /// represented at first to what the desk that comes back represents: of each seat exactly what
+    /// it did, each call at its place, and nothing else.
+    ///
+    /// Refused where one of the seats is missing; then all comes back. Quadratic in the seats.
+    pub fn close(self, seats: Vec<Seat<J>>) -> Result<D, (SharedDesk<J, D>, Vec<Seat<J>>)>
+        ensures settled { IfOk result (λ desk.
+            IsSettled J.base J.limits (D.meaning desk) seats.items) }
+        ensures back { IfErr result (λ back. back.1 ≡ seats) }
+    {
+        let SharedDesk { roll, locked } = self;
+        let mut locked = locked.into_inner();
+        if !locked.has_all(seats.as_slice()) {
+            let desk = SharedDesk {
+                roll,
+                locked: Mutex::new(locked),
+            };
+            return Err((desk, seats));
+        }
+        Ok(settle(&roll, locked, seats))
+    }
+}
+
+// The desk, once each seat was compared with the history. All seats are there.
+fn settle<J: Run, D: Desk>(roll: &Roll<Event>, mut locked: Locked<J, D>, seats: Vec<Seat<J>>) -> D
+    requires roll { roll.now ≡ J.roll }
+    requires there { HasAll locked.seats seats.items }
+    ensures { IsSettled J.base J.limits (D.meaning result) seats.items }
+{
+    locked.look(roll);
+    compare_all(roll, &mut locked, seats);
+    locked.into_desk()
+}
+
+// Each seat has seen a beginning of the history, and did nothing after that.
+fn compare_all<J: Run, D: Desk>(roll: &Roll<Event>, locked: &mut Locked<J, D>, seats: Vec<Seat<J>>)
+    requires { roll.now ≡ J.roll }
+    ensures same { locked.new ≡ locked.old }
+    ensures know { All (λ seat. Knows locked.old.history seat.number seat.seen) seats.items }
+{
+    'seats: for seat in seats {
+        locked.compare(roll, seat);
+    }
+}
