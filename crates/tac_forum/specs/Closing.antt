@@ -23,11 +23,11 @@ are_there (suc number) seats = is_there number seats && are_there number seats
 abbrev pub HasAll : ℕ → List Seated → Type 0
 HasAll number seats = (length seats ≡ number) × (are_there number seats ≡ true)
 
--- what these seats did is one history, whose calls are legal from what the desk represented at first
--- to what it represents at last; no log is longer than it may be. Each seat has seen a beginning of
--- it, and did nothing after that: so its calls, each at its place, and the segments that it ended
--- are exactly those that the history has of it. Nothing is of another seat than these, which are
--- different ones: they have the numbers below their count, each once
+-- what these seats did is one history, whose calls are legal from what the desk represented at
+-- first to what it represents at last; no log is longer than it may be. Each seat has seen a
+-- beginning of it, and did nothing after that: so its calls, each at its place, and the segments
+-- that it ended are exactly those that the history has of it. Nothing is of another seat than
+-- these, which are different ones: they have the numbers below their count, each once
 pub record IsSettled (base : Meaning) (limits : Limits) (last : Meaning) (seats : List Seated)
     : Type 0 where
   pub history : List (ℕ × Event)
