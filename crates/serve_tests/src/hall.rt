@@ -3,6 +3,7 @@
 mod calls;
 mod rotation;
 mod seats;
+mod shared;
 mod starved;
 mod support;
 mod threads;

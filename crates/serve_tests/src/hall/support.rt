@@ -39,8 +39,8 @@ pub(crate) fn hall_of<R: AllocGlobal>(
     Ok(Hall::new(rt, desk, limit)?)
 }
 
-// The first word of a text, and what follows the space.
-fn word(text: &str) -> (&str, &str) {
+/// The first word of a text, and what follows the space.
+pub(crate) fn word(text: &str) -> (&str, &str) {
     text.split_once(' ').unwrap_or((text, ""))
 }
 
@@ -105,9 +105,9 @@ fn edits(alloc: Global, words: &str) -> Result<Sequence<Edit>, Fail> {
     Ok(edits)
 }
 
-// `run NAME LINE`, `pass NAME SECRET`, `record NAME TASK`, `records`, `stop`, `batch EDITS`, or an
-// edit.
-fn call_of(alloc: Global, words: &str) -> Result<Call, Fail> {
+/// `run NAME LINE`, `pass NAME SECRET`, `record NAME TASK`, `records`, `stop`, `batch EDITS`, or an
+/// edit.
+pub(crate) fn call_of(alloc: Global, words: &str) -> Result<Call, Fail> {
     let (verb, rest) = word(words);
     match verb {
         "run" | "pass" | "record" => Ok(ask_of(alloc, verb, rest)?),
@@ -166,8 +166,8 @@ fn show_answer(out: &mut String, answer: &CallAnswer) -> Result<(), AllocError> 
     }
 }
 
-// The segment and the place of a call, and its answer, or why it is refused.
-fn show(out: &mut String, told: &Result<Receipt, HallFault>) -> Result<(), AllocError> {
+/// The segment and the place of a call, and its answer, or why it is refused.
+pub(crate) fn show(out: &mut String, told: &Result<Receipt, HallFault>) -> Result<(), AllocError> {
     match told {
         Ok(receipt) => {
             write!(out, "{}:{} ", receipt.segment, receipt.place)?;
