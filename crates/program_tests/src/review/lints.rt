@@ -396,10 +396,15 @@ fn chains(rt: HostRuntime) -> Result<(), Fail> {
 #[test]
 fn searches(rt: HostRuntime) -> Result<(), Fail> {
     let dot =
-        "a dot after a '.*' may double the states: '.*(vlan|arp).*' takes fewer than two rules\n";
+        "a dot after a '.*' may double the states: '.*(vlan|arp).*' takes fewer than two rules";
     let told = format!(in rt.alloc();
         "line 4 column 1: refused: TooManyStates: the rules along this chain have over 16384 states
-line 5 column 19: {dot}line 6 column 19: {dot}line 7 column 15: {dot}line 8 column 12: {dot}line 15 column 9: {dot}"
+line 5 column 19: {dot}
+line 6 column 19: {dot}
+line 7 column 15: {dot}
+line 8 column 12: {dot}
+line 15 column 9: {dot}
+"
     )?;
     refuses(
         &rt,
