@@ -6,8 +6,7 @@ use Rattle.std.proofs.lemmas.Bool.Decides.{eqb_tells}
 use Rattle.tac_desk.specs.Meaning.{Meaning}
 use Rattle.tac_roll.specs.Roll.{AreGiven, Knows}
 use Rattle.tac_forum.specs.declared.event.Event.{Event}
-use Rattle.tac_forum.specs.declared.limits.Limits.{Limits}
-use Rattle.tac_forum.specs.History.{view_of, rotations_of, IsLawful}
+use Rattle.tac_forum.specs.History.{Opening, view_of, rotations_of, IsLawful}
 use Rattle.tac_forum.specs.Seat.{Seated}
 use Rattle.tac_forum.specs.Closing.{is_there, are_there, HasAll, IsSettled}
 use Rattle.tac_forum.proofs.HistoryFacts.{view_known, rotations_known}
@@ -32,9 +31,9 @@ there_below (suc numbers) seats number there below =
     (λ (e : ((number == numbers) ≡ false) × (number ≢ numbers)). there_below numbers seats number t.1 (let other : number ≢ numbers = e.1 in omega arith))
     (eqb_tells number numbers)
 
-pub settled : (base : Meaning) (limits : Limits) (history : List (ℕ × Event)) (last : Meaning) (numbers : ℕ) (seats : List Seated) → IsLawful base limits history last → HasAll numbers seats → AreGiven numbers history
-    → All (λ (seat : Seated). Knows history seat.number seat.seen) seats → IsSettled base limits last seats
-settled base limits history last numbers seats lawful there given know = record {
+pub settled : (opening : Opening) (history : List (ℕ × Event)) (last : Meaning) (numbers : ℕ) (seats : List Seated) → IsLawful opening history last → HasAll numbers seats → AreGiven numbers history
+    → All (λ (seat : Seated). Knows history seat.number seat.seen) seats → IsSettled opening last seats
+settled opening history last numbers seats lawful there given know = record {
   history = history;
   legal = lawful.legal;
   within = lawful.within;

@@ -10,15 +10,14 @@ use Rattle.tac_hall.proofs.HistoryFacts.{closed_after}
 use Rattle.tac_roll.specs.Roll.{Knows}
 use Rattle.tac_forum.specs.declared.event.Event.{Event}
 use Rattle.tac_forum.specs.declared.event.Event.TheVariants as events
-use Rattle.tac_forum.specs.declared.limits.Limits.{Limits}
 use Rattle.tac_forum.specs.declared.limits.Rotated.{Rotated}
-use Rattle.tac_forum.specs.History.{Place, calls_in, place_of, view_of, rotations_of, next_segment, is_due, place_for, turned, IsLawful, IsCounted}
+use Rattle.tac_forum.specs.History.{Opening, Place, calls_in, place_of, view_of, rotations_of, next_segment, is_due, place_for, turned, IsLawful, IsCounted}
 use Rattle.tac_forum.specs.Seat.{IsMade, IsRotated}
 use Rattle.tac_forum.proofs.HistoryFacts.{calls_ready, calls_called, calls_rotated, place_ready, place_called, place_rotated, room_ready, room_called, room_rotated}
 use Rattle.tac_forum.proofs.HistoryFacts.{view_same, view_ready, view_called, view_rotated, rotations_same, rotations_ready, rotations_called, rotations_rotated}
 
-pub counted_first : (base meaning : Meaning) (limits : Limits) (history : List (ℕ × Event)) → history ≡ [] → meaning ≡ base → IsCounted base limits history meaning (record { segment = 0; entries = 0 }) false
-counted_first base meaning limits history none same = rw (none, same) (record {
+pub counted_first : (opening : Opening) (meaning : Meaning) (history : List (ℕ × Event)) → history ≡ [] → meaning ≡ opening.meaning → IsCounted opening history meaning (record { segment = 0; entries = 0 }) false
+counted_first opening meaning history none same = rw (none, same) (record {
   lawful = record { legal = at_first; within = (omega arith, tt) };
   stands = refl;
   stopped = refl;
@@ -27,15 +26,15 @@ counted_first base meaning limits history none same = rw (none, same) (record {
 -- ---- a call
 
 -- all that is known where a call is made: what is kept, that it may be made, where it stands then, and its answer
-pub record Calling (base : Meaning) (limits : Limits) (history : List (ℕ × Event)) (was now : Meaning) (due : Bool) (segment entries : ℕ) (call : Call) (answer : CallAnswer) : Type 0 where
-  pub lawful : IsLawful base limits history was
+pub record Calling (opening : Opening) (history : List (ℕ × Event)) (was now : Meaning) (due : Bool) (segment entries : ℕ) (call : Call) (answer : CallAnswer) : Type 0 where
+  pub lawful : IsLawful opening history was
   pub goes_on : is_closed (calls_in history) ≡ false
-  pub turns : due ≡ is_due limits (place_of history)
-  pub place : record { segment = segment; entries = entries } ≡ place_for limits (place_of history)
-  pub room : entries < limits.calls
+  pub turns : due ≡ is_due opening.limits (place_of history)
+  pub place : record { segment = segment; entries = entries } ≡ place_for opening.limits (place_of history)
+  pub room : entries < opening.limits.calls
   pub answers : Answers was call answer now
 
-module _ {base : Meaning} {limits : Limits} {history : List (ℕ × Event)} {was now : Meaning} {due : Bool} {segment entries : ℕ} {call : Call} {answer : CallAnswer} (c : Calling base limits history was now due segment entries call answer) (seat : ℕ) where
+module _ {opening : Opening} {history : List (ℕ × Event)} {was now : Meaning} {due : Bool} {segment entries : ℕ} {call : Call} {answer : CallAnswer} (c : Calling opening history was now due segment entries call answer) (seat : ℕ) where
   abbrev ready : List (ℕ × Event)
   ready = history ++ turned due seat
 
@@ -46,16 +45,16 @@ module _ {base : Meaning} {limits : Limits} {history : List (ℕ × Event)} {was
   entry = record { seat = seat; call = call; answer = answer }
 
   pub at_ready : place_of ready ≡ record { segment = segment; entries = entries }
-  at_ready = place_ready limits history due seat c.turns ∙ sym c.place
+  at_ready = place_ready opening.limits history due seat c.turns ∙ sym c.place
 
   calls_later : calls_in later ≡ calls_in history ++ entry ∷ []
   calls_later = calls_called ready seat call answer ∙ ap (λ (l : List Entry). l ++ entry ∷ []) (calls_ready history due seat)
 
-  pub counted_called : (stop : Bool) → stop ≡ is_stop call → IsCounted base limits later now (record { segment = segment; entries = entries + 1 }) stop
+  pub counted_called : (stop : Bool) → stop ≡ is_stop call → IsCounted opening later now (record { segment = segment; entries = entries + 1 }) stop
   counted_called stop is = record {
     lawful = record {
-      legal = subst (λ (l : List Entry). Legal base l now) (sym calls_later) (and_then entry c.lawful.legal c.goes_on c.answers);
-      within = room_called limits.calls ready seat call answer (room_ready limits.calls history due seat c.lawful.within) (let same : (place_of ready).entries ≡ entries = ap (λ (p : Place). p.entries) at_ready in let room : entries < limits.calls = c.room in omega arith);
+      legal = subst (λ (l : List Entry). Legal opening.meaning l now) (sym calls_later) (and_then entry c.lawful.legal c.goes_on c.answers);
+      within = room_called opening.limits.calls ready seat call answer (room_ready opening.limits.calls history due seat c.lawful.within) (let same : (place_of ready).entries ≡ entries = ap (λ (p : Place). p.entries) at_ready in let room : entries < opening.limits.calls = c.room in omega arith);
     };
     stands = place_called ready seat call answer ∙ (let more : suc entries ≡ entries + 1 = omega arith in ap (λ (p : Place). record { segment = p.segment; entries = suc p.entries }) at_ready ∙ ap (λ (n : ℕ). record { segment = segment; entries = n }) more);
     stopped = ap is_closed calls_later ∙ closed_after (calls_in history) entry c.goes_on ∙ sym is;
@@ -63,11 +62,11 @@ module _ {base : Meaning} {limits : Limits} {history : List (ℕ × Event)} {was
 
   -- the seat's own share of it
   pub made_called : (seen : List (ℕ × Event)) (knows : Knows history seat seen) (receipt : Receipt) → receipt ≡ record { seat = seat; segment = segment; place = entries; answer = answer } → IsOfKind call answer
-      → IsMade base limits (record { number = seat; seen = seen }) call receipt (record { number = seat; seen = later })
+      → IsMade opening (record { number = seat; seen = seen }) call receipt (record { number = seat; seen = later })
   made_called seen knows receipt is kind =
       let others = knows.0 in
       let all : history ≡ seen ++ others = knows.1 in
-      let due_there : due ≡ is_due limits (place_of (seen ++ others)) = c.turns ∙ ap (λ (h : List (ℕ × Event)). is_due limits (place_of h)) all in
+      let due_there : due ≡ is_due opening.limits (place_of (seen ++ others)) = c.turns ∙ ap (λ (h : List (ℕ × Event)). is_due opening.limits (place_of h)) all in
       rw is (record {
         others = others;
         apart = knows.2;
@@ -80,7 +79,7 @@ module _ {base : Meaning} {limits : Limits} {history : List (ℕ × Event)} {was
         kind = kind;
         meaning = was;
         then = now;
-        legal = subst (λ (l : List Entry). Legal base l was) (sym (calls_ready history due seat)) c.lawful.legal;
+        legal = subst (λ (l : List Entry). Legal opening.meaning l was) (sym (calls_ready history due seat)) c.lawful.legal;
         answers = c.answers;
         view = view_called seat ready call answer ∙ (λ i. (view_ready seat history due seat ∙ ap (view_of seat) all ∙ view_same seat seen others knows.2) i ++ record {
           segment = (at_ready i).segment;
@@ -93,12 +92,12 @@ module _ {base : Meaning} {limits : Limits} {history : List (ℕ × Event)} {was
 
 -- ---- a rotation
 
-pub counted_rotated : (base meaning : Meaning) (limits : Limits) (history : List (ℕ × Event)) (place : Place) (closed : Bool) (seat : ℕ) (next : ℕ) → IsCounted base limits history meaning place closed → next ≡ suc place.segment
-    → IsCounted base limits (history ++ (seat, events.Rotated) ∷ []) meaning (record { segment = next; entries = 0 }) closed
-counted_rotated base meaning limits history place closed seat next h is = record {
+pub counted_rotated : (opening : Opening) (meaning : Meaning) (history : List (ℕ × Event)) (place : Place) (closed : Bool) (seat : ℕ) (next : ℕ) → IsCounted opening history meaning place closed → next ≡ suc place.segment
+    → IsCounted opening (history ++ (seat, events.Rotated) ∷ []) meaning (record { segment = next; entries = 0 }) closed
+counted_rotated opening meaning history place closed seat next h is = record {
   lawful = record {
-    legal = subst (λ (l : List Entry). Legal base l meaning) (sym (calls_rotated history seat)) h.lawful.legal;
-    within = room_rotated limits.calls history seat h.lawful.within;
+    legal = subst (λ (l : List Entry). Legal opening.meaning l meaning) (sym (calls_rotated history seat)) h.lawful.legal;
+    within = room_rotated opening.limits.calls history seat h.lawful.within;
   };
   stands = place_rotated history seat ∙ ap next_segment h.stands ∙ ap (λ (n : ℕ). record { segment = n; entries = 0 }) (sym is);
   stopped = ap is_closed (calls_rotated history seat) ∙ h.stopped;

@@ -5,8 +5,7 @@ use Rattle.tac_desk.specs.Meaning.{Meaning}
 use Rattle.tac_hall.specs.History.{Legal}
 use Rattle.tac_roll.specs.Roll.{Knows}
 use Rattle.tac_forum.specs.declared.event.Event.{Event}
-use Rattle.tac_forum.specs.declared.limits.Limits.{Limits}
-use Rattle.tac_forum.specs.History.{calls_in, logs_of, AreWithin, view_of, rotations_of}
+use Rattle.tac_forum.specs.History.{Opening, calls_in, logs_of, AreWithin, view_of, rotations_of}
 use Rattle.tac_forum.specs.Seat.{Seated}
 
 -- one of the seats has this number
@@ -28,11 +27,10 @@ HasAll number seats = (length seats ≡ number) × (are_there number seats ≡ t
 -- beginning of it, and did nothing after that: so its calls, each at its place, and the segments
 -- that it ended are exactly those that the history has of it. Nothing is of another seat than
 -- these, which are different ones: they have the numbers below their count, each once
-pub record IsSettled (base : Meaning) (limits : Limits) (last : Meaning) (seats : List Seated)
-    : Type 0 where
+pub record IsSettled (opening : Opening) (last : Meaning) (seats : List Seated) : Type 0 where
   pub history : List (ℕ × Event)
-  pub legal : Legal base (calls_in history) last
-  pub within : AreWithin limits.calls (logs_of history)
+  pub legal : Legal opening.meaning (calls_in history) last
+  pub within : AreWithin opening.limits.calls (logs_of history)
   pub know : All (λ seat. Knows history seat.number seat.seen) seats
   pub views : All (λ seat. view_of seat.number history ≡ view_of seat.number seat.seen) seats
   pub rotated : All

@@ -5,7 +5,6 @@ use Rattle.std.specs.Prelude.{Result, Ok, Err}
 use Rattle.std.specs.List.{flat_map}
 use Rattle.tac_desk.specs.Meaning.{Meaning, opening}
 use Rattle.tac_hall.specs.declared.call.Call.{Call}
-use Rattle.tac_hall.specs.declared.call.CallAnswer.{CallAnswer}
 use Rattle.tac_hall.specs.declared.entry.Entry.{Entry}
 use Rattle.tac_hall.specs.declared.entry.Made.{Made}
 use Rattle.tac_hall.specs.declared.fault.HallFault.{HallFault}
@@ -30,16 +29,6 @@ entry_of seat events.RotatedByItself = []
 -- all calls, each with the number of its seat
 abbrev pub calls_in : List (ℕ × Event) → List Entry
 calls_in history = flat_map (λ event. entry_of event.0 event.1) history
-
-abbrev pub IsCall : Event → Type 0
-IsCall (events.Called call answer) = Unit {0}
-IsCall events.Rotated = ⊥
-IsCall events.RotatedByItself = ⊥
-
-abbrev pub IsAnswered : Event → CallAnswer → Type 0
-IsAnswered (events.Called call answer) told = told ≡ answer
-IsAnswered events.Rotated told = ⊥
-IsAnswered events.RotatedByItself told = ⊥
 
 -- ---- places: the history is cut into segments, numbered from 0
 
@@ -173,17 +162,22 @@ pub record Standing : Type 0 where
   pub seats : ℕ
   pub meaning : Meaning
 
+-- what a desk represented when its history began, and how long the parts of that may be
+pub record Opening : Type 0 where
+  pub meaning : Meaning
+  pub limits : Limits
+
 -- the calls are a legal history from what the desk represented at first to what it represents now,
 -- and no log is longer than it may be
-pub record IsLawful (base : Meaning) (limits : Limits) (history : List (ℕ × Event))
-    (meaning : Meaning) : Type 0 where
-  pub legal : Legal base (calls_in history) meaning
-  pub within : AreWithin limits.calls (logs_of history)
+pub record IsLawful (opening : Opening) (history : List (ℕ × Event)) (meaning : Meaning) : Type 0
+  where
+    pub legal : Legal opening.meaning (calls_in history) meaning
+    pub within : AreWithin opening.limits.calls (logs_of history)
 
 -- the same, where the next call stands, and whether there was a Stop
-pub record IsCounted (base : Meaning) (limits : Limits) (history : List (ℕ × Event))
-    (meaning : Meaning) (place : Place) (closed : Bool) : Type 0 where
-  pub lawful : IsLawful base limits history meaning
+pub record IsCounted (opening : Opening) (history : List (ℕ × Event)) (meaning : Meaning)
+    (place : Place) (closed : Bool) : Type 0 where
+  pub lawful : IsLawful opening history meaning
   pub stands : place_of history ≡ place
   pub stopped : is_closed (calls_in history) ≡ closed
 
@@ -224,8 +218,5 @@ RefusesRotation history NoSeat = ⊥
 
 -- ---- where no run is picked yet
 
-abbrev pub no_meaning : Meaning
-no_meaning = opening [] 0
-
-abbrev pub no_limits : Limits
-no_limits = record { calls = 0; rotate_at = 0 }
+abbrev pub no_opening : Opening
+no_opening = record { meaning = opening [] 0; limits = record { calls = 0; rotate_at = 0 } }

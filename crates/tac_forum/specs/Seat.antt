@@ -1,17 +1,16 @@
 -- A seat at a desk that many call, and what a call adds to the history that it has seen.
-use Rattle.std.specs.Prelude.{◌≡◌, ℕ, List, [], ◌∷◌, ◌++◌}
+use Rattle.std.specs.Prelude.{◌≡◌, ℕ, List, [], ◌∷◌, ◌++◌, Option, Some, None}
 use Rattle.tac_desk.specs.Meaning.{Meaning}
 use Rattle.tac_hall.specs.declared.call.Call.{Call}
 use Rattle.tac_hall.specs.declared.entry.Receipt.{Receipt}
 use Rattle.tac_hall.specs.declared.fault.HallFault.{HallFault}
 use Rattle.tac_hall.specs.History.{Answers, IsOfKind, Legal}
 use Rattle.tac_hall.specs.Seat.{made_of}
-use Rattle.tac_roll.specs.Roll.{AreOthers, Knows}
+use Rattle.tac_roll.specs.Roll.{RollId, Membership, AreOthers, Knows}
 use Rattle.tac_forum.specs.declared.event.Event.{Event}
 use Rattle.tac_forum.specs.declared.event.Event.TheVariants as events
-use Rattle.tac_forum.specs.declared.limits.Limits.{Limits}
 use Rattle.tac_forum.specs.declared.limits.Rotated.{Rotated}
-use Rattle.tac_forum.specs.History.{IsLawful, RefusesCall, RefusesRotation}
+use Rattle.tac_forum.specs.History.{Opening, IsLawful, RefusesCall, RefusesRotation}
 use Rattle.tac_forum.specs.History.{calls_in, place_of, before_call, view_of, rotations_of}
 
 -- its number, and the history up to the last thing that it did
@@ -19,16 +18,26 @@ pub record Seated : Type 0 where
   pub number : ℕ
   pub seen : List (ℕ × Event)
 
+-- it is what a member of the history knows
+abbrev pub seated_as : Option (Membership Event) → Seated
+seated_as (Some member) = record { number = member.number; seen = member.seen }
+seated_as None = record { number = 0; seen = [] }
+
+-- it has one, of this history
+abbrev pub IsSeatOf : RollId → ℕ → Option (Membership Event) → Type 0
+IsSeatOf roll number (Some member) = (member.roll ≡ roll) × (number ≡ member.number)
+IsSeatOf roll number None = ⊥
+
 -- ---- a call
 
 -- others did these things, and then this seat made this call, and nothing else: before it the next
 -- segment began by itself where that was due. The answer is right after all calls before it
-pub record IsMade (base : Meaning) (limits : Limits) (was : Seated) (call : Call)
+pub record IsMade (opening : Opening) (was : Seated) (call : Call)
     (receipt : Receipt) (now : Seated) : Type 0 where
   pub others : List (ℕ × Event)
   pub apart : AreOthers was.number others
   pub before : List (ℕ × Event)
-  pub all : before ≡ before_call limits was.number (was.seen ++ others)
+  pub all : before ≡ before_call opening.limits was.number (was.seen ++ others)
   pub seen : now.seen ≡ before ++ (was.number, events.Called call receipt.answer) ∷ []
   pub number : now.number ≡ was.number
   pub seat : receipt.seat ≡ was.number
@@ -36,7 +45,7 @@ pub record IsMade (base : Meaning) (limits : Limits) (was : Seated) (call : Call
   pub kind : IsOfKind call receipt.answer
   pub meaning : Meaning
   pub then : Meaning
-  pub legal : Legal base (calls_in before) meaning
+  pub legal : Legal opening.meaning (calls_in before) meaning
   pub answers : Answers meaning call receipt.answer then
   pub view : view_of was.number now.seen
       ≡ view_of was.number was.seen ++ made_of call receipt ∷ []
@@ -44,13 +53,13 @@ pub record IsMade (base : Meaning) (limits : Limits) (was : Seated) (call : Call
 
 -- the call was refused so: after a lawful history that begins with what the seat has seen, and in
 -- which it did nothing since
-pub record IsRefused (base : Meaning) (limits : Limits) (seat : Seated) (call : Call)
+pub record IsRefused (opening : Opening) (seat : Seated) (call : Call)
     (fault : HallFault) : Type 0 where
   pub history : List (ℕ × Event)
   pub meaning : Meaning
-  pub lawful : IsLawful base limits history meaning
+  pub lawful : IsLawful opening history meaning
   pub knows : Knows history seat.number seat.seen
-  pub refuses : RefusesCall limits history call fault
+  pub refuses : RefusesCall opening.limits history call fault
 
 -- ---- a rotation
 
@@ -66,10 +75,10 @@ pub record IsRotated (was : Seated) (rotated : Rotated) (now : Seated) : Type 0 
   pub rotations : rotations_of was.number now.seen
       ≡ rotations_of was.number was.seen ++ rotated ∷ []
 
-pub record IsUnrotated (base : Meaning) (limits : Limits) (seat : Seated) (fault : HallFault)
+pub record IsUnrotated (opening : Opening) (seat : Seated) (fault : HallFault)
     : Type 0 where
   pub history : List (ℕ × Event)
   pub meaning : Meaning
-  pub lawful : IsLawful base limits history meaning
+  pub lawful : IsLawful opening history meaning
   pub knows : Knows history seat.number seat.seen
   pub refuses : RefusesRotation history fault

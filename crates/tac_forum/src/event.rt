@@ -2,13 +2,40 @@
 
 use std::alloc::{AllocError, Global};
 use std::marker::Model;
+use std::snapshot::Snapshot;
 use tac_hall::{Call, CallAnswer};
 use tac_roll::{Keeper, Roll};
 
-/// What a seat did. A value of it lives for one step: the history has it in proofs alone.
+/// A value of which contracts alone know. It has no bytes.
+#[derive(Drop)]
+pub struct Told<T> {
+    snapshot: Snapshot<T>,
+}
+
+impl<T> Model for Told<T> {
+    ghost Value = { T };
+
+    ghost view = { λ told. told.snapshot.value };
+}
+
+impl<T> Told<T> {
+    ghost use Rattle.std.specs.Prelude.{◌≡◌};
+
+    /// This value, as it is now.
+    pub(crate) fn of(value: &T) -> Told<T>
+        ensures { result ≡ value.now }
+    {
+        Told {
+            snapshot: Snapshot::of(value),
+        }
+    }
+}
+
+/// What a seat did. The history has it in proofs alone: a value of it lives for one step, and holds
+/// neither the call nor the answer.
 pub enum Event {
     /// It made a call, which had this answer.
-    Called(Call, CallAnswer),
+    Called(Told<Call>, Told<CallAnswer>),
     /// It had the next segment begin.
     Rotated,
     /// The next segment began by itself, before a call that it made.
@@ -22,21 +49,6 @@ impl Drop for Event {
             Event::Called(_, _) => {}
             Event::Rotated => {}
             Event::RotatedByItself => {}
-        }
-    }
-}
-
-impl Event {
-    ghost use Rattle.tac_forum.specs.History.{IsCall, IsAnswered};
-
-    /// The answer to the call that it is.
-    pub(crate) fn into_answer(self) -> CallAnswer
-        requires { IsCall self }
-        ensures { IsAnswered self result }
-    {
-        match self {
-            Event::Called(_, answer) => answer,
-            Event::Rotated | Event::RotatedByItself => unreachable!(),
         }
     }
 }

@@ -1,6 +1,6 @@
 //! What lies under the lock, and what is done there while it is held.
 
-ghost use Rattle.std.specs.Prelude.{◌≡◌, ◌<◌, ◌++◌, ◌∷◌, [], suc, true, false, Ok, Err};
+ghost use Rattle.std.specs.Prelude.{◌≡◌, ◌↔◌, ◌<◌, ◌++◌, ◌∷◌, [], suc, true, false, Some, Ok, Err};
 ghost use Rattle.std.specs.Prelude.{IsTrue, IfOk, IfErr, OnErr};
 ghost use Rattle.tac_forum.specs.Closing.{HasAll};
 ghost use Rattle.tac_forum.specs.History as history;
@@ -10,7 +10,7 @@ ghost use Rattle.tac_roll.specs.Roll.{Knows, AreGiven};
 
 use crate::answering::answer;
 use crate::closing::are_there;
-use crate::event::Event;
+use crate::event::{Event, Told};
 use crate::limits::{Limits, Rotated};
 use crate::run::Run;
 use crate::seat::Seat;
@@ -65,9 +65,9 @@ impl<J: Run, D: Desk> Model for Locked<J, D> {
       meaning = D.meaning locked.desk;
     } };
 
-    ghost invariant = { λ locked. (locked.keeper.roll ≡ J.roll) × (locked.limits ≡ J.limits)
+    ghost invariant = { λ locked. (locked.keeper.roll ≡ J.roll) × (locked.limits ≡ J.opening.limits)
         × (locked.keeper.members ≡ locked.seats)
-        × IsCounted J.base J.limits locked.keeper.all (D.meaning locked.desk)
+        × IsCounted J.opening locked.keeper.all (D.meaning locked.desk)
         (record { segment = locked.segment; entries = locked.entries }) locked.closed };
 }
 
@@ -102,7 +102,7 @@ impl<J: Run, D: Desk> Locked<J, D> {
     /// A desk at which nothing was done.
     pub(crate) fn new(keeper: Keeper<Event>, desk: D, limits: Limits) -> Locked<J, D>
         requires keeper { keeper ≡ record { roll = J.roll; all = []; members = 0 } }
-        requires base { (D.meaning desk ≡ J.base) × (limits ≡ J.limits) }
+        requires opening { record { meaning = D.meaning desk; limits = limits } ≡ J.opening }
     {
         Locked {
             desk,
@@ -132,7 +132,7 @@ impl<J: Run, D: Desk> Locked<J, D> {
         self.seats = number + 1;
         Ok(Seat {
             number,
-            member,
+            member: Some(member),
             of: PhantomData,
         })
     }
@@ -140,9 +140,9 @@ impl<J: Run, D: Desk> Locked<J, D> {
     // Where the next call stands.
     fn next_call(&self) -> NextCall
         ensures due { result.is_due
-            ≡ history.is_due J.limits (history.place_of self.now.history) }
+            ≡ history.is_due J.opening.limits (history.place_of self.now.history) }
         ensures place { record { segment = result.segment; entries = result.entries }
-            ≡ history.place_for J.limits (history.place_of self.now.history) }
+            ≡ history.place_for J.opening.limits (history.place_of self.now.history) }
     {
         let is_due = self.limits.rotate_at.saturating_sub(1) <= self.entries
             && self.segment < u64::MAX;
@@ -162,7 +162,7 @@ impl<J: Run, D: Desk> Locked<J, D> {
 
     // Where the next call stands, if one may be made.
     fn judge(&self) -> Result<NextCall, HallFault>
-        ensures { history.Judges J.limits self.now.history result }
+        ensures { history.Judges J.opening.limits self.now.history result }
     {
         if self.closed {
             return Err(HallFault::Closed);
@@ -174,20 +174,24 @@ impl<J: Run, D: Desk> Locked<J, D> {
         Ok(next)
     }
 
-    /// Makes a call.
-    pub(crate) fn call(
+    // Makes a call for a member of the history, which has this number.
+    fn call_as(
         &mut self,
         roll: &Roll<Event>,
-        seat: Seat<J>,
-        call: Call,
-    ) -> (Seat<J>, Result<Receipt, HallFault>)
-        requires { roll.now ≡ J.roll }
-        ensures made { IfOk result.1 (λ receipt.
-            seats.IsMade J.base J.limits seat call receipt result.0) }
-        ensures err { OnErr result.1 (result.0 ≡ seat) }
-        ensures refused { IfErr result.1 (seats.IsRefused J.base J.limits seat call) }
+        number: u32,
+        member: Member<Event>,
+        call: &Call,
+    ) -> (Member<Event>, Result<Receipt, HallFault>)
+        requires roll { roll.now ≡ J.roll }
+        requires member { seats.IsSeatOf J.roll number (Some member) }
+        ensures member { seats.IsSeatOf J.roll number (Some result.0) }
+        ensures made { IfOk result.1 (λ receipt. seats.IsMade J.opening
+            (seats.seated_as (Some member)) call.now receipt
+            (seats.seated_as (Some result.0))) }
+        ensures err { OnErr result.1 (result.0 ≡ member) }
+        ensures refused { IfErr result.1 (seats.IsRefused J.opening
+            (seats.seated_as (Some member)) call.now) }
     {
-        let Seat { number, member, of } = seat;
         let member = roll.compare(&mut self.keeper, member);
         let NextCall {
             is_due,
@@ -195,57 +199,101 @@ impl<J: Run, D: Desk> Locked<J, D> {
             entries,
         } = match self.judge() {
             Ok(next) => next,
-            Err(fault) => return (Seat { number, member, of }, Err(fault)),
+            Err(fault) => return (member, Err(fault)),
         };
-        let answer = match answer(&mut self.desk, &call) {
+        let answer = match answer(&mut self.desk, call) {
             Ok(answer) => answer,
-            Err(_) => return (Seat { number, member, of }, Err(HallFault::Memory)),
+            Err(_) => return (member, Err(HallFault::Memory)),
         };
         self.closed = call.is_stop();
         self.segment = segment;
         self.entries = entries + 1;
         let member = begin_segment(roll, &mut self.keeper, member, is_due);
-        let event = Event::Called(call, answer);
+        let event = Event::Called(Told::of(call), Told::of(&answer));
         let member = roll.add(&mut self.keeper, member, &event);
         let receipt = Receipt {
             seat: number,
             segment,
             place: entries,
-            answer: event.into_answer(),
+            answer,
         };
-        (Seat { number, member, of }, Ok(receipt))
+        (member, Ok(receipt))
     }
 
-    /// Ends the present segment.
-    pub(crate) fn rotate(
+    /// Makes a call.
+    pub(crate) fn call(
         &mut self,
         roll: &Roll<Event>,
-        seat: Seat<J>,
-    ) -> (Seat<J>, Result<Rotated, HallFault>)
+        seat: &mut Seat<J>,
+        call: &Call,
+    ) -> Result<Receipt, HallFault>
         requires { roll.now ≡ J.roll }
-        ensures rotated { IfOk result.1 (λ rotated. seats.IsRotated seat rotated result.0) }
-        ensures err { OnErr result.1 (result.0 ≡ seat) }
-        ensures refused { IfErr result.1 (seats.IsUnrotated J.base J.limits seat) }
+        ensures made { IfOk result (λ receipt.
+            seats.IsMade J.opening seat.old call.now receipt seat.new) }
+        ensures err { OnErr result (seat.new ≡ seat.old) }
+        ensures refused { IfErr result (seats.IsRefused J.opening seat.old call.now) }
     {
-        let Seat { number, member, of } = seat;
+        let Some(member) = seat.member.take() else {
+            unreachable!()
+        };
+        let (member, called) = self.call_as(roll, seat.number, member, call);
+        seat.member = Some(member);
+        called
+    }
+
+    // Ends the present segment for a member of the history, which has this number.
+    fn rotate_as(
+        &mut self,
+        roll: &Roll<Event>,
+        number: u32,
+        member: Member<Event>,
+    ) -> (Member<Event>, Result<Rotated, HallFault>)
+        requires roll { roll.now ≡ J.roll }
+        requires member { seats.IsSeatOf J.roll number (Some member) }
+        ensures member { seats.IsSeatOf J.roll number (Some result.0) }
+        ensures rotated { IfOk result.1 (λ rotated. seats.IsRotated
+            (seats.seated_as (Some member)) rotated (seats.seated_as (Some result.0))) }
+        ensures err { OnErr result.1 (result.0 ≡ member) }
+        ensures refused { IfErr result.1 (seats.IsUnrotated J.opening
+            (seats.seated_as (Some member))) }
+    {
         let member = roll.compare(&mut self.keeper, member);
         if self.closed {
-            return (Seat { number, member, of }, Err(HallFault::Closed));
+            return (member, Err(HallFault::Closed));
         }
         let Some(next) = self.segment.checked_add(1) else {
-            return (Seat { number, member, of }, Err(HallFault::LogFull));
+            return (member, Err(HallFault::LogFull));
         };
         let member = roll.add(&mut self.keeper, member, &Event::Rotated);
         let rotated = Rotated {
             number: mem::replace(&mut self.segment, next),
             entries: mem::replace(&mut self.entries, 0),
         };
-        (Seat { number, member, of }, Ok(rotated))
+        (member, Ok(rotated))
+    }
+
+    /// Ends the present segment.
+    pub(crate) fn rotate(
+        &mut self,
+        roll: &Roll<Event>,
+        seat: &mut Seat<J>,
+    ) -> Result<Rotated, HallFault>
+        requires { roll.now ≡ J.roll }
+        ensures rotated { IfOk result (λ rotated. seats.IsRotated seat.old rotated seat.new) }
+        ensures err { OnErr result (seat.new ≡ seat.old) }
+        ensures refused { IfErr result (seats.IsUnrotated J.opening seat.old) }
+    {
+        let Some(member) = seat.member.take() else {
+            unreachable!()
+        };
+        let (member, rotated) = self.rotate_as(roll, seat.number, member);
+        seat.member = Some(member);
+        rotated
     }
 
     /// Whether all its seats are there, and no other is.
     pub(crate) fn has_all(&self, seats: &[Seat<J>]) -> bool
-        ensures { IsTrue result → HasAll self.now.seats seats.now }
+        ensures { IsTrue result ↔ HasAll self.now.seats seats.now }
     {
         seats.len() == self.seats as usize && are_there(self.seats, seats)
     }
@@ -270,13 +318,14 @@ impl<J: Run, D: Desk> Locked<J, D> {
             member,
             of: _,
         } = seat;
+        let Some(member) = member else { unreachable!() };
         let _ = roll.compare(&mut self.keeper, member);
     }
 
     /// The desk, after a lawful history.
     pub(crate) fn into_desk(self) -> D
         ensures meaning { D.meaning result ≡ self.meaning }
-        ensures lawful { history.IsLawful J.base J.limits self.history (D.meaning result) }
+        ensures lawful { history.IsLawful J.opening self.history (D.meaning result) }
     {
         let Locked {
             desk,

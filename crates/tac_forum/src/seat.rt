@@ -13,19 +13,19 @@ use tac_roll::Member;
 #[derive(Drop)]
 pub struct Seat<J: Run> {
     pub(crate) number: u32,
-    pub(crate) member: Member<Event>,
+    // out of it only while it makes a call
+    pub(crate) member: Option<Member<Event>>,
     pub(crate) of: PhantomData<J>,
 }
 
 impl<J: Run> Model for Seat<J> {
-    ghost use Rattle.std.specs.Prelude.{◌≡◌};
-    ghost use Rattle.tac_forum.specs.Seat.{Seated};
+    ghost use Rattle.tac_forum.specs.Seat.{Seated, seated_as, IsSeatOf};
 
     ghost Value = { Seated };
 
-    ghost view = { λ seat. record { number = seat.member.number; seen = seat.member.seen } };
+    ghost view = { λ seat. seated_as seat.member };
 
-    ghost invariant = { λ seat. (seat.member.roll ≡ J.roll) × (seat.number ≡ seat.member.number) };
+    ghost invariant = { λ seat. IsSeatOf J.roll seat.number seat.member };
 }
 
 impl<J: Run> Seat<J> {

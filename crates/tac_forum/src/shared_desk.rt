@@ -39,7 +39,8 @@ impl<J: Run, D: Desk> Drop for SharedDesk<J, D> {
 impl<J: Run, D: Desk> SharedDesk<J, D> {
     /// A desk without seats, of the run that has this history, this desk and these limits.
     pub fn new(history: EmptyHistory, desk: D, limits: Limits) -> SharedDesk<J, D>
-        requires run { (history ≡ J.roll) × (D.meaning desk ≡ J.base) × (limits ≡ J.limits) }
+        requires roll { history ≡ J.roll }
+        requires opening { record { meaning = D.meaning desk; limits = limits } ≡ J.opening }
     {
         let EmptyHistory { roll, keeper } = history;
         SharedDesk {
@@ -69,13 +70,13 @@ impl<J: Run, D: Desk> SharedDesk<J, D> {
     pub fn call<R: Wait>(
         &self,
         rt: &R,
-        seat: Seat<J>,
-        call: Call,
-    ) -> (Seat<J>, Result<Receipt, HallFault>)
-        ensures made { IfOk result.1 (λ receipt.
-            seats.IsMade J.base J.limits seat call receipt result.0) }
-        ensures err { OnErr result.1 (result.0 ≡ seat) }
-        ensures refused { IfErr result.1 (seats.IsRefused J.base J.limits seat call) }
+        seat: &mut Seat<J>,
+        call: &Call,
+    ) -> Result<Receipt, HallFault>
+        ensures made { IfOk result (λ receipt.
+            seats.IsMade J.opening seat.old call.now receipt seat.new) }
+        ensures err { OnErr result (seat.new ≡ seat.old) }
+        ensures refused { IfErr result (seats.IsRefused J.opening seat.old call.now) }
     {
         take(rt, &self.locked).call(&self.roll, seat, call)
     }
@@ -85,10 +86,10 @@ impl<J: Run, D: Desk> SharedDesk<J, D> {
     ///
     /// Refused as Closed after a Stop, then as LogFull where the present segment has the greatest
     /// number. Then nothing was done.
-    pub fn rotate<R: Wait>(&self, rt: &R, seat: Seat<J>) -> (Seat<J>, Result<Rotated, HallFault>)
-        ensures rotated { IfOk result.1 (λ rotated. seats.IsRotated seat rotated result.0) }
-        ensures err { OnErr result.1 (result.0 ≡ seat) }
-        ensures refused { IfErr result.1 (seats.IsUnrotated J.base J.limits seat) }
+    pub fn rotate<R: Wait>(&self, rt: &R, seat: &mut Seat<J>) -> Result<Rotated, HallFault>
+        ensures rotated { IfOk result (λ rotated. seats.IsRotated seat.old rotated seat.new) }
+        ensures err { OnErr result (seat.new ≡ seat.old) }
+        ensures refused { IfErr result (seats.IsUnrotated J.opening seat.old) }
     {
         take(rt, &self.locked).rotate(&self.roll, seat)
     }
@@ -100,7 +101,7 @@ impl<J: Run, D: Desk> SharedDesk<J, D> {
     /// Refused where one of the seats is missing; then all comes back. Quadratic in the seats.
     pub fn close(self, seats: Vec<Seat<J>>) -> Result<D, (SharedDesk<J, D>, Vec<Seat<J>>)>
         ensures settled { IfOk result (λ desk.
-            IsSettled J.base J.limits (D.meaning desk) seats.items) }
+            IsSettled J.opening (D.meaning desk) seats.items) }
         ensures back { IfErr result (λ back. back.1 ≡ seats) }
     {
         let SharedDesk { roll, locked } = self;
@@ -120,7 +121,7 @@ impl<J: Run, D: Desk> SharedDesk<J, D> {
 fn settle<J: Run, D: Desk>(roll: &Roll<Event>, mut locked: Locked<J, D>, seats: Vec<Seat<J>>) -> D
     requires roll { roll.now ≡ J.roll }
     requires there { HasAll locked.seats seats.items }
-    ensures { IsSettled J.base J.limits (D.meaning result) seats.items }
+    ensures { IsSettled J.opening (D.meaning result) seats.items }
 {
     locked.look(roll);
     compare_all(roll, &mut locked, seats);

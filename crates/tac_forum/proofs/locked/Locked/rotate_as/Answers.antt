@@ -4,21 +4,21 @@ use Rattle.tac_forum.specs.declared.event.Event.{Event}
 use Rattle.tac_forum.specs.History.{Place, IsCounted}
 use Rattle.tac_forum.specs.Seat.{Seated, IsRotated}
 use Rattle.tac_forum.proofs.LockedFacts.{counted_rotated, made_rotated}
-use Rattle.tac_forum.proofs.locked.Locked.rotate.Goals as goal
+use Rattle.tac_forum.proofs.locked.Locked.rotate_as.Goals as goal
 
 pub invariant_of-self-2 : goal.invariant_of-self-2
 invariant_of-self-2 g c =
     let same = c.compare-member.ensures.same in
     let added = c.add-member.ensures in
     let number = c.compare-member.result.number in
-    let counted = subst (λ (k : Keeping Event). IsCounted g.J.Run.base g.J.Run.limits k.all (g.D.Desk.meaning c.self.inside.desk) (record { segment = c.self.inside.segment; entries = c.self.inside.entries }) c.self.inside.closed) (sym same.0) c.self.invariant.3 in
+    let counted = subst (λ (k : Keeping Event). IsCounted g.J.Run.opening k.all (g.D.Desk.meaning c.self.inside.desk) (record { segment = c.self.inside.segment; entries = c.self.inside.entries }) c.self.inside.closed) (sym same.0) c.self.invariant.3 in
     let next : c.replace.new.dest ≡ suc c.self.inside.segment = search rules in
     let none : 0 ≡ c.replace-2.new.dest = search rules in
-    let rotated = counted_rotated _ _ _ _ _ _ number c.replace.new.dest counted next in (
+    let rotated = counted_rotated _ _ _ _ _ number c.replace.new.dest counted next in (
       ap (λ k. k.roll) added.keeper ∙ ap (λ k. k.roll) same.0 ∙ c.self.invariant.0,
       c.self.invariant.1,
       ap (λ k. k.members) added.keeper ∙ ap (λ k. k.members) same.0 ∙ c.self.invariant.2,
-      subst (λ (x : List (ℕ × Event) × Place). IsCounted g.J.Run.base g.J.Run.limits x.0 (g.D.Desk.meaning c.self.inside.desk) x.1 c.self.inside.closed)
+      subst (λ (x : List (ℕ × Event) × Place). IsCounted g.J.Run.opening x.0 (g.D.Desk.meaning c.self.inside.desk) x.1 c.self.inside.closed)
           (λ i. (ap (λ k. k.all) (sym added.keeper) i, record { segment = c.replace.new.dest; entries = none i })) rotated,
     )
 
@@ -27,13 +27,13 @@ returns-clause-rotated g c =
     let same = c.compare-member.ensures.same in
     let added = c.add-member.ensures in
     let number = c.compare-member.result.number in
-    let seen = c.seat.inside.member.seen in
-    let counted = subst (λ (k : Keeping Event). IsCounted g.J.Run.base g.J.Run.limits k.all (g.D.Desk.meaning c.self.inside.desk) (record { segment = c.self.inside.segment; entries = c.self.inside.entries }) c.self.inside.closed) (sym same.0) c.self.invariant.3 in
+    let seen = c.args.member.seen in
+    let counted = subst (λ (k : Keeping Event). IsCounted g.J.Run.opening k.all (g.D.Desk.meaning c.self.inside.desk) (record { segment = c.self.inside.segment; entries = c.self.inside.entries }) c.self.inside.closed) (sym same.0) c.self.invariant.3 in
     let knows : Knows c.compare-member.new.keeper.all number seen = subst (λ (x : List (ℕ × Event) × ℕ). Knows x.0 x.1 seen) (λ i. ((sym same.0 i).all, (sym same.1 i).number)) c.compare-member.ensures.knows in
     let ended : c.replace.result ≡ c.self.inside.segment = search rules in
     let calls : c.replace-2.result ≡ c.self.inside.entries = search rules in
     let rotated = made_rotated _ _ number seen (record { number = c.replace.result; entries = c.replace-2.result }) counted.stands knows (λ i. record { number = ended i; entries = calls i }) in
-    let was = (λ i. record { number = (same.1 i).number; seen = seen }) ∙ c.seat.view_is in
+    let was : ◌≡◌ {A = Seated} (record { number = number; seen = seen }) (record { number = c.args.member.number; seen = seen }) = (λ i. record { number = (same.1 i).number; seen = seen }) in
     let count = ap (λ m. m.number) added.member in
     let all = ap (λ m. m.seen) added.member ∙ ap (λ k. k.all) added.keeper in
     subst (λ (x : Seated × Seated). IsRotated x.0 (record { number = c.replace.result; entries = c.replace-2.result }) x.1)
