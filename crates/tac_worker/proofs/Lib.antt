@@ -1,5 +1,5 @@
 pub mod ServedFacts
-pub mod CallFacts
+pub mod HallFacts
 pub mod HearFacts
 pub mod TurnFacts
 pub mod WorkFacts

@@ -1,5 +1,5 @@
 -- What is sent for packets, in parts that join.
-use Rattle.std.proofs.Common.{◌≡◌, ℕ, List, [], ◌∷◌, ◌++◌, map, reverse, Option, Some, None, refl, sym, ap, ◌∙◌, append_assoc, append-nil}
+use Rattle.std.proofs.Common.{◌≡◌, ℕ, List, [], ◌∷◌, ◌++◌, map, reverse, Option, Some, None, refl, sym, ap, subst, ◌∙◌, append_assoc, append-nil}
 use Rattle.std.specs.List.{cons_option}
 use Rattle.std.proofs.lemmas.List.{map-append, reverse-append}
 use Rattle.std.proofs.lemmas.List.Concat.{flat_map-append}
@@ -11,12 +11,11 @@ use Rattle.tac_conn.specs.declared.ask.Ask.{Ask}
 use Rattle.tac_conn.specs.declared.packet.Packet.{Packet}
 use Rattle.tac_conn.specs.Packet.{clear, sent}
 use Rattle.tac_stream.specs.Turns.{packets_of}
-use Rattle.tac_hall.specs.declared.entry.Made.{Made}
-use Rattle.tac_hall.specs.declared.entry.Receipt.{Receipt}
 use Rattle.tac_worker.specs.declared.worked.End.{End}
 use Rattle.tac_worker.specs.declared.worked.End.TheVariants.{Finished, ByProtocol, Stopped, LogFull, Memory, ReadFault, WriteFault, Held, NoSeat}
 use Rattle.tac_worker.specs.Served.{Sending, served_to, asks_in, bytes_sent, carried}
-use Rattle.tac_worker.specs.Worked.{Exchange, asks_of, answers_of, in_view, receipt_for, Calling, Makes, WritesSome, WritesBeginning, Writes, Ends}
+use Rattle.tac_hall.specs.declared.fault.HallFault.{HallFault}
+use Rattle.tac_worker.specs.Worked.{Exchange, asks_of, answers_of, AreMade, WritesSome, WritesBeginning, Writes, Ends}
 use Rattle.tac_worker.specs.Working.{Handled, GoesOn}
 
 -- ---- lists
@@ -50,19 +49,9 @@ asks_of-append first second = map-append (λ (exchange : Exchange). exchange.ask
 
 -- ---- calls
 
-pub makes_none : (was : Calling) → Makes was was []
-makes_none was = record { number = refl; view = sym (append-nil was.seat.view); receipts = sym (append-nil was.receipts) }
-
-pub makes-then : (was mid now : Calling) (first second : List Exchange) → Makes was mid first → Makes mid now second → Makes was now (first ++ second)
-makes-then was mid now first second f s = record {
-  number = s.number ∙ f.number;
-  view = s.view ∙ ap (λ (l : List Made). l ++ map in_view second) f.view ∙ append_assoc was.seat.view (map in_view first) (map in_view second)
-      ∙ ap (λ (l : List Made). was.seat.view ++ l) (sym (map-append in_view first second));
-  receipts = s.receipts ∙ ap (λ (n : ℕ). mid.receipts ++ map (receipt_for n) second) f.number
-      ∙ ap (λ (l : List Receipt). l ++ map (receipt_for was.seat.number) second) f.receipts
-      ∙ append_assoc was.receipts (map (receipt_for was.seat.number) first) (map (receipt_for was.seat.number) second)
-      ∙ ap (λ (l : List Receipt). was.receipts ++ l) (sym (map-append (receipt_for was.seat.number) first second));
-}
+pub are_made-then : {S : Type 0} (step : S → Exchange → S → Type 0) (first second : List Exchange) (was mid now : S) → AreMade step was first mid → AreMade step mid second now → AreMade step was (first ++ second) now
+are_made-then {S} step [] second was mid now f s = subst (λ (x : S). AreMade step x second now) f s
+are_made-then step (exchange ∷ first) second was mid now f s = (f.0, f.1, are_made-then step first second f.0 mid now f.2 s)
 
 -- ---- packets that were served
 
@@ -113,17 +102,17 @@ module _ (key : List ℕ) (earlier : List Packet) (first : List Frame) (made : L
 
 -- ---- and written
 
-pub goes_none : (key : List ℕ) (earlier : List Packet) (was : Calling) (old : Option (List ℕ)) → GoesOn key earlier [] was was old old
-goes_none key earlier was old = record { made = []; sendings = []; handled = handled_none key earlier; makes = makes_none was; written = Appends-nil old }
+pub goes_none : {S : Type 0} (step : S → Exchange → S → Type 0) (key : List ℕ) (earlier : List Packet) (was : S) (old : Option (List ℕ)) → GoesOn step key earlier [] was was old old
+goes_none step key earlier was old = record { made = []; sendings = []; handled = handled_none key earlier; makes = refl; written = Appends-nil old }
 
-module _ (key : List ℕ) (earlier : List Packet) (first : List Frame) (was mid : Calling) (old between : Option (List ℕ)) (g : GoesOn key earlier first was mid old between) where
-  pub goes-then : (second : List Frame) (now : Calling) (new : Option (List ℕ)) → GoesOn key (packets_of key first ++ earlier) second mid now between new
-      → GoesOn key earlier (first ++ second) was now old new
+module _ {S : Type 0} (step : S → Exchange → S → Type 0) (key : List ℕ) (earlier : List Packet) (first : List Frame) (was mid : S) (old between : Option (List ℕ)) (g : GoesOn step key earlier first was mid old between) where
+  pub goes-then : (second : List Frame) (now : S) (new : Option (List ℕ)) → GoesOn step key (packets_of key first ++ earlier) second mid now between new
+      → GoesOn step key earlier (first ++ second) was now old new
   goes-then second now new s = record {
     made = g.made ++ s.made;
     sendings = g.sendings ++ s.sendings;
     handled = handled-then key earlier first g.made g.sendings g.handled second s.made s.sendings s.handled;
-    makes = makes-then was mid now g.made s.made g.makes s.makes;
+    makes = are_made-then step g.made s.made was mid now g.makes s.makes;
     written = rw (bytes_sent-append key g.sendings s.sendings) (Appends-trans old between new (bytes_sent key g.sendings) (bytes_sent key s.sendings) g.written s.written);
   }
 
@@ -164,12 +153,12 @@ module _ (key : List ℕ) (earlier : List Packet) (first : List Frame) (was mid 
     writes_after NoSeat w = all_after w
 
   -- the others end the connection
-  pub ends-after : (end : End) (second : List Frame) (now : Calling) (new : Option (List ℕ))
-      → Ends end key (asks_in key (packets_of key first ++ earlier) second) (served_to key (packets_of key first ++ earlier) second) mid now between new
-      → Ends end key (asks_in key earlier (first ++ second)) (served_to key earlier (first ++ second)) was now old new
-  ends-after end second now new e = record {
+  pub ends-after : (refuses : Ask → HallFault → Type 0) (end : End) (second : List Frame) (now : S) (new : Option (List ℕ))
+      → Ends end key (asks_in key (packets_of key first ++ earlier) second) (served_to key (packets_of key first ++ earlier) second) (λ made. AreMade step mid made now) refuses between new
+      → Ends end key (asks_in key earlier (first ++ second)) (served_to key earlier (first ++ second)) (λ made. AreMade step was made now) refuses old new
+  ends-after refuses end second now new e = record {
     made = g.made ++ e.made;
-    makes = makes-then was mid now g.made e.made g.makes e.makes;
+    makes = are_made-then step g.made e.made was mid now g.makes e.makes;
     left = e.left;
     asks = asks_after key earlier first g.made g.sendings g.handled second e.made e.left e.asks;
     leaves = e.leaves;

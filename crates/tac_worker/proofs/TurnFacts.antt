@@ -17,7 +17,7 @@ use Rattle.tac_conn.specs.Reply.{packet_of, answer_body}
 use Rattle.tac_conn.specs.Judging.{reply_in, closes as outcome_closes}
 use Rattle.tac_conn.specs.History.{outcome, judged_after, is_closed}
 use Rattle.tac_conn.specs.Standing.{step_of}
-use Rattle.tac_hall.specs.Seat.{Sitting}
+use Rattle.tac_hall.specs.declared.fault.HallFault.{HallFault}
 use Rattle.tac_stream.specs.declared.stream.Stream.{Stream}
 use Rattle.tac_stream.specs.declared.turn.Turn.{Turn}
 use Rattle.tac_stream.specs.declared.turn.Turn.TheVariants.{Reply, Asks, Silent, Need, Close}
@@ -28,9 +28,9 @@ use Rattle.tac_worker.specs.declared.worked.End.TheVariants.{Finished, ByProtoco
 use Rattle.tac_worker.specs.declared.turning.Went.{Went}
 use Rattle.tac_worker.specs.declared.turning.Went.TheVariants.{On, Rests}
 use Rattle.tac_worker.specs.Served.{Sending, plain, carrying, served_for, asked_by, served_to, asks_in, closes, bytes_sent, carried}
-use Rattle.tac_worker.specs.Worked.{Exchange, asks_of, answers_of, Calling, Makes, Leaves, Closes, Writes, Ends}
+use Rattle.tac_worker.specs.Worked.{Exchange, asks_of, answers_of, AreMade, Leaves, Closes, Writes, Ends}
 use Rattle.tac_worker.specs.Working.{Handled, GoesOn, IsUncalled, Replies, taken_of, left_of, Turned}
-use Rattle.tac_worker.proofs.ServedFacts.{packets_of-append, makes_none}
+use Rattle.tac_worker.proofs.ServedFacts.{packets_of-append}
 
 -- ---- the outcome of a packet, by its turn
 
@@ -159,26 +159,26 @@ module _ (key : List ℕ) (earlier : List Packet) (frame : Frame) where
     carries = refl;
   }
 
-  module _ (made : List Exchange) (sending : Sending) (was now : Calling) (old new : Option (List ℕ)) (makes : Makes was now made) where
+  module _ {S : Type 0} (step : S → Exchange → S → Type 0) (refuses : Ask → HallFault → Type 0) (made : List Exchange) (sending : Sending) (was now : S) (old new : Option (List ℕ)) (had : AreMade step was made now) where
     -- the packet was written, and the connection stays open
-    goes_said : IsSaid made sending false → Appends old new (sent key sending.packet) → GoesOn key earlier (frame ∷ []) was now old new
+    goes_said : IsSaid made sending false → Appends old new (sent key sending.packet) → GoesOn step key earlier (frame ∷ []) was now old new
     goes_said s written = record {
       made = made;
       sendings = sending ∷ [];
       handled = record { served = s.served; asks = s.asks; carries = s.carries };
-      makes = makes;
+      makes = had;
       written = rw (append-nil (sent key sending.packet)) written;
     }
 
     -- it was, and the connection closes
     ends_said : (more : List Frame) → IsSaid made sending true → Appends old new (sent key sending.packet)
-        → Ends ByProtocol key (asks_in key earlier (frame ∷ more)) (served_to key earlier (frame ∷ more)) was now old new
+        → Ends ByProtocol key (asks_in key earlier (frame ∷ more)) (served_to key earlier (frame ∷ more)) (λ l. AreMade step was l now) refuses old new
     ends_said more s written =
         let whole : served_to key earlier (frame ∷ more) (answers_of made) ≡ sending ∷ [] =
         ap (λ (l : List Answer). served_to key earlier (frame ∷ more) l) (sym (append-nil (answers_of made))) ∙ s.served more [] in
         record {
           made = made;
-          makes = makes;
+          makes = had;
           left = [];
           asks = s.asks more;
           leaves = refl;
@@ -187,14 +187,14 @@ module _ (key : List ℕ) (earlier : List Packet) (frame : Frame) where
 
     -- a beginning of it was
     ends_cut : (more : List Frame) (ends : Bool) → IsSaid made sending ends → (first others : List ℕ) → sent key sending.packet ≡ first ++ others → 0 < length others → Appends old new first
-        → Ends WriteFault key (asks_in key earlier (frame ∷ more)) (served_to key earlier (frame ∷ more)) was now old new
+        → Ends WriteFault key (asks_in key earlier (frame ∷ more)) (served_to key earlier (frame ∷ more)) (λ l. AreMade step was l now) refuses old new
     ends_cut more ends s first others parts some written =
         let later = if ends then [] else served_to key (clear key frame ∷ earlier) more [] in
         let whole : served_to key earlier (frame ∷ more) (answers_of made) ≡ sending ∷ later =
         ap (λ (l : List Answer). served_to key earlier (frame ∷ more) l) (sym (append-nil (answers_of made))) ∙ s.served more [] in
         record {
           made = made;
-          makes = makes;
+          makes = had;
           left = if ends then [] else asks_in key (clear key frame ∷ earlier) more;
           asks = s.asks more;
           leaves = tt;
@@ -219,81 +219,83 @@ asks_at_end key earlier = refl
 
 -- ---- ends
 
--- nothing was done for what is left, because memory ran out
-pub ends_memory : (key : List ℕ) (asked : List Ask) (sent_by : List Answer → List Sending) (was : Calling) (old : Option (List ℕ)) → Ends Memory key asked sent_by was was old old
-ends_memory key asked sent_by was old = record {
-  made = [];
-  makes = makes_none was;
-  left = asked;
-  asks = refl;
-  leaves = tt;
-  writes = record { first = []; others = sent_by []; parts = refl; carries = refl; written = Appends-nil old };
-}
+module _ (are_made : List Exchange → Type 0) (refuses : Ask → HallFault → Type 0) (none_made : are_made []) (key : List ℕ) (asked : List Ask) (sent_by : List Answer → List Sending) where
+  -- nothing was done for what is left, because memory ran out
+  pub ends_memory : (old : Option (List ℕ)) → Ends Memory key asked sent_by are_made refuses old old
+  ends_memory old = record {
+    made = [];
+    makes = none_made;
+    left = asked;
+    asks = refl;
+    leaves = tt;
+    writes = record { first = []; others = sent_by []; parts = refl; carries = refl; written = Appends-nil old };
+  }
 
--- nothing is sent for what is left, and nothing is asked
-pub ends_none : (end : End) (key : List ℕ) (asked : List Ask) (sent_by : List Answer → List Sending) (was : Calling) (old new : Option (List ℕ)) → asked ≡ [] → sent_by [] ≡ []
-    → Appends old new [] → Leaves end was.seat [] → (Appends old new [] → Writes end key [] [] old new) → Ends end key asked sent_by was was old new
-ends_none end key asked sent_by was old new none nothing written leaves writes = record {
-  made = [];
-  makes = makes_none was;
-  left = [];
-  asks = none;
-  leaves = leaves;
-  writes = rw nothing (writes written);
-}
+  -- nothing is sent for what is left, and nothing is asked
+  pub ends_none : (end : End) (old new : Option (List ℕ)) → asked ≡ [] → sent_by [] ≡ [] → Appends old new [] → Leaves end refuses [] → (Appends old new [] → Writes end key [] [] old new)
+      → Ends end key asked sent_by are_made refuses old new
+  ends_none end old new none nothing written leaves writes = record {
+    made = [];
+    makes = none_made;
+    left = [];
+    asks = none;
+    leaves = leaves;
+    writes = rw nothing (writes written);
+  }
 
--- the next ask wasn't called
-module _ (key : List ℕ) (ask : Ask) (later asked : List Ask) (sent_by : List Answer → List Sending) (was : Calling) (old : Option (List ℕ)) (first : asked ≡ ask ∷ later) (nothing : sent_by [] ≡ []) where
-  uncalled : (end : End) → Leaves end was.seat (ask ∷ later) → (Appends old old [] → Writes end key [] [] old old) → Ends end key asked sent_by was was old old
-  uncalled end leaves writes = record { made = []; makes = makes_none was; left = ask ∷ later; asks = first; leaves = leaves; writes = rw nothing (writes (Appends-nil old)) }
+  -- the next ask wasn't called
+  module _ (ask : Ask) (later : List Ask) (old : Option (List ℕ)) (first : asked ≡ ask ∷ later) (nothing : sent_by [] ≡ []) where
+    uncalled : (end : End) → Leaves end refuses (ask ∷ later) → (Appends old old [] → Writes end key [] [] old old) → Ends end key asked sent_by are_made refuses old old
+    uncalled end leaves writes = record { made = []; makes = none_made; left = ask ∷ later; asks = first; leaves = leaves; writes = rw nothing (writes (Appends-nil old)) }
 
-  pub ends_uncalled : (end : End) → IsUncalled was.seat ask end → Ends end key asked sent_by was was old old
-  ends_uncalled Finished u = absurd u
-  ends_uncalled ByProtocol u = absurd u
-  ends_uncalled Stopped u = uncalled Stopped u (λ w. w)
-  ends_uncalled LogFull u = uncalled LogFull u (λ w. w)
-  ends_uncalled Memory u = ends_memory key asked sent_by was old
-  ends_uncalled ReadFault u = absurd u
-  ends_uncalled WriteFault u = absurd u
-  ends_uncalled Held u = uncalled Held (omega arith) (λ w. w)
-  ends_uncalled NoSeat u = uncalled NoSeat u (λ w. w)
+    pub ends_uncalled : (end : End) → IsUncalled refuses ask end → Ends end key asked sent_by are_made refuses old old
+    ends_uncalled Finished u = absurd u
+    ends_uncalled ByProtocol u = absurd u
+    ends_uncalled Stopped u = uncalled Stopped u (λ w. w)
+    ends_uncalled LogFull u = uncalled LogFull u (λ w. w)
+    ends_uncalled Memory u = ends_memory old
+    ends_uncalled ReadFault u = absurd u
+    ends_uncalled WriteFault u = absurd u
+    ends_uncalled Held u = uncalled Held (omega arith) (λ w. w)
+    ends_uncalled NoSeat u = uncalled NoSeat u (λ w. w)
 
-uncalled_unfinished : (seat : Sitting) (ask : Ask) (end : End) → IsUncalled seat ask end → end ≡ Finished → ⊥
-uncalled_unfinished seat ask Finished u e = u
-uncalled_unfinished seat ask ByProtocol u e = u
-uncalled_unfinished seat ask Stopped u e = cc
-uncalled_unfinished seat ask LogFull u e = cc
-uncalled_unfinished seat ask Memory u e = cc
-uncalled_unfinished seat ask ReadFault u e = u
-uncalled_unfinished seat ask WriteFault u e = u
-uncalled_unfinished seat ask Held u e = cc
-uncalled_unfinished seat ask NoSeat u e = cc
+module _ (refuses : Ask → HallFault → Type 0) (ask : Ask) where
+  uncalled_unfinished : (end : End) → IsUncalled refuses ask end → end ≡ Finished → ⊥
+  uncalled_unfinished Finished u e = u
+  uncalled_unfinished ByProtocol u e = u
+  uncalled_unfinished Stopped u e = cc
+  uncalled_unfinished LogFull u e = cc
+  uncalled_unfinished Memory u e = cc
+  uncalled_unfinished ReadFault u e = u
+  uncalled_unfinished WriteFault u e = u
+  uncalled_unfinished Held u e = cc
+  uncalled_unfinished NoSeat u e = cc
 
-uncalled_closing : (seat : Sitting) (ask : Ask) (end : End) (closing : Bool) → IsUncalled seat ask end → Closes end closing
-uncalled_closing seat ask Finished closing u = absurd u
-uncalled_closing seat ask ByProtocol closing u = absurd u
-uncalled_closing seat ask Stopped closing u = tt
-uncalled_closing seat ask LogFull closing u = tt
-uncalled_closing seat ask Memory closing u = tt
-uncalled_closing seat ask ReadFault closing u = absurd u
-uncalled_closing seat ask WriteFault closing u = tt
-uncalled_closing seat ask Held closing u = tt
-uncalled_closing seat ask NoSeat closing u = tt
+  uncalled_closing : (end : End) (closing : Bool) → IsUncalled refuses ask end → Closes end closing
+  uncalled_closing Finished closing u = absurd u
+  uncalled_closing ByProtocol closing u = absurd u
+  uncalled_closing Stopped closing u = tt
+  uncalled_closing LogFull closing u = tt
+  uncalled_closing Memory closing u = tt
+  uncalled_closing ReadFault closing u = absurd u
+  uncalled_closing WriteFault closing u = tt
+  uncalled_closing Held closing u = tt
+  uncalled_closing NoSeat closing u = tt
 
 -- ---- a turn
 
-module _ (key bytes : List ℕ) (taken : ℕ) where
+module _ {S : Type 0} (step : S → Exchange → S → Type 0) (refuses : S → Ask → HallFault → Type 0) (key bytes : List ℕ) (taken : ℕ) where
   -- the turn's packet is answered by this
-  module _ (frame : Frame) (more : List Frame) (left : drop taken (cut bytes).packets ≡ frame ∷ more) (made : List Exchange) (sending : Sending) (was now : Calling) (old new : Option (List ℕ))
-      (stream : Stream) (makes : Makes was now made) where
+  module _ (frame : Frame) (more : List Frame) (left : drop taken (cut bytes).packets ≡ frame ∷ more) (made : List Exchange) (sending : Sending) (was now : S) (old new : Option (List ℕ))
+      (stream : Stream) (had : AreMade step was made now) where
     replied : (result : Result Went End) (ends : Bool) → IsSaid key (packets_of key (take taken (cut bytes).packets)) frame made sending ends → Replies result (sent key sending.packet) ends old new
-        → closed_of stream ≡ ends → pending_of stream ≡ None → Stands key stream bytes (suc taken) → Turned result key bytes taken was now old new stream
+        → closed_of stream ≡ ends → pending_of stream ≡ None → Stands key stream bytes (suc taken) → Turned step refuses result key bytes taken was now old new stream
     replied (Ok On) ends s r closed free stands =
         record {
           frame = frame;
           more = more;
           left = left;
-          goes = goes_said key _ frame made sending was now old new makes (rw r.0 at s) r.1;
+          goes = goes_said key _ frame step (refuses now) made sending was now old new had (rw r.0 at s) r.1;
           stays = stays_open _ _ (s.closing ∙ r.0);
           ready = (closed ∙ r.0, free);
           stands = stands;
@@ -305,24 +307,24 @@ module _ (key bytes : List ℕ) (taken : ℕ) where
           unfinished = λ e. cc;
           memory = λ e. absurd cc;
           closing = closes_at key bytes taken frame more left (closed_next _ _ (s.closing ∙ r.0));
-          ends = rw left (ends_said key _ frame made sending was now old new makes more (rw r.0 at s) r.1);
+          ends = rw left (ends_said key _ frame step (refuses now) made sending was now old new had more (rw r.0 at s) r.1);
         }
     replied (Err Stopped) ends s r closed free stands = absurd r
     replied (Err LogFull) ends s r closed free stands = absurd r
     replied (Err Memory) ends s r closed free stands = absurd r
     replied (Err ReadFault) ends s r closed free stands = absurd r
     replied (Err WriteFault) ends s r closed free stands =
-        record { unfinished = λ e. cc; memory = λ e. absurd cc; closing = tt; ends = rw left (ends_cut key _ frame made sending was now old new makes more ends s r.0 r.1 r.2 r.3 r.4) }
+        record { unfinished = λ e. cc; memory = λ e. absurd cc; closing = tt; ends = rw left (ends_cut key _ frame step (refuses now) made sending was now old new had more ends s r.0 r.1 r.2 r.3 r.4) }
     replied (Err Held) ends s r closed free stands = absurd r
     replied (Err NoSeat) ends s r closed free stands = absurd r
 
   -- a reply is sent
-  pub turned_reply : (was : Calling) (old new : Option (List ℕ)) (stream : Stream) (packet : List ℕ) (ends : Bool) (result : Result Went End) → IsTurn key bytes taken (Reply packet ends)
+  pub turned_reply : (was : S) (old new : Option (List ℕ)) (stream : Stream) (packet : List ℕ) (ends : Bool) (result : Result Went End) → IsTurn key bytes taken (Reply packet ends)
       → Replies result packet ends old new → closed_of stream ≡ ends → pending_of stream ≡ None → Stands key stream bytes (suc taken)
-      → Turned result key bytes taken was was old new stream
+      → Turned step refuses result key bytes taken was was old new stream
   turned_reply was old new stream packet ends result (inl f) r closed free stands =
       let s = serves_turn key _ (Reply packet ends) f.is in
-      replied f.frame f.more f.left [] (plain s.0) was was old new stream (makes_none was) result ends (said_plain key _ f.frame s.0 ends s.2 s.3 s.4)
+      replied f.frame f.more f.left [] (plain s.0) was was old new stream refl result ends (said_plain key _ f.frame s.0 ends s.2 s.3 s.4)
       (subst (λ (p : List ℕ). Replies result p ends old new) s.1 r) closed free stands
   turned_reply was old new stream packet ends result (inr n) r closed free stands = absurd (by_tail (cut bytes).tail n.is)
     where
@@ -331,31 +333,31 @@ module _ (key bytes : List ℕ) (taken : ℕ) where
       by_tail (fault reason) e = cc
 
   -- the desk has answered
-  pub turned_answer : (was now : Calling) (old new : Option (List ℕ)) (stream : Stream) (ask : Ask) (slot : Slot) (segment place : ℕ) (answer : Answer) (given : List ℕ × Bool) (result : Result Went End)
-      → IsTurn key bytes taken (Asks ask slot) → Makes was now (record { ask = ask; segment = segment; place = place; answer = answer } ∷ []) → given ≡ (sent key (packet_of (reply_in slot (answer_body answer))), not slot.single)
+  pub turned_answer : (was now : S) (old new : Option (List ℕ)) (stream : Stream) (ask : Ask) (slot : Slot) (segment place : ℕ) (answer : Answer) (given : List ℕ × Bool) (result : Result Went End)
+      → IsTurn key bytes taken (Asks ask slot) → step was (record { ask = ask; segment = segment; place = place; answer = answer }) now → given ≡ (sent key (packet_of (reply_in slot (answer_body answer))), not slot.single)
       → Replies result given.0 given.1 old new → closed_of stream ≡ given.1 → pending_of stream ≡ None → Stands key stream bytes (suc taken)
-      → Turned result key bytes taken was now old new stream
-  turned_answer was now old new stream ask slot segment place answer given result (inl f) makes told r closed free stands =
+      → Turned step refuses result key bytes taken was now old new stream
+  turned_answer was now old new stream ask slot segment place answer given result (inl f) had told r closed free stands =
       let exchange : Exchange = record { ask = ask; segment = segment; place = place; answer = answer } in
-      replied f.frame f.more f.left (exchange ∷ []) (carrying slot answer) was now old new stream makes result (not slot.single)
+      replied f.frame f.more f.left (exchange ∷ []) (carrying slot answer) was now old new stream (now, had, refl) result (not slot.single)
       (said_answer key _ f.frame exchange slot (serves_turn key _ (Asks ask slot) f.is))
       (subst (λ (p : List ℕ × Bool). Replies result p.0 p.1 old new) told r) (closed ∙ ap (λ (p : List ℕ × Bool). p.1) told) free stands
-  turned_answer was now old new stream ask slot segment place answer given result (inr n) makes told r closed free stands = absurd (by_tail (cut bytes).tail n.is)
+  turned_answer was now old new stream ask slot segment place answer given result (inr n) had told r closed free stands = absurd (by_tail (cut bytes).tail n.is)
     where
       by_tail : (tail : Tail) → Asks ask slot ≡ turn_by key (packets_of key (take taken (cut bytes).packets)) [] tail → ⊥
       by_tail (open_end rest) e = cc
       by_tail (fault reason) e = cc
 
   -- it wasn't asked
-  pub turned_uncalled : (was : Calling) (old : Option (List ℕ)) (stream : Stream) (ask : Ask) (slot : Slot) (end : End) → IsTurn key bytes taken (Asks ask slot) → IsUncalled was.seat ask end
-      → Turned (Err end) key bytes taken was was old old stream
+  pub turned_uncalled : (was : S) (old : Option (List ℕ)) (stream : Stream) (ask : Ask) (slot : Slot) (end : End) → IsTurn key bytes taken (Asks ask slot) → IsUncalled (refuses was) ask end
+      → Turned step refuses (Err end) key bytes taken was was old old stream
   turned_uncalled was old stream ask slot end (inl f) u =
       let came = serves_turn key _ (Asks ask slot) f.is in
       record {
-        unfinished = uncalled_unfinished was.seat ask end u;
+        unfinished = uncalled_unfinished (refuses was) ask end u;
         memory = λ e. some_left bytes taken f.frame f.more f.left;
-        closing = uncalled_closing was.seat ask end (closes key bytes) u;
-        ends = ends_uncalled key ask (if slot.single then asks_in key (clear key f.frame ∷ taken_of key bytes taken) f.more else []) _ _ was old
+        closing = uncalled_closing (refuses was) ask end (closes key bytes) u;
+        ends = ends_uncalled (λ l. AreMade step was l was) (refuses was) refl key _ _ ask (if slot.single then asks_in key (clear key f.frame ∷ taken_of key bytes taken) f.more else []) old
             (rw f.left (asks_first key (packets_of key (take taken (cut bytes).packets)) f.frame f.more ∙ rw came refl))
             (rw f.left (served_first key _ f.frame f.more [] ∙ rw came refl)) end u;
       }
@@ -365,14 +367,14 @@ module _ (key bytes : List ℕ) (taken : ℕ) where
       by_tail (open_end rest) e = cc
       by_tail (fault reason) e = cc
 
-  pub turned_refusal : (was now : Calling) (old : Option (List ℕ)) (stream : Stream) (ask : Ask) (slot : Slot) (result : Result Went End) (end : End) → IsTurn key bytes taken (Asks ask slot)
-      → now ≡ was → IsUncalled was.seat ask end → IsErrAnd result (λ told. told ≡ end) → Turned result key bytes taken was now old old stream
+  pub turned_refusal : (was now : S) (old : Option (List ℕ)) (stream : Stream) (ask : Ask) (slot : Slot) (result : Result Went End) (end : End) → IsTurn key bytes taken (Asks ask slot)
+      → now ≡ was → IsUncalled (refuses was) ask end → IsErrAnd result (λ told. told ≡ end) → Turned step refuses result key bytes taken was now old old stream
   turned_refusal was now old stream ask slot (Ok went) end turn same u told = absurd told
   turned_refusal was now old stream ask slot (Err other) end turn same u told = rw (same, told) (turned_uncalled was old stream ask slot end turn u)
 
   -- nothing is sent
-  pub turned_silent : (was : Calling) (old : Option (List ℕ)) (stream : Stream) → IsTurn key bytes taken Silent → closed_of stream ≡ false → pending_of stream ≡ None → Stands key stream bytes (suc taken)
-      → Turned (Ok On) key bytes taken was was old old stream
+  pub turned_silent : (was : S) (old : Option (List ℕ)) (stream : Stream) → IsTurn key bytes taken Silent → closed_of stream ≡ false → pending_of stream ≡ None → Stands key stream bytes (suc taken)
+      → Turned step refuses (Ok On) key bytes taken was was old old stream
   turned_silent was old stream (inl f) closed free stands = record {
     frame = f.frame;
     more = f.more;
@@ -381,7 +383,7 @@ module _ (key bytes : List ℕ) (taken : ℕ) where
       made = [];
       sendings = [];
       handled = handled_silent key _ f.frame (serves_turn key _ Silent f.is);
-      makes = makes_none was;
+      makes = refl;
       written = Appends-nil old;
     };
     stays = stays_open _ _ (rw (serves_turn key _ Silent f.is) refl);
@@ -395,8 +397,8 @@ module _ (key bytes : List ℕ) (taken : ℕ) where
       by_tail (fault reason) e = cc
 
   -- no packet is left
-  pub turned_need : (was : Calling) (old : Option (List ℕ)) (stream : Stream) → IsTurn key bytes taken Need → closed_of stream ≡ false → pending_of stream ≡ None → Stands key stream bytes taken
-      → Turned (Ok Rests) key bytes taken was was old old stream
+  pub turned_need : (was : S) (old : Option (List ℕ)) (stream : Stream) → IsTurn key bytes taken Need → closed_of stream ≡ false → pending_of stream ≡ None → Stands key stream bytes taken
+      → Turned step refuses (Ok Rests) key bytes taken was was old old stream
   turned_need was old stream (inl f) closed free stands = absurd (serves_turn key _ Need f.is)
   turned_need was old stream (inr n) closed free stands = record {
     left = n.left;
@@ -412,21 +414,21 @@ module _ (key bytes : List ℕ) (taken : ℕ) where
       by_tail (fault reason) e = cc
 
   -- the connection closes without a reply
-  pub turned_close : (was : Calling) (old : Option (List ℕ)) (stream : Stream) → IsTurn key bytes taken Close → Turned (Err ByProtocol) key bytes taken was was old old stream
+  pub turned_close : (was : S) (old : Option (List ℕ)) (stream : Stream) → IsTurn key bytes taken Close → Turned step refuses (Err ByProtocol) key bytes taken was was old old stream
   turned_close was old stream (inl f) =
       let came = serves_turn key _ Close f.is in
       record {
         unfinished = λ e. cc;
         memory = λ e. absurd cc;
         closing = closes_at key bytes taken f.frame f.more f.left (closed_next _ _ (rw came refl));
-        ends = ends_none ByProtocol key _ _ was old old (rw f.left (asks_first key _ f.frame f.more ∙ rw came refl)) (rw f.left (served_first key _ f.frame f.more [] ∙ rw came refl))
+        ends = ends_none (λ l. AreMade step was l was) (refuses was) refl key _ _ ByProtocol old old (rw f.left (asks_first key _ f.frame f.more ∙ rw came refl)) (rw f.left (served_first key _ f.frame f.more [] ∙ rw came refl))
             (Appends-nil old) refl (λ w. w);
       }
   turned_close was old stream (inr n) = record {
     unfinished = λ e. cc;
     memory = λ e. absurd cc;
     closing = ap (λ (b : Bool). is_closed (packets_of key (cut bytes).packets) || b) (by_tail (cut bytes).tail n.is) ∙ or_true (is_closed (packets_of key (cut bytes).packets));
-    ends = ends_none ByProtocol key _ _ was old old (rw n.left (asks_at_end key _)) (rw n.left (served_at_end key _ [])) (Appends-nil old) refl (λ w. w);
+    ends = ends_none (λ l. AreMade step was l was) (refuses was) refl key _ _ ByProtocol old old (rw n.left (asks_at_end key _)) (rw n.left (served_at_end key _ [])) (Appends-nil old) refl (λ w. w);
   }
     where
       by_tail : (tail : Tail) → Close ≡ turn_by key (packets_of key (take taken (cut bytes).packets)) [] tail → closed_by tail ≡ true
@@ -434,8 +436,8 @@ module _ (key bytes : List ℕ) (taken : ℕ) where
       by_tail (fault reason) e = refl
 
   -- memory ran out for a packet
-  pub turned_memory : (was : Calling) (old : Option (List ℕ)) (stream : Stream) (result : Result Went End) → IsErrAnd result (λ told. told ≡ Memory) → taken < length (cut bytes).packets
-      → Turned result key bytes taken was was old old stream
+  pub turned_memory : (was : S) (old : Option (List ℕ)) (stream : Stream) (result : Result Went End) → IsErrAnd result (λ told. told ≡ Memory) → taken < length (cut bytes).packets
+      → Turned step refuses result key bytes taken was was old old stream
   turned_memory was old stream (Ok went) told some = absurd told
   turned_memory was old stream (Err end) told some =
-      rw told (record { unfinished = λ e. cc; memory = λ e. some_bytes bytes taken some; closing = tt; ends = ends_memory key _ _ was old })
+      rw told (record { unfinished = λ e. cc; memory = λ e. some_bytes bytes taken some; closing = tt; ends = ends_memory (λ l. AreMade step was l was) (refuses was) refl key _ _ old })

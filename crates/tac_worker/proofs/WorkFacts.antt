@@ -5,15 +5,17 @@ use Rattle.std.specs.Io.KnownBytes.{Appends, Consumes, IsAtEnd}
 use Rattle.std.proofs.KnownBytes.{Appends-nil, Appends-trans, Consumes-nil, Consumes-trans}
 use Rattle.tac_wire.specs.declared.frame.Frame.{Frame}
 use Rattle.tac_wire.specs.Stream.{cut}
+use Rattle.tac_conn.specs.declared.ask.Ask.{Ask}
 use Rattle.tac_conn.specs.declared.packet.Packet.{Packet}
 use Rattle.tac_conn.specs.History.{is_closed}
 use Rattle.tac_stream.specs.declared.stream.Stream.{Stream}
 use Rattle.tac_stream.specs.Turns.{packets_of, closed_by}
 use Rattle.tac_stream.specs.Kept.{IsReady, Stands}
+use Rattle.tac_hall.specs.declared.fault.HallFault.{HallFault}
 use Rattle.tac_worker.specs.declared.worked.End.{End}
 use Rattle.tac_worker.specs.declared.worked.End.TheVariants.{Finished, ByProtocol, Stopped, LogFull, Memory, ReadFault, WriteFault, Held, NoSeat}
 use Rattle.tac_worker.specs.Served.{served_to, asks_in, closes}
-use Rattle.tac_worker.specs.Worked.{Calling, Leaves, Closes, Writes, Ends, IsServed}
+use Rattle.tac_worker.specs.Worked.{Exchange, AreMade, Leaves, Closes, Writes, Ends, IsServedBy}
 use Rattle.tac_worker.specs.Working.{GoesOn, TakesOne, IsAtRest, EndsAt, HearsMore, Heard, Serving}
 use Rattle.tac_worker.proofs.ServedFacts.{packets_of-append, goes_none, goes-then, ends-after}
 use Rattle.tac_worker.proofs.TurnFacts.{served_at_end, asks_at_end, ends_memory, ends_none}
@@ -29,116 +31,118 @@ unfolding is_closed
 closed_none = refl
 
 -- nothing was read yet
-pub serving_first : (key : List ℕ) (was : Calling) (before old : Option (List ℕ)) (stream : Stream) → IsReady stream → Stands key stream [] 0 → Serving key was was before before old old stream
-serving_first key was before old stream ready stands = record {
+pub serving_first : {S : Type 0} (step : S → Exchange → S → Type 0) (key : List ℕ) (was : S) (before old : Option (List ℕ)) (stream : Stream) → IsReady stream → Stands key stream [] 0
+    → Serving step key was was before before old old stream
+serving_first step key was before old stream ready stands = record {
   input = [];
   taken = 0;
   read = Consumes-nil before;
-  goes = goes_none key [] was old;
+  goes = goes_none step key [] was old;
   stays = closed_none;
   ready = ready;
   stands = stands;
 }
 
-module _ (key : List ℕ) (was now : Calling) (before after old mid : Option (List ℕ)) (stream : Stream) (s : Serving key was now before after old mid stream) where
-  -- what is done after the packets that were taken
-  after_front : (T : List Packet → Type 0) → T (packets_of key (take s.taken (cut s.input).packets)) → T (packets_of key (take s.taken (cut s.input).packets) ++ [])
-  after_front T t = subst T (sym (append-nil (packets_of key (take s.taken (cut s.input).packets)))) t
+module _ {S : Type 0} (step : S → Exchange → S → Type 0) (refuses : S → Ask → HallFault → Type 0) where
+  module _ (key : List ℕ) (was now : S) (before after old mid : Option (List ℕ)) (stream : Stream) (s : Serving step key was now before after old mid stream) where
+    -- what is done after the packets that were taken
+    after_front : (T : List Packet → Type 0) → T (packets_of key (take s.taken (cut s.input).packets)) → T (packets_of key (take s.taken (cut s.input).packets) ++ [])
+    after_front T t = subst T (sym (append-nil (packets_of key (take s.taken (cut s.input).packets)))) t
 
-  -- one more packet was taken
-  pub serving_on : (next : Calling) (new : Option (List ℕ)) (then : Stream) → TakesOne key s.input s.taken now next mid new then → Serving key was next before after old new then
-  serving_on next new then t = record {
-    input = s.input;
-    taken = suc s.taken;
-    read = s.read;
-    goes = rw (next_of_list s.taken (cut s.input).packets t.frame t.more t.left)
-        (goes-then key [] (take s.taken (cut s.input).packets) was now old mid s.goes (t.frame ∷ []) next new
-        (after_front (λ h. GoesOn key h (t.frame ∷ []) now next mid new) t.goes));
-    stays = rw (next_of_list s.taken (cut s.input).packets t.frame t.more t.left, packets_of-append key (take s.taken (cut s.input).packets) (t.frame ∷ [])) (t.stays s.stays);
-    ready = t.ready;
-    stands = t.stands;
-  }
-
-  -- the connection ends at a turn
-  pub served_turn : (end : End) (next : Calling) (new : Option (List ℕ)) → EndsAt end key s.input s.taken now next mid new → IsServed end key was next before after old new
-  served_turn end next new t = record {
-    input = s.input;
-    read = s.read;
-    finished = λ e. absurd (t.unfinished e);
-    memory = t.memory;
-    closing = t.closing;
-    ends = subst (λ (fs : List Frame). Ends end key (asks_in key [] fs) (served_to key [] fs) was next old new) (take-append-drop s.taken (cut s.input).packets)
-        (ends-after key [] (take s.taken (cut s.input).packets) was now old mid s.goes end (drop s.taken (cut s.input).packets) next new
-        (after_front (λ h. Ends end key (asks_in key h (drop s.taken (cut s.input).packets)) (served_to key h (drop s.taken (cut s.input).packets)) now next mid new) t.ends));
-  }
-
-  module _ (next : Calling) (new : Option (List ℕ)) (rested : Stream) (r : IsAtRest key s.input s.taken now next mid new rested) where
-    rests : GoesOn key [] (take s.taken (cut s.input).packets) was next old new
-    rests = record {
-      made = s.goes.made;
-      sendings = s.goes.sendings;
-      handled = s.goes.handled;
-      makes = rw r.same s.goes.makes;
-      written = rw (append-nil _) at (Appends-trans old mid new _ [] s.goes.written r.nothing);
-    }
-
-    all_taken : (cut s.input).packets ≡ take s.taken (cut s.input).packets
-    all_taken =
-        sym (take-append-drop s.taken (cut s.input).packets) ∙ ap (λ (l : List Frame). take s.taken (cut s.input).packets ++ l) r.left ∙ append-nil (take s.taken (cut s.input).packets)
-
-    -- more bytes were read
-    pub serving_more : (left : Option (List ℕ)) (then : Stream) → HearsMore after left rested then → Serving key was next before left old new then
-    serving_more left then h =
-        let more = h.prolongs s.input in
-        let same : take s.taken (cut (s.input ++ h.piece)).packets ≡ take s.taken (cut s.input).packets =
-        ap (take s.taken) more.1 ∙ take-append-le s.taken (cut s.input).packets more.0 r.stands.within in
-        record {
-          input = s.input ++ h.piece;
-          taken = s.taken;
-          read = Consumes-trans before after left s.input h.piece s.read h.read;
-          goes = rw same rests;
-          stays = rw same s.stays;
-          ready = (h.closed ∙ r.ready.0, h.pending ∙ r.ready.1);
-          stands = h.stands key s.input s.taken r.ready.0 r.stands;
-        }
-
-    all_open : closes key s.input ≡ false
-    all_open =
-        ap (λ (fs : List Frame). is_closed (packets_of key fs) || closed_by (cut s.input).tail) all_taken ∙ ap (λ (b : Bool). b || closed_by (cut s.input).tail) s.stays ∙ r.tail
-
-    -- nothing was left to do
-    served_whole : (end : End) (left : Option (List ℕ)) → Consumes after left [] → (end ≡ Finished → IsAtEnd left) → (end ≡ Memory → ⊥) → Closes end false → Leaves end next.seat [] → (Appends new new [] → Writes end key [] [] new new)
-        → IsServed end key was next before left old new
-    served_whole end left read finished enough closing leaves writes = record {
+    -- one more packet was taken
+    pub serving_on : (next : S) (new : Option (List ℕ)) (then : Stream) → TakesOne step refuses key s.input s.taken now next mid new then → Serving step key was next before after old new then
+    serving_on next new then t = record {
       input = s.input;
-      read = rw (append-nil s.input) at (Consumes-trans before after left s.input [] s.read read);
-      finished = finished;
-      memory = λ e. absurd (enough e);
-      closing = rw all_open closing;
-      ends = subst (λ (fs : List Frame). Ends end key (asks_in key [] fs) (served_to key [] fs) was next old new) (append-nil (take s.taken (cut s.input).packets) ∙ sym all_taken)
-          (ends-after key [] (take s.taken (cut s.input).packets) was next old new rests end [] next new
-          (ends_none end key _ _ next new new (asks_at_end key _) (served_at_end key _ []) (Appends-nil new) leaves writes));
+      taken = suc s.taken;
+      read = s.read;
+      goes = rw (next_of_list s.taken (cut s.input).packets t.frame t.more t.left)
+          (goes-then step key [] (take s.taken (cut s.input).packets) was now old mid s.goes (t.frame ∷ []) next new
+          (after_front (λ h. GoesOn step key h (t.frame ∷ []) now next mid new) t.goes));
+      stays = rw (next_of_list s.taken (cut s.input).packets t.frame t.more t.left, packets_of-append key (take s.taken (cut s.input).packets) (t.frame ∷ [])) (t.stays s.stays);
+      ready = t.ready;
+      stands = t.stands;
     }
 
-    -- the connection ends at a read
-    pub served_read : (end : End) (left : Option (List ℕ)) (then : Stream) → Heard (Err end) after left rested then → IsServed end key was next before left old new
-    served_read Finished left then h = served_whole Finished left h.0 (λ e. h.1) (λ e. cc) refl refl (λ w. w)
-    served_read ByProtocol left then h = absurd h
-    served_read Stopped left then h = absurd h
-    served_read LogFull left then h = absurd h
-    served_read Memory left then h =
-        let more = h.3 s.input in
-        record {
-          input = s.input ++ h.0;
-          read = Consumes-trans before after left s.input h.0 s.read h.2;
-          finished = λ e. absurd cc;
-          memory = λ e. (let some = h.1 in omega (arith, some, length-append s.input h.0));
-          closing = tt;
-          ends = subst (λ (fs : List Frame). Ends Memory key (asks_in key [] fs) (served_to key [] fs) was next old new)
-              (ap (λ (l : List Frame). l ++ more.0) (sym all_taken) ∙ sym more.1)
-              (ends-after key [] (take s.taken (cut s.input).packets) was next old new rests Memory more.0 next new (ends_memory key _ _ next new));
-        }
-    served_read ReadFault left then h = served_whole ReadFault left h (λ e. absurd cc) (λ e. cc) refl refl (λ w. w)
-    served_read WriteFault left then h = absurd h
-    served_read Held left then h = absurd h
-    served_read NoSeat left then h = absurd h
+    -- the connection ends at a turn
+    pub served_turn : (end : End) (next : S) (new : Option (List ℕ)) → EndsAt step refuses end key s.input s.taken now next mid new → IsServedBy end key (λ made. AreMade step was made next) (refuses next) before after old new
+    served_turn end next new t = record {
+      input = s.input;
+      read = s.read;
+      finished = λ e. absurd (t.unfinished e);
+      memory = t.memory;
+      closing = t.closing;
+      ends = subst (λ (fs : List Frame). Ends end key (asks_in key [] fs) (served_to key [] fs) (λ made. AreMade step was made next) (refuses next) old new) (take-append-drop s.taken (cut s.input).packets)
+          (ends-after step key [] (take s.taken (cut s.input).packets) was now old mid s.goes (refuses next) end (drop s.taken (cut s.input).packets) next new
+          (after_front (λ h. Ends end key (asks_in key h (drop s.taken (cut s.input).packets)) (served_to key h (drop s.taken (cut s.input).packets)) (λ made. AreMade step now made next) (refuses next) mid new) t.ends));
+    }
+
+    module _ (next : S) (new : Option (List ℕ)) (rested : Stream) (r : IsAtRest step refuses key s.input s.taken now next mid new rested) where
+      rests : GoesOn step key [] (take s.taken (cut s.input).packets) was next old new
+      rests = record {
+        made = s.goes.made;
+        sendings = s.goes.sendings;
+        handled = s.goes.handled;
+        makes = rw r.same s.goes.makes;
+        written = rw (append-nil _) at (Appends-trans old mid new _ [] s.goes.written r.nothing);
+      }
+
+      all_taken : (cut s.input).packets ≡ take s.taken (cut s.input).packets
+      all_taken =
+          sym (take-append-drop s.taken (cut s.input).packets) ∙ ap (λ (l : List Frame). take s.taken (cut s.input).packets ++ l) r.left ∙ append-nil (take s.taken (cut s.input).packets)
+
+      -- more bytes were read
+      pub serving_more : (left : Option (List ℕ)) (then : Stream) → HearsMore after left rested then → Serving step key was next before left old new then
+      serving_more left then h =
+          let more = h.prolongs s.input in
+          let same : take s.taken (cut (s.input ++ h.piece)).packets ≡ take s.taken (cut s.input).packets =
+          ap (take s.taken) more.1 ∙ take-append-le s.taken (cut s.input).packets more.0 r.stands.within in
+          record {
+            input = s.input ++ h.piece;
+            taken = s.taken;
+            read = Consumes-trans before after left s.input h.piece s.read h.read;
+            goes = rw same rests;
+            stays = rw same s.stays;
+            ready = (h.closed ∙ r.ready.0, h.pending ∙ r.ready.1);
+            stands = h.stands key s.input s.taken r.ready.0 r.stands;
+          }
+
+      all_open : closes key s.input ≡ false
+      all_open =
+          ap (λ (fs : List Frame). is_closed (packets_of key fs) || closed_by (cut s.input).tail) all_taken ∙ ap (λ (b : Bool). b || closed_by (cut s.input).tail) s.stays ∙ r.tail
+
+      -- nothing was left to do
+      served_whole : (end : End) (left : Option (List ℕ)) → Consumes after left [] → (end ≡ Finished → IsAtEnd left) → (end ≡ Memory → ⊥) → Closes end false → Leaves end (refuses next) [] → (Appends new new [] → Writes end key [] [] new new)
+          → IsServedBy end key (λ made. AreMade step was made next) (refuses next) before left old new
+      served_whole end left read finished enough closing leaves writes = record {
+        input = s.input;
+        read = rw (append-nil s.input) at (Consumes-trans before after left s.input [] s.read read);
+        finished = finished;
+        memory = λ e. absurd (enough e);
+        closing = rw all_open closing;
+        ends = subst (λ (fs : List Frame). Ends end key (asks_in key [] fs) (served_to key [] fs) (λ made. AreMade step was made next) (refuses next) old new) (append-nil (take s.taken (cut s.input).packets) ∙ sym all_taken)
+            (ends-after step key [] (take s.taken (cut s.input).packets) was next old new rests (refuses next) end [] next new
+            (ends_none (λ made. AreMade step next made next) (refuses next) refl key _ _ end new new (asks_at_end key _) (served_at_end key _ []) (Appends-nil new) leaves writes));
+      }
+
+      -- the connection ends at a read
+      pub served_read : (end : End) (left : Option (List ℕ)) (then : Stream) → Heard (Err end) after left rested then → IsServedBy end key (λ made. AreMade step was made next) (refuses next) before left old new
+      served_read Finished left then h = served_whole Finished left h.0 (λ e. h.1) (λ e. cc) refl refl (λ w. w)
+      served_read ByProtocol left then h = absurd h
+      served_read Stopped left then h = absurd h
+      served_read LogFull left then h = absurd h
+      served_read Memory left then h =
+          let more = h.3 s.input in
+          record {
+            input = s.input ++ h.0;
+            read = Consumes-trans before after left s.input h.0 s.read h.2;
+            finished = λ e. absurd cc;
+            memory = λ e. (let some = h.1 in omega (arith, some, length-append s.input h.0));
+            closing = tt;
+            ends = subst (λ (fs : List Frame). Ends Memory key (asks_in key [] fs) (served_to key [] fs) (λ made. AreMade step was made next) (refuses next) old new)
+                (ap (λ (l : List Frame). l ++ more.0) (sym all_taken) ∙ sym more.1)
+                (ends-after step key [] (take s.taken (cut s.input).packets) was next old new rests (refuses next) Memory more.0 next new (ends_memory (λ made. AreMade step next made next) (refuses next) refl key _ _ new));
+          }
+      served_read ReadFault left then h = served_whole ReadFault left h (λ e. absurd cc) (λ e. cc) refl refl (λ w. w)
+      served_read WriteFault left then h = absurd h
+      served_read Held left then h = absurd h
+      served_read NoSeat left then h = absurd h

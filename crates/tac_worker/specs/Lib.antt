@@ -1,3 +1,4 @@
 pub mod Served
 pub mod Worked
+pub mod AtHall
 pub mod Working

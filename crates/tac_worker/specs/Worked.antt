@@ -1,5 +1,7 @@
--- What a worker has done that served one connection by calls at a hall.
-use Rattle.std.specs.Prelude.{◌≡◌, ◌<◌, ℕ, List, [], ◌∷◌, ◌++◌, map, length, Bool, true, false, Option}
+-- What a worker has done that served one connection by calls, at a hall or at a desk that many
+-- share.
+use Rattle.std.specs.Prelude.{◌≡◌, ◌<◌, ℕ, List, [], ◌∷◌, ◌++◌, map, length}
+use Rattle.std.specs.Prelude.{Bool, true, false, Option}
 use Rattle.std.specs.Io.KnownBytes.{Appends, Consumes, IsAtEnd}
 use Rattle.tac_conn.specs.declared.ask.Answer.{Answer}
 use Rattle.tac_conn.specs.declared.ask.Ask.{Ask}
@@ -18,8 +20,8 @@ use Rattle.tac_worker.specs.Served.{Sending, served, asks, closes, bytes_sent, c
 
 -- ---- its calls
 
--- an ask that was called, the segment of the hall's history in which it stands, its place in the
--- log of that, and the answer
+-- an ask that was called, the segment of the history in which it stands, its place in the log of
+-- that, and the answer
 pub record Exchange : Type 0 where
   pub ask : Ask
   pub segment : ℕ
@@ -49,6 +51,14 @@ receipt_for seat exchange = record {
   place = exchange.place;
   answer = answers.Ask exchange.answer;
 }
+
+-- these exchanges were made, one after another, each by such a step, and nothing else was done
+abbrev pub AreMade : {S : Type 0} → (S → Exchange → S → Type 0) → S → List Exchange → S → Type 0
+AreMade step was [] now = now ≡ was
+AreMade {S} step was (exchange ∷ made) now =
+    (then : S) × step was exchange then × AreMade step then made now
+
+-- ---- at a hall, with receipts
 
 -- a seat that calls, and the receipts that it got
 pub record Calling : Type 0 where
@@ -98,23 +108,23 @@ end_by refusals.Memory = Memory
 end_by refusals.Closed = Stopped
 end_by refusals.NoSeat = NoSeat
 
--- the first of these asks was refused so, as a call of this seat
-abbrev pub IsFirstRefused : HallFault → Sitting → List Ask → Type 0
-IsFirstRefused fault seat [] = ⊥
-IsFirstRefused fault seat (ask ∷ left) = IsRefused seat (calls.Ask ask) fault
+-- the first of these asks was refused so
+abbrev pub IsFirstRefused : HallFault → (Ask → HallFault → Type 0) → List Ask → Type 0
+IsFirstRefused fault refuses [] = ⊥
+IsFirstRefused fault refuses (ask ∷ left) = refuses ask fault
 
--- the asks that are left without a call by this seat: none, where nothing kept it from calling;
--- some, where its next call wasn't made, because the gate held it or the hall refused it so
-abbrev pub Leaves : End → Sitting → List Ask → Type 0
-Leaves Finished seat left = left ≡ []
-Leaves ByProtocol seat left = left ≡ []
-Leaves ReadFault seat left = left ≡ []
-Leaves Memory seat left = Unit {0}
-Leaves WriteFault seat left = Unit {0}
-Leaves Held seat left = 0 < length left
-Leaves Stopped seat left = IsFirstRefused refusals.Closed seat left
-Leaves LogFull seat left = IsFirstRefused refusals.LogFull seat left
-Leaves NoSeat seat left = IsFirstRefused refusals.NoSeat seat left
+-- the asks that are left without a call: none, where nothing kept the caller from calling; some,
+-- where its next call wasn't made, because the gate held it or it was refused so
+abbrev pub Leaves : End → (Ask → HallFault → Type 0) → List Ask → Type 0
+Leaves Finished refuses left = left ≡ []
+Leaves ByProtocol refuses left = left ≡ []
+Leaves ReadFault refuses left = left ≡ []
+Leaves Memory refuses left = Unit {0}
+Leaves WriteFault refuses left = Unit {0}
+Leaves Held refuses left = 0 < length left
+Leaves Stopped refuses left = IsFirstRefused refusals.Closed refuses left
+Leaves LogFull refuses left = IsFirstRefused refusals.LogFull refuses left
+Leaves NoSeat refuses left = IsFirstRefused refusals.NoSeat refuses left
 
 -- whether what was read closes the connection
 abbrev pub Closes : End → Bool → Type 0
@@ -123,22 +133,31 @@ Closes ByProtocol closing = closing ≡ true
 Closes ReadFault closing = closing ≡ false
 Closes end closing = Unit {0}
 
--- of what was asked the first asks were called, and what is sent by their answers was written
+-- of what was asked the first asks were called, and what is sent by their answers was written.
+-- `are_made` says which exchanges its caller made, and `refuses` which ask it was refused, and why
 pub record Ends (end : End) (key : List ℕ) (asked : List Ask) (sent_by : List Answer → List Sending)
-    (was now : Calling) (old new : Option (List ℕ)) : Type 0 where
+    (are_made : List Exchange → Type 0) (refuses : Ask → HallFault → Type 0)
+    (old new : Option (List ℕ)) : Type 0 where
   pub made : List Exchange
-  pub makes : Makes was now made
+  pub makes : are_made made
   pub left : List Ask
   pub asks : asked ≡ asks_of made ++ left
-  pub leaves : Leaves end now.seat left
+  pub leaves : Leaves end refuses left
   pub writes : Writes end key (sent_by (answers_of made)) (answers_of made) old new
 
 -- a connection was served, on which these bytes were read; it ended so
-pub record IsServed (end : End) (key : List ℕ) (was now : Calling)
-    (before after old new : Option (List ℕ)) : Type 0 where
+pub record IsServedBy (end : End) (key : List ℕ) (are_made : List Exchange → Type 0)
+    (refuses : Ask → HallFault → Type 0) (before after old new : Option (List ℕ)) : Type 0 where
   pub input : List ℕ
   pub read : Consumes before after input
   pub finished : end ≡ Finished → IsAtEnd after
   pub memory : end ≡ Memory → 0 < length input
   pub closing : Closes end (closes key input)
-  pub ends : Ends end key (asks key input) (served key input) was now old new
+  pub ends : Ends end key (asks key input) (served key input) are_made refuses old new
+
+-- by calls of this seat at a hall, with their receipts
+abbrev pub IsServed : End → List ℕ → Calling → Calling → Option (List ℕ) → Option (List ℕ)
+    → Option (List ℕ) → Option (List ℕ) → Type 0
+IsServed end key was now before after old new =
+    IsServedBy end key (Makes was now)
+    (λ ask fault. IsRefused now.seat (calls.Ask ask) fault) before after old new

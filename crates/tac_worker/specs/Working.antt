@@ -12,8 +12,7 @@ use Rattle.tac_conn.specs.declared.packet.Packet.{Packet}
 use Rattle.tac_stream.specs.declared.stream.Stream.{Stream}
 use Rattle.tac_stream.specs.Turns.{packets_of, closed_by}
 use Rattle.tac_stream.specs.Kept.{IsReady, Stands, closed_of, pending_of}
-use Rattle.tac_hall.specs.Seat.{Sitting, IsRefused}
-use Rattle.tac_hall.specs.declared.call.Call.TheVariants as calls
+use Rattle.tac_hall.specs.declared.fault.HallFault.{HallFault}
 use Rattle.tac_hall.specs.declared.fault.HallFault.TheVariants as refusals
 use Rattle.tac_worker.specs.declared.worked.End.{End}
 use Rattle.tac_worker.specs.declared.worked.End.TheVariants.{Finished, ByProtocol, Stopped, LogFull}
@@ -23,7 +22,7 @@ use Rattle.tac_worker.specs.declared.turning.Went.{Went}
 use Rattle.tac_worker.specs.declared.turning.Went.TheVariants.{On, Rests}
 use Rattle.tac_worker.specs.Served.{Sending, served_to, asks_in, closes}
 use Rattle.tac_worker.specs.Served.{bytes_sent, carried}
-use Rattle.tac_worker.specs.Worked.{Exchange, asks_of, answers_of, Calling, Makes, Closes, Ends}
+use Rattle.tac_worker.specs.Worked.{Exchange, asks_of, answers_of, AreMade, Closes, Ends}
 
 -- ---- packets that were served
 
@@ -38,29 +37,34 @@ pub record Handled (key : List ℕ) (earlier : List Packet) (frames : List Frame
       ≡ asks_of made ++ asks_in key (packets_of key frames ++ earlier) more
   pub carries : carried sendings ≡ answers_of made
 
--- and it was written
-pub record GoesOn (key : List ℕ) (earlier : List Packet) (frames : List Frame)
-    (was now : Calling) (old new : Option (List ℕ)) : Type 0 where
+-- and it was written, by exchanges that such steps made
+pub record GoesOn {S : Type 0} (step : S → Exchange → S → Type 0) (key : List ℕ)
+    (earlier : List Packet) (frames : List Frame) (was now : S) (old new : Option (List ℕ))
+    : Type 0 where
   pub made : List Exchange
   pub sendings : List Sending
   pub handled : Handled key earlier frames made sendings
-  pub makes : Makes was now made
+  pub makes : AreMade step was made now
   pub written : Appends old new (bytes_sent key sendings)
 
 -- ---- a reply
 
--- at these ends a call of this ask by this seat wasn't made: the gate held it, memory ran out, or
--- the hall refused it so
-abbrev pub IsUncalled : Sitting → Ask → End → Type 0
-IsUncalled seat ask Finished = ⊥
-IsUncalled seat ask ByProtocol = ⊥
-IsUncalled seat ask ReadFault = ⊥
-IsUncalled seat ask WriteFault = ⊥
-IsUncalled seat ask Memory = Unit {0}
-IsUncalled seat ask Held = Unit {0}
-IsUncalled seat ask Stopped = IsRefused seat (calls.Ask ask) refusals.Closed
-IsUncalled seat ask LogFull = IsRefused seat (calls.Ask ask) refusals.LogFull
-IsUncalled seat ask NoSeat = IsRefused seat (calls.Ask ask) refusals.NoSeat
+-- a call of this ask wasn't made: memory ran out, or it was refused so
+abbrev pub IsUnmade : (Ask → HallFault → Type 0) → Ask → HallFault → Type 0
+IsUnmade refuses ask refusals.Memory = Unit {0}
+IsUnmade refuses ask fault = refuses ask fault
+
+-- at these ends no call of it was made: the gate held it, memory ran out, or it was refused so
+abbrev pub IsUncalled : (Ask → HallFault → Type 0) → Ask → End → Type 0
+IsUncalled refuses ask Finished = ⊥
+IsUncalled refuses ask ByProtocol = ⊥
+IsUncalled refuses ask ReadFault = ⊥
+IsUncalled refuses ask WriteFault = ⊥
+IsUncalled refuses ask Memory = Unit {0}
+IsUncalled refuses ask Held = Unit {0}
+IsUncalled refuses ask Stopped = refuses ask refusals.Closed
+IsUncalled refuses ask LogFull = refuses ask refusals.LogFull
+IsUncalled refuses ask NoSeat = refuses ask refusals.NoSeat
 
 -- a packet was written, after which the connection closes or not
 abbrev pub Replies : Result Went End → List ℕ → Bool → Option (List ℕ) → Option (List ℕ) → Type 0
@@ -81,44 +85,49 @@ taken_of key bytes taken = packets_of key (take taken (cut bytes).packets)
 abbrev pub left_of : List ℕ → ℕ → List Frame
 left_of bytes taken = drop taken (cut bytes).packets
 
--- the next packet was served, and the connection stays open
-pub record TakesOne (key : List ℕ) (bytes : List ℕ) (taken : ℕ) (was now : Calling)
-    (old new : Option (List ℕ)) (stream : Stream) : Type 0 where
-  pub frame : Frame
-  pub more : List Frame
-  pub left : left_of bytes taken ≡ frame ∷ more
-  pub goes : GoesOn key (taken_of key bytes taken) (frame ∷ []) was now old new
-  pub stays : is_closed (taken_of key bytes taken) ≡ false
-      → is_closed (clear key frame ∷ taken_of key bytes taken) ≡ false
-  pub ready : IsReady stream
-  pub stands : Stands key stream bytes (suc taken)
+-- by a caller that makes exchanges by such steps, and is refused asks so
+module _ {S : Type 0} (step : S → Exchange → S → Type 0)
+    (refuses : S → Ask → HallFault → Type 0) where
+  -- the next packet was served, and the connection stays open
+  pub record TakesOne (key : List ℕ) (bytes : List ℕ) (taken : ℕ) (was now : S)
+      (old new : Option (List ℕ)) (stream : Stream) : Type 0 where
+    pub frame : Frame
+    pub more : List Frame
+    pub left : left_of bytes taken ≡ frame ∷ more
+    pub goes : GoesOn step key (taken_of key bytes taken) (frame ∷ []) was now old new
+    pub stays : is_closed (taken_of key bytes taken) ≡ false
+        → is_closed (clear key frame ∷ taken_of key bytes taken) ≡ false
+    pub ready : IsReady stream
+    pub stands : Stands key stream bytes (suc taken)
 
--- no packet is left, and nothing was done
-pub record IsAtRest (key : List ℕ) (bytes : List ℕ) (taken : ℕ) (was now : Calling)
-    (old new : Option (List ℕ)) (stream : Stream) : Type 0 where
-  pub left : left_of bytes taken ≡ []
-  pub tail : closed_by (cut bytes).tail ≡ false
-  pub same : now ≡ was
-  pub nothing : Appends old new []
-  pub ready : IsReady stream
-  pub stands : Stands key stream bytes taken
+  -- no packet is left, and nothing was done
+  pub record IsAtRest (key : List ℕ) (bytes : List ℕ) (taken : ℕ) (was now : S)
+      (old new : Option (List ℕ)) (stream : Stream) : Type 0 where
+    pub left : left_of bytes taken ≡ []
+    pub tail : closed_by (cut bytes).tail ≡ false
+    pub same : now ≡ was
+    pub nothing : Appends old new []
+    pub ready : IsReady stream
+    pub stands : Stands key stream bytes taken
 
--- the connection ends
-pub record EndsAt (end : End) (key : List ℕ) (bytes : List ℕ) (taken : ℕ) (was now : Calling)
-    (old new : Option (List ℕ)) : Type 0 where
-  pub unfinished : end ≡ Finished → ⊥
-  pub memory : end ≡ Memory → 0 < length bytes
-  pub closing : Closes end (closes key bytes)
-  pub ends : Ends end key (asks_in key (taken_of key bytes taken) (left_of bytes taken))
-      (served_to key (taken_of key bytes taken) (left_of bytes taken)) was now old new
+  -- the connection ends
+  pub record EndsAt (end : End) (key : List ℕ) (bytes : List ℕ) (taken : ℕ) (was now : S)
+      (old new : Option (List ℕ)) : Type 0 where
+    pub unfinished : end ≡ Finished → ⊥
+    pub memory : end ≡ Memory → 0 < length bytes
+    pub closing : Closes end (closes key bytes)
+    pub ends : Ends end key (asks_in key (taken_of key bytes taken) (left_of bytes taken))
+        (served_to key (taken_of key bytes taken) (left_of bytes taken))
+        (λ made. AreMade step was made now) (refuses now) old new
 
-abbrev pub Turned : Result Went End → List ℕ → List ℕ → ℕ → Calling → Calling
-    → Option (List ℕ) → Option (List ℕ) → Stream → Type 0
-Turned (Ok On) key bytes taken was now old new stream =
-    TakesOne key bytes taken was now old new stream
-Turned (Ok Rests) key bytes taken was now old new stream =
-    IsAtRest key bytes taken was now old new stream
-Turned (Err end) key bytes taken was now old new stream = EndsAt end key bytes taken was now old new
+  abbrev pub Turned : Result Went End → List ℕ → List ℕ → ℕ → S → S
+      → Option (List ℕ) → Option (List ℕ) → Stream → Type 0
+  Turned (Ok On) key bytes taken was now old new stream =
+      TakesOne key bytes taken was now old new stream
+  Turned (Ok Rests) key bytes taken was now old new stream =
+      IsAtRest key bytes taken was now old new stream
+  Turned (Err end) key bytes taken was now old new stream =
+      EndsAt end key bytes taken was now old new
 
 -- ---- one read
 
@@ -151,12 +160,12 @@ Heard (Err end) before after was now = ⊥
 -- ---- the whole connection
 
 -- so many packets were taken of what was read, and what they are served was done
-pub record Serving (key : List ℕ) (was now : Calling) (before after old new : Option (List ℕ))
-    (stream : Stream) : Type 0 where
+pub record Serving {S : Type 0} (step : S → Exchange → S → Type 0) (key : List ℕ) (was now : S)
+    (before after old new : Option (List ℕ)) (stream : Stream) : Type 0 where
   pub input : List ℕ
   pub taken : ℕ
   pub read : Consumes before after input
-  pub goes : GoesOn key [] (take taken (cut input).packets) was now old new
+  pub goes : GoesOn step key [] (take taken (cut input).packets) was now old new
   pub stays : is_closed (taken_of key input taken) ≡ false
   pub ready : IsReady stream
   pub stands : Stands key stream input taken

@@ -1,101 +1,46 @@
-//! Who calls the hall for a connection.
+//! Who makes the calls of a connection.
 
-ghost use Rattle.std.specs.Prelude.{◌≡◌, [], ◌∷◌, ℕ, IfOk, IfErr, OnErr};
+ghost use Rattle.std.specs.Prelude.{◌≡◌, ℕ, IfOk, IfErr, OnErr};
+ghost use Rattle.tac_conn.specs.declared.ask.Ask.{Ask};
 ghost use Rattle.tac_conn.specs.Ask.{kind_of_ask, kind_of_answer};
-ghost use Rattle.tac_worker.specs.Worked.{Makes};
-ghost use Rattle.tac_worker.specs.Working.{IsUncalled};
+ghost use Rattle.tac_hall.specs.declared.call.Call.TheVariants as calls;
+ghost use Rattle.tac_hall.specs.declared.call.CallAnswer.TheVariants as answers;
+ghost use Rattle.tac_hall.specs.declared.fault.HallFault.{HallFault};
+ghost use Rattle.tac_hall.specs.History.{IsOfKind};
+ghost use Rattle.tac_worker.specs.Worked.{Exchange};
+ghost use Rattle.tac_worker.specs.Working.{IsUnmade};
 
-use crate::gate::{Gate, lets_call};
-use crate::worked::{End, Worked};
-use std::alloc::Global;
-use std::marker::Model;
-use std::sync::Wait;
 use tac_conn::{Answer, Ask};
-use tac_desk::Desk;
-use tac_hall::{Call, CallAnswer, Hall, Receipt, Seat};
+use tac_hall::{CallAnswer, HallFault, Receipt};
 
-/// A seat that calls, and the receipts that it got, which a contract sees.
-pub(crate) struct Caller {
-    seat: Seat,
-    receipts: Vec<Receipt>,
-}
+/// Who makes the calls of a connection, one after another: a seat of a hall, or of a desk that many
+/// share.
+pub trait Caller: Drop {
+    /// The caller made this exchange, and nothing else, and is this one then.
+    ghost makes: { Self → Exchange → Self → Type 0 };
 
-// By hand, so that a proof of an owner has one call at each exit, not a drop of each field.
-impl Drop for Caller {
-    fn drop(self) {
-        let Caller {
-            seat: _,
-            receipts: _,
-        } = self;
-    }
-}
+    /// It was refused a call of this ask so.
+    ghost refuses: { Self → Ask → HallFault → Type 0 };
 
-impl Model for Caller {
-    ghost use Rattle.tac_worker.specs.Worked.{Calling};
+    /// The number of its seat.
+    fn number(&self) -> u32;
 
-    ghost Value = { Calling };
-
-    ghost view = { λ caller. record { seat = caller.seat; receipts = caller.receipts.items } };
-}
-
-impl Caller {
-    /// A seat without receipts.
-    pub(crate) fn new(seat: Seat) -> Caller
-        ensures { result ≡ record { seat = seat; receipts = [] } }
-    {
-        let receipts = Vec::new(seat.alloc());
-        Caller { seat, receipts }
-    }
-
-    pub(crate) fn alloc(&self) -> Global {
-        self.seat.alloc()
-    }
-
-    /// The number of the seat.
-    pub(crate) fn number(&self) -> u32
-        ensures { result ≡ self.now.seat.number }
-    {
-        self.seat.number()
-    }
-
-    /// Calls an ask, once the gate lets it. The memory for its receipt is taken before.
-    pub(crate) fn ask<H: Wait, D: Desk, G: Gate>(
-        &mut self,
-        rt: &H,
-        hall: &Hall<D>,
-        gate: &G,
-        ask: Ask,
-    ) -> Result<Answer, End>
-        ensures makes { IfOk result (λ answer. (segment place : ℕ) × Makes self.old self.new
-            (record { ask = ask; segment = segment; place = place; answer = answer } ∷ [])) }
+    /// Calls an ask. Where that is refused, nothing was done.
+    fn ask(&mut self, ask: Ask) -> Result<Answer, HallFault>
+        ensures makes { IfOk result (λ answer. (segment : ℕ) × (place : ℕ) × makes self.old
+            (record { ask = ask; segment = segment; place = place; answer = answer }) self.new) }
         ensures kind { IfOk result (λ answer. kind_of_answer answer ≡ kind_of_ask ask) }
-        ensures uncalled { IfErr result (IsUncalled self.old.seat ask) }
-        ensures err { OnErr result (self.new ≡ self.old) }
-    {
-        if !lets_call(gate, self.seat.number()) {
-            return Err(End::Held);
-        }
-        self.receipts.reserve(1)?;
-        let receipt = hall.call(rt, &mut self.seat, Call::Ask(ask))?;
-        let answer = match &receipt.answer {
-            CallAnswer::Ask(answer) => *answer,
-            _ => unreachable!(),
-        };
-        self.receipts.push(receipt).unwrap();
-        Ok(answer)
-    }
+        ensures unmade { IfErr result (IsUnmade (refuses self.old) ask) }
+        ensures err { OnErr result (self.new ≡ self.old) };
+}
 
-    /// What is given back once the connection has ended.
-    pub(crate) fn worked(self, end: End) -> Worked
-        ensures seat { result.seat ≡ self.seat }
-        ensures receipts { result.receipts.items ≡ self.receipts }
-        ensures end { result.end ≡ end }
-    {
-        let Caller { seat, receipts } = self;
-        Worked {
-            seat,
-            receipts,
-            end,
-        }
+/// The answer in the receipt of an ask.
+pub(crate) fn answer_in(receipt: &Receipt) -> Answer
+    requires { (ask : Ask) × IsOfKind (calls.Ask ask) receipt.now.answer }
+    ensures { receipt.now.answer ≡ answers.Ask result }
+{
+    match &receipt.answer {
+        CallAnswer::Ask(answer) => *answer,
+        _ => unreachable!(),
     }
 }

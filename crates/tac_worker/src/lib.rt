@@ -1,13 +1,18 @@
-//! Workers: who serve connections by calls at a hall.
+//! Workers: who serve connections by calls, at a hall or at a desk that many share.
 #![tactic(auto)]
 
 mod caller;
 mod gate;
+mod hall_caller;
 mod hearing;
+mod receipt_caller;
 mod turning;
 mod worked;
 mod working;
 
+pub use caller::Caller;
 pub use gate::{Gate, OpenGate};
+pub use hall_caller::HallCaller;
+pub use turning::serve;
 pub use worked::{End, Worked};
 pub use working::work;

@@ -1,21 +1,20 @@
 //! Serving a connection, one turn after another.
 
-ghost use Rattle.std.specs.Prelude.{◌≡◌, ◌<◌, ℕ, List, [], length};
+ghost use Rattle.std.specs.Prelude.{◌≡◌, ℕ, List, IfOk, IfErr, OnErr};
+ghost use Rattle.tac_conn.specs.Ask.{kind_of_ask, kind_of_answer};
 ghost use Rattle.tac_stream.specs.Kept.{IsReady, Stands};
-ghost use Rattle.tac_worker.specs.Worked.{IsServed};
+ghost use Rattle.tac_worker.specs.Worked.{AreMade, IsServedBy};
 ghost use Rattle.tac_worker.specs.Working as working;
 
 use crate::caller::Caller;
-use crate::gate::Gate;
+use crate::gate::{Gate, lets_call};
 use crate::hearing::hear;
 use crate::worked::End;
 use basics::send;
 use std::alloc::Global;
 use std::io::{Read, Write};
 use std::sync::Wait;
-use tac_conn::Sent;
-use tac_desk::Desk;
-use tac_hall::Hall;
+use tac_conn::{Answer, Ask, Sent};
 use tac_stream::{Stream, Turn};
 use tac_wire::Key;
 
@@ -53,25 +52,38 @@ fn reply<W: Write, G: Gate>(
     Ok(Went::On)
 }
 
+// Calls an ask, once the gate lets the caller.
+fn ask_by<C: Caller, G: Gate>(caller: &mut C, gate: &G, ask: Ask) -> Result<Answer, End>
+    ensures makes { IfOk result (λ answer. (segment : ℕ) × (place : ℕ) × C.makes caller.old
+        (record { ask = ask; segment = segment; place = place; answer = answer }) caller.new) }
+    ensures kind { IfOk result (λ answer. kind_of_answer answer ≡ kind_of_ask ask) }
+    ensures uncalled { IfErr result (working.IsUncalled (C.refuses caller.old) ask) }
+    ensures err { OnErr result (caller.new ≡ caller.old) }
+{
+    if !lets_call(gate, caller.number()) {
+        return Err(End::Held);
+    }
+    let answer = caller.ask(ask)?;
+    Ok(answer)
+}
+
 // Serves what stands first.
-fn take_turn<H: Wait, D: Desk, W: Write, G: Gate>(
-    rt: &H,
-    hall: &Hall<D>,
+fn take_turn<C: Caller, W: Write, G: Gate>(
     key: &Key,
     gate: &G,
-    caller: &mut Caller,
+    caller: &mut C,
     stream: &mut Stream,
     writer: &mut W,
 ) -> Result<Went, End>
     ensures { (bytes : List ℕ) (taken : ℕ) → IsReady stream.old →
         Stands key.now stream.old bytes taken →
-        working.Turned result key.now bytes taken caller.old caller.new
+        working.Turned C.makes C.refuses result key.now bytes taken caller.old caller.new
         (W.contents writer.old) (W.contents writer.new) stream.new }
 {
     match stream.next(key)? {
         Turn::Reply(packet, closes) => reply(writer, gate, caller.number(), &packet, closes),
         Turn::Asks(ask, slot) => {
-            let answer = caller.ask(rt, hall, gate, ask)?;
+            let answer = ask_by(caller, gate, ask)?;
             let (packet, closes) = stream.give(key, slot, answer);
             reply(writer, gate, caller.number(), &packet, closes)
         }
@@ -81,24 +93,30 @@ fn take_turn<H: Wait, D: Desk, W: Write, G: Gate>(
     }
 }
 
-/// Serves a connection to its end, which it answers.
-pub(crate) fn serve<H: Wait, D: Desk, R: Read, W: Write, G: Gate>(
+/// Serves one connection to its end, which it answers: reads what comes, has the caller ask, and
+/// writes the replies. The calls are the first asks of what it read; what it wrote is what is sent
+/// by their answers, whole, or as much of it as the end allows.
+///
+/// Before each call the gate is asked. A read or a write that is interrupted is tried again; a
+/// write that takes nothing is a fault. It may wait for the caller, the reader, the writer and the
+/// gate. Linear in what is read, but for what the caller takes.
+pub fn serve<H: Wait, C: Caller, R: Read, W: Write, G: Gate>(
     rt: &H,
-    hall: &Hall<D>,
+    alloc: Global,
     key: &Key,
     gate: &G,
-    caller: &mut Caller,
+    caller: &mut C,
     reader: &mut R,
     writer: &mut W,
 ) -> End
-    ensures { IsServed result key.now caller.old caller.new
-        (R.remaining reader.old) (R.remaining reader.new)
+    ensures { IsServedBy result key.now (λ made. AreMade C.makes caller.old made caller.new)
+        (C.refuses caller.new) (R.remaining reader.old) (R.remaining reader.new)
         (W.contents writer.old) (W.contents writer.new) }
 {
-    let mut stream = Stream::new(caller.alloc());
+    let mut stream = Stream::new(alloc);
     let mut chunk = [0; CHUNK];
     'turns: for _ in rt.forever() {
-        match take_turn(rt, hall, key, gate, caller, &mut stream, writer) {
+        match take_turn(key, gate, caller, &mut stream, writer) {
             Ok(Went::On) => {}
             Ok(Went::Rests) => {
                 if let Err(end) = hear(reader, &mut chunk, &mut stream) {

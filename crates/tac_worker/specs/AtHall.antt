@@ -1,0 +1,29 @@
+-- What a seat of a hall has done for a connection.
+use Rattle.std.specs.Prelude.{◌≡◌, ℕ, List, [], ◌∷◌, ◌++◌, Option}
+use Rattle.tac_conn.specs.declared.ask.Ask.{Ask}
+use Rattle.tac_hall.specs.declared.call.Call.TheVariants as calls
+use Rattle.tac_hall.specs.declared.fault.HallFault.{HallFault}
+use Rattle.tac_hall.specs.Seat.{Sitting, IsMade, IsRefused}
+use Rattle.tac_worker.specs.declared.worked.End.{End}
+use Rattle.tac_worker.specs.Worked.{Exchange, receipt_for, Calling, AreMade, IsServedBy}
+
+-- it made this exchange, and nothing else
+abbrev pub MakesOne : Sitting → Exchange → Sitting → Type 0
+MakesOne was exchange now =
+    IsMade was (calls.Ask exchange.ask) (receipt_for was.number exchange) now
+
+-- and kept its receipt
+abbrev pub MakesWithReceipt : Calling → Exchange → Calling → Type 0
+MakesWithReceipt was exchange now =
+    MakesOne was.seat exchange now.seat
+    × (now.receipts ≡ was.receipts ++ receipt_for was.seat.number exchange ∷ [])
+
+-- it was refused a call of this ask so
+abbrev pub Refuses : Sitting → Ask → HallFault → Type 0
+Refuses seat ask fault = IsRefused seat (calls.Ask ask) fault
+
+-- a connection was served by calls of this seat
+abbrev pub IsServedAt : End → List ℕ → Sitting → Sitting → Option (List ℕ) → Option (List ℕ)
+    → Option (List ℕ) → Option (List ℕ) → Type 0
+IsServedAt end key was now before after old new =
+    IsServedBy end key (λ made. AreMade MakesOne was made now) (Refuses now) before after old new
