@@ -1,5 +1,6 @@
 pub mod ServedFacts
 pub mod HallFacts
+pub mod DeskFacts
 pub mod HearFacts
 pub mod TurnFacts
 pub mod WorkFacts

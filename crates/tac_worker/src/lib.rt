@@ -2,6 +2,7 @@
 #![tactic(auto)]
 
 mod caller;
+mod desk_caller;
 mod gate;
 mod hall_caller;
 mod hearing;
@@ -11,6 +12,7 @@ mod worked;
 mod working;
 
 pub use caller::Caller;
+pub use desk_caller::DeskCaller;
 pub use gate::{Gate, OpenGate};
 pub use hall_caller::HallCaller;
 pub use turning::serve;
