@@ -3,18 +3,15 @@ use Rattle.std.proofs.Common.{◌≡◌, ℕ, false, List, [], ◌∷◌, ◌++�
 use Rattle.std.specs.Io.KnownBytes.{Appends}
 use Rattle.std.proofs.KnownBytes.{Appends-nil, Appends-trans}
 use Rattle.std.proofs.lemmas.Grind.{flat_map-append}
-use Rattle.std.proofs.lemmas.List.Elements.{filter_map-append}
 use Rattle.basics.specs.Lines.{split_at_first, lines_of}
 use Rattle.pol_edit.specs.declared.edit.Edit.{Edit}
-use Rattle.tac_hall.specs.declared.entry.Made.{Made}
-use Rattle.tac_hall.specs.Seat.{Sitting}
-use Rattle.tac_chain.specs.declared.chain.Rotated.{Rotated}
+use Rattle.tac_forum.specs.History.{Opening}
+use Rattle.tac_forum.specs.Seat.{Seated}
 use Rattle.tac_hall_console.specs.declared.answering.Console.{Console}
-use Rattle.tac_hall_console.specs.declared.answering.ConsoleSeat.{ConsoleSeat}
 use Rattle.tac_hall_console.specs.declared.fault.OperatorFault.{OperatorFault}
 use Rattle.tac_hall_console.specs.declared.fault.OperatorFault.TheVariants as faults
 use Rattle.tac_hall_console.specs.Commands.{ended_lines, is_quit, commands, quits}
-use Rattle.tac_hall_console.specs.Operated.{Outcome, seat_after, batch_by, CameTo, told, entry_of, rotation_of, text_of, entries_of, rotations_of, Makes, WritesBeginning}
+use Rattle.tac_hall_console.specs.Operated.{Outcome, batch_by, CameTo, told, text_of, WritesBeginning}
 use Rattle.tac_hall_console.specs.Operating.{batch_left, GoesOn, WritesTo, EndsAt, IsRead, LeavesBatch}
 use Rattle.tac_hall_console.proofs.LineFacts.{split_more, split_shorter, lines_split, ended_split, command_first, quits_later}
 
@@ -22,46 +19,21 @@ pub batch_append : (batch : Option (List Edit)) (lines later : List (List ℕ)) 
 batch_append batch [] later = refl
 batch_append batch (line ∷ lines) later = batch_append (batch_by batch line) lines later
 
-seat_append : (seat : Sitting) (entries others : List Made) → seat_after seat (entries ++ others) ≡ seat_after (seat_after seat entries) others
-seat_append seat [] others = refl
-seat_append seat (entry ∷ entries) others = seat_append (seat_after seat (entry ∷ [])) entries others
-
--- the seat after some calls, and then others
-seat_then : (seat : Sitting) (outcomes others : List Outcome) → seat_after seat (entries_of (outcomes ++ others)) ≡ seat_after (seat_after seat (entries_of outcomes)) (entries_of others)
-seat_then seat outcomes others = ap (seat_after seat) (filter_map-append entry_of outcomes others) ∙ seat_append seat (entries_of outcomes) (entries_of others)
-
-pub came_append : (batch : Option (List Edit)) (seat : Sitting) (lines : List (List ℕ)) (outcomes : List Outcome) (later : List (List ℕ)) (others : List Outcome)
-    → CameTo batch seat lines outcomes → CameTo (batch_left batch lines) (seat_after seat (entries_of outcomes)) later others → CameTo batch seat (lines ++ later) (outcomes ++ others)
-came_append batch seat [] [] later others a b = b
-came_append batch seat [] (outcome ∷ outcomes) later others a b = absurd a
-came_append batch seat (line ∷ lines) [] later others a b = absurd a
-came_append batch seat (line ∷ lines) (outcome ∷ outcomes) later others a b = (
+pub came_append : (opening : Opening) (batch : Option (List Edit)) (was mid now : Seated) (lines : List (List ℕ)) (outcomes : List Outcome) (later : List (List ℕ)) (others : List Outcome)
+    → CameTo opening batch was lines outcomes mid → CameTo opening (batch_left batch lines) mid later others now → CameTo opening batch was (lines ++ later) (outcomes ++ others) now
+came_append opening batch was mid now [] [] later others a b = subst (λ (s : Seated). CameTo opening batch s later others now) a b
+came_append opening batch was mid now [] (outcome ∷ outcomes) later others a b = absurd a
+came_append opening batch was mid now (line ∷ lines) [] later others a b = absurd a
+came_append opening batch was mid now (line ∷ lines) (outcome ∷ outcomes) later others a b = (
   a.0,
-  came_append (batch_by batch line) (seat_after seat (entries_of (outcome ∷ []))) lines outcomes later others a.1
-      (subst (λ (s : Sitting). CameTo (batch_left batch (line ∷ lines)) s later others) (seat_then seat (outcome ∷ []) outcomes) b),
+  a.1,
+  came_append opening (batch_by batch line) a.0 mid now lines outcomes later others a.2 b,
 )
 
--- the same, where this batch and this seat are found after the first lines
-came_after : (batch between : Option (List Edit)) (seat then : Sitting) (lines : List (List ℕ)) (outcomes : List Outcome) (later : List (List ℕ)) (others : List Outcome)
-    → CameTo batch seat lines outcomes → between ≡ batch_left batch lines → then ≡ seat_after seat (entries_of outcomes) → CameTo between then later others → CameTo batch seat (lines ++ later) (outcomes ++ others)
-came_after batch between seat then lines outcomes later others a is same b = came_append batch seat lines outcomes later others a (rw (is, same) at b)
-
-pub makes_none : (was : ConsoleSeat) → Makes was was [] []
-makes_none was = record { number = refl; view = sym (append-nil was.seat.view); seat = refl; rotations = sym (append-nil was.rotations) }
-
--- some calls, and then others
-pub makes_then : (was mid now : ConsoleSeat) (outcomes others : List Outcome) → Makes was mid (entries_of outcomes) (rotations_of outcomes) → Makes mid now (entries_of others) (rotations_of others)
-    → Makes was now (entries_of (outcomes ++ others)) (rotations_of (outcomes ++ others))
-makes_then was mid now outcomes others a b = record {
-  number = b.number ∙ a.number;
-  view =
-      b.view ∙ ap (λ (v : List Made). v ++ entries_of others) a.view ∙ append_assoc was.seat.view (entries_of outcomes) (entries_of others)
-      ∙ ap (λ (v : List Made). was.seat.view ++ v) (sym (filter_map-append entry_of outcomes others));
-  seat = b.seat ∙ ap (λ (s : Sitting). seat_after s (entries_of others)) a.seat ∙ sym (seat_then was.seat outcomes others);
-  rotations =
-      b.rotations ∙ ap (λ (l : List Rotated). l ++ rotations_of others) a.rotations ∙ append_assoc was.rotations (rotations_of outcomes) (rotations_of others)
-      ∙ ap (λ (l : List Rotated). was.rotations ++ l) (sym (filter_map-append rotation_of outcomes others));
-}
+-- the same, where this batch is found after the first lines
+came_after : (opening : Opening) (batch between : Option (List Edit)) (was mid now : Seated) (lines : List (List ℕ)) (outcomes : List Outcome) (later : List (List ℕ)) (others : List Outcome)
+    → CameTo opening batch was lines outcomes mid → between ≡ batch_left batch lines → CameTo opening between mid later others now → CameTo opening batch was (lines ++ later) (outcomes ++ others) now
+came_after opening batch between was mid now lines outcomes later others a is b = came_append opening batch was mid now lines outcomes later others a (rw is at b)
 
 pub text_append : (outcomes others : List Outcome) → text_of (outcomes ++ others) ≡ text_of outcomes ++ text_of others
 text_append outcomes others = flat_map-append told outcomes others
@@ -84,7 +56,7 @@ beginning_then outcomes text old mid new a b = record {
 
 -- ---- going on
 
-pub goes_none : (bytes : List ℕ) (was : Console) (old : Option (List ℕ)) → GoesOn bytes bytes was was old old
+pub goes_none : {J : Type 0} {opening : Opening} (bytes : List ℕ) (was : Console J) (old : Option (List ℕ)) → GoesOn opening bytes bytes was was old old
 goes_none bytes was old = record {
   answered = [];
   lines = λ more. refl;
@@ -92,15 +64,14 @@ goes_none bytes was old = record {
   quitting = λ more. refl;
   within = omega arith;
   outcomes = [];
-  came = tt;
+  came = refl;
   batch = refl;
-  makes = makes_none was.seat;
   written = Appends-nil old;
 }
 
-module _ (bytes left : List ℕ) (was mid : Console) (old between : Option (List ℕ)) (g : GoesOn bytes left was mid old between) where
+module _ {J : Type 0} {opening : Opening} (bytes left : List ℕ) (was mid : Console J) (old between : Option (List ℕ)) (g : GoesOn opening bytes left was mid old between) where
   -- and further
-  pub goes_then : (rest : List ℕ) (now : Console) (new : Option (List ℕ)) → GoesOn left rest mid now between new → GoesOn bytes rest was now old new
+  pub goes_then : (rest : List ℕ) (now : Console J) (new : Option (List ℕ)) → GoesOn opening left rest mid now between new → GoesOn opening bytes rest was now old new
   goes_then rest now new h = record {
     answered = g.answered ++ h.answered;
     lines = λ more. g.lines more ∙ ap (λ (l : List (List ℕ)). g.answered ++ l) (h.lines more) ∙ sym (append_assoc g.answered h.answered _);
@@ -108,14 +79,13 @@ module _ (bytes left : List ℕ) (was mid : Console) (old between : Option (List
     quitting = λ more. g.quitting more ∙ h.quitting more;
     within = (let a = g.within in let b = h.within in omega arith);
     outcomes = g.outcomes ++ h.outcomes;
-    came = came_after was.batch mid.batch was.seat.seat mid.seat.seat g.answered g.outcomes h.answered h.outcomes g.came g.batch g.makes.seat h.came;
+    came = came_after opening was.batch mid.batch was.seat mid.seat now.seat g.answered g.outcomes h.answered h.outcomes g.came g.batch h.came;
     batch = h.batch ∙ ap (λ (b : Option (List Edit)). batch_left b h.answered) g.batch ∙ sym (batch_append was.batch g.answered h.answered);
-    makes = makes_then was.seat mid.seat now.seat g.outcomes h.outcomes g.makes h.makes;
     written = written_then g.outcomes h.outcomes old between new g.written h.written;
   }
 
   -- more bytes come
-  pub goes_more : (piece : List ℕ) → GoesOn (bytes ++ piece) (left ++ piece) was mid old between
+  pub goes_more : (piece : List ℕ) → GoesOn opening (bytes ++ piece) (left ++ piece) was mid old between
   goes_more piece = record {
     answered = g.answered;
     lines = λ more. rw (append_assoc bytes piece more, append_assoc left piece more) (g.lines (piece ++ more));
@@ -125,7 +95,6 @@ module _ (bytes left : List ℕ) (was mid : Console) (old between : Option (List
     outcomes = g.outcomes;
     came = g.came;
     batch = g.batch;
-    makes = g.makes;
     written = g.written;
   }
 
@@ -142,8 +111,8 @@ module _ (bytes left : List ℕ) (was mid : Console) (old between : Option (List
 -- ---- one line
 
 -- a line was answered whole
-pub goes_line : (bytes line rest : List ℕ) (was now : Console) (old new : Option (List ℕ)) → split_at_first 10 bytes ≡ Some (line, rest) → is_quit line ≡ false
-    → LeavesBatch (Ok tt) line was now → EndsAt (Ok tt) (line ∷ []) was now old new → GoesOn bytes rest was now old new
+pub goes_line : {J : Type 0} {opening : Opening} (bytes line rest : List ℕ) (was now : Console J) (old new : Option (List ℕ)) → split_at_first 10 bytes ≡ Some (line, rest) → is_quit line ≡ false
+    → LeavesBatch (Ok tt) line was now → EndsAt opening (Ok tt) (line ∷ []) was now old new → GoesOn opening bytes rest was now old new
 goes_line bytes line rest was now old new parts other leaves e =
     let all : line ∷ [] ≡ e.answered = e.parts ∙ ap (λ (l : List (List ℕ)). e.answered ++ l) e.leaves ∙ append-nil e.answered in
     record {
@@ -159,53 +128,49 @@ goes_line bytes line rest was now old new parts other leaves e =
       outcomes = e.outcomes;
       came = e.came;
       batch = leaves ∙ ap (batch_left was.batch) all;
-      makes = e.makes;
       written = e.writes;
     }
 
 -- ---- the end
 
 -- there is nothing more to answer
-pub ends_none : (was : Console) (old : Option (List ℕ)) → EndsAt (Ok tt) [] was was old old
+pub ends_none : {J : Type 0} {opening : Opening} (was : Console J) (old : Option (List ℕ)) → EndsAt opening (Ok tt) [] was was old old
 ends_none was old = record {
   answered = [];
   left = [];
   parts = refl;
   leaves = refl;
   outcomes = [];
-  came = tt;
-  makes = makes_none was.seat;
+  came = refl;
   writes = Appends-nil old;
 }
 
-pub ends_unread : (was : Console) (old : Option (List ℕ)) → EndsAt (Err faults.ReadFault) [] was was old old
+pub ends_unread : {J : Type 0} {opening : Opening} (was : Console J) (old : Option (List ℕ)) → EndsAt opening (Err faults.ReadFault) [] was was old old
 ends_unread was old = record {
   answered = [];
   left = [];
   parts = refl;
   leaves = refl;
   outcomes = [];
-  came = tt;
-  makes = makes_none was.seat;
+  came = refl;
   writes = Appends-nil old;
 }
 
 -- there is no memory for more
-pub ends_memory : (lines : List (List ℕ)) (was : Console) (old : Option (List ℕ)) → EndsAt (Err faults.Memory) lines was was old old
+pub ends_memory : {J : Type 0} {opening : Opening} (lines : List (List ℕ)) (was : Console J) (old : Option (List ℕ)) → EndsAt opening (Err faults.Memory) lines was was old old
 ends_memory lines was old = record {
   answered = [];
   left = lines;
   parts = refl;
   leaves = tt;
   outcomes = [];
-  came = tt;
-  makes = makes_none was.seat;
+  came = refl;
   writes = record { first = []; untold = []; parts = refl; few = omega arith; written = Appends-nil old };
 }
 
 -- a fault leaves later lines too
-pub ends_before : (fault : OperatorFault) (lines later : List (List ℕ)) (was now : Console) (old new : Option (List ℕ)) → IsRead (Err fault)
-    → EndsAt (Err fault) lines was now old new → EndsAt (Err fault) (lines ++ later) was now old new
+pub ends_before : {J : Type 0} {opening : Opening} (fault : OperatorFault) (lines later : List (List ℕ)) (was now : Console J) (old new : Option (List ℕ)) → IsRead (Err fault)
+    → EndsAt opening (Err fault) lines was now old new → EndsAt opening (Err fault) (lines ++ later) was now old new
 ends_before faults.ReadFault lines later was now old new read e = absurd read
 ends_before faults.WriteFault lines later was now old new read e = record {
   answered = e.answered;
@@ -214,7 +179,6 @@ ends_before faults.WriteFault lines later was now old new read e = record {
   leaves = tt;
   outcomes = e.outcomes;
   came = e.came;
-  makes = e.makes;
   writes = e.writes;
 }
 ends_before faults.Memory lines later was now old new read e = record {
@@ -224,7 +188,6 @@ ends_before faults.Memory lines later was now old new read e = record {
   leaves = tt;
   outcomes = e.outcomes;
   came = e.came;
-  makes = e.makes;
   writes = e.writes;
 }
 
@@ -243,30 +206,29 @@ writes_after (Err faults.Memory) outcomes others old mid new a b = record {
   written = written_then outcomes b.first old mid new a b.written;
 }
 
-ends_after : (end : Result (Unit {0}) OperatorFault) (answered lines : List (List ℕ)) (outcomes : List Outcome) (was mid now : Console) (old between new : Option (List ℕ))
-    → CameTo was.batch was.seat.seat answered outcomes → mid.batch ≡ batch_left was.batch answered → Makes was.seat mid.seat (entries_of outcomes) (rotations_of outcomes) → Appends old between (text_of outcomes)
-    → EndsAt end lines mid now between new → EndsAt end (answered ++ lines) was now old new
-ends_after end answered lines outcomes was mid now old between new came batch makes written e = record {
+ends_after : {J : Type 0} {opening : Opening} (end : Result (Unit {0}) OperatorFault) (answered lines : List (List ℕ)) (outcomes : List Outcome) (was mid now : Console J) (old between new : Option (List ℕ))
+    → CameTo opening was.batch was.seat answered outcomes mid.seat → mid.batch ≡ batch_left was.batch answered → Appends old between (text_of outcomes)
+    → EndsAt opening end lines mid now between new → EndsAt opening end (answered ++ lines) was now old new
+ends_after {opening = opening} end answered lines outcomes was mid now old between new came batch written e = record {
   answered = answered ++ e.answered;
   left = e.left;
   parts = ap (λ (l : List (List ℕ)). answered ++ l) e.parts ∙ sym (append_assoc answered e.answered e.left);
   leaves = e.leaves;
   outcomes = outcomes ++ e.outcomes;
-  came = came_after was.batch mid.batch was.seat.seat mid.seat.seat answered outcomes e.answered e.outcomes came batch makes.seat e.came;
-  makes = makes_then was.seat mid.seat now.seat outcomes e.outcomes makes e.makes;
+  came = came_after opening was.batch mid.batch was.seat mid.seat now.seat answered outcomes e.answered e.outcomes came batch e.came;
   writes = writes_after end outcomes e.outcomes old between new written e.writes;
 }
 
-module _ (bytes left : List ℕ) (was mid : Console) (old between : Option (List ℕ)) (g : GoesOn bytes left was mid old between) where
+module _ {J : Type 0} {opening : Opening} (bytes left : List ℕ) (was mid : Console J) (old between : Option (List ℕ)) (g : GoesOn opening bytes left was mid old between) where
   -- it ends at what was left
-  pub ends_after_lines : (end : Result (Unit {0}) OperatorFault) (now : Console) (new : Option (List ℕ)) → EndsAt end (commands (lines_of left)) mid now between new
-      → EndsAt end (commands (lines_of bytes)) was now old new
+  pub ends_after_lines : (end : Result (Unit {0}) OperatorFault) (now : Console J) (new : Option (List ℕ)) → EndsAt opening end (commands (lines_of left)) mid now between new
+      → EndsAt opening end (commands (lines_of bytes)) was now old new
   ends_after_lines end now new e =
-      subst (λ (l : List (List ℕ)). EndsAt end l was now old new) (sym (commands_now bytes left was mid old between g))
-      (ends_after end g.answered (commands (lines_of left)) g.outcomes was mid now old between new g.came g.batch g.makes g.written e)
+      subst (λ (l : List (List ℕ)). EndsAt opening end l was now old new) (sym (commands_now bytes left was mid old between g))
+      (ends_after end g.answered (commands (lines_of left)) g.outcomes was mid now old between new g.came g.batch g.written e)
 
-  pub ends_after_ended : (end : Result (Unit {0}) OperatorFault) (now : Console) (new : Option (List ℕ)) → EndsAt end (commands (ended_lines left)) mid now between new
-      → EndsAt end (commands (ended_lines bytes)) was now old new
+  pub ends_after_ended : (end : Result (Unit {0}) OperatorFault) (now : Console J) (new : Option (List ℕ)) → EndsAt opening end (commands (ended_lines left)) mid now between new
+      → EndsAt opening end (commands (ended_lines bytes)) was now old new
   ends_after_ended end now new e =
-      subst (λ (l : List (List ℕ)). EndsAt end l was now old new) (sym (ended_now bytes left was mid old between g))
-      (ends_after end g.answered (commands (ended_lines left)) g.outcomes was mid now old between new g.came g.batch g.makes g.written e)
+      subst (λ (l : List (List ℕ)). EndsAt opening end l was now old new) (sym (ended_now bytes left was mid old between g))
+      (ends_after end g.answered (commands (ended_lines left)) g.outcomes was mid now old between new g.came g.batch g.written e)

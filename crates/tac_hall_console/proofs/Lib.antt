@@ -1,4 +1,5 @@
 mod LineFacts
+mod MakesFacts
 mod GoingFacts
 mod CallFacts
 mod AnswerFacts

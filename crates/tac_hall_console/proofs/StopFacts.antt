@@ -2,14 +2,16 @@
 use Rattle.std.proofs.Common.{◌≡◌, ◌<◌, ℕ, List, [], ◌∷◌, ◌++◌, length, Option, None, Result, Ok, Err, refl, sym, ap, subst, ◌∙◌, append-nil, append_assoc, length-append, arith}
 use Rattle.std.specs.Io.KnownBytes.{Appends}
 use Rattle.std.proofs.KnownBytes.{Appends-trans}
-use Rattle.tac_hall.specs.Seat.{Sitting}
+use Rattle.tac_forum.specs.History.{Opening}
+use Rattle.tac_forum.specs.Seat.{Seated}
+use Rattle.tac_hall.specs.declared.call.Call.TheVariants as calls
 use Rattle.tac_hall_console.specs.declared.answering.Console.{Console}
-use Rattle.tac_hall_console.specs.declared.answering.ConsoleSeat.{ConsoleSeat}
 use Rattle.tac_hall_console.specs.declared.fault.OperatorFault.{OperatorFault}
 use Rattle.tac_hall_console.specs.declared.fault.OperatorFault.TheVariants as faults
-use Rattle.tac_hall_console.specs.Operated.{Outcome, noticed, made, rotated, refused, told, text_of, WritesBeginning, Wants, begins, IsOperated}
+use Rattle.tac_hall_console.specs.Operated.{Outcome, CameTo, StopComesTo, Makes, entries_of, rotations_of, noticed, made, rotated, refused, told, text_of, WritesBeginning, Wants, IsOperated}
 use Rattle.tac_hall_console.specs.Operating.{IsRefusal, Stops, IsHeard}
-use Rattle.tac_hall_console.proofs.GoingFacts.{makes_then, text_append, text_one, written_then, beginning_then}
+use Rattle.tac_hall_console.proofs.MakesFacts.{makes_then, call_makes, came_makes}
+use Rattle.tac_hall_console.proofs.GoingFacts.{text_append, text_one, written_then, beginning_then}
 
 -- nothing is wanted of a Stop that was refused
 wants_refused : (input : List ℕ) (stop : Outcome) → IsRefusal stop → Wants (Err faults.Memory) input stop
@@ -34,9 +36,14 @@ beginning_of_more outcomes stop old new b = record {
   written = b.written;
 }
 
-module _ (seat : Sitting) (was mid : Console) (now : ConsoleSeat) (before after old between new : Option (List ℕ)) (first : was.seat ≡ begins seat) (closed : was.batch ≡ None) where
+module _ {J : Type 0} (opening : Opening) (was mid : Console J) (now : Seated) (before after old between new : Option (List ℕ)) (closed : was.batch ≡ None) where
+  makes_all : (answered : List (List ℕ)) (outcomes : List Outcome) (stop : Outcome) → CameTo opening was.batch was.seat answered outcomes mid.seat → StopComesTo opening mid.seat stop now
+      → Makes was.seat now (entries_of (outcomes ++ stop ∷ [])) (rotations_of (outcomes ++ stop ∷ []))
+  makes_all answered outcomes stop came stops =
+      makes_then was.seat mid.seat now outcomes (stop ∷ []) (came_makes opening was.batch was.seat mid.seat answered outcomes came) (call_makes opening mid.seat now calls.Stop stop stops)
+
   -- the lines were answered, and what came of the Stop is told
-  told_stop : (end : Result (Unit {0}) OperatorFault) → IsHeard (Ok tt) was mid before after old between → Stops (Ok tt) end mid.seat now between new → IsOperated end seat now before after old new
+  told_stop : (end : Result (Unit {0}) OperatorFault) → IsHeard opening (Ok tt) was mid before after old between → Stops opening (Ok tt) end mid.seat now between new → IsOperated opening end was.seat now before after old new
   told_stop (Ok u) h s = record {
     input = h.input;
     read = h.read;
@@ -47,12 +54,12 @@ module _ (seat : Sitting) (was mid : Console) (now : ConsoleSeat) (before after 
     leaves = h.ends.leaves;
     whole = h.whole;
     outcomes = h.ends.outcomes;
-    came = rw (closed, first) at h.ends.came;
+    mid = mid.seat;
+    came = rw closed at h.ends.came;
     stop = s.stop;
-    stops = rw (h.ends.makes.seat, first) at s.came.comes;
+    stops = s.came;
     wants = tt;
-    found = s.ends.2;
-    makes = makes_then (begins seat) mid.seat now h.ends.outcomes (s.stop ∷ []) (rw first at h.ends.makes) s.came.makes;
+    makes = makes_all h.ends.answered h.ends.outcomes s.stop h.ends.came s.came;
     writes = written_then h.ends.outcomes (s.stop ∷ []) old between new h.ends.writes (subst (Appends between new) (sym (text_one s.stop)) s.ends.0);
   }
   told_stop (Err faults.ReadFault) h s = absurd s.ends.0
@@ -66,12 +73,12 @@ module _ (seat : Sitting) (was mid : Console) (now : ConsoleSeat) (before after 
     leaves = tt;
     whole = h.whole;
     outcomes = h.ends.outcomes;
-    came = rw (closed, first) at h.ends.came;
+    mid = mid.seat;
+    came = rw closed at h.ends.came;
     stop = s.stop;
-    stops = rw (h.ends.makes.seat, first) at s.came.comes;
+    stops = s.came;
     wants = tt;
-    found = tt;
-    makes = makes_then (begins seat) mid.seat now h.ends.outcomes (s.stop ∷ []) (rw first at h.ends.makes) s.came.makes;
+    makes = makes_all h.ends.answered h.ends.outcomes s.stop h.ends.came s.came;
     writes = subst (λ (t : List ℕ). WritesBeginning t old new)
         (ap (λ (t : List ℕ). text_of h.ends.outcomes ++ t) (sym (text_one s.stop)) ∙ sym (text_append h.ends.outcomes (s.stop ∷ [])))
         (beginning_then h.ends.outcomes (told s.stop) old between new h.ends.writes s.ends.0);
@@ -86,12 +93,12 @@ module _ (seat : Sitting) (was mid : Console) (now : ConsoleSeat) (before after 
     leaves = tt;
     whole = h.whole;
     outcomes = h.ends.outcomes;
-    came = rw (closed, first) at h.ends.came;
+    mid = mid.seat;
+    came = rw closed at h.ends.came;
     stop = s.stop;
-    stops = rw (h.ends.makes.seat, first) at s.came.comes;
+    stops = s.came;
     wants = wants_refused h.input s.stop (s.ends.1 refl);
-    found = tt;
-    makes = makes_then (begins seat) mid.seat now h.ends.outcomes (s.stop ∷ []) (rw first at h.ends.makes) s.came.makes;
+    makes = makes_all h.ends.answered h.ends.outcomes s.stop h.ends.came s.came;
     writes = record {
       first = h.ends.outcomes;
       untold = [];
@@ -102,7 +109,7 @@ module _ (seat : Sitting) (was mid : Console) (now : ConsoleSeat) (before after 
   }
 
   -- the console failed before
-  untold_stop : (fault : OperatorFault) → IsHeard (Err fault) was mid before after old between → Stops (Err fault) (Err fault) mid.seat now between between → IsOperated (Err fault) seat now before after old between
+  untold_stop : (fault : OperatorFault) → IsHeard opening (Err fault) was mid before after old between → Stops opening (Err fault) (Err fault) mid.seat now between between → IsOperated opening (Err fault) was.seat now before after old between
   untold_stop faults.ReadFault h s = record {
     input = h.input;
     read = h.read;
@@ -113,12 +120,12 @@ module _ (seat : Sitting) (was mid : Console) (now : ConsoleSeat) (before after 
     leaves = h.ends.leaves;
     whole = h.whole;
     outcomes = h.ends.outcomes;
-    came = rw (closed, first) at h.ends.came;
+    mid = mid.seat;
+    came = rw closed at h.ends.came;
     stop = s.stop;
-    stops = rw (h.ends.makes.seat, first) at s.came.comes;
+    stops = s.came;
     wants = tt;
-    found = tt;
-    makes = makes_then (begins seat) mid.seat now h.ends.outcomes (s.stop ∷ []) (rw first at h.ends.makes) s.came.makes;
+    makes = makes_all h.ends.answered h.ends.outcomes s.stop h.ends.came s.came;
     writes = h.ends.writes;
   }
   untold_stop faults.WriteFault h s = record {
@@ -131,12 +138,12 @@ module _ (seat : Sitting) (was mid : Console) (now : ConsoleSeat) (before after 
     leaves = tt;
     whole = h.whole;
     outcomes = h.ends.outcomes;
-    came = rw (closed, first) at h.ends.came;
+    mid = mid.seat;
+    came = rw closed at h.ends.came;
     stop = s.stop;
-    stops = rw (h.ends.makes.seat, first) at s.came.comes;
+    stops = s.came;
     wants = tt;
-    found = tt;
-    makes = makes_then (begins seat) mid.seat now h.ends.outcomes (s.stop ∷ []) (rw first at h.ends.makes) s.came.makes;
+    makes = makes_all h.ends.answered h.ends.outcomes s.stop h.ends.came s.came;
     writes = beginning_of_more h.ends.outcomes s.stop old between h.ends.writes;
   }
   untold_stop faults.Memory h s = record {
@@ -149,16 +156,16 @@ module _ (seat : Sitting) (was mid : Console) (now : ConsoleSeat) (before after 
     leaves = tt;
     whole = h.whole;
     outcomes = h.ends.outcomes;
-    came = rw (closed, first) at h.ends.came;
+    mid = mid.seat;
+    came = rw closed at h.ends.came;
     stop = s.stop;
-    stops = rw (h.ends.makes.seat, first) at s.came.comes;
+    stops = s.came;
     wants = wants_some h.input s.stop (h.wants refl);
-    found = tt;
-    makes = makes_then (begins seat) mid.seat now h.ends.outcomes (s.stop ∷ []) (rw first at h.ends.makes) s.came.makes;
+    makes = makes_all h.ends.answered h.ends.outcomes s.stop h.ends.came s.came;
     writes = h.ends.writes;
   }
 
   -- the whole console
-  pub operated : (heard end : Result (Unit {0}) OperatorFault) → IsHeard heard was mid before after old between → Stops heard end mid.seat now between new → IsOperated end seat now before after old new
+  pub operated : (heard end : Result (Unit {0}) OperatorFault) → IsHeard opening heard was mid before after old between → Stops opening heard end mid.seat now between new → IsOperated opening end was.seat now before after old new
   operated (Ok u) end h s = told_stop end h s
   operated (Err fault) end h s = rw (s.ends.0, s.ends.1) (untold_stop fault h (rw (s.ends.0, s.ends.1) at s))

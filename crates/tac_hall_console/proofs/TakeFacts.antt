@@ -1,6 +1,7 @@
 -- The lines of a piece.
 use Rattle.std.proofs.Common.{◌≡◌, ◌<◌, ℕ, zero, suc, eqb, eqb-true, length, Bool, true, false, List, [], ◌∷◌, ◌++◌, Option, None, Some, Result, Ok, Err, IsErrAnd, refl, sym, ap, subst, ◌∙◌, arith}
 use Rattle.basics.specs.Lines.{split_at_first, lines_of}
+use Rattle.tac_forum.specs.History.{Opening}
 use Rattle.tac_hall_console.specs.declared.answering.Console.{Console}
 use Rattle.tac_hall_console.specs.declared.fault.OperatorFault.{OperatorFault}
 use Rattle.tac_hall_console.specs.declared.fault.OperatorFault.TheVariants as faults
@@ -12,15 +13,15 @@ use Rattle.tac_hall_console.proofs.LineFacts.{split_after, open_more, ended_spli
 use Rattle.tac_hall_console.proofs.GoingFacts.{goes_then, goes_line, quits_now, ends_none, ends_memory, ends_before, ends_after_ended}
 
 -- what of a piece was gone through, where this has begun of a line and this is the rest
-module _ (start piece begun rest : List ℕ) (was mid : Console) (old between : Option (List ℕ)) (g : GoesOn (start ++ piece) (begun ++ rest) was mid old between) where
+module _ {J : Type 0} {opening : Opening} (start piece begun rest : List ℕ) (was mid : Console J) (old between : Option (List ℕ)) (g : GoesOn opening (start ++ piece) (begun ++ rest) was mid old between) where
   -- there is no memory for the line
-  pub took_memory : (result : Result Went OperatorFault) (next : List ℕ) → IsErrAnd result (λ fault. fault ≡ faults.Memory) → Took result start piece next was mid old between
+  pub took_memory : (result : Result Went OperatorFault) (next : List ℕ) → IsErrAnd result (λ fault. fault ≡ faults.Memory) → Took opening result start piece next was mid old between
   took_memory (Ok went) next is = absurd is
   took_memory (Err fault) next is =
       rw is (tt, ends_after_ended (start ++ piece) (begun ++ rest) was mid old between g (Err faults.Memory) mid between (ends_memory (commands (ended_lines (begun ++ rest))) mid between))
 
   -- no line ends in the rest
-  pub took_on : (next : List ℕ) → next ≡ begun ++ rest → IsOpen begun → split_at_first 10 rest ≡ None → Took (Ok On) start piece next was mid old between
+  pub took_on : (next : List ℕ) → next ≡ begun ++ rest → IsOpen begun → split_at_first 10 rest ≡ None → Took opening (Ok On) start piece next was mid old between
   took_on next is opens none = rw is (open_more begun rest opens none, g)
 
   module _ (front after : List ℕ) (opens : IsOpen begun) (parts : split_at_first 10 rest ≡ Some (front, after)) where
@@ -28,33 +29,33 @@ module _ (start piece begun rest : List ℕ) (was mid : Console) (old between : 
     whole = split_after begun rest front after opens parts
 
     -- the line that ends there is `quit`
-    pub took_quit : (next : List ℕ) → is_quit (begun ++ front) ≡ true → Took (Ok Quits) start piece next was mid old between
+    pub took_quit : (next : List ℕ) → is_quit (begun ++ front) ≡ true → Took opening (Ok Quits) start piece next was mid old between
     took_quit next quit = (
       quits_now (start ++ piece) (begun ++ rest) was mid old between g ∙ ap quits (ended_split (begun ++ rest) (begun ++ front) after whole) ∙ quits_here (begun ++ front) (ended_lines after) quit,
       ends_after_ended (start ++ piece) (begun ++ rest) was mid old between g (Ok tt) mid between
-          (subst (λ (l : List (List ℕ)). EndsAt (Ok tt) l mid mid between between)
+          (subst (λ (l : List (List ℕ)). EndsAt opening (Ok tt) l mid mid between between)
           (sym (ap commands (ended_split (begun ++ rest) (begun ++ front) after whole) ∙ no_command (begun ++ front) (ended_lines after) quit))
           (ends_none mid between)),
     )
 
-    module _ (other : is_quit (begun ++ front) ≡ false) (now : Console) (new : Option (List ℕ)) where
+    module _ (other : is_quit (begun ++ front) ≡ false) (now : Console J) (new : Option (List ℕ)) where
       -- it is answered
-      pub took_line : Answers (Ok tt) (begun ++ front) mid now between new → GoesOn (start ++ piece) after was now old new
+      pub took_line : Answers opening (Ok tt) (begun ++ front) mid now between new → GoesOn opening (start ++ piece) after was now old new
       took_line a =
           goes_then (start ++ piece) (begun ++ rest) was mid old between g after now new (goes_line (begun ++ rest) (begun ++ front) after mid now between new whole other a.1 a.2)
 
       -- it fails there
-      pub took_fault : (fault : OperatorFault) (next : List ℕ) → Answers (Err fault) (begun ++ front) mid now between new → Took (Err fault) start piece next was now old new
+      pub took_fault : (fault : OperatorFault) (next : List ℕ) → Answers opening (Err fault) (begun ++ front) mid now between new → Took opening (Err fault) start piece next was now old new
       took_fault fault next a = (
         a.0,
         ends_after_ended (start ++ piece) (begun ++ rest) was mid old between g (Err fault) now new
-            (subst (λ (l : List (List ℕ)). EndsAt (Err fault) l mid now between new)
+            (subst (λ (l : List (List ℕ)). EndsAt opening (Err fault) l mid now between new)
             (sym (ap commands (ended_split (begun ++ rest) (begun ++ front) after whole) ∙ command_first (begun ++ front) (ended_lines after) other))
             (ends_before fault ((begun ++ front) ∷ []) (commands (ended_lines after)) mid now between new a.0 a.2)),
       )
 
-      pub took_fault_as : (result : Result Went OperatorFault) (fault : OperatorFault) (next : List ℕ) → IsErrAnd result (λ end. end ≡ fault) → Answers (Err fault) (begun ++ front) mid now between new
-          → Took result start piece next was now old new
+      pub took_fault_as : (result : Result Went OperatorFault) (fault : OperatorFault) (next : List ℕ) → IsErrAnd result (λ end. end ≡ fault) → Answers opening (Err fault) (begun ++ front) mid now between new
+          → Took opening result start piece next was now old new
       took_fault_as (Ok went) fault next is a = absurd is
       took_fault_as (Err same) fault next is a = rw is (took_fault fault next a)
 
@@ -81,5 +82,5 @@ last_line [] some opens other = absurd (omega arith)
 last_line (byte ∷ bytes) some opens other = ap commands (lines_open byte bytes opens) ∙ command_first (byte ∷ bytes) [] other
 
 -- the input ends there
-pub ends_last_none : (begun : List ℕ) (was : Console) (old : Option (List ℕ)) → commands (lines_of begun) ≡ [] → EndsAt (Ok tt) (commands (lines_of begun)) was was old old
+pub ends_last_none : {J : Type 0} {opening : Opening} (begun : List ℕ) (was : Console J) (old : Option (List ℕ)) → commands (lines_of begun) ≡ [] → EndsAt opening (Ok tt) (commands (lines_of begun)) was was old old
 ends_last_none begun was old none = rw none (ends_none was old)

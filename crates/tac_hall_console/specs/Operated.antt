@@ -1,5 +1,5 @@
--- What was done at the console of a hall (docs/CONSOLE.md, "The console of a hall").
-use Rattle.std.specs.Prelude.{◌≡◌, ◌≢◌, ◌<◌, ◌≤◌, ◌⊎◌, ℕ, suc, List, [], ◌∷◌, ◌++◌, length, codes, false}
+-- What was done at the console of a shared desk (docs/CONSOLE.md, "The console of `tacd serve`").
+use Rattle.std.specs.Prelude.{◌≡◌, ◌<◌, ◌≤◌, ◌⊎◌, ℕ, List, [], ◌∷◌, ◌++◌, length, codes, false}
 use Rattle.std.specs.Prelude.{Option, Some, None, Result, Ok, Err, flat_map, filter_map, MatchBool}
 use Rattle.std.specs.Prelude.{if◌then◌else◌}
 use Rattle.std.specs.Fmt.{decimal}
@@ -12,43 +12,32 @@ use Rattle.tac_console.specs.ConsoleText.{asked_by}
 use Rattle.tac_console.specs.declared.batching.Action.{Action}
 use Rattle.tac_console.specs.declared.batching.Action.TheVariants as actions
 use Rattle.tac_console.specs.declared.batching.Notice.{Notice}
+use Rattle.tac_forum.specs.History.{Opening}
+use Rattle.tac_forum.specs.History as history
+use Rattle.tac_forum.specs.Seat.{Seated, IsMade, IsRefused, IsRotated, IsUnrotated}
+use Rattle.tac_forum.specs.declared.limits.Rotated.{Rotated}
 use Rattle.tac_hall.specs.declared.call.Call.{Call}
 use Rattle.tac_hall.specs.declared.call.Call.TheVariants as calls
 use Rattle.tac_hall.specs.declared.call.CallAnswer.{CallAnswer}
 use Rattle.tac_hall.specs.declared.call.CallAnswer.TheVariants as answers
 use Rattle.tac_hall.specs.declared.entry.Made.{Made}
+use Rattle.tac_hall.specs.declared.entry.Receipt.{Receipt}
 use Rattle.tac_hall.specs.declared.fault.HallFault.{HallFault}
-use Rattle.tac_hall.specs.declared.fault.HallFault.TheVariants as hall
 use Rattle.tac_hall.specs.FaultText.{fault_text}
-use Rattle.tac_hall.specs.History.{IsOfKind}
-use Rattle.tac_hall.specs.Seat.{Sitting, IsRefused}
-use Rattle.tac_chain.specs.declared.chain.Rotated.{Rotated}
-use Rattle.tac_chain.specs.Chain.{Chained, IsChained}
-use Rattle.tac_chain.specs.Keeping.{IsKept, IsUnkept}
-use Rattle.tac_hall_console.specs.declared.answering.ConsoleSeat.{ConsoleSeat}
+use Rattle.tac_hall.specs.Seat.{made_of}
 use Rattle.tac_hall_console.specs.declared.fault.OperatorFault.{OperatorFault}
 use Rattle.tac_hall_console.specs.declared.fault.OperatorFault.TheVariants as faults
 use Rattle.tac_hall_console.specs.Commands.{ended_lines, is_rotate, commands, quits}
 
 -- ---- a line
 
--- what came of a line: a notice without a call, or the hall took its call, or its log was taken out
--- and kept, or it refused the one or the other
+-- what came of a line: a notice without a call, or its call was made, or the present segment was
+-- ended, or the one or the other was refused
 pub data Outcome : Type 0 where
   noticed : Notice → Outcome
   made : Made → Outcome
   rotated : Rotated → Outcome
   refused : HallFault → Outcome
-
--- the seat after these calls
-abbrev pub seat_after : Sitting → List Made → Sitting
-seat_after seat [] = seat
-seat_after seat (entry ∷ entries) = seat_after (record {
-  number = seat.number;
-  segment = entry.segment;
-  next = suc entry.place;
-  view = seat.view ++ entry ∷ [];
-}) entries
 
 -- what a view has of it
 abbrev pub entry_of : Outcome → Option Made
@@ -60,48 +49,40 @@ entry_of (refused fault) = None
 abbrev pub entries_of : List Outcome → List Made
 entries_of outcomes = filter_map entry_of outcomes
 
--- a call of this seat that was taken is the one that was asked for, and its answer is of its kind;
--- one that was refused was refused so
-abbrev pub CallsFor : Sitting → Call → Outcome → Type 0
-CallsFor seat call (noticed notice) = ⊥
-CallsFor seat call (made entry) = (entry.call ≡ call) × IsOfKind call entry.answer
-CallsFor seat call (rotated rotation) = ⊥
-CallsFor seat call (refused fault) = IsRefused seat call fault
+-- this call was made by the seat, after whatever others did, or it was refused so, and nothing done
+abbrev pub CallsFor : Opening → Seated → Call → Outcome → Seated → Type 0
+CallsFor opening was call (noticed notice) now = ⊥
+CallsFor opening was call (made entry) now =
+    (receipt : Receipt) × (entry ≡ made_of call receipt) × IsMade opening was call receipt now
+CallsFor opening was call (rotated rotation) now = ⊥
+CallsFor opening was call (refused fault) now = IsRefused opening was call fault × (now ≡ was)
 
 -- the edits of a batch are one call, and only a notice makes none
-abbrev pub ComesTo : Sitting → Action → Outcome → Type 0
-ComesTo seat (actions.Edit edit) = CallsFor seat (calls.Edit edit)
-ComesTo seat (actions.Commit edits) = CallsFor seat (calls.Batch edits)
-ComesTo seat (actions.Query query) = CallsFor seat (calls.Query query)
-ComesTo seat (actions.Tell notice) = λ outcome. outcome ≡ noticed notice
+abbrev pub ComesTo : Opening → Seated → Action → Outcome → Seated → Type 0
+ComesTo opening was (actions.Edit edit) = CallsFor opening was (calls.Edit edit)
+ComesTo opening was (actions.Commit edits) = CallsFor opening was (calls.Batch edits)
+ComesTo opening was (actions.Query query) = CallsFor opening was (calls.Query query)
+ComesTo opening was (actions.Tell notice) =
+    λ outcome now. (outcome ≡ noticed notice) × (now ≡ was)
 
--- of some chain a rotation wasn't kept, for this reason
-abbrev pub IsUnrotated : HallFault → Type 0
-IsUnrotated fault =
-    (chain : Chained) × IsChained chain.logs chain.ends × IsUnkept chain fault
+-- the seat ended the segment that is told of, after whatever others did, or that was refused so,
+-- and nothing done
+abbrev pub IsRotation : Opening → Seated → Outcome → Seated → Type 0
+IsRotation opening was (noticed notice) now = ⊥
+IsRotation opening was (made entry) now = ⊥
+IsRotation opening was (rotated rotation) now = IsRotated was rotation now
+IsRotation opening was (refused fault) now = IsUnrotated opening was fault × (now ≡ was)
 
--- the log that is told of follows those of some chain, and stands after them from then on
-abbrev pub IsRotation : Outcome → Type 0
-IsRotation (noticed notice) = ⊥
-IsRotation (made entry) = ⊥
-IsRotation (rotated rotation) =
-    (was : Chained) × (now : Chained) × IsChained was.logs was.ends × IsKept was rotation now
-IsRotation (refused fault) = IsUnrotated fault
+-- what may come of a line at a console with this batch and seat, and the seat after it: `rotate` is
+-- no line of a desk's console
+abbrev pub LineComesTo : Opening → Option (List Edit) → Seated → List ℕ → Outcome → Seated → Type 0
+LineComesTo opening batch was line outcome now =
+    MatchBool (is_rotate line) (IsRotation opening was outcome now)
+    (ComesTo opening was (action_of batch (asked_by line)) outcome now)
 
--- a Stop was made by this seat, or refused so; or it was refused since the log was full, and that
--- couldn't be taken out
-abbrev pub StopComesTo : Sitting → Outcome → Type 0
-StopComesTo seat (refused fault) =
-    IsRefused seat calls.Stop fault
-    ⊎ (IsRefused seat calls.Stop hall.LogFull × IsUnrotated fault)
-StopComesTo seat outcome = CallsFor seat calls.Stop outcome
-
--- what may come of a line at a console with this batch and seat: `rotate` is no line of a desk's
--- console
-abbrev pub LineComesTo : Option (List Edit) → Sitting → List ℕ → Outcome → Type 0
-LineComesTo batch seat line outcome =
-    MatchBool (is_rotate line) (IsRotation outcome)
-    (ComesTo seat (action_of batch (asked_by line)) outcome)
+-- the Stop is one call
+abbrev pub StopComesTo : Opening → Seated → Outcome → Seated → Type 0
+StopComesTo opening was outcome now = CallsFor opening was calls.Stop outcome now
 
 -- the batch that the line leaves
 abbrev pub batch_by : Option (List Edit) → List ℕ → Option (List Edit)
@@ -132,14 +113,16 @@ told (refused fault) = refusal_line fault
 
 -- ---- lines, one after another
 
--- what came of each, if before the first this batch is open, and the seat is this
-abbrev pub CameTo : Option (List Edit) → Sitting → List (List ℕ) → List Outcome → Type 0
-CameTo batch seat [] [] = Unit {0}
-CameTo batch seat [] (outcome ∷ outcomes) = ⊥
-CameTo batch seat (line ∷ lines) [] = ⊥
-CameTo batch seat (line ∷ lines) (outcome ∷ outcomes) =
-    LineComesTo batch seat line outcome
-    × CameTo (batch_by batch line) (seat_after seat (entries_of (outcome ∷ []))) lines outcomes
+-- what came of each, if before the first this batch is open, and the seat is this; and the seat
+-- after the last
+abbrev pub CameTo : Opening → Option (List Edit) → Seated → List (List ℕ) → List Outcome → Seated
+    → Type 0
+CameTo opening batch was [] [] now = now ≡ was
+CameTo opening batch was [] (outcome ∷ outcomes) now = ⊥
+CameTo opening batch was (line ∷ lines) [] now = ⊥
+CameTo opening batch was (line ∷ lines) (outcome ∷ outcomes) now =
+    (mid : Seated) × LineComesTo opening batch was line outcome mid
+    × CameTo opening (batch_by batch line) mid lines outcomes now
 
 abbrev pub text_of : List Outcome → List ℕ
 text_of outcomes = flat_map told outcomes
@@ -154,16 +137,13 @@ rotation_of (refused fault) = None
 abbrev pub rotations_of : List Outcome → List Rotated
 rotations_of outcomes = filter_map rotation_of outcomes
 
--- these calls were made, one after another, and no others; and these rotations are remembered
-pub record Makes (was now : ConsoleSeat) (entries : List Made) (kept : List Rotated) : Type 0 where
-  pub number : now.seat.number ≡ was.seat.number
-  pub view : now.seat.view ≡ was.seat.view ++ entries
-  pub seat : now.seat ≡ seat_after was.seat entries
-  pub rotations : now.rotations ≡ was.rotations ++ kept
-
--- a seat of which no rotation is remembered yet
-abbrev pub begins : Sitting → ConsoleSeat
-begins seat = record { seat = seat; rotations = [] }
+-- of the seat there are these calls more, in this order, and no others; and these rotations
+pub record Makes (was now : Seated) (entries : List Made) (kept : List Rotated) : Type 0 where
+  pub number : now.number ≡ was.number
+  pub view : history.view_of was.number now.seen
+      ≡ history.view_of was.number was.seen ++ entries
+  pub rotations : history.rotations_of was.number now.seen
+      ≡ history.rotations_of was.number was.seen ++ kept
 
 -- ---- what was written
 
@@ -226,20 +206,11 @@ abbrev pub Wants : Result (Unit {0}) OperatorFault → List ℕ → Outcome → 
 Wants (Err faults.Memory) input (made entry) = 0 < length input
 Wants end input stop = Unit {0}
 
--- a console that ended well had memory for its Stop
-abbrev pub HasFound : Result (Unit {0}) OperatorFault → Outcome → Type 0
-HasFound (Ok _) (noticed notice) = Unit {0}
-HasFound (Ok _) (made entry) = Unit {0}
-HasFound (Ok _) (rotated rotation) = Unit {0}
-HasFound (Ok _) (refused fault) = fault ≢ hall.Memory
-HasFound (Err fault) stop = Unit {0}
-
 -- the lines of what was read up to the first `quit` were answered, one after another, by calls of
 -- this seat, and then it made the Stop; at first no batch is open. A line without its LF is
--- answered only where nothing is left of the input. Where the log was full at the Stop, what came
--- of that may be that it couldn't be taken out
-pub record IsOperated (end : Result (Unit {0}) OperatorFault) (was : Sitting) (now : ConsoleSeat)
-    (before after old new : Option (List ℕ)) : Type 0 where
+-- answered only where nothing is left of the input
+pub record IsOperated (opening : Opening) (end : Result (Unit {0}) OperatorFault)
+    (was now : Seated) (before after old new : Option (List ℕ)) : Type 0 where
   pub input : List ℕ
   pub read : Consumes before after input
   pub finishes : Finishes end input after
@@ -249,11 +220,11 @@ pub record IsOperated (end : Result (Unit {0}) OperatorFault) (was : Sitting) (n
   pub leaves : Leaves end left
   pub whole : HaveEnded input answered ⊎ IsAtEnd after
   pub outcomes : List Outcome
-  pub came : CameTo None was answered outcomes
+  pub mid : Seated
+  pub came : CameTo opening None was answered outcomes mid
   pub stop : Outcome
-  pub stops : StopComesTo (seat_after was (entries_of outcomes)) stop
+  pub stops : StopComesTo opening mid stop now
   pub wants : Wants end input stop
-  pub found : HasFound end stop
-  pub makes : Makes (begins was) now
+  pub makes : Makes was now
       (entries_of (outcomes ++ stop ∷ [])) (rotations_of (outcomes ++ stop ∷ []))
   pub writes : Writes end outcomes stop old new

@@ -4,8 +4,9 @@ use Rattle.std.specs.Prelude.{Option, None, Result, Ok, Err}
 use Rattle.std.specs.Io.KnownBytes.{Appends, Consumes, IsAtEnd}
 use Rattle.basics.specs.Lines.{split_at_first, lines_of}
 use Rattle.pol_edit.specs.declared.edit.Edit.{Edit}
+use Rattle.tac_forum.specs.History.{Opening}
+use Rattle.tac_forum.specs.Seat.{Seated}
 use Rattle.tac_hall_console.specs.declared.answering.Console.{Console}
-use Rattle.tac_hall_console.specs.declared.answering.ConsoleSeat.{ConsoleSeat}
 use Rattle.tac_hall_console.specs.declared.fault.OperatorFault.{OperatorFault}
 use Rattle.tac_hall_console.specs.declared.fault.OperatorFault.TheVariants as faults
 use Rattle.tac_hall_console.specs.declared.operator.Went.{Went}
@@ -13,30 +14,24 @@ use Rattle.tac_hall_console.specs.declared.operator.Went.TheVariants.{On, Quits}
 use Rattle.tac_hall_console.specs.Commands.{ended_lines, commands, quits}
 use Rattle.tac_hall_console.specs.Operated.{Outcome, noticed, made, rotated, refused, StopComesTo}
 use Rattle.tac_hall_console.specs.Operated.{batch_by, CameTo, told, text_of}
-use Rattle.tac_hall_console.specs.Operated.{entries_of, rotations_of, Makes}
 use Rattle.tac_hall_console.specs.Operated.{WritesBeginning, WritesMost}
-use Rattle.tac_hall_console.specs.Operated.{lines_at, HaveEnded, Leaves, Finishes, HasFound}
+use Rattle.tac_hall_console.specs.Operated.{lines_at, HaveEnded, Leaves, Finishes}
 
 -- ---- one line
 
--- of what may come of a line or a call this came, and the seat made its call, if it has one
-pub record Comes (may : Outcome → Type 0) (outcome : Outcome) (was now : ConsoleSeat) : Type 0 where
-  pub comes : may outcome
-  pub makes : Makes was now (entries_of (outcome ∷ [])) (rotations_of (outcome ∷ []))
-
--- it had a result, which this text tells
-pub record Tells (may : Outcome → Type 0) (was now : ConsoleSeat) (text : List ℕ) : Type 0 where
+-- of what may come of a line or a call this came, with this seat after it, and this text tells it
+pub record Tells (may : Outcome → Seated → Type 0) (now : Seated) (text : List ℕ) : Type 0 where
   pub outcome : Outcome
-  pub came : Comes may outcome was now
+  pub came : may outcome now
   pub is : text ≡ told outcome
 
 -- the same, where the text is added to another
-abbrev pub Adds : (Outcome → Type 0) → ConsoleSeat → ConsoleSeat → List ℕ → List ℕ → Type 0
-Adds may was now old new = (text : List ℕ) × (new ≡ old ++ text) × Tells may was now text
+abbrev pub Adds : (Outcome → Seated → Type 0) → Seated → List ℕ → List ℕ → Type 0
+Adds may now old new = (text : List ℕ) × (new ≡ old ++ text) × Tells may now text
 
--- memory ran out: it had no result, or the result isn't told
-abbrev pub IsUntold : (Outcome → Type 0) → ConsoleSeat → ConsoleSeat → Type 0
-IsUntold may was now = (now ≡ was) ⊎ ((outcome : Outcome) × Comes may outcome was now)
+-- memory ran out: nothing came of it, or what came isn't told
+abbrev pub IsUntold : (Outcome → Seated → Type 0) → Seated → Seated → Type 0
+IsUntold may was now = (now ≡ was) ⊎ ((outcome : Outcome) × may outcome now)
 
 -- a text was written, or a beginning of it
 abbrev pub Sends : Result (Unit {0}) OperatorFault → List ℕ → Option (List ℕ) → Option (List ℕ)
@@ -62,10 +57,24 @@ batch_left batch (line ∷ lines) = batch_left (batch_by batch line) lines
 abbrev pub IsOpen : List ℕ → Type 0
 IsOpen bytes = split_at_first 10 bytes ≡ None
 
--- these bytes were gone through up to what is left of them: whatever comes later, the lines that
--- ended before that were answered, and the later ones are the lines of what is left
-pub record GoesOn (bytes left : List ℕ) (was now : Console) (old new : Option (List ℕ)) : Type 0
-  where
+-- what came of the lines so far was written, or as much of it as a fault allows
+abbrev pub WritesTo : Result (Unit {0}) OperatorFault → List Outcome → Option (List ℕ)
+    → Option (List ℕ) → Type 0
+WritesTo (Ok _) outcomes old new = Appends old new (text_of outcomes)
+WritesTo (Err faults.ReadFault) outcomes old new = Appends old new (text_of outcomes)
+WritesTo (Err faults.WriteFault) outcomes old new = WritesBeginning (text_of outcomes) old new
+WritesTo (Err faults.Memory) outcomes old new = WritesMost outcomes old new
+
+-- reading isn't what failed
+abbrev pub IsRead : Result (Unit {0}) OperatorFault → Type 0
+IsRead (Err faults.ReadFault) = ⊥
+IsRead end = Unit {0}
+
+module _ {J : Type 0} where
+  -- these bytes were gone through up to what is left of them: whatever comes later, the lines that
+  -- ended before that were answered, and the later ones are the lines of what is left
+  pub record GoesOn (opening : Opening) (bytes left : List ℕ) (was now : Console J)
+      (old new : Option (List ℕ)) : Type 0 where
     pub answered : List (List ℕ)
     pub lines : (more : List ℕ)
         → commands (lines_of (bytes ++ more)) ≡ answered ++ commands (lines_of (left ++ more))
@@ -75,84 +84,72 @@ pub record GoesOn (bytes left : List ℕ) (was now : Console) (old new : Option 
         → quits (ended_lines (bytes ++ more)) ≡ quits (ended_lines (left ++ more))
     pub within : length left ≤ length bytes
     pub outcomes : List Outcome
-    pub came : CameTo was.batch was.seat.seat answered outcomes
+    pub came : CameTo opening was.batch was.seat answered outcomes now.seat
     pub batch : now.batch ≡ batch_left was.batch answered
-    pub makes : Makes was.seat now.seat (entries_of outcomes) (rotations_of outcomes)
     pub written : Appends old new (text_of outcomes)
 
--- what came of the lines so far was written, or as much of it as a fault allows
-abbrev pub WritesTo : Result (Unit {0}) OperatorFault → List Outcome → Option (List ℕ)
-    → Option (List ℕ) → Type 0
-WritesTo (Ok _) outcomes old new = Appends old new (text_of outcomes)
-WritesTo (Err faults.ReadFault) outcomes old new = Appends old new (text_of outcomes)
-WritesTo (Err faults.WriteFault) outcomes old new = WritesBeginning (text_of outcomes) old new
-WritesTo (Err faults.Memory) outcomes old new = WritesMost outcomes old new
+  -- of these commands the first were answered, and it ends
+  pub record EndsAt (opening : Opening) (end : Result (Unit {0}) OperatorFault)
+      (lines : List (List ℕ)) (was now : Console J) (old new : Option (List ℕ)) : Type 0 where
+    pub answered : List (List ℕ)
+    pub left : List (List ℕ)
+    pub parts : lines ≡ answered ++ left
+    pub leaves : Leaves end left
+    pub outcomes : List Outcome
+    pub came : CameTo opening was.batch was.seat answered outcomes now.seat
+    pub writes : WritesTo end outcomes old new
 
--- of these commands the first were answered, and it ends
-pub record EndsAt (end : Result (Unit {0}) OperatorFault) (lines : List (List ℕ))
-    (was now : Console) (old new : Option (List ℕ)) : Type 0 where
-  pub answered : List (List ℕ)
-  pub left : List (List ℕ)
-  pub parts : lines ≡ answered ++ left
-  pub leaves : Leaves end left
-  pub outcomes : List Outcome
-  pub came : CameTo was.batch was.seat.seat answered outcomes
-  pub makes : Makes was.seat now.seat (entries_of outcomes) (rotations_of outcomes)
-  pub writes : WritesTo end outcomes old new
+  -- the batch is as the line leaves it, unless it ends there
+  abbrev pub LeavesBatch : Result (Unit {0}) OperatorFault → List ℕ → Console J → Console J
+      → Type 0
+  LeavesBatch (Ok _) line was now = now.batch ≡ batch_by was.batch line
+  LeavesBatch (Err fault) line was now = Unit {0}
 
--- reading isn't what failed
-abbrev pub IsRead : Result (Unit {0}) OperatorFault → Type 0
-IsRead (Err faults.ReadFault) = ⊥
-IsRead end = Unit {0}
+  -- a line was answered, or it ends there
+  abbrev pub Answers : Opening → Result (Unit {0}) OperatorFault → List ℕ → Console J → Console J
+      → Option (List ℕ) → Option (List ℕ) → Type 0
+  Answers opening end line was now old new =
+      IsRead end × LeavesBatch end line was now
+      × EndsAt opening end (line ∷ []) was now old new
 
--- the batch is as the line leaves it, unless it ends there
-abbrev pub LeavesBatch : Result (Unit {0}) OperatorFault → List ℕ → Console → Console → Type 0
-LeavesBatch (Ok _) line was now = now.batch ≡ batch_by was.batch line
-LeavesBatch (Err fault) line was now = Unit {0}
+  -- the lines of a piece were answered, or it ends at one of them
+  abbrev pub Took : Opening → Result Went OperatorFault → List ℕ → List ℕ → List ℕ → Console J
+      → Console J → Option (List ℕ) → Option (List ℕ) → Type 0
+  Took opening (Ok On) begun piece next was now old new =
+      IsOpen next × GoesOn opening (begun ++ piece) next was now old new
+  Took opening (Ok Quits) begun piece next was now old new =
+      (quits (ended_lines (begun ++ piece)) ≡ true)
+      × EndsAt opening (Ok tt) (commands (ended_lines (begun ++ piece))) was now old new
+  Took opening (Err fault) begun piece next was now old new =
+      IsRead (Err fault)
+      × EndsAt opening (Err fault) (commands (ended_lines (begun ++ piece))) was now old new
 
--- a line was answered, or it ends there
-abbrev pub Answers : Result (Unit {0}) OperatorFault → List ℕ → Console → Console
-    → Option (List ℕ) → Option (List ℕ) → Type 0
-Answers end line was now old new =
-    IsRead end × LeavesBatch end line was now × EndsAt end (line ∷ []) was now old new
+  -- ---- the whole input
 
--- the lines of a piece were answered, or it ends at one of them
-abbrev pub Took : Result Went OperatorFault → List ℕ → List ℕ → List ℕ → Console → Console
-    → Option (List ℕ) → Option (List ℕ) → Type 0
-Took (Ok On) begun piece next was now old new =
-    IsOpen next × GoesOn (begun ++ piece) next was now old new
-Took (Ok Quits) begun piece next was now old new =
-    (quits (ended_lines (begun ++ piece)) ≡ true)
-    × EndsAt (Ok tt) (commands (ended_lines (begun ++ piece))) was now old new
-Took (Err fault) begun piece next was now old new =
-    IsRead (Err fault)
-    × EndsAt (Err fault) (commands (ended_lines (begun ++ piece))) was now old new
+  -- all that was read is answered, up to what has begun of a line
+  pub record Listens (opening : Opening) (begun : List ℕ) (was now : Console J)
+      (before after old new : Option (List ℕ)) : Type 0 where
+    pub input : List ℕ
+    pub read : Consumes before after input
+    pub goes : GoesOn opening input begun was now old new
+    pub opens : IsOpen begun
 
--- ---- the whole input
+  -- `quit`, the end of the input or a fault ended it
+  pub record IsHeard (opening : Opening) (end : Result (Unit {0}) OperatorFault)
+      (was now : Console J) (before after old new : Option (List ℕ)) : Type 0 where
+    pub input : List ℕ
+    pub read : Consumes before after input
+    pub finishes : Finishes end input after
+    pub wants : end ≡ Err faults.Memory → 0 < length input
+    pub ends : EndsAt opening end (commands (lines_at end input)) was now old new
+    pub whole : HaveEnded input ends.answered ⊎ IsAtEnd after
 
--- all that was read is answered, up to what has begun of a line
-pub record Listens (begun : List ℕ) (was now : Console) (before after old new : Option (List ℕ))
-    : Type 0 where
-  pub input : List ℕ
-  pub read : Consumes before after input
-  pub goes : GoesOn input begun was now old new
-  pub opens : IsOpen begun
-
--- `quit`, the end of the input or a fault ended it
-pub record IsHeard (end : Result (Unit {0}) OperatorFault) (was now : Console)
-    (before after old new : Option (List ℕ)) : Type 0 where
-  pub input : List ℕ
-  pub read : Consumes before after input
-  pub finishes : Finishes end input after
-  pub wants : end ≡ Err faults.Memory → 0 < length input
-  pub ends : EndsAt end (commands (lines_at end input)) was now old new
-  pub whole : HaveEnded input ends.answered ⊎ IsAtEnd after
-
--- it ends at commands that ended in LF
-abbrev pub EndsWhole : Result (Unit {0}) OperatorFault → List ℕ → Console → Console
-    → Option (List ℕ) → Option (List ℕ) → Type 0
-EndsWhole end input was now old new =
-    (ends : EndsAt end (commands (lines_of input)) was now old new) × HaveEnded input ends.answered
+  -- it ends at commands that ended in LF
+  abbrev pub EndsWhole : Opening → Result (Unit {0}) OperatorFault → List ℕ → Console J
+      → Console J → Option (List ℕ) → Option (List ℕ) → Type 0
+  EndsWhole opening end input was now old new =
+      (ends : EndsAt opening end (commands (lines_of input)) was now old new)
+      × HaveEnded input ends.answered
 
 -- ---- the Stop
 
@@ -168,11 +165,10 @@ abbrev pub StopEnds : Result (Unit {0}) OperatorFault → Result (Unit {0}) Oper
     → Option (List ℕ) → Option (List ℕ) → Type 0
 StopEnds (Ok _) end stop old new =
     SendsUnlessMemory end (told stop) old new × (end ≡ Err faults.Memory → IsRefusal stop)
-    × HasFound end stop
 StopEnds (Err fault) end stop old new = (end ≡ Err fault) × (new ≡ old)
 
-pub record Stops (heard end : Result (Unit {0}) OperatorFault) (was now : ConsoleSeat)
-    (old new : Option (List ℕ)) : Type 0 where
+pub record Stops (opening : Opening) (heard end : Result (Unit {0}) OperatorFault)
+    (was now : Seated) (old new : Option (List ℕ)) : Type 0 where
   pub stop : Outcome
-  pub came : Comes (StopComesTo was.seat) stop was now
+  pub came : StopComesTo opening was stop now
   pub ends : StopEnds heard end stop old new

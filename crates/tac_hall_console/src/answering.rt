@@ -10,43 +10,39 @@ ghost use Rattle.tac_hall_console.specs.Operated.{CallsFor, ComesTo, answer_text
 ghost use Rattle.tac_hall_console.specs.Operating as operating;
 
 use crate::fault::OperatorFault;
-use basics::{Sequence, send};
+use basics::send;
 use std::alloc::{AllocError, Global};
 use std::io::Write;
 use std::sync::Wait;
-use tac_chain::{Archive, Rotated};
 use tac_console::{
     Action, Batch, read_console, write_batch_answer, write_edit_answer, write_notice,
     write_query_answer,
 };
 use tac_desk::Desk;
-use tac_hall::{Call, CallAnswer, Hall, HallFault, Made, Seat};
+use tac_forum::{Rotated, Run, Seat, SharedDesk};
+use tac_hall::{Call, CallAnswer, HallFault};
 
 // Room for one line, since most answers are one.
 const LINE: usize = 64;
 
-/// The seat that calls for a console, and the rotations that its lines asked for and that were
-/// made, in order.
-#[derive(Drop)]
-pub struct ConsoleSeat {
-    pub seat: Seat,
-    pub rotations: Sequence<Rotated>,
-}
-
 /// The seat of a console, and the batch of its lines.
 #[derive(Drop)]
-pub(crate) struct Console {
-    pub(crate) seat: ConsoleSeat,
+pub(crate) struct Console<J: Run> {
+    pub(crate) seat: Seat<J>,
     pub(crate) batch: Batch,
 }
 
-// Adds how a call is answered that the hall took.
-fn write_answer(alloc: Global, out: &mut Vec<u8>, entry: &Made) -> Result<(), AllocError>
-    requires { IsOfKind entry.now.call entry.now.answer }
-    ensures { OnOk result (out.new.items
-        ≡ out.old.items ++ answer_text entry.now.call entry.now.answer) }
+// Adds how a call is answered that was made.
+fn write_answer(
+    alloc: Global,
+    out: &mut Vec<u8>,
+    call: &Call,
+    answer: &CallAnswer,
+) -> Result<(), AllocError>
+    requires { IsOfKind call.now answer.now }
+    ensures { OnOk result (out.new.items ≡ out.old.items ++ answer_text call.now answer.now) }
 {
-    match (entry.call.get(), &entry.answer) {
+    match (call, answer) {
         (Call::Edit(_), CallAnswer::Edit(Ok(changes))) => {
             write_edit_answer(alloc, out, &Ok(changes.get()))
         }
@@ -69,7 +65,7 @@ fn write_answer(alloc: Global, out: &mut Vec<u8>, entry: &Made) -> Result<(), Al
     }
 }
 
-// Adds how it is told that the hall refused a call.
+// Adds how it is told that a call or a rotation was refused.
 fn write_refusal(out: &mut Vec<u8>, fault: HallFault) -> Result<(), AllocError>
     ensures { OnOk result (out.new.items ≡ out.old.items ++ refusal_line fault) }
 {
@@ -79,7 +75,7 @@ fn write_refusal(out: &mut Vec<u8>, fault: HallFault) -> Result<(), AllocError>
     }
 }
 
-// Adds that the log was taken out of the hall, and kept.
+// Adds which segment was ended.
 fn write_rotated(out: &mut Vec<u8>, rotated: Rotated) -> Result<(), AllocError>
     ensures { OnOk result (out.new.items ≡ out.old.items ++ operated.rotated_line rotated) }
 {
@@ -90,68 +86,62 @@ fn write_rotated(out: &mut Vec<u8>, rotated: Rotated) -> Result<(), AllocError>
     }
 }
 
-// Takes the log out of the hall, remembers that, and adds what came of it. The seat makes no call.
-fn rotate<H: Wait, D: Desk>(
+// Ends the present segment, and adds what came of it.
+fn rotate<H: Wait, J: Run, D: Desk>(
     rt: &H,
-    hall: &Hall<D>,
-    archive: &Archive,
-    seat: &mut ConsoleSeat,
+    desk: &SharedDesk<J, D>,
+    seat: &mut Seat<J>,
     out: &mut Vec<u8>,
 ) -> Result<(), AllocError>
-    ensures ok { OnOk result (operating.Adds operated.IsRotation seat.old seat.new
+    ensures ok { OnOk result (operating.Adds (operated.IsRotation J.opening seat.old) seat.new
         out.old.items out.new.items) }
-    ensures err { OnErr result (operating.IsUntold operated.IsRotation seat.old seat.new) }
+    ensures err { OnErr result (operating.IsUntold (operated.IsRotation J.opening seat.old)
+        seat.old seat.new) }
 {
-    match archive.rotate(rt, hall) {
-        Ok(rotated) => {
-            seat.rotations.push(rotated)?;
-            write_rotated(out, rotated)
-        }
+    match desk.rotate(rt, seat) {
+        Ok(rotated) => write_rotated(out, rotated),
         Err(fault) => write_refusal(out, fault),
     }
 }
 
 // Makes a call, and adds what came of it.
-fn tell<H: Wait, D: Desk>(
+fn tell<H: Wait, J: Run, D: Desk>(
     rt: &H,
     alloc: Global,
-    hall: &Hall<D>,
-    seat: &mut ConsoleSeat,
-    call: Call,
+    desk: &SharedDesk<J, D>,
+    seat: &mut Seat<J>,
+    call: &Call,
     out: &mut Vec<u8>,
 ) -> Result<(), AllocError>
-    ensures ok { OnOk result (operating.Adds (CallsFor seat.old.seat call) seat.old seat.new
+    ensures ok { OnOk result (operating.Adds (CallsFor J.opening seat.old call.now) seat.new
         out.old.items out.new.items) }
-    ensures err { OnErr result (operating.IsUntold (CallsFor seat.old.seat call)
+    ensures err { OnErr result (operating.IsUntold (CallsFor J.opening seat.old call.now)
         seat.old seat.new) }
 {
-    if let Err(fault) = hall.call(rt, &mut seat.seat, call) {
-        return write_refusal(out, fault);
-    }
-    match seat.seat.view().last() {
-        Some(entry) => write_answer(alloc, out, entry),
-        None => unreachable!(),
+    match desk.call(rt, seat, call) {
+        Ok(receipt) => write_answer(alloc, out, call, &receipt.answer),
+        Err(fault) => write_refusal(out, fault),
     }
 }
 
-// Does what a line asks of the hall, or tells its notice, and adds what came of it.
-fn act<H: Wait, D: Desk>(
+// Does what a line asks of the desk, or tells its notice, and adds what came of it.
+fn act<H: Wait, J: Run, D: Desk>(
     rt: &H,
     alloc: Global,
-    hall: &Hall<D>,
-    seat: &mut ConsoleSeat,
+    desk: &SharedDesk<J, D>,
+    seat: &mut Seat<J>,
     action: Action,
     out: &mut Vec<u8>,
 ) -> Result<(), AllocError>
-    ensures ok { OnOk result (operating.Adds (ComesTo seat.old.seat action) seat.old seat.new
+    ensures ok { OnOk result (operating.Adds (ComesTo J.opening seat.old action) seat.new
         out.old.items out.new.items) }
-    ensures err { OnErr result (operating.IsUntold (ComesTo seat.old.seat action)
+    ensures err { OnErr result (operating.IsUntold (ComesTo J.opening seat.old action)
         seat.old seat.new) }
 {
     match action {
-        Action::Edit(edit) => tell(rt, alloc, hall, seat, Call::Edit(edit), out),
-        Action::Commit(edits) => tell(rt, alloc, hall, seat, Call::Batch(edits), out),
-        Action::Query(query) => tell(rt, alloc, hall, seat, Call::Query(query), out),
+        Action::Edit(edit) => tell(rt, alloc, desk, seat, &Call::Edit(edit), out),
+        Action::Commit(edits) => tell(rt, alloc, desk, seat, &Call::Batch(edits), out),
+        Action::Query(query) => tell(rt, alloc, desk, seat, &Call::Query(query), out),
         Action::Tell(notice) => write_notice(alloc, out, notice),
     }
 }
@@ -163,53 +153,52 @@ fn is_rotate(line: &[u8]) -> bool
 }
 
 // Adds how a line of a desk's console is answered.
-fn answer_asked<H: Wait, D: Desk>(
+fn answer_asked<H: Wait, J: Run, D: Desk>(
     rt: &H,
     alloc: Global,
-    hall: &Hall<D>,
-    console: &mut Console,
+    desk: &SharedDesk<J, D>,
+    console: &mut Console<J>,
     line: &[u8],
     out: &mut Vec<u8>,
 ) -> Result<(), AllocError>
-    ensures ok { OnOk result (operating.Adds
-        (ComesTo console.old.seat.seat (action_of console.old.batch (asked_by line.now)))
-        console.old.seat console.new.seat out.old.items out.new.items) }
+    ensures ok { OnOk result (operating.Adds (ComesTo J.opening console.old.seat
+        (action_of console.old.batch (asked_by line.now)))
+        console.new.seat out.old.items out.new.items) }
     ensures batch { OnOk result
         (console.new.batch ≡ batch_after console.old.batch (asked_by line.now)) }
-    ensures err { OnErr result (operating.IsUntold
-        (ComesTo console.old.seat.seat (action_of console.old.batch (asked_by line.now)))
+    ensures err { OnErr result (operating.IsUntold (ComesTo J.opening console.old.seat
+        (action_of console.old.batch (asked_by line.now)))
         console.old.seat console.new.seat) }
 {
     let asked = read_console(alloc, line)?;
     let action = console.batch.take(alloc, asked)?;
-    act(rt, alloc, hall, &mut console.seat, action, out)
+    act(rt, alloc, desk, &mut console.seat, action, out)
 }
 
 /// How a line is answered, without its LF: by a call or a rotation, if it asks for one. Where
 /// memory ran out that may have been done even so, and no line may follow.
-pub(crate) fn answer_line<H: Wait, D: Desk>(
+pub(crate) fn answer_line<H: Wait, J: Run, D: Desk>(
     rt: &H,
     alloc: Global,
-    hall: &Hall<D>,
-    archive: &Archive,
-    console: &mut Console,
+    desk: &SharedDesk<J, D>,
+    console: &mut Console<J>,
     line: &[u8],
 ) -> Result<Vec<u8>, AllocError>
     ensures ok { IfOk result (λ text. operating.Tells
-        (operated.LineComesTo console.old.batch console.old.seat.seat line.now)
-        console.old.seat console.new.seat text.items) }
+        (operated.LineComesTo J.opening console.old.batch console.old.seat line.now)
+        console.new.seat text.items) }
     ensures batch { OnOk result
         (console.new.batch ≡ operated.batch_by console.old.batch line.now) }
     ensures err { OnErr result (operating.IsUntold
-        (operated.LineComesTo console.old.batch console.old.seat.seat line.now)
+        (operated.LineComesTo J.opening console.old.batch console.old.seat line.now)
         console.old.seat console.new.seat) }
 {
     let mut text = Vec::with_capacity(alloc, LINE)?;
     if is_rotate(line) {
-        rotate(rt, hall, archive, &mut console.seat, &mut text)?;
+        rotate(rt, desk, &mut console.seat, &mut text)?;
         return Ok(text);
     }
-    answer_asked(rt, alloc, hall, console, line, &mut text)?;
+    answer_asked(rt, alloc, desk, console, line, &mut text)?;
     Ok(text)
 }
 
@@ -224,19 +213,15 @@ pub(crate) fn write_text<W: Write>(writer: &mut W, text: &[u8]) -> Result<(), Op
     }
 }
 
-/// Tells that the hall refused a call. Writes nothing where memory runs out, here or in the hall.
+/// Tells that a call was refused. Writes nothing where memory runs out.
 pub(crate) fn write_refused<W: Write>(
     alloc: Global,
     writer: &mut W,
     fault: HallFault,
 ) -> Result<(), OperatorFault>
-    ensures sent { operating.SendsUnlessMemory result (refusal_line fault)
+    ensures { operating.SendsUnlessMemory result (refusal_line fault)
         (W.contents writer.old) (W.contents writer.new) }
-    ensures memory { fault ≡ HallFault.Memory → result ≡ Err OperatorFault.Memory }
 {
-    if fault == HallFault::Memory {
-        return Err(OperatorFault::Memory);
-    }
     let mut text = Vec::with_capacity(alloc, LINE)?;
     write_refusal(&mut text, fault)?;
     write_text(writer, text.as_slice())

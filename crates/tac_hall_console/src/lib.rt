@@ -1,4 +1,4 @@
-//! The console of a hall: an operator's lines, each of which is a call of one seat.
+//! The console of a shared desk: an operator's lines, each of which is a call of one seat.
 #![tactic(auto)]
 
 mod answering;
@@ -6,6 +6,5 @@ mod fault;
 mod operating;
 mod operator;
 
-pub use answering::ConsoleSeat;
 pub use fault::OperatorFault;
 pub use operating::operate;

@@ -11,9 +11,8 @@ use basics::split_once;
 use std::alloc::Global;
 use std::io::{Read, Write};
 use std::sync::Wait;
-use tac_chain::Archive;
 use tac_desk::Desk;
-use tac_hall::Hall;
+use tac_forum::{Run, SharedDesk};
 use tac_io::read_piece;
 
 // How many bytes are read at once.
@@ -30,9 +29,9 @@ pub(crate) enum Went {
 
 /// A console, and the beginning of a line whose end hasn't come yet.
 #[derive(Drop)]
-pub(crate) struct Operator {
+pub(crate) struct Operator<J: Run> {
     pub(crate) alloc: Global,
-    pub(crate) console: Console,
+    pub(crate) console: Console<J>,
     pub(crate) begun: Vec<u8>,
 }
 
@@ -42,20 +41,19 @@ fn is_quit(line: &[u8]) -> bool
     line == b"quit".as_slice()
 }
 
-impl Operator {
+impl<J: Run> Operator<J> {
     // Answers the line that was begun as a whole one.
     fn answer<H: Wait, D: Desk, W: Write>(
         &mut self,
         rt: &H,
-        hall: &Hall<D>,
-        archive: &Archive,
+        desk: &SharedDesk<J, D>,
         writer: &mut W,
     ) -> Result<(), OperatorFault>
-        ensures { operating.Answers result self.old.begun.items self.old.console self.new.console
-            (W.contents writer.old) (W.contents writer.new) }
+        ensures { operating.Answers J.opening result self.old.begun.items
+            self.old.console self.new.console (W.contents writer.old) (W.contents writer.new) }
     {
         let line = self.begun.as_slice();
-        let text = answer_line(rt, self.alloc, hall, archive, &mut self.console, line)?;
+        let text = answer_line(rt, self.alloc, desk, &mut self.console, line)?;
         write_text(writer, text.as_slice())
     }
 
@@ -63,13 +61,13 @@ impl Operator {
     fn take<H: Wait, D: Desk, W: Write>(
         &mut self,
         rt: &H,
-        hall: &Hall<D>,
-        archive: &Archive,
+        desk: &SharedDesk<J, D>,
         writer: &mut W,
         piece: &[u8],
     ) -> Result<Went, OperatorFault>
         requires { operating.IsOpen self.old.begun.items }
-        ensures { operating.Took result self.old.begun.items piece.now self.new.begun.items
+        ensures { operating.Took J.opening result
+            self.old.begun.items piece.now self.new.begun.items
             self.old.console self.new.console (W.contents writer.old) (W.contents writer.new) }
     {
         let mut rest = piece;
@@ -78,7 +76,7 @@ impl Operator {
             if is_quit(self.begun.as_slice()) {
                 return Ok(Went::Quits);
             }
-            self.answer(rt, hall, archive, writer)?;
+            self.answer(rt, desk, writer)?;
             self.begun.clear();
             rest = after;
         }
@@ -90,14 +88,14 @@ impl Operator {
     fn take_last<H: Wait, D: Desk, W: Write>(
         &mut self,
         rt: &H,
-        hall: &Hall<D>,
-        archive: &Archive,
+        desk: &SharedDesk<J, D>,
         writer: &mut W,
     ) -> Result<(), OperatorFault>
         requires { operating.IsOpen self.old.begun.items }
         ensures read { operating.IsRead result }
         ensures wants { result ≡ Err OperatorFault.Memory → 0 < vec_len self.old.begun }
-        ensures ends { operating.EndsAt result (commands (lines_of self.old.begun.items))
+        ensures ends { operating.EndsAt J.opening result
+            (commands (lines_of self.old.begun.items))
             self.old.console self.new.console (W.contents writer.old) (W.contents writer.new) }
     {
         if self.begun.is_empty() {
@@ -106,7 +104,7 @@ impl Operator {
         if is_quit(self.begun.as_slice()) {
             return Ok(());
         }
-        self.answer(rt, hall, archive, writer)
+        self.answer(rt, desk, writer)
     }
 
     /// Answers the lines that come, up to `quit` or the end of the input. An interrupted read is
@@ -114,13 +112,12 @@ impl Operator {
     pub(crate) fn listen<H: Wait, D: Desk, R: Read, W: Write>(
         &mut self,
         rt: &H,
-        hall: &Hall<D>,
-        archive: &Archive,
+        desk: &SharedDesk<J, D>,
         reader: &mut R,
         writer: &mut W,
     ) -> Result<(), OperatorFault>
         requires { self.old.begun.items ≡ [] }
-        ensures { operating.IsHeard result self.old.console self.new.console
+        ensures { operating.IsHeard J.opening result self.old.console self.new.console
             (R.remaining reader.old) (R.remaining reader.new)
             (W.contents writer.old) (W.contents writer.new) }
     {
@@ -133,9 +130,9 @@ impl Operator {
                 continue;
             };
             if n == 0 {
-                return self.take_last(rt, hall, archive, writer);
+                return self.take_last(rt, desk, writer);
             }
-            match self.take(rt, hall, archive, writer, &chunk[..n])? {
+            match self.take(rt, desk, writer, &chunk[..n])? {
                 Went::On => {}
                 Went::Quits => return Ok(()),
             }

@@ -5,5 +5,5 @@ use Rattle.tac_hall_console.proofs.answering.answer_line.Goals as goal
 
 pub returns-then-is_rotate-clause-ok : goal.returns-then-is_rotate-clause-ok
 returns-then-is_rotate-clause-ok g c =
-    tells_rotation c.args.console.now.batch c.args.console.now.seat.seat c.args.line.now c.args.console.now.seat c.rotate.new.seat c.rotate.new.out.items (sym c.if-is_rotate.ensures)
-    (tells_added IsRotation c.args.console.now.seat c.rotate.new.seat c.in_ok-text.text.items c.rotate.new.out.items c.in_ok-text.ensures.items c.in_ok-rotate.ensures.ok)
+    tells_rotation g.J.Run.opening c.args.console.now.batch c.args.console.now.seat c.rotate.new.seat c.args.line.now c.rotate.new.out.items (sym c.if-is_rotate.ensures)
+    (tells_added (IsRotation g.J.Run.opening c.args.console.now.seat) c.rotate.new.seat c.in_ok-text.text.items c.rotate.new.out.items c.in_ok-text.ensures.items c.in_ok-rotate.ensures.ok)

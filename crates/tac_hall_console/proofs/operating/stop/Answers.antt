@@ -1,16 +1,14 @@
-use Rattle.std.proofs.Common.{refl}
 use Rattle.tac_hall_console.proofs.CallFacts.{comes_of, stops_untold, stops_made, stops_refused}
 use Rattle.tac_hall_console.proofs.operating.stop.Goals as goal
 
 pub returns-in_err-heard : goal.returns-in_err-heard
 returns-in_err-heard g c =
-    stops_untold c.args.heard c.from_residual.result c.in_err-heard.field-0.0 c.args.seat.now (record { seat = c.call_stop-stopped.new.seat; rotations = c.args.seat.now.rotations }) _ c.in_err-heard.was c.from_residual.ensures.1
-    (comes_of c.call_stop-stopped.result c.args.seat.now (record { seat = c.call_stop-stopped.new.seat; rotations = c.args.seat.now.rotations }) c.call_stop-stopped.ensures.made c.call_stop-stopped.ensures.err c.call_stop-stopped.ensures.refused refl)
+    stops_untold g.J.Run.opening c.args.heard c.from_residual.result c.in_err-heard.field-0.0 c.args.seat.now c.call-stopped.new.seat _ c.in_err-heard.was c.from_residual.ensures.1
+    (comes_of g.J.Run.opening c.call-stopped.result c.args.seat.now c.call-stopped.new.seat c.call-stopped.ensures.made c.call-stopped.ensures.err c.call-stopped.ensures.refused)
 
 pub returns-in-Err : goal.returns-in-Err
 returns-in-Err g c =
-    stops_refused c.args.heard c.write_refused.result c.in_ok-heard.field-0 c.in-Err.fault c.args.seat.now (record { seat = c.call_stop-stopped.new.seat; rotations = c.args.seat.now.rotations }) _ _ c.in_ok-heard.was c.in-Err.ensures.err refl c.in-Err.ensures.refused c.write_refused.ensures.sent c.write_refused.ensures.memory
+    stops_refused g.J.Run.opening c.args.heard c.write_refused.result c.in_ok-heard.field-0 c.in-Err.fault c.args.seat.now c.call-stopped.new.seat _ _ c.in_ok-heard.was c.in-Err.ensures.err c.in-Err.ensures.refused c.write_refused.ensures
 
 pub returns : goal.returns
-returns g c =
-    stops_made c.args.heard c.in_ok-heard.field-0 c.in_default.field-0 c.args.seat.now (record { seat = c.call_stop-stopped.new.seat; rotations = c.args.seat.now.rotations }) _ c.in_ok-heard.was c.in_default.ensures.made refl
+returns g c = stops_made g.J.Run.opening c.args.heard c.in_ok-heard.field-0 c.in_default.field-0 c.args.seat.now c.call-stopped.new.seat _ c.in_ok-heard.was c.in_default.ensures.made

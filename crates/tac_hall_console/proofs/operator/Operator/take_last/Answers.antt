@@ -22,5 +22,5 @@ returns-clause-ends g c =
     let some = some_of _ (sym c.if-is_empty.ensures) in
     let least : 0 < length c.args.self.now.begun.items = omega (arith, some, c.args.self.now.begun.ok.0) in
     let other : is_quit c.args.self.now.begun.items ≡ false = ap is_quit (sym c.as_slice.ensures.value) ∙ sym c.if-is_quit.ensures in
-    subst (λ (l : List (List ℕ)). EndsAt c.answer.result l c.args.self.now.console c.answer.new.self.console (g.W.Write.contents c.args.writer.now) (g.W.Write.contents c.answer.new.writer))
+    subst (λ (l : List (List ℕ)). EndsAt g.J.Run.opening c.answer.result l c.args.self.now.console c.answer.new.self.console (g.W.Write.contents c.args.writer.now) (g.W.Write.contents c.answer.new.writer))
     (sym (last_line c.args.self.now.begun.items least c.requires other)) c.answer.ensures.2
