@@ -6,7 +6,6 @@ use Rattle.std.proofs.Crossing.{crosses}
 use Rattle.std.specs.contracts.net.tcp.TcpListener as TcpListener
 use Rattle.tac_hall.proofs.Crossing.{Key-sync}
 use Rattle.tac_net.specs.contracts.port.Port as Port
-use Rattle.tac_net.specs.contracts.rotating.Count as Count
 use Rattle.tac_net.specs.contracts.settings.Settings as Settings
 use Rattle.tac_net.specs.contracts.vigil.Vigil as Vigil
 
@@ -24,6 +23,3 @@ Vigil-sync = search (crosses, sendable) depth 60
 
 pub Port-sync : IsSync Port.the_row
 Port-sync = search (crosses, sendable) depth 60
-
-pub Count-sync : IsSync Count.the_row
-Count-sync = search (crosses, sendable) depth 60

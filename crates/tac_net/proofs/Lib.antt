@@ -2,7 +2,6 @@ pub mod Crossing
 pub mod ServingFacts
 pub mod SendFacts
 pub mod RunFacts
-pub mod EndingFacts
 pub mod SharedFacts
 pub mod PlacesFacts
 pub mod ClosedFacts

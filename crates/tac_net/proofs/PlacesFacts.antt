@@ -1,4 +1,4 @@
--- What the desk of a hall represented at the places of a seat's calls.
+-- What a desk represented at the places of a seat's calls.
 use Rattle.std.proofs.Common.{◌≡◌, ℕ, suc, List, [], ◌∷◌, ◌++◌, map, take, length, length-append, Bool, true, false, ◌==◌, cond, refl, sym, ap, subst, ◌∙◌, append_assoc, append-nil, arith}
 use Rattle.std.proofs.Math.Seq.{take-append_seam}
 use Rattle.tac_conn.specs.declared.ask.Answer.{Answer}
@@ -9,11 +9,14 @@ use Rattle.tac_hall.specs.declared.entry.Entry.{Entry}
 use Rattle.tac_hall.specs.declared.entry.Made.{Made}
 use Rattle.tac_hall.specs.History.{Answers, Legal, at_first, and_then}
 use Rattle.tac_hall.specs.Shedding.{view_of, view_along}
-use Rattle.tac_chain.specs.Chain.{joined}
+use Rattle.tac_forum.specs.History.{logs_of, joined}
+use Rattle.tac_forum.specs.History.{view_of as view_in}
+use Rattle.tac_forum.proofs.LogFacts.{logs_law}
+use Rattle.tac_worker.proofs.DeskFacts.{number_after, view_after}
 use Rattle.tac_worker.specs.Served.{served, asks, bytes_sent}
 use Rattle.tac_worker.specs.Worked.{Exchange, asks_of, answers_of, in_view}
 use Rattle.tac_net.specs.Shared.{packets_in, answers_by}
-use Rattle.tac_net.specs.Places.{calls_before, StoodAt, IsSaid, PlacesLaw}
+use Rattle.tac_net.specs.Places.{calls_before, StoodAt, IsSaid, PlacesLaw, HallPlacesLaw}
 use Rattle.tac_net.proofs.SharedFacts.{sent_on, sent_stream_law}
 
 -- ---- the calls of a log, one after another
@@ -45,7 +48,7 @@ answered_parts base (entry ∷ log) more first h =
 
 -- ---- one log after another
 
-pub joined_last : (earlier : List (List Entry)) (log : List Entry) → joined (earlier ++ log ∷ []) ≡ joined earlier ++ log
+joined_last : (earlier : List (List Entry)) (log : List Entry) → joined (earlier ++ log ∷ []) ≡ joined earlier ++ log
 joined_last [] log = append-nil log
 joined_last (one ∷ earlier) log = ap (λ (l : List Entry). one ++ l) (joined_last earlier log) ∙ sym (append_assoc one (joined earlier) log)
 
@@ -133,8 +136,19 @@ said_at key bytes base last logs number before after made left legal view asks_t
       sent = ap (λ (l : List Answer). bytes_sent key (served key bytes l)) answers ∙ sent_stream_law key base bytes s.meanings;
     }
 
-pub places_law : PlacesLaw
-places_law end key was now before after old new work base last logs later legal view =
+pub hall_places_law : HallPlacesLaw
+hall_places_law end key was now before after old new work base last logs later legal view =
     let ends = work.ends in
     said_at key work.input base last logs now.seat.number was.seat.view later ends.made ends.left legal
     (view ∙ ap (λ (l : List Made). l ++ later) ends.makes.view ∙ append_assoc was.seat.view (map in_view ends.made) later) ends.asks
+
+pub places_law : PlacesLaw
+places_law opening end key was now before after old new work last history later legal view =
+    let ends = work.ends in
+    let number = number_after opening was ends.made now ends.makes in
+    let laws = logs_law history in
+    let seen : view_in now.number now.seen ≡ view_in now.number was.seen ++ map in_view ends.made =
+    subst (λ (n : ℕ). view_in n now.seen ≡ view_in n was.seen ++ map in_view ends.made) (sym number) (view_after opening was ends.made now ends.makes) in
+    said_at key work.input opening.meaning last (logs_of history) now.number (view_in now.number was.seen) later ends.made ends.left
+    (subst (λ (l : List Entry). Legal opening.meaning l last) (sym laws.0) legal)
+    (laws.1 now.number ∙ view ∙ ap (λ (l : List Made). l ++ later) seen ∙ append_assoc (view_in now.number was.seen) (map in_view ends.made) later) ends.asks

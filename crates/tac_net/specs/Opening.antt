@@ -3,7 +3,8 @@ use Rattle.std.specs.Prelude.{◌≡◌, ℕ, List, [], ◌∷◌, ◌++◌, cod
 use Rattle.std.specs.Prelude.{Option, Result, Ok, Err}
 use Rattle.std.specs.Fmt.{decimal}
 use Rattle.std.specs.Io.KnownBytes.{Appends}
-use Rattle.tac_hall.specs.Seat.{Sitting}
+use Rattle.tac_forum.specs.History.{view_of, rotations_of}
+use Rattle.tac_forum.specs.Seat.{Seated}
 use Rattle.tac_hall_console.specs.Operated.{WritesBeginning}
 use Rattle.tac_net.specs.declared.fault.ServeFault.{ServeFault}
 use Rattle.tac_net.specs.declared.fault.ServeFault.TheVariants.{WriteFault, Memory}
@@ -18,6 +19,7 @@ Announces (Err WriteFault) port old new = WritesBeginning (listening_line port) 
 Announces (Err Memory) port old new = new ≡ old
 Announces (Err fault) port old new = ⊥
 
--- a seat that made no call
-abbrev pub IsFresh : Sitting → Type 0
-IsFresh seat = (seat.segment ≡ 0) × (seat.next ≡ 0) × (seat.view ≡ [])
+-- a seat that did nothing
+abbrev pub IsFresh : Seated → Type 0
+IsFresh seat =
+    (view_of seat.number seat.seen ≡ []) × (rotations_of seat.number seat.seen ≡ [])

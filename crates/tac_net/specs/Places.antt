@@ -1,4 +1,4 @@
--- What a worker sends, by the places that its calls have in the history of its hall.
+-- What a worker sends, by the places that its calls have in the history of its desk.
 use Rattle.std.specs.Prelude.{◌≡◌, ℕ, zero, suc, List, [], ◌∷◌, ◌++◌, take, Option}
 use Rattle.tac_desk.specs.Meaning.{Meaning}
 use Rattle.tac_hall.specs.declared.entry.Entry.{Entry}
@@ -6,9 +6,12 @@ use Rattle.tac_hall.specs.declared.entry.Made.{Made}
 use Rattle.tac_worker.specs.declared.worked.End.{End}
 use Rattle.tac_hall.specs.History.{Legal}
 use Rattle.tac_hall.specs.Shedding.{view_along}
-use Rattle.tac_chain.specs.Chain.{joined}
+use Rattle.tac_forum.specs.declared.event.Event.{Event}
+use Rattle.tac_forum.specs.History.{Opening, calls_in, logs_of, joined, view_of}
+use Rattle.tac_forum.specs.Seat.{Seated}
 use Rattle.tac_worker.specs.Served.{served, bytes_sent}
 use Rattle.tac_worker.specs.Worked.{Exchange, answers_of, Calling, IsServed}
+use Rattle.tac_worker.specs.AtDesk.{IsServedAt}
 use Rattle.tac_desk.specs.Serving.{sent_bytes}
 use Rattle.tac_net.specs.Shared.{said_shared_on, packets_in}
 
@@ -41,11 +44,23 @@ pub record IsSaid (key bytes : List ℕ) (base : Meaning) (logs : List (List Ent
       bytes_sent key (served key bytes (answers_of made))
       ≡ sent_bytes key (said_shared_on key base bytes meanings).sent
 
--- this is true of each connection that a worker served, wherever the logs of one segment after
--- another are together a legal history, and have exactly the view of its seat, with what that
--- called later
+-- this is true of each connection that a worker of a shared desk served, wherever the calls of a
+-- history are legal, and it has exactly the calls that the worker's seat has seen of itself, with
+-- what that called later
 abbrev pub PlacesLaw : Type 0
 PlacesLaw =
+    (opening : Opening) (end : End) (key : List ℕ) (was now : Seated)
+    (before after old new : Option (List ℕ))
+    (work : IsServedAt opening end key was now before after old new)
+    (last : Meaning) (history : List (ℕ × Event)) (later : List Made)
+    → Legal opening.meaning (calls_in history) last
+    → view_of now.number history ≡ view_of now.number now.seen ++ later
+    → IsSaid key work.input opening.meaning (logs_of history) work.ends.made
+
+-- and of each that a worker of a hall served, wherever the logs of one segment after another are
+-- together a legal history, and have exactly the view of its seat, with what that called later
+abbrev pub HallPlacesLaw : Type 0
+HallPlacesLaw =
     (end : End) (key : List ℕ) (was now : Calling) (before after old new : Option (List ℕ))
     (work : IsServed end key was now before after old new)
     (base last : Meaning) (logs : List (List Entry)) (later : List Made)

@@ -1,16 +1,15 @@
--- A server with a console, from its first line to the closing of its hall.
+-- A server with a console, from its first line to the closing of its desk.
 use Rattle.std.specs.Prelude.{◌≡◌, ◌⊎◌, ℕ, List, ◌∷◌, length, map, All, Option, Result, Ok, Err}
 use Rattle.std.specs.Io.KnownBytes.{Appends}
-use Rattle.tac_hall.specs.Opening.{Opening}
-use Rattle.tac_hall.specs.Seat.{Sitting}
+use Rattle.tac_forum.specs.History.{Opening}
+use Rattle.tac_forum.specs.Seat.{Seated}
 use Rattle.tac_worker.specs.declared.worked.End.{End}
 use Rattle.tac_hall_console.specs.Operated.{IsOperated}
-use Rattle.tac_hall_console.specs.declared.answering.ConsoleSeat.{ConsoleSeat}
 use Rattle.tac_hall_console.specs.declared.fault.OperatorFault.{OperatorFault}
 use Rattle.tac_hall_console.specs.declared.fault.OperatorFault.TheVariants as operator
 use Rattle.tac_net.specs.Opening.{listening_line, Announces, IsFresh}
-use Rattle.tac_net.specs.Ending.{Refuses, Closes}
-use Rattle.tac_net.specs.Serving.{HaveServed}
+use Rattle.tac_net.specs.Ending.{Refuses, Closes, IsUnserved}
+use Rattle.tac_net.specs.Serving.{IsDeskConnection, HaveServed}
 use Rattle.tac_net.specs.declared.settings.Settings.{Settings}
 use Rattle.tac_net.specs.declared.fault.ServeFault.{ServeFault}
 use Rattle.tac_net.specs.declared.fault.ServeFault.TheVariants.{ReadFault, WriteFault, Memory}
@@ -35,52 +34,53 @@ Fails (Ok _) port old new = ⊥
 Fails (Err Threads) port old new = new ≡ old
 Fails (Err fault) port old new = Refuses fault old new ⊎ Announces (Err fault) port old new
 
--- `listening P` was printed, and then the console was operated by this seat
-pub record HasAttended (ended : ConsoleSeat × Result (Unit {0}) OperatorFault) (port : ℕ)
-    (was : Sitting) (before after old new : Option (List ℕ)) : Type 0 where
+-- `listening P` was printed, and then the console was operated by a seat that had done nothing
+pub record HasAttended (ended : Seated × Result (Unit {0}) OperatorFault) (port : ℕ)
+    (opening : Opening) (before after old new : Option (List ℕ)) : Type 0 where
   pub announced : Option (List ℕ)
   pub announces : Appends old announced (listening_line port)
-  pub operates : IsOperated ended.1 was ended.0 before after announced new
+  pub seat : Seated
+  pub fresh : IsFresh seat
+  pub operates : IsOperated opening ended.1 seat ended.0 before after announced new
 
 -- the console's part: that, or nothing was read
-abbrev pub Attends : Result (ConsoleSeat × Result (Unit {0}) OperatorFault) ServeFault → Settings
-    → Sitting → Option (List ℕ) → Option (List ℕ) → Option (List ℕ) → Option (List ℕ) → Type 0
-Attends (Ok ended) settings was before after old new =
-    HasAttended ended settings.port was before after old new
-Attends (Err fault) settings was before after old new =
-    (after ≡ before) × Fails (Err fault) settings.port old new
+abbrev pub Attends : Result (Seated × Result (Unit {0}) OperatorFault) ServeFault → ℕ → Opening
+    → Option (List ℕ) → Option (List ℕ) → Option (List ℕ) → Option (List ℕ) → Type 0
+Attends (Ok ended) port opening before after old new =
+    HasAttended ended port opening before after old new
+Attends (Err fault) port opening before after old new =
+    (after ≡ before) × Fails (Err fault) port old new
 
--- so many workers, who had made no call, served so many connections each, and their hall was closed
--- with the console's seat and theirs, after the rotations that it told; or memory ran out
-pub record HasWorked (closed : Result (Unit {0}) ServeFault) (settings : Settings) (hall : Opening)
-    (console : ConsoleSeat) (old new : Option (List ℕ)) : Type 0 where
-  pub seats : List Sitting
+-- so many workers, who had done nothing, served so many connections each
+pub record HaveWorked (settings : Settings) (opening : Opening) (served : List (Seated × End))
+    : Type 0 where
+  pub seats : List Seated
   pub count : length seats ≡ settings.workers
   pub fresh : All IsFresh seats
-  pub served : List (Sitting × End)
-  pub have : HaveServed settings.key settings.connections seats served
-  pub closes : Closes closed hall console.rotations
-      (console.seat ∷ map (λ one. one.0) served) old new
+  pub have : HaveServed (IsDeskConnection opening settings.key) settings.connections seats served
 
--- `listening P` was printed, then the console was operated by a seat that had made no call, while
--- workers served, and then the hall was closed
-pub record HasRun (end : Result (Unit {0}) ServeFault) (settings : Settings) (hall : Opening)
+-- workers served, and the desk was closed with the console's seat and theirs; or they had no seats,
+-- or memory ran out
+abbrev pub Ends : Result (Unit {0}) ServeFault → Settings → Opening → Seated → Option (List ℕ)
+    → Option (List ℕ) → Type 0
+Ends closed settings opening console old new =
+    ((served : List (Seated × End)) × HaveWorked settings opening served
+    × Closes closed opening (console ∷ map (λ one. one.0) served) old new)
+    ⊎ IsUnserved closed old new
+
+-- `listening P` was printed, then the console was operated while workers served, and then the desk
+-- was closed
+pub record HasRun (end : Result (Unit {0}) ServeFault) (settings : Settings) (opening : Opening)
     (before after old new : Option (List ℕ)) : Type 0 where
-  pub announced : Option (List ℕ)
-  pub announces : Appends old announced (listening_line settings.port)
-  pub seat : Sitting
-  pub fresh : IsFresh seat
-  pub last : ConsoleSeat
-  pub operated : Result (Unit {0}) OperatorFault
+  pub console : Seated × Result (Unit {0}) OperatorFault
   pub told : Option (List ℕ)
-  pub operates : IsOperated operated seat last before after announced told
+  pub attended : HasAttended console settings.port opening before after old told
   pub closed : Result (Unit {0}) ServeFault
-  pub works : ((closed ≡ Err Memory) × (new ≡ told))
-      ⊎ HasWorked closed settings hall last told new
-  pub ends : end ≡ end_by operated closed
+  pub ends : Ends closed settings opening console.0 told new
+  pub is : end ≡ end_by console.1 closed
 
 abbrev pub Runs : Result (Unit {0}) ServeFault → Settings → Opening → Option (List ℕ)
     → Option (List ℕ) → Option (List ℕ) → Option (List ℕ) → Type 0
-Runs end settings hall before after old new =
+Runs end settings opening before after old new =
     ((after ≡ before) × Fails end settings.port old new)
-    ⊎ HasRun end settings hall before after old new
+    ⊎ HasRun end settings opening before after old new

@@ -1,33 +1,49 @@
--- What a worker has done that served connections one after another, and what several have.
+-- What a worker has done that served connections one after another, and what several have: at a hall,
+-- or at a shared desk.
 use Rattle.std.specs.Prelude.{◌≡◌, ◌≤◌, ◌+◌, ◌⊎◌, ℕ, List, [], ◌∷◌, Bool, true, false, Option}
-use Rattle.tac_hall.specs.declared.entry.Receipt.{Receipt}
+use Rattle.tac_conn.specs.declared.ask.Ask.{Ask}
+use Rattle.tac_forum.specs.History.{Opening}
+use Rattle.tac_forum.specs.Seat.{Seated}
+use Rattle.tac_hall.specs.declared.fault.HallFault.{HallFault}
+use Rattle.tac_hall.specs.Seat.{Sitting}
 use Rattle.tac_worker.specs.declared.worked.End.{End}
 use Rattle.tac_worker.specs.declared.worked.End.TheVariants.{Finished, Stopped, ReadFault}
 use Rattle.tac_worker.specs.declared.worked.End.TheVariants.{Held, NoSeat}
-use Rattle.tac_hall.specs.Seat.{Sitting}
-use Rattle.tac_worker.specs.Worked.{IsServed}
+use Rattle.tac_worker.specs.Worked.{Exchange, AreMade, IsServedBy}
+use Rattle.tac_worker.specs.AtDesk as at_desk
+use Rattle.tac_worker.specs.AtHall as at_hall
 
 -- ---- one connection
 
--- a connection was served, and it ended so; that its bytes are the device's is in no contract
-pub record IsConnection (key : List ℕ) (was : Sitting) (end : End) (now : Sitting) : Type 0 where
-  pub receipts : List Receipt
+-- whoever makes the calls, each by such a step, served it, and it ended so; a call is refused so.
+-- That its bytes are the device's is in no contract
+pub record IsConnection {S : Type 0} (step : S → Exchange → S → Type 0)
+    (refuses : S → Ask → HallFault → Type 0) (key : List ℕ) (was : S) (end : End) (now : S)
+    : Type 0 where
   pub before : Option (List ℕ)
   pub after : Option (List ℕ)
   pub old : Option (List ℕ)
   pub new : Option (List ℕ)
-  pub served : IsServed end key (record { seat = was; receipts = [] })
-      (record { seat = now; receipts = receipts }) before after old new
+  pub served : IsServedBy end key (λ made. AreMade step was made now) (refuses now)
+      before after old new
+
+-- a seat of a hall served it
+abbrev pub IsHallConnection : List ℕ → Sitting → End → Sitting → Type 0
+IsHallConnection key = IsConnection at_hall.MakesOne at_hall.Refuses key
+
+-- a seat of a shared desk did
+abbrev pub IsDeskConnection : Opening → List ℕ → Seated → End → Seated → Type 0
+IsDeskConnection opening key =
+    IsConnection (at_desk.MakesOne opening) (at_desk.Refuses opening) key
 
 -- how it ends where no connection was accepted: as one that couldn't be read, or as Stopped, since
 -- the server was stopping
 abbrev pub IsUnaccepted : End → Type 0
 IsUnaccepted end = (end ≡ ReadFault) ⊎ (end ≡ Stopped)
 
--- a connection was served, or none could be accepted
-abbrev pub Connects : List ℕ → Sitting → End → Sitting → Type 0
-Connects key was end now =
-    IsConnection key was end now ⊎ (IsUnaccepted end × (now ≡ was))
+-- a connection was served so, or none could be accepted
+abbrev pub Connects : {S : Type 0} → (S → End → S → Type 0) → S → End → S → Type 0
+Connects serves was end now = serves was end now ⊎ (IsUnaccepted end × (now ≡ was))
 
 -- ---- one after another
 
@@ -40,24 +56,26 @@ goes_on end = true
 
 -- so many connections came, one after another, each but the last with an end after which the
 -- worker goes on; it ended so, as Finished where there was none
-pub data Came (key : List ℕ) (was : Sitting) : ℕ → End → Sitting → Type 0 where
-  at_first : Came key was 0 Finished was
-  and_then : {count : ℕ} {end last : End} {then now : Sitting} → Came key was count end then
-      → goes_on end ≡ true → Connects key then last now → Came key was (count + 1) last now
+pub data Came {S : Type 0} (serves : S → End → S → Type 0) (was : S) : ℕ → End → S → Type 0 where
+  at_first : Came serves was 0 Finished was
+  and_then : {count : ℕ} {end last : End} {then now : S} → Came serves was count end then
+      → goes_on end ≡ true → Connects serves then last now
+      → Came serves was (count + 1) last now
 
 -- at most so many connections came, and fewer only where the worker didn't go on
-pub record Serves (key : List ℕ) (connections : ℕ) (was : Sitting) (end : End) (now : Sitting)
-    : Type 0 where
+pub record Serves {S : Type 0} (serves : S → End → S → Type 0) (connections : ℕ) (was : S)
+    (end : End) (now : S) : Type 0 where
   pub count : ℕ
-  pub came : Came key was count end now
+  pub came : Came serves was count end now
   pub within : count ≤ connections
   pub all : goes_on end ≡ true → count ≡ connections
 
 -- ---- side by side
 
 -- each of these seats served so; they are answered in their order, each with its last end
-abbrev pub HaveServed : List ℕ → ℕ → List Sitting → List (Sitting × End) → Type 0
-HaveServed key connections [] [] = Unit {0}
-HaveServed key connections (seat ∷ seats) (one ∷ served) =
-    Serves key connections seat one.1 one.0 × HaveServed key connections seats served
-HaveServed key connections seats served = ⊥
+abbrev pub HaveServed : {S : Type 0} → (S → End → S → Type 0) → ℕ → List S → List (S × End)
+    → Type 0
+HaveServed serves connections [] [] = Unit {0}
+HaveServed serves connections (seat ∷ seats) (one ∷ served) =
+    Serves serves connections seat one.1 one.0 × HaveServed serves connections seats served
+HaveServed serves connections seats served = ⊥

@@ -2,6 +2,7 @@
 
 ghost use Rattle.tac_net.specs.Program as program;
 
+use crate::ending::refuse;
 use crate::fault::ServeFault;
 use crate::opening::announce;
 use crate::port::Port;
@@ -10,51 +11,49 @@ use crate::vigil::Vigil;
 use std::io::{Read, Write};
 use std::sync::Wait;
 use std::time::Clock;
-use tac_chain::Archive;
 use tac_desk::Desk;
-use tac_hall::{Hall, Seat};
-use tac_hall_console::{ConsoleSeat, OperatorFault, operate};
+use tac_forum::{Run, Seat, SharedDesk};
+use tac_hall_console::{OperatorFault, operate};
 
 // Once each worker has a thread, the first line is printed, and then the console is operated.
-fn open_console<R: Wait + Clock + AllocGlobal, D: Desk, I: Read, O: Write>(
+fn open_console<R: Wait + Clock + AllocGlobal, J: Run, D: Desk, I: Read, O: Write>(
     rt: &R,
-    hall: &Hall<D>,
+    desk: &SharedDesk<J, D>,
     settings: &Settings,
     vigil: &Vigil,
-    archive: &Archive,
-    console: Seat,
     input: &mut I,
     output: &mut O,
-) -> Result<(ConsoleSeat, Result<(), OperatorFault>), ServeFault>
-    ensures { program.Attends result settings.now console
+) -> Result<(Seat<J>, Result<(), OperatorFault>), ServeFault>
+    ensures { program.Attends result settings.now.port J.opening
         (I.remaining input.old) (I.remaining input.new)
         (O.contents output.old) (O.contents output.new) }
 {
     if !vigil.have_begun(rt, settings.workers) {
         return Err(ServeFault::Threads);
     }
+    let Ok(console) = desk.seat(rt) else {
+        return Err(refuse(output));
+    };
     announce(rt.alloc(), output, settings.port)?;
-    Ok(operate(rt, rt.alloc(), hall, archive, console, input, output))
+    Ok(operate(rt, rt.alloc(), desk, console, input, output))
 }
 
 /// The console's part, from its first line to its last. Then all workers are told to end, whatever
 /// they wait for. Nothing is read and no line printed where a worker has no thread.
-pub(crate) fn attend<R: Wait + Clock + AllocGlobal, D: Desk, I: Read, O: Write>(
+pub(crate) fn attend<R: Wait + Clock + AllocGlobal, J: Run, D: Desk, I: Read, O: Write>(
     rt: &R,
     port: &Port,
-    hall: &Hall<D>,
+    desk: &SharedDesk<J, D>,
     settings: &Settings,
     vigil: &Vigil,
-    archive: &Archive,
-    console: Seat,
     input: &mut I,
     output: &mut O,
-) -> Result<(ConsoleSeat, Result<(), OperatorFault>), ServeFault>
-    ensures { program.Attends result settings.now console
+) -> Result<(Seat<J>, Result<(), OperatorFault>), ServeFault>
+    ensures { program.Attends result settings.now.port J.opening
         (I.remaining input.old) (I.remaining input.new)
         (O.contents output.old) (O.contents output.new) }
 {
-    let attended = open_console(rt, hall, settings, vigil, archive, console, input, output);
+    let attended = open_console(rt, desk, settings, vigil, input, output);
     vigil.stop();
     port.close();
     attended

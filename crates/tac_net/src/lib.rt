@@ -1,4 +1,4 @@
-//! Serving a hall on the network: one worker a seat, each in a thread of its own, and a console.
+//! Serving a desk on the network: one worker a seat, each in a thread of its own, and a console.
 #![tactic(auto)]
 
 mod attending;
@@ -10,7 +10,6 @@ mod patience;
 mod pause;
 mod port;
 mod program;
-mod rotating;
 mod serving;
 mod settings;
 mod sharing;

@@ -9,21 +9,22 @@ use std::alloc::Global;
 use std::io::Write;
 use std::sync::Wait;
 use tac_desk::Desk;
-use tac_hall::{Hall, HallFault, Seat};
+use tac_forum::{Run, Seat, SharedDesk};
+use tac_hall::HallFault;
 
-/// So many seats of a hall. The error is Memory or NoSeat.
-pub(crate) fn seats_of<R: Wait, D: Desk>(
+/// So many seats of a desk. The error is Memory or NoSeat.
+pub(crate) fn seats_of<R: Wait, J: Run, D: Desk>(
     rt: &R,
     alloc: Global,
-    hall: &Hall<D>,
+    desk: &SharedDesk<J, D>,
     count: u32,
-) -> Result<Vec<Seat>, HallFault>
+) -> Result<Vec<Seat<J>>, HallFault>
     ensures count { IfOk result (λ seats. length seats.items ≡ count) }
     ensures fresh { IfOk result (λ seats. All opening.IsFresh seats.items) }
 {
     let mut seats = Vec::new(alloc);
     'seats: for _ in 0..count {
-        let seat = hall.seat(rt)?;
+        let seat = desk.seat(rt)?;
         seats.push(seat)?;
     }
     Ok(seats)

@@ -1,9 +1,10 @@
 //! Workers in threads.
 
 ghost use Rattle.std.specs.Prelude.{IfOk};
+ghost use Rattle.tac_net.specs.Program.{HaveWorked};
 ghost use Rattle.tac_net.specs.Serving as serving;
 
-use crate::rotating::{Count, Rotating};
+use crate::opening::seats_of;
 use crate::settings::Settings;
 use crate::vigil::Vigil;
 use crate::worker::serve_all;
@@ -12,12 +13,12 @@ use std::net::TcpListener;
 use std::sync::Wait;
 use std::thread::{Threads, map_vec};
 use std::time::Clock;
-use tac_chain::Archive;
 use tac_desk::Desk;
-use tac_hall::{Hall, Seat};
+use tac_forum::{Run, Seat as DeskSeat, SharedDesk};
+use tac_hall::{Hall, HallFault, Seat};
 use tac_journal::{Log, LogFiles, Nowhere};
 use tac_wire::Key;
-use tac_worker::{End, Gate};
+use tac_worker::{DeskCaller, End, Gate, HallCaller, OpenGate};
 
 /// The same as [`serve_on`], but a connection is given up, and a worker ends as Stopped, where the
 /// vigil says so.
@@ -33,84 +34,83 @@ pub(crate) fn serve_under<R, D: Desk + Send, G: Gate + Sync>(
 ) -> Result<Vec<(Seat, End)>, AllocError>
 where
     R: Threads + Wait + Clock + Sync + AllocGlobal + Eprint + LogFiles,
-    ensures { IfOk result (λ served. serving.HaveServed key.now connections seats.items
-        served.items) }
+    ensures { IfOk result (λ served. serving.HaveServed (serving.IsHallConnection key.now)
+        connections seats.items served.items) }
 {
     let work = |seat: Seat| -> (Seat, End)
-        ensures { serving.Serves key.entry.now connections seat result.1 result.0 }
+        ensures { serving.Serves (serving.IsHallConnection key.entry.now) connections seat
+            result.1 result.0 }
     {
-        serve_all(
+        let mut caller = HallCaller::new(rt, hall, seat);
+        let end = serve_all(
             rt,
             listener,
-            hall,
             key,
-            seat,
+            &mut caller,
             connections,
             gate,
             vigil,
             &Nowhere,
-        )
+        );
+        (caller.into_seat(), end)
     };
     map_vec(rt, seats, &work)
 }
 
-// The same, each worker under a gate that counts here and has the log taken out of the hall.
-fn serve_counting<R, D: Desk + Send, L: Log + Sync>(
+// The same at a shared desk, and each reply is written only once the auditor's log has its line,
+// where there is one.
+fn serve_seats<R, J: Run + Send + Sync, D: Desk + Send, L: Log + Sync>(
     rt: &R,
     listener: &TcpListener,
-    hall: &Hall<D>,
+    desk: &SharedDesk<J, D>,
     settings: &Settings,
-    archive: &Archive,
-    count: &Count,
-    seats: Vec<Seat>,
+    seats: Vec<DeskSeat<J>>,
     vigil: &Vigil,
     log: &L,
-) -> Result<Vec<(Seat, End)>, AllocError>
+) -> Result<Vec<(DeskSeat<J>, End)>, AllocError>
 where
     R: Threads + Wait + Clock + Sync + AllocGlobal + Eprint + LogFiles,
-    ensures { IfOk result (λ served. serving.HaveServed settings.now.key
-        settings.now.connections seats.items served.items) }
+    ensures { IfOk result (λ served. serving.HaveServed
+        (serving.IsDeskConnection J.opening settings.now.key) settings.now.connections
+        seats.items served.items) }
 {
-    let work = |seat: Seat| -> (Seat, End)
-        ensures { serving.Serves settings.entry.now.key settings.entry.now.connections seat
-            result.1 result.0 }
+    let work = |seat: DeskSeat<J>| -> (DeskSeat<J>, End)
+        ensures { serving.Serves (serving.IsDeskConnection J.opening settings.entry.now.key)
+            settings.entry.now.connections seat result.1 result.0 }
     {
-        serve_all(
+        let mut caller = DeskCaller::new(rt, desk, seat);
+        let end = serve_all(
             rt,
             listener,
-            hall,
             &settings.key,
-            seat,
+            &mut caller,
             settings.connections,
-            &Rotating::new(rt, hall, archive, count),
+            &OpenGate,
             vigil,
             log,
-        )
+        );
+        (caller.into_seat(), end)
     };
     map_vec(rt, seats, &work)
 }
 
-/// The same, and the log is taken out of the hall as the settings say. Each reply is written only
-/// once the auditor's log has its line, where there is one.
-pub(crate) fn serve_rotating<R, D: Desk + Send, L: Log + Sync>(
+/// Serves a shared desk on the network, by so many new seats as the settings say. The error is
+/// Memory or NoSeat.
+pub(crate) fn serve_desk<R, J: Run + Send + Sync, D: Desk + Send, L: Log + Sync>(
     rt: &R,
     listener: &TcpListener,
-    hall: &Hall<D>,
+    desk: &SharedDesk<J, D>,
     settings: &Settings,
-    archive: &Archive,
-    seats: Vec<Seat>,
     vigil: &Vigil,
     log: &L,
-) -> Result<Vec<(Seat, End)>, AllocError>
+) -> Result<Vec<(DeskSeat<J>, End)>, HallFault>
 where
     R: Threads + Wait + Clock + Sync + AllocGlobal + Eprint + LogFiles,
-    ensures { IfOk result (λ served. serving.HaveServed settings.now.key
-        settings.now.connections seats.items served.items) }
+    ensures { IfOk result (λ served. HaveWorked settings.now J.opening served.items) }
 {
-    let count = Count::new(settings.rotate_at);
-    serve_counting(
-        rt, listener, hall, settings, archive, &count, seats, vigil, log,
-    )
+    let seats = seats_of(rt, rt.alloc(), desk, settings.workers)?;
+    let served = serve_seats(rt, listener, desk, settings, seats, vigil, log)?;
+    Ok(served)
 }
 
 /// Serves a hall on the network: for each seat there is a worker in a thread of its own, which
@@ -136,8 +136,8 @@ pub fn serve_on<R, D: Desk + Send, G: Gate + Sync>(
 ) -> Result<Vec<(Seat, End)>, AllocError>
 where
     R: Threads + Wait + Clock + Sync + AllocGlobal + Eprint + LogFiles,
-    ensures { IfOk result (λ served. serving.HaveServed key.now connections seats.items
-        served.items) }
+    ensures { IfOk result (λ served. serving.HaveServed (serving.IsHallConnection key.now)
+        connections seats.items served.items) }
 {
     let vigil = Vigil::new(0);
     serve_under(rt, listener, hall, key, seats, connections, gate, &vigil)

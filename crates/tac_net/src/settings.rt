@@ -1,5 +1,6 @@
 //! What a server is told when it begins.
 
+use tac_forum::Limits;
 use tac_wire::Key;
 
 /// Whom a server serves, and how much.
@@ -16,7 +17,7 @@ pub struct Settings {
     /// After how many seconds without a reply a connection is given up, and before its first reply
     /// after ten at the latest; 0 means never.
     pub idle: u32,
-    /// Before the call of a device that has this number in its segment, counted from 1, the log is
-    /// taken out of the hall. Nothing is printed of it.
-    pub rotate_at: u32,
+    /// How long the segments of its history may be. Nothing is printed of one that begins by
+    /// itself.
+    pub limits: Limits,
 }

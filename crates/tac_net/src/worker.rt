@@ -1,4 +1,4 @@
-//! A worker: one seat that serves connections, one after another.
+//! A worker: a seat that serves connections, one after another.
 
 ghost use Rattle.std.specs.Prelude.{◌≡◌, ◌⊎◌, IfErr, true};
 ghost use Rattle.tac_net.specs.Pause as pauses;
@@ -12,11 +12,9 @@ use std::alloc::{AllocError, Global};
 use std::net::{SocketAddr, TcpListener, TcpStream};
 use std::sync::Wait;
 use std::time::Clock;
-use tac_desk::Desk;
-use tac_hall::{Hall, Seat};
 use tac_journal::{Audited, Log, LogFiles};
 use tac_wire::Key;
-use tac_worker::{End, Gate, Worked, work};
+use tac_worker::{Caller, End, Gate, serve};
 
 /// Whether a worker takes another connection after one that ended so.
 fn goes_on(end: End) -> bool
@@ -51,134 +49,120 @@ fn device_of(alloc: Global, address: SocketAddr) -> Result<Bytes, AllocError> {
 }
 
 // Serves a connection with an end to patience.
-fn serve_line<'a, R: Wait + Clock, D: Desk, G: Gate>(
-    rt: &R,
-    hall: &Hall<D>,
+fn serve_line<'a, R: Wait + Clock + AllocGlobal, C: Caller, G: Gate>(
+    rt: &'a R,
     key: &Key,
-    seat: Seat,
+    caller: &mut C,
     gate: &G,
     line: &'a Line<'a, &'a TcpStream, R>,
-) -> (Seat, End)
-    ensures { serving.Connects key.now seat result.1 result.0 }
+) -> End
+    ensures { serving.Connects (serving.IsConnection C.makes C.refuses key.now)
+        caller.old result caller.new }
 {
     let mut reader = line;
     let mut writer = line;
-    let Worked {
-        seat,
-        receipts: _,
-        end,
-    } = work(rt, hall, key, seat, &mut reader, &mut writer, gate);
-    (seat, end)
+    serve(rt, rt.alloc(), key, gate, caller, &mut reader, &mut writer)
 }
 
 // The same, and each reply is written only once the log has its line.
-fn serve_audited<'a, R, D: Desk, G: Gate, L: Log>(
+fn serve_audited<'a, R, C: Caller, G: Gate, L: Log>(
     rt: &R,
-    hall: &Hall<D>,
     key: &Key,
-    seat: Seat,
+    caller: &mut C,
     gate: &G,
     audited: &Audited<'a, &'a Line<'a, &'a TcpStream, R>, R, L>,
-) -> (Seat, End)
+) -> End
 where
     R: Wait + Clock + AllocGlobal + Eprint + LogFiles,
-    ensures { serving.Connects key.now seat result.1 result.0 }
+    ensures { serving.Connects (serving.IsConnection C.makes C.refuses key.now)
+        caller.old result caller.new }
 {
     let mut reader = audited;
     let mut writer = audited;
-    let Worked {
-        seat,
-        receipts: _,
-        end,
-    } = work(rt, hall, key, seat, &mut reader, &mut writer, gate);
+    let end = serve(rt, rt.alloc(), key, gate, caller, &mut reader, &mut writer);
     // a log that takes no lines was told; where memory or a clock is missing nothing is said
     let _ = audited.end();
-    (seat, end)
+    end
 }
 
 // Serves a connection, with a log or without one.
-fn serve_stream<'a, R, D: Desk, G: Gate, L: Log>(
+fn serve_stream<'a, R, C: Caller, G: Gate, L: Log>(
     rt: &'a R,
-    hall: &Hall<D>,
     key: &'a Key,
-    seat: Seat,
+    caller: &mut C,
     gate: &G,
     vigil: &'a Vigil,
     log: &'a L,
     stream: &'a TcpStream,
     address: SocketAddr,
-) -> (Seat, End)
+) -> End
 where
     R: Wait + Clock + AllocGlobal + Eprint + LogFiles,
-    ensures { serving.Connects key.now seat result.1 result.0 }
+    ensures { serving.Connects (serving.IsConnection C.makes C.refuses key.now)
+        caller.old result caller.new }
 {
     if let Err(_) = limit_waits(stream) {
-        return (seat, End::ReadFault);
+        return End::ReadFault;
     }
     let line = Line::new(stream, rt, vigil);
     if !log.is_kept() {
-        return serve_line(rt, hall, key, seat, gate, &line);
+        return serve_line(rt, key, caller, gate, &line);
     }
     let Ok(device) = device_of(rt.alloc(), address) else {
-        return (seat, End::ReadFault);
+        return End::ReadFault;
     };
     let audited = Audited::new(rt, log, key, device, &line);
-    serve_audited(rt, hall, key, seat, gate, &audited)
+    serve_audited(rt, key, caller, gate, &audited)
 }
 
 // Waits for a connection and serves it.
-fn serve_one<R, D: Desk, G: Gate, L: Log>(
+fn serve_one<R, C: Caller, G: Gate, L: Log>(
     rt: &R,
     listener: &TcpListener,
-    hall: &Hall<D>,
     key: &Key,
-    seat: Seat,
+    caller: &mut C,
     gate: &G,
     vigil: &Vigil,
     log: &L,
     pause: &mut Pause,
-) -> (Seat, End)
+) -> End
 where
     R: Wait + Clock + AllocGlobal + Eprint + LogFiles,
-    ensures { serving.Connects key.now seat result.1 result.0 }
+    ensures { serving.Connects (serving.IsConnection C.makes C.refuses key.now)
+        caller.old result caller.new }
 {
     match accept(rt, listener, vigil, pause) {
-        Ok((stream, address)) => serve_stream(
-            rt, hall, key, seat, gate, vigil, log, &stream, address,
-        ),
-        Err(end) => (seat, end),
+        Ok((stream, address)) => serve_stream(rt, key, caller, gate, vigil, log, &stream, address),
+        Err(end) => end,
     }
 }
 
 /// Serves so many connections, one after another, unless one ends as Stopped, Held or NoSeat
-/// before. The result has the seat and the last end, Finished where there was no connection. With
-/// a log, each reply is written only once that has its line.
-pub(crate) fn serve_all<R, D: Desk, G: Gate, L: Log>(
+/// before. The result is the last end, Finished where there was no connection. With a log, each
+/// reply is written only once that has its line.
+pub(crate) fn serve_all<R, C: Caller, G: Gate, L: Log>(
     rt: &R,
     listener: &TcpListener,
-    hall: &Hall<D>,
     key: &Key,
-    seat: Seat,
+    caller: &mut C,
     connections: u32,
     gate: &G,
     vigil: &Vigil,
     log: &L,
-) -> (Seat, End)
+) -> End
 where
     R: Wait + Clock + AllocGlobal + Eprint + LogFiles,
-    ensures { serving.Serves key.now connections seat result.1 result.0 }
+    ensures { serving.Serves (serving.IsConnection C.makes C.refuses key.now) connections
+        caller.old result caller.new }
 {
     vigil.begin();
-    let mut seat = seat;
     let mut end = End::Finished;
     let mut pause = Pause::first();
     'connections: for _ in 0..connections {
-        let (next, last) = serve_one(rt, listener, hall, key, seat, gate, vigil, log, &mut pause);
-        seat = next;
-        end = last;
+        end = serve_one(rt, listener, key, caller, gate, vigil, log, &mut pause);
         if !goes_on(end) {
-            return (seat, end);
+            return end;
         }
     }
-    (seat, end)
+    end
 }

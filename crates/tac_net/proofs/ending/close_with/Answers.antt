@@ -1,4 +1,4 @@
-use Rattle.std.proofs.Common.{◌≡◌, List, [], ◌∷◌, ◌++◌, map, refl, ap, ◌∙◌, subst}
+use Rattle.std.proofs.Common.{List, [], ◌∷◌, ◌++◌, map, refl, ap, ◌∙◌, subst}
 use Rattle.tac_forum.specs.Seat.{Seated}
 use Rattle.tac_forum.specs.Closing.{IsSettled}
 use Rattle.tac_worker.specs.declared.worked.End.{End}

@@ -5,6 +5,7 @@ use Rattle.std.proofs.Crossing.{crosses}
 use Rattle.tac_worker.proofs.worked.End.TheSendSync as ends
 use Rattle.tac_hall.proofs.Crossing.{Seat-send, Key-sync, Hall-sync}
 use Rattle.tac_net.proofs.Crossing.{Listener-sync, Number-sync, Vigil-sync}
+use Rattle.tac_net.specs.Serving.{IsHallConnection}
 use Rattle.tac_net.proofs.ServingFacts.{each_served, ok_both}
 use Rattle.tac_net.proofs.serving.serve_under.Goals as goal
 
@@ -25,9 +26,9 @@ map_vec-requires-sync-F g c κs within =
         (
           (λ q. tt, runtime.shared d.0.now d.0.ref_ptr.0 d.0.ref_ptr.1 _),
           (
-            (λ q. tt, Listener-sync.shared d.1.now d.1.ref_ptr.0 d.1.ref_ptr.1 κ),
+            (λ q. tt, hall.shared d.1.now d.1.ref_ptr.0 d.1.ref_ptr.1 _),
             (
-              (λ q. tt, hall.shared d.2.now d.2.ref_ptr.0 d.2.ref_ptr.1 _),
+              (λ q. tt, Listener-sync.shared d.2.now d.2.ref_ptr.0 d.2.ref_ptr.1 κ),
               (
                 (λ q. tt, Key-sync.shared d.3.now d.3.ref_ptr.0 d.3.ref_ptr.1 _),
                 (
@@ -51,6 +52,6 @@ map_vec-requires-sync-F g c κs within =
 pub returns : goal.returns
 returns g c =
     ok_both c.map_vec.result (λ served same each.
-    each_served c.args.key.now c.args.connections c.args.seats.items served.items (omega (arith, same, served.ok.0, c.args.seats.ok.0))
+    each_served (IsHallConnection c.args.key.now) c.args.connections c.args.seats.items served.items (omega (arith, same, served.ok.0, c.args.seats.ok.0))
     (λ i d h. let job = (each i d h).1 in (job.job, job.job_read, job.call.met)))
     c.map_vec.ensures.len c.map_vec.ensures.each

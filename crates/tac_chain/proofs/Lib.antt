@@ -1,4 +1,0 @@
-pub mod JoinedFacts
-pub mod KeptFacts
-pub mod ClosingFacts
-pub mod Crossing
