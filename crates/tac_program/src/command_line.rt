@@ -69,7 +69,7 @@ pub(crate) const ADDRESS: &str = "address";
 /// After how many seconds without a reply a connection is given up.
 pub(crate) const IDLE: &str = "idle";
 
-/// Before which call of its segment the log is taken out of the hall.
+/// Before which call of a segment of the history the next one begins.
 pub(crate) const ROTATE_AT: &str = "rotate-at";
 
 /// The file that takes the lines of an auditor.
@@ -237,7 +237,7 @@ pub(crate) fn command<'a>(alloc: Global) -> Result<Command<'a>, AllocError> {
         .about(ABOUT)
         .long_about(LONG_ABOUT)
         .after_long_help(AFTER_LONG_HELP)
-        .version("0.3.0")
+        .version("0.4.0")
         .subcommand_required(true);
     let command = with(command, serve(alloc))?;
     let command = with(command, check(alloc))?;

@@ -13,6 +13,7 @@ use basics::split_once;
 use clap::ArgMatches;
 use std::net::{IpAddr, SocketAddr};
 use std::rt::Files;
+use tac_forum::Limits;
 use tac_io::{InputFault, read_whole};
 use tac_net::Settings;
 use tac_wire::Key;
@@ -21,6 +22,9 @@ const BAD_KEY: &str =
     "error: invalid value for '--key <K>': it is not 1 to 128 printable ASCII characters
 
 For more information, try '--help'.";
+
+/// The most calls of a segment of the history.
+const MAX_CALLS: usize = 65_536;
 
 /// The most bytes that a key's file has.
 const MAX_KEY_FILE: usize = 65_536;
@@ -139,7 +143,10 @@ fn settings_of(matches: &ArgMatches<'_>, key: Key) -> Option<Settings> {
         workers: matches.get_one::<u32>(WORKERS)?,
         connections: matches.get_one::<u32>(CONNECTIONS)?,
         idle: matches.get_one::<u32>(IDLE)?,
-        rotate_at: matches.get_one::<u32>(ROTATE_AT)?,
+        limits: Limits {
+            calls: MAX_CALLS,
+            rotate_at: matches.get_one::<u32>(ROTATE_AT)? as usize,
+        },
     })
 }
 

@@ -3,7 +3,7 @@
 //! Each fault is said on standard error. The status tells it too, so it doesn't matter whether
 //! that could be written.
 
-ghost use Rattle.std.specs.Prelude.{◌≡◌, ◌⊎◌, IfOk, IfErr};
+ghost use Rattle.std.specs.Prelude.{◌≡◌, ◌⊎◌, IfErr};
 ghost use Rattle.tac_program.specs.Ending.{end_of_serving};
 
 use crate::complaint::{complain, name_lint};
@@ -19,12 +19,8 @@ use std::sync::Wait;
 use std::thread::Threads;
 use std::time::Clock;
 use tac_desks::LiveDesk;
-use tac_hall::Hall;
 use tac_journal::{AuditedConsole, AuditedInput, AuditedOutput, Journal, LogFiles};
 use tac_net::{Port, ServeFault, serve};
-
-/// The most calls that a log of a hall takes.
-const MAX_CALLS: usize = 65_536;
 
 // The desk of the policy in a file. The error here and below is the status to end with.
 fn desk_of_file<R: Files + Print + Eprint + AllocGlobal>(
@@ -41,19 +37,6 @@ fn desk_of_file<R: Files + Print + Eprint + AllocGlobal>(
         Err(fault) => {
             complain(rt, path, fault);
             Err(Status::of_answer(fault))
-        }
-    }
-}
-
-fn hall_of<R: Eprint + AllocGlobal>(rt: &R, desk: LiveDesk) -> Result<Hall<LiveDesk>, Status>
-    ensures limit { IfOk result (λ hall. hall.limit ≡ 65536) }
-    ensures status { IfErr result (λ status. status ≡ Status.OutOfMemory) }
-{
-    match Hall::new(rt, desk, MAX_CALLS) {
-        Ok(hall) => Ok(hall),
-        Err(_) => {
-            let _ = eprintln!(rt; "tacd: {}", ServeFault::Memory);
-            Err(Status::OutOfMemory)
         }
     }
 }
@@ -117,7 +100,7 @@ fn serve_console<R, H, I: Read + Drop>(
     rt: &R,
     host: &H,
     options: &Options<'_>,
-    hall: Hall<LiveDesk>,
+    desk: LiveDesk,
     journal: &Option<Journal<'_>>,
     port: &Port,
     input: I,
@@ -130,7 +113,7 @@ where
     let outcome = serve(
         host,
         port,
-        hall,
+        desk,
         &options.settings,
         journal,
         &mut AuditedInput {
@@ -168,18 +151,17 @@ where
     H: Net<Listener = TcpListener, Stream = TcpStream>,
 {
     let desk = desk_of_file(rt, options.path)?;
-    let hall = hall_of(rt, desk)?;
     let journal = journal_of(rt, host, options)?;
     let port = port_at(rt, host, options.address)?;
     let outcome = if options.has_console {
         let input = ConsoleInput::new(rt, rt.reader());
-        serve_console(rt, host, options, hall, &journal, &port, input)
+        serve_console(rt, host, options, desk, &journal, &port, input)
     } else {
         let input = NoConsole {
             clock: host,
             port: &port,
         };
-        serve_console(rt, host, options, hall, &journal, &port, input)
+        serve_console(rt, host, options, desk, &journal, &port, input)
     };
     ended(rt, outcome)
 }

@@ -25,7 +25,7 @@ pub(crate) enum Status {
     BadCommandLine = 2,
     /// Memory ran out, or a thread could not be made.
     OutOfMemory = 3,
-    /// Reading or writing failed, a port or the file of a log couldn't be had, or a hall couldn't
+    /// Reading or writing failed, a port or the file of a log couldn't be had, or the desk couldn't
     /// be closed.
     Failed = 4,
     /// Someone gains or loses a line by the new policy, or it takes edits; or a lint told
