@@ -93,7 +93,7 @@ Exit status:
   3  memory ran out, or a thread could not be made
   4  a file could not be read, that of --log could not be opened, the port could not be had, the
      console could not be read, or the output could not be written, or 'close refused' was printed:
-     the calls of all workers could not be put together";
+     a worker or the console had no seat at the desk";
 
 pub(crate) const CHECK_LONG_ABOUT: &str =
     "Reads a policy, and prints how much it has and which of its rules decide nothing.
