@@ -32,7 +32,7 @@ StoodAt base logs (exchange ∷ made) (meaning ∷ meanings) =
 StoodAt base logs made meanings = ⊥
 
 -- what is sent for these bytes by the answers of these exchanges is what a server says to them
--- whose desk represents, at each ask, what the desk of the hall represented at its place
+-- whose desk represents, at each ask, what the desk that is shared represented at its place
 pub record IsSaid (key bytes : List ℕ) (base : Meaning) (logs : List (List Entry))
     (made : List Exchange) : Type 0 where
   pub meanings : List Meaning

@@ -1,5 +1,5 @@
 -- What a server says on a connection while others use its desk too (RFC 8907, section 4), and that
--- a worker of a hall sends the same.
+-- a worker sends the same.
 use Rattle.std.specs.Prelude.{◌≡◌, ◌≤◌, ℕ, List, [], ◌∷◌, ◌++◌, length, map, zip, false}
 use Rattle.tac_wire.specs.declared.frame.Frame.{Frame}
 use Rattle.tac_wire.specs.Stream.{Tail, open_end, cut}

@@ -23,8 +23,8 @@ pub enum ServeFault {
     /// A worker has no thread.
     #[error("a thread could not be made")]
     Threads,
-    /// The hall could not be closed with its seats, and `close refused` was printed.
-    #[error("the hall could not be closed")]
+    /// A seat of the desk is missing, and `close refused` was printed.
+    #[error("the desk could not be closed")]
     CloseRefused,
 }
 
