@@ -1,5 +1,5 @@
-//! Tests of the console of a hall: conversations with it, the order of its reads and writes, and
-//! inputs and outputs that fail.
+//! Tests of the console of a shared desk: conversations with it, the order of its reads and writes,
+//! and inputs and outputs that fail.
 
 mod ends;
 mod lines;

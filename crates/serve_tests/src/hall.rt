@@ -1,9 +1,9 @@
-//! Tests of the hall: calls of several seats.
+//! Tests of the hall and of the shared desk: calls of several seats.
 
 mod calls;
 mod rotation;
 mod seats;
-mod shared;
+pub(crate) mod shared;
 mod starved;
-mod support;
+pub(crate) mod support;
 mod threads;

@@ -1,4 +1,5 @@
-//! Tests of a hall that is served on the network, with clients over loopback.
+//! Tests of a hall, and of a desk with a console, that are served on the network, with clients over
+//! loopback.
 
 mod clients;
 mod consoles;

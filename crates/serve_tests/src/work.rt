@@ -3,6 +3,7 @@
 mod ends;
 mod gates;
 mod packets;
+mod shared;
 mod starved;
 mod streams;
 mod support;

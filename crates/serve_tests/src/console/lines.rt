@@ -1,14 +1,28 @@
 //! What lines are answered.
 
-use crate::console::support::converses;
+use crate::console::support::{converses, fills};
+use crate::hall::shared::NEVER;
 use std::alloc::{AllocError, Global};
 use std::test::Fail;
+use tac_forum::Limits;
+
+/// A log that none of these conversations fills.
+pub(crate) const ROOMY: Limits = Limits {
+    calls: 999,
+    rotate_at: NEVER,
+};
+
+/// A log that takes two calls.
+const TIGHT: Limits = Limits {
+    calls: 2,
+    rotate_at: NEVER,
+};
 
 #[test]
 fn edits_and_questions(rt: HostRuntime) -> Result<(), Fail> {
     converses(
         &rt,
-        9,
+        ROOMY,
         "
         > why bob show version
         permitted by group ops rule 1
@@ -23,8 +37,9 @@ fn edits_and_questions(rt: HostRuntime) -> Result<(), Fail> {
         refused 2 NoSuch
         > records
         none
+        > rotate
+        rotated 0 entries 6
         ",
-        7,
     )
 }
 
@@ -32,7 +47,7 @@ fn edits_and_questions(rt: HostRuntime) -> Result<(), Fail> {
 fn no_console_line(rt: HostRuntime) -> Result<(), Fail> {
     converses(
         &rt,
-        9,
+        ROOMY,
         "
         > 
         refused 1 BadEdit
@@ -50,8 +65,9 @@ fn no_console_line(rt: HostRuntime) -> Result<(), Fail> {
         refused 1 BadEdit
         > why b,b
         refused 1 BadEdit
+        > rotate
+        rotated 0 entries 0
         ",
-        1,
     )
 }
 
@@ -59,7 +75,7 @@ fn no_console_line(rt: HostRuntime) -> Result<(), Fail> {
 fn nothing_after_quit(rt: HostRuntime) -> Result<(), Fail> {
     converses(
         &rt,
-        9,
+        ROOMY,
         "
         > why bob ping
         denied by default
@@ -72,15 +88,14 @@ fn nothing_after_quit(rt: HostRuntime) -> Result<(), Fail> {
         > shadow
         > quit
         ",
-        2,
     )
 }
 
 #[test]
 fn a_full_log(rt: HostRuntime) -> Result<(), Fail> {
-    converses(
+    fills(
         &rt,
-        2,
+        TIGHT,
         "
         > shadow
         none
@@ -116,22 +131,24 @@ fn a_full_log(rt: HostRuntime) -> Result<(), Fail> {
         ok
         > abandon
         refused 1 BadEdit
+        hall 1 LogFull
         ",
-        3,
     )
 }
 
 #[test]
 fn a_log_without_room(rt: HostRuntime) -> Result<(), Fail> {
-    converses(
+    fills(
         &rt,
-        0,
+        Limits {
+            calls: 0,
+            rotate_at: NEVER,
+        },
         "
         > shadow
         hall 1 LogFull
         hall 1 LogFull
         ",
-        0,
     )
 }
 
@@ -139,7 +156,7 @@ fn a_log_without_room(rt: HostRuntime) -> Result<(), Fail> {
 fn rotations(rt: HostRuntime) -> Result<(), Fail> {
     converses(
         &rt,
-        2,
+        TIGHT,
         "
         > rotate
         rotated 0 entries 0
@@ -165,8 +182,91 @@ fn rotations(rt: HostRuntime) -> Result<(), Fail> {
         permitted by group ops rule 1
         > reach group net
         none
+        > rotate
+        rotated 3 entries 2
         ",
-        6,
+    )
+}
+
+// The next segment begins before the third call of one.
+#[test]
+fn segments_that_begin_by_themselves(rt: HostRuntime) -> Result<(), Fail> {
+    let third = Limits {
+        calls: 9,
+        rotate_at: 3,
+    };
+    converses(
+        &rt,
+        third,
+        "
+        > shadow
+        none
+        > drop group ops 7
+        refused 7 BadIndex
+        > shadow
+        none
+        > rotate
+        rotated 1 entries 1
+        > rotate
+        rotated 2 entries 0
+        > begin
+        ok
+        > add group net
+        kept 1
+        > why bob show x
+        permitted by group ops rule 1
+        > commit
+        ok
+        > rotate
+        rotated 3 entries 2
+        > shadow
+        none
+        > shadow
+        none
+        > shadow
+        none
+        > shadow
+        none
+        > rotate
+        rotated 5 entries 2
+        ",
+    )
+}
+
+// Where the log takes as many calls as come before that, none is refused, and not the Stop either.
+#[test]
+fn a_full_log_whose_segment_ends_by_itself(rt: HostRuntime) -> Result<(), Fail> {
+    let full = Limits {
+        calls: 2,
+        rotate_at: 3,
+    };
+    let lines = "
+        > shadow
+        none
+        > shadow
+        none
+        > shadow
+        none
+        > shadow
+        none
+    ";
+    converses(&rt, full, lines)?;
+    let later = Limits {
+        rotate_at: 4,
+        ..full
+    };
+    fills(
+        &rt,
+        later,
+        "
+        > shadow
+        none
+        > shadow
+        none
+        > shadow
+        hall 1 LogFull
+        hall 1 LogFull
+        ",
     )
 }
 
@@ -174,7 +274,7 @@ fn rotations(rt: HostRuntime) -> Result<(), Fail> {
 fn batches(rt: HostRuntime) -> Result<(), Fail> {
     converses(
         &rt,
-        9,
+        ROOMY,
         "
         > begin
         ok
@@ -221,8 +321,9 @@ fn batches(rt: HostRuntime) -> Result<(), Fail> {
         ok
         user bob now permits: ping
         user bob now denies: show 
+        > rotate
+        rotated 0 entries 6
         ",
-        7,
     )
 }
 
@@ -230,7 +331,7 @@ fn batches(rt: HostRuntime) -> Result<(), Fail> {
 fn lines_round_batches(rt: HostRuntime) -> Result<(), Fail> {
     converses(
         &rt,
-        9,
+        ROOMY,
         "
         > commit
         refused 1 BadEdit
@@ -281,8 +382,9 @@ fn lines_round_batches(rt: HostRuntime) -> Result<(), Fail> {
         ok
         > why bob show x
         permitted by group ops rule 1
+        > rotate
+        rotated 0 entries 7
         ",
-        8,
     )
 }
 
@@ -313,9 +415,11 @@ fn sixty_five_edits(rt: HostRuntime) -> Result<(), Fail> {
         refused 3 Exists
         > add group b
         ok
+        > rotate
+        rotated 0 entries 4
         ",
     )?;
-    converses(&rt, 9, talk.as_str(), 5)
+    converses(&rt, ROOMY, talk.as_str())
 }
 
 // So many times the same line, with its answer.
@@ -330,6 +434,7 @@ fn repeated(alloc: Global, exchange: &str, times: usize) -> Result<String, Alloc
 #[test]
 fn three_hundred_lines(rt: HostRuntime) -> Result<(), Fail> {
     let exchange = "> why bob\ndenied by default\n";
-    let talk = repeated(rt.alloc(), exchange, 300)?;
-    converses(&rt, 301, talk.as_str(), 301)
+    let mut talk = repeated(rt.alloc(), exchange, 300)?;
+    talk.push_str("> rotate\nrotated 0 entries 300\n")?;
+    converses(&rt, ROOMY, talk.as_str())
 }

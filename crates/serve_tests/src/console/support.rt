@@ -1,14 +1,19 @@
-//! What the tests share: halls, and conversations at their consoles.
+//! What the tests share: shared desks, and conversations at their consoles.
+
+ghost use Rattle.std.specs.Prelude.{◌≡◌};
 
 use crate::console::streams::{Manner, Room, Typed};
-use pol_text::Policy;
+use crate::hall::shared::closes;
+use crate::hall::support::{OPS, desk_of};
 use std::alloc::{AllocError, Global};
+use std::io::{Read, Write};
+use std::marker::Brand;
 use std::sync::Wait;
 use std::test::Fail;
-use tac_chain::{Archive, Chain};
-use tac_desks::PlainDesk;
-use tac_hall::{Call, Hall, HallFault, Seat};
-use tac_hall_console::{ConsoleSeat, OperatorFault, operate};
+use tac_desk::Desk;
+use tac_forum::{EmptyHistory, Limits, Run, Seat, SharedDesk};
+use tac_hall::{Call, HallFault};
+use tac_hall_console::{OperatorFault, operate};
 
 /// The whole input at once.
 pub(crate) const WHOLE: Manner = Manner {
@@ -17,32 +22,101 @@ pub(crate) const WHOLE: Manner = Manner {
     fails: false,
 };
 
-/// A hall at whose desk bob may show things, and whose log takes so many calls.
-pub(crate) fn hall_of<R: AllocGlobal>(rt: &R, limit: usize) -> Result<Hall<PlainDesk>, Fail> {
-    let policy = Policy::read(rt.alloc(), b"group ops\npermit show .*\nuser bob in ops\n")?;
-    let desk = PlainDesk::new(rt.alloc(), policy, 9)?;
-    Ok(Hall::new(rt, desk, limit)?)
+/// The limits of a shared desk, and whether another seat has stopped it before its console begins.
+#[derive(Clone, Copy)]
+pub(crate) struct Course {
+    pub(crate) limits: Limits,
+    pub(crate) is_stopped: bool,
 }
 
-/// What a console wrote, how it ended, its seat, and what was taken out of the log.
+/// How a console ended, and why a call of another seat is refused after that.
 #[derive(Drop)]
-pub(crate) struct Seen {
-    pub(crate) written: Vec<u8>,
+pub(crate) struct Ended {
     pub(crate) end: Result<(), OperatorFault>,
-    pub(crate) seat: ConsoleSeat,
-    pub(crate) chain: Chain,
+    pub(crate) after: Option<HallFault>,
 }
 
-/// Runs the console of a hall on these bytes, which come in this manner, with so much room for what
-/// is written.
-pub(crate) fn run<R: Wait + AllocGlobal>(
+// A console of a shared desk, whose other seat makes a Stop after it, and before it too if it is to
+// be stopped. Its seat comes back beside that.
+fn operates_at<J: Run, D: Desk, I: Read, O: Write, R: Wait + AllocGlobal>(
     rt: &R,
-    hall: &Hall<PlainDesk>,
+    desk: &SharedDesk<J, D>,
+    course: Course,
+    other: &mut Seat<J>,
+    input: &mut I,
+    output: &mut O,
+) -> Result<(Seat<J>, Ended), Fail> {
+    if course.is_stopped && desk.call(rt, other, &Call::Stop).is_err() {
+        return Err(Fail::from("no stop"));
+    }
+    let seat = desk.seat(rt)?;
+    let (seat, end) = operate(rt, rt.alloc(), desk, seat, input, output);
+    let after = desk.call(rt, other, &Call::Stop).err();
+    Ok((seat, Ended { end, after }))
+}
+
+// The same at a new desk of this run, which is closed with both seats.
+fn operates_of<J: Run, D: Desk, I: Read, O: Write, R: Wait + AllocGlobal>(
+    rt: &R,
+    history: EmptyHistory,
+    desk: D,
+    course: Course,
+    input: &mut I,
+    output: &mut O,
+) -> Result<Ended, Fail>
+    requires roll { history ≡ J.roll }
+    requires opening { record { meaning = D.meaning desk; limits = course.limits } ≡ J.opening }
+{
+    let desk: SharedDesk<J, D> = SharedDesk::new(history, desk, course.limits);
+    let mut seats = Vec::with_capacity(rt.alloc(), 2)?;
+    let mut other = desk.seat(rt)?;
+    let (seat, ended) = operates_at(rt, &desk, course, &mut other, input, output)?;
+    seats.push(seat)?;
+    seats.push(other)?;
+    closes(desk, seats)?;
+    Ok(ended)
+}
+
+// The same in a run of its own.
+fn operates_new<D: Desk, I: Read, O: Write, R: Wait + AllocGlobal>(
+    rt: &R,
+    desk: D,
+    course: Course,
+    input: &mut I,
+    output: &mut O,
+) -> Result<Ended, Fail> {
+    let history = EmptyHistory::new(rt.alloc())?;
+    operates_of::<Brand, D, I, O, R>(rt, history, desk, course, input, output)
+}
+
+/// Operates the console of a new shared desk, at which bob may show things. At the end that is
+/// closed with the console's seat and the other one.
+pub(crate) fn operates<I: Read, O: Write, R: Wait + AllocGlobal>(
+    rt: &R,
+    course: Course,
+    input: &mut I,
+    output: &mut O,
+) -> Result<Ended, Fail> {
+    let desk = desk_of(rt.alloc(), OPS)?;
+    operates_new(rt, desk, course, input, output)
+}
+
+// What a console wrote, and how it ended.
+#[derive(Drop)]
+struct Seen {
+    written: Vec<u8>,
+    ended: Ended,
+}
+
+// Operates such a console on these bytes, which come in this manner, with so much room for what is
+// written.
+fn run<R: Wait + AllocGlobal>(
+    rt: &R,
+    course: Course,
     text: &[u8],
     manner: Manner,
     room: usize,
 ) -> Result<Seen, Fail> {
-    let seat = hall.seat(rt)?;
     let mut reader = Typed {
         text,
         manner,
@@ -52,21 +126,10 @@ pub(crate) fn run<R: Wait + AllocGlobal>(
         left: room,
         taken: Vec::new(rt.alloc()),
     };
-    let archive = Archive::new(rt.alloc());
-    let (seat, end) = operate(
-        rt,
-        rt.alloc(),
-        hall,
-        &archive,
-        seat,
-        &mut reader,
-        &mut writer,
-    );
+    let ended = operates(rt, course, &mut reader, &mut writer)?;
     Ok(Seen {
         written: writer.taken,
-        end,
-        seat,
-        chain: archive.into_chain(),
+        ended,
     })
 }
 
@@ -100,11 +163,12 @@ fn parts<R: AllocGlobal>(rt: &R, talk: &str) -> Result<(Vec<u8>, Vec<u8>), Fail>
     Ok((typed, printed))
 }
 
-/// A failure that says what was seen.
-pub(crate) fn fail<R: AllocGlobal>(rt: &R, what: &str, seen: &Seen) -> Fail {
+// A failure that says what was seen.
+fn fail<R: AllocGlobal>(rt: &R, seen: &Seen) -> Fail {
     let written = String::from_utf8_lossy(rt.alloc(), seen.written.as_slice());
+    let Ended { end, after } = &seen.ended;
     match written {
-        Ok(written) => match format!(in rt.alloc(); "{what}: {written}{:?}", seen.end) {
+        Ok(written) => match format!(in rt.alloc(); "{written}{end:?}, then {after:?}") {
             Ok(text) => Fail::from(text),
             Err(error) => Fail::from(error),
         },
@@ -112,167 +176,86 @@ pub(crate) fn fail<R: AllocGlobal>(rt: &R, what: &str, seen: &Seen) -> Fail {
     }
 }
 
-// Whether the hall is closed with all that was taken out of its log, once the seat has shed that;
-// and what the console remembers of it is so.
-fn closes(alloc: Global, hall: Hall<PlainDesk>, chain: &Chain, console: ConsoleSeat) -> bool {
-    let ConsoleSeat {
-        mut seat,
-        rotations,
-    } = console;
-    if !chain.has_all(rotations.as_slice()) || !chain.shed_by(&mut seat) {
-        return false;
-    }
-    let mut seats = Vec::new(alloc);
-    if let Err(_) = seats.push(seat) {
-        return false;
-    }
-    chain.close(hall, seats).is_ok()
-}
-
-// The hall is closed with the console's seat and the chain.
-fn closes_with(alloc: Global, hall: Hall<PlainDesk>, seen: Seen) -> Result<(), Fail> {
-    let Seen {
-        written: _,
-        end: _,
-        seat,
-        chain,
-    } = seen;
-    if closes(alloc, hall, &chain, seat) {
-        Ok(())
-    } else {
-        Err(Fail::from("the hall isn't closed with its chain"))
-    }
-}
-
-// What a console has to write, how it has to end, and how many calls it has to make.
+/// What a console has to write, how it has to end, and why a call has to be refused then.
 #[derive(Clone, Copy)]
-struct Wanted<'a> {
-    written: &'a [u8],
-    end: &'a str,
-    made: usize,
+pub(crate) struct Wanted<'a> {
+    pub(crate) written: &'a [u8],
+    pub(crate) end: Result<(), OperatorFault>,
+    pub(crate) after: HallFault,
 }
 
-// Whether this is how the console ended.
-fn is_end(alloc: Global, seen: &Seen, end: &str) -> Result<bool, AllocError> {
-    let shown = format!(in alloc; "{:?}", seen.end)?;
-    Ok(shown.as_str() == end)
+fn is_wanted(seen: &Seen, wanted: Wanted<'_>) -> bool {
+    let is_end = seen.ended.end == wanted.end && seen.ended.after == Some(wanted.after);
+    is_end && seen.written.as_slice() == wanted.written
 }
 
-// This is what was seen.
-fn is_wanted<R: AllocGlobal>(rt: &R, seen: &Seen, wanted: Wanted<'_>) -> Result<(), Fail> {
-    let is_end = is_end(rt.alloc(), seen, wanted.end)?;
-    if seen.written.as_slice() != wanted.written || !is_end {
-        return Err(fail(rt, "written", seen));
-    }
-    if seen.seat.seat.view().len() != wanted.made {
-        return Err(fail(rt, "another number of calls", seen));
-    }
-    Ok(())
-}
-
-// Runs the console of a hall, of which this has to be seen.
-fn run_so<R: Wait + AllocGlobal>(
+/// The console of a new shared desk, on these bytes in this manner, with so much room.
+pub(crate) fn types<R: Wait + AllocGlobal>(
     rt: &R,
-    hall: &Hall<PlainDesk>,
-    text: &[u8],
+    course: Course,
+    typed: &[u8],
     manner: Manner,
     room: usize,
     wanted: Wanted<'_>,
-) -> Result<Seen, Fail> {
-    let seen = run(rt, hall, text, manner, room)?;
-    is_wanted(rt, &seen, wanted)?;
-    Ok(seen)
+) -> Result<(), Fail> {
+    let seen = run(rt, course, typed, manner, room)?;
+    if is_wanted(&seen, wanted) {
+        Ok(())
+    } else {
+        Err(fail(rt, &seen))
+    }
 }
 
-// The console of a new hall, on these bytes.
-fn types<R: Wait + AllocGlobal>(
+// However the input comes.
+fn types_in_pieces<R: Wait + AllocGlobal>(
     rt: &R,
-    limit: usize,
+    course: Course,
     typed: &[u8],
-    manner: Manner,
     wanted: Wanted<'_>,
 ) -> Result<(), Fail> {
-    let hall = hall_of(rt, limit)?;
-    let seen = run_so(rt, &hall, typed, manner, 9999, wanted)?;
-    closes_with(rt.alloc(), hall, seen)
-}
-
-// One conversation at a new hall, in one manner.
-fn talks<R: Wait + AllocGlobal>(
-    rt: &R,
-    limit: usize,
-    talk: &str,
-    made: usize,
-    manner: Manner,
-) -> Result<(), Fail> {
-    let (typed, printed) = parts(rt, talk)?;
-    let wanted = Wanted {
-        written: printed.as_slice(),
-        end: "Ok(())",
-        made,
-    };
-    types(rt, limit, typed.as_slice(), manner, wanted)
-}
-
-/// The lines after `> ` are typed at the console of a hall whose log takes so many calls; then all
-/// others are printed, and so many calls were made, the Stop among them. However the input comes.
-pub(crate) fn converses<R: Wait + AllocGlobal>(
-    rt: &R,
-    limit: usize,
-    talk: &str,
-    made: usize,
-) -> Result<(), Fail> {
-    talks(rt, limit, talk, made, WHOLE)?;
-    for piece in 1..4 {
+    for piece in [9999, 1, 2, 3] {
         let manner = Manner {
             piece,
             interrupted: piece == 2,
             fails: false,
         };
-        talks(rt, limit, talk, made, manner)?;
+        types(rt, course, typed, manner, 9999, wanted)?;
     }
     Ok(())
 }
 
-// The hall takes no more.
-fn is_closed<R: Wait>(rt: &R, hall: &Hall<PlainDesk>, seat: &mut Seat) -> Result<(), Fail> {
-    match hall.call(rt, seat, Call::Stop) {
-        Err(HallFault::Closed) => Ok(()),
-        _ => Err(Fail::from("the hall takes more")),
-    }
-}
-
-// Runs the console of a hall, of which this has to be seen; then the hall takes no more.
-fn run_to_end<R: Wait + AllocGlobal>(
+// The lines after `> ` are typed at the console of a shared desk of these limits; then all others
+// are printed, and a call is refused so. However the input comes.
+fn talks<R: Wait + AllocGlobal>(
     rt: &R,
-    hall: &Hall<PlainDesk>,
-    text: &[u8],
-    manner: Manner,
-    room: usize,
-    wanted: Wanted<'_>,
-) -> Result<Seen, Fail> {
-    let mut seen = run_so(rt, hall, text, manner, room, wanted)?;
-    is_closed(rt, hall, &mut seen.seat.seat)?;
-    Ok(seen)
-}
-
-/// On these bytes in this manner, with so much room, the console of a hall whose log takes two
-/// calls writes this, ends so, and made so many calls; then the hall takes no more, and is closed
-/// with all that was taken out of its log.
-pub(crate) fn ends<R: Wait + AllocGlobal>(
-    rt: &R,
-    text: &str,
-    manner: Manner,
-    room: usize,
-    wanted: (&str, &str, usize),
+    limits: Limits,
+    talk: &str,
+    after: HallFault,
 ) -> Result<(), Fail> {
-    let hall = hall_of(rt, 2)?;
-    let (written, end, made) = wanted;
-    let wanted = Wanted {
-        written: written.as_bytes(),
-        end,
-        made,
+    let (typed, printed) = parts(rt, talk)?;
+    let course = Course {
+        limits,
+        is_stopped: false,
     };
-    let seen = run_to_end(rt, &hall, text.as_bytes(), manner, room, wanted)?;
-    closes_with(rt.alloc(), hall, seen)
+    let wanted = Wanted {
+        written: printed.as_slice(),
+        end: Ok(()),
+        after,
+    };
+    types_in_pieces(rt, course, typed.as_slice(), wanted)
+}
+
+/// The lines after `> ` are typed at the console of a shared desk of these limits; then all others
+/// are printed, and the desk is stopped. However the input comes.
+pub(crate) fn converses<R: Wait + AllocGlobal>(
+    rt: &R,
+    limits: Limits,
+    talk: &str,
+) -> Result<(), Fail> {
+    talks(rt, limits, talk, HallFault::Closed)
+}
+
+/// The same where the log has no place for the Stop, so that the desk isn't stopped.
+pub(crate) fn fills<R: Wait + AllocGlobal>(rt: &R, limits: Limits, talk: &str) -> Result<(), Fail> {
+    talks(rt, limits, talk, HallFault::LogFull)
 }

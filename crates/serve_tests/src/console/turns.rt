@@ -1,13 +1,12 @@
 //! Each line is answered before the next is waited for.
 
+use crate::console::lines::ROOMY;
 use crate::console::streams::hand;
-use crate::console::support::hall_of;
+use crate::console::support::{Course, operates};
 use std::cell::RefCell;
 use std::io::{self, ErrorKind, Read, Write};
 use std::sync::Wait;
 use std::test::Fail;
-use tac_chain::Archive;
-use tac_hall_console::operate;
 
 /// A line that is typed, and its answer.
 #[derive(Clone, Copy)]
@@ -86,19 +85,6 @@ fn is_done(typist: &Typist<'_>, ends_well: bool) -> Result<(), Fail> {
     }
 }
 
-// Whether the console of a new hall, with this typist, ends well.
-fn operates<R: Wait + AllocGlobal>(
-    rt: &R,
-    typist: &mut Typist<'_>,
-    screen: &mut Screen<'_>,
-) -> Result<bool, Fail> {
-    let hall = hall_of(rt, 9)?;
-    let seat = hall.seat(rt)?;
-    let archive = Archive::new(rt.alloc());
-    let (_, end) = operate(rt, rt.alloc(), &hall, &archive, seat, typist, screen);
-    Ok(end.is_ok())
-}
-
 // The console takes these turns, one after another.
 fn takes_turns<R: Wait + AllocGlobal>(rt: &R, turns: &[Turn]) -> Result<(), Fail> {
     let written = RefCell::new(Vec::new(rt.alloc()));
@@ -109,8 +95,12 @@ fn takes_turns<R: Wait + AllocGlobal>(rt: &R, turns: &[Turn]) -> Result<(), Fail
         early: false,
     };
     let mut screen = Screen { written: &written };
-    let ends_well = operates(rt, &mut typist, &mut screen)?;
-    is_done(&typist, ends_well)
+    let course = Course {
+        limits: ROOMY,
+        is_stopped: false,
+    };
+    let ended = operates(rt, course, &mut typist, &mut screen)?;
+    is_done(&typist, ended.end.is_ok())
 }
 
 #[test]

@@ -1,7 +1,7 @@
 //! A desk that many threads call and that keeps no calls: what is answered, in which order calls
 //! are refused, where each call stands, and that it is closed by all its seats and by no fewer.
 
-ghost use Rattle.std.specs.Prelude.{◌≡◌, ◌<◌, length};
+ghost use Rattle.std.specs.Prelude.{◌≡◌};
 
 use crate::hall::support::{OPS, call_of, desk_of, show, show_version, word};
 use std::alloc::AllocError;
@@ -13,8 +13,8 @@ use tac_desk::Desk;
 use tac_forum::{EmptyHistory, Limits, Rotated, Run, Seat, SharedDesk};
 use tac_hall::HallFault;
 
-// No segment begins by itself where the log takes fewer calls than this.
-const NEVER: usize = 100;
+/// No log of these tests takes nearly so many calls, so that no segment begins by itself.
+pub(crate) const NEVER: usize = 9_999;
 
 // The number of a segment that was ended, and how many calls it has.
 fn show_rotated(out: &mut String, told: Result<Rotated, HallFault>) -> Result<(), AllocError> {
@@ -24,60 +24,33 @@ fn show_rotated(out: &mut String, told: Result<Rotated, HallFault>) -> Result<()
     }
 }
 
-// Ends the segment by a seat.
-fn rotates<J: Run, D: Desk, R: Wait + AllocGlobal>(
+// Does what these words say by a seat, and shows its result.
+fn does<J: Run, D: Desk, R: Wait + AllocGlobal>(
     rt: &R,
     desk: &SharedDesk<J, D>,
-    seats: &mut Vec<Seat<J>>,
-    number: usize,
-    shown: &mut String,
-) -> Result<(), Fail>
-    requires { number < length seats.old.items }
-{
-    let seat = seats.remove(number);
-    let (seat, told) = desk.rotate(rt, seat);
-    seats.insert(number, seat)?;
-    Ok(show_rotated(shown, told)?)
-}
-
-// Makes the call that these words say by a seat.
-fn calls<J: Run, D: Desk, R: Wait + AllocGlobal>(
-    rt: &R,
-    desk: &SharedDesk<J, D>,
-    seats: &mut Vec<Seat<J>>,
-    number: usize,
+    seat: &mut Seat<J>,
     words: &str,
     shown: &mut String,
-) -> Result<(), Fail>
-    requires { number < length seats.old.items }
-{
+) -> Result<(), Fail> {
+    if words == "rotate" {
+        let told = desk.rotate(rt, seat);
+        return Ok(show_rotated(shown, told)?);
+    }
     let call = call_of(rt.alloc(), words)?;
-    let seat = seats.remove(number);
-    let (seat, told) = desk.call(rt, seat, call);
-    seats.insert(number, seat)?;
+    let told = desk.call(rt, seat, &call);
     Ok(show(shown, &told)?)
 }
 
-// One line of a conversation: `SEAT CALL = SEGMENT:PLACE ANSWER`, or `SEAT rotate = SEGMENT of
-// CALLS`, or a refusal for the answer.
-fn exchanges<J: Run, D: Desk, R: Wait + AllocGlobal>(
+// Does one thing, which has to have this result.
+fn says<J: Run, D: Desk, R: Wait + AllocGlobal>(
     rt: &R,
     desk: &SharedDesk<J, D>,
-    seats: &mut Vec<Seat<J>>,
-    line: &str,
+    seat: &mut Seat<J>,
+    words: &str,
+    wanted: &str,
 ) -> Result<(), Fail> {
-    let (asked, wanted) = line.split_once(" = ").unwrap_or((line, ""));
-    let (number, words) = word(asked);
-    let number = number.parse::<usize>()?;
-    if number >= seats.len() {
-        return Err(Fail::from("no such seat"));
-    }
     let mut shown = String::new(rt.alloc());
-    if words == "rotate" {
-        rotates(rt, desk, seats, number, &mut shown)?;
-    } else {
-        calls(rt, desk, seats, number, words, &mut shown)?;
-    }
+    does(rt, desk, seat, words, &mut shown)?;
     if shown.as_str() == wanted {
         Ok(())
     } else {
@@ -85,10 +58,26 @@ fn exchanges<J: Run, D: Desk, R: Wait + AllocGlobal>(
     }
 }
 
+// One line of a conversation: `SEAT CALL = SEGMENT:PLACE ANSWER`, or `SEAT rotate = SEGMENT of
+// CALLS`, or a refusal for the answer.
+fn exchanges<J: Run, D: Desk, R: Wait + AllocGlobal>(
+    rt: &R,
+    desk: &SharedDesk<J, D>,
+    seats: &mut [Seat<J>],
+    line: &str,
+) -> Result<(), Fail> {
+    let (asked, wanted) = line.split_once(" = ").unwrap_or((line, ""));
+    let (number, words) = word(asked);
+    match seats.get_mut(number.parse::<usize>()?) {
+        Some(seat) => says(rt, desk, seat, words, wanted),
+        None => Err(Fail::from("no such seat")),
+    }
+}
+
 fn talks<J: Run, D: Desk, R: Wait + AllocGlobal>(
     rt: &R,
     desk: &SharedDesk<J, D>,
-    seats: &mut Vec<Seat<J>>,
+    seats: &mut [Seat<J>],
     talk: &str,
 ) -> Result<(), Fail> {
     for line in talk.lines() {
@@ -113,8 +102,11 @@ fn seats_of<J: Run, D: Desk, R: Wait + AllocGlobal>(
     Ok(seats)
 }
 
-// It is closed with these seats.
-fn closes<J: Run, D: Desk>(desk: SharedDesk<J, D>, seats: Vec<Seat<J>>) -> Result<(), Fail> {
+/// It is closed with these seats.
+pub(crate) fn closes<J: Run, D: Desk>(
+    desk: SharedDesk<J, D>,
+    seats: Vec<Seat<J>>,
+) -> Result<(), Fail> {
     match desk.close(seats) {
         Ok(_) => Ok(()),
         Err(_) => Err(Fail::from("close refused")),
@@ -132,35 +124,52 @@ fn refused<J: Run, D: Desk>(
     }
 }
 
-// A conversation, and the limits of the desk at which it is. They are one value, since no run is
-// picked at a call that is handed a text.
+/// A conversation, and the limits of the desk at which it is. They are one value, since no run is
+/// picked at a call that is handed a text.
 #[derive(Clone, Copy)]
-struct Talk {
-    limits: Limits,
-    lines: &'static str,
+pub(crate) struct Talk {
+    pub(crate) limits: Limits,
+    pub(crate) lines: &'static str,
 }
 
-// A conversation of two seats, in which the desk isn't closed while one of them is missing, and is
-// closed at the end.
+// It isn't closed without its last seat, and comes back with all of them.
+fn refused_without_last<J: Run, D: Desk>(
+    desk: SharedDesk<J, D>,
+    mut seats: Vec<Seat<J>>,
+) -> Result<(SharedDesk<J, D>, Vec<Seat<J>>), Fail> {
+    let Some(last) = seats.pop() else {
+        return Err(Fail::from("no seat"));
+    };
+    let (desk, mut seats) = refused(desk, seats)?;
+    seats.push(last)?;
+    Ok((desk, seats))
+}
+
+// A conversation of two seats. The desk isn't closed while one of them is missing, before it and
+// after it, and is closed at the end.
 fn holds<J: Run, D: Desk, R: Wait + AllocGlobal>(
     rt: &R,
     history: EmptyHistory,
     desk: D,
     talk: Talk,
 ) -> Result<(), Fail>
-    requires { (history ≡ J.roll) × (D.meaning desk ≡ J.base) × (talk.limits ≡ J.limits) }
+    requires roll { history ≡ J.roll }
+    requires opening { record { meaning = D.meaning desk; limits = talk.limits } ≡ J.opening }
 {
     let desk: SharedDesk<J, D> = SharedDesk::new(history, desk, talk.limits);
-    let mut seats = seats_of(rt, &desk, 1)?;
-    let other = desk.seat(rt)?;
-    let (desk, back) = refused(desk, seats)?;
-    seats = back;
-    seats.push(other)?;
-    talks(rt, &desk, &mut seats, talk.lines)?;
+    let seats = seats_of(rt, &desk, 2)?;
+    let (desk, mut seats) = refused_without_last(desk, seats)?;
+    talks(rt, &desk, seats.as_mut_slice(), talk.lines)?;
+    let (desk, seats) = refused_without_last(desk, seats)?;
     closes(desk, seats)
 }
 
-fn converses<D: Desk, R: Wait + AllocGlobal>(rt: &R, desk: D, talk: Talk) -> Result<(), Fail> {
+/// A conversation with the first two seats of a new shared desk, which is closed at the end.
+pub(crate) fn converses<D: Desk, R: Wait + AllocGlobal>(
+    rt: &R,
+    desk: D,
+    talk: Talk,
+) -> Result<(), Fail> {
     let history = EmptyHistory::new(rt.alloc())?;
     holds::<Brand, D, R>(rt, history, desk, talk)
 }
@@ -229,7 +238,8 @@ fn has_its_seats<J: Run, D: Desk, R: Wait + AllocGlobal>(
     desk: D,
     limits: Limits,
 ) -> Result<(), Fail>
-    requires { (history ≡ J.roll) × (D.meaning desk ≡ J.base) × (limits ≡ J.limits) }
+    requires roll { history ≡ J.roll }
+    requires opening { record { meaning = D.meaning desk; limits = limits } ≡ J.opening }
 {
     let desk: SharedDesk<J, D> = SharedDesk::new(history, desk, limits);
     let seats = seats_of(rt, &desk, 64)?;
@@ -266,7 +276,7 @@ fn asked<J: Run, D: Desk, R: Wait + AllocGlobal>(
 ) -> Seat<J> {
     for _ in 0..asks {
         if let Ok(call) = show_version(rt.alloc()) {
-            (seat, _) = desk.call(rt, seat, call);
+            let _ = desk.call(rt, &mut seat, &call);
         }
     }
     seat
@@ -279,7 +289,8 @@ fn asks_at_once<J: Run + Send + Sync, D: Desk + Send, R: Threads + Wait + Sync +
     desk: D,
     talk: Talk,
 ) -> Result<(), Fail>
-    requires { (history ≡ J.roll) × (D.meaning desk ≡ J.base) × (talk.limits ≡ J.limits) }
+    requires roll { history ≡ J.roll }
+    requires opening { record { meaning = D.meaning desk; limits = talk.limits } ≡ J.opening }
 {
     let desk: SharedDesk<J, D> = SharedDesk::new(history, desk, talk.limits);
     let seats = seats_of(rt, &desk, 3)?;
@@ -291,7 +302,7 @@ fn asks_at_once<J: Run + Send + Sync, D: Desk + Send, R: Threads + Wait + Sync +
             asked(rt, &desk, seat, asks)
         },
     )?;
-    talks(rt, &desk, &mut seats, talk.lines)?;
+    talks(rt, &desk, seats.as_mut_slice(), talk.lines)?;
     closes(desk, seats)
 }
 

@@ -1,9 +1,11 @@
 //! A desk that has no memory for edits, for copies of its records, nor for a record, and once it
 //! was asked, none for a copy of all that it represents. Edits and a question are answered so, as
-//! others are answered; a record and a rotation are refused.
+//! others are answered; a record is refused, and of a hall a rotation is too. A shared desk, which
+//! keeps no log, is rotated even so.
 
 ghost use Rattle.std.specs.Prelude.{◌≡◌, []};
 
+use crate::hall::shared::{NEVER, Talk, converses};
 use crate::hall::support::{OPS, converses_in};
 use pol_edit::{BatchFault, Edit, EditFault};
 use pol_meaning::Changes;
@@ -15,6 +17,7 @@ use std::test::Fail;
 use tac_conn::{Answer, Ask};
 use tac_desk::{Desk, Query, QueryFault, Report, State, Thrice};
 use tac_desks::{BuildFault, PlainDesk};
+use tac_forum::Limits;
 use tac_hall::Hall;
 
 // Never has a record, though its limit is nine. A contract sees the desk inside.
@@ -76,10 +79,14 @@ impl Desk for Starved {
     }
 }
 
+fn starved_desk(alloc: Global) -> Result<Starved, Fail> {
+    let policy = Policy::read(alloc, OPS.as_bytes())?;
+    Ok(Starved::new(alloc, policy)?)
+}
+
 // A conversation with two seats at such a desk; the log takes and has so many calls.
 fn starves<R: Wait + AllocGlobal>(rt: &R, talk: &str, logged: usize) -> Result<(), Fail> {
-    let policy = Policy::read(rt.alloc(), OPS.as_bytes())?;
-    let desk = Starved::new(rt.alloc(), policy)?;
+    let desk = starved_desk(rt.alloc())?;
     let hall = Hall::new(rt, desk, logged)?;
     converses_in(rt, hall, talk, logged)
 }
@@ -143,5 +150,76 @@ fn a_rotation_without_memory(rt: HostRuntime) -> Result<(), Fail> {
         0 rotate = 3 Closed
         ",
         3,
+    )
+}
+
+// The same at a shared desk, of these limits.
+fn starves_shared<R: Wait + AllocGlobal>(rt: &R, talk: Talk) -> Result<(), Fail> {
+    let desk = starved_desk(rt.alloc())?;
+    converses(rt, desk, talk)
+}
+
+// The next call stands where the one would have stood that was refused.
+#[test]
+fn a_record_that_a_shared_desk_does_not_store(rt: HostRuntime) -> Result<(), Fail> {
+    starves_shared(
+        &rt,
+        Talk {
+            limits: Limits {
+                calls: 5,
+                rotate_at: NEVER,
+            },
+            lines: "
+        0 record bob 7 = 2 Memory
+        0 run bob show version = 0:0 permitted
+        0 record bob 7 = 2 Memory
+        1 record bob 8 = 2 Memory
+        1 insert group ops 1 deny show .* = 0:1 refused 12 Memory
+        0 records = 0:2 refused 12 Memory
+        1 run bob show version = 0:3 permitted
+        0 rotate = 0 of 4
+        0 record bob 7 = 2 Memory
+        0 stop = 1:0 stopped
+        1 record bob 7 = 3 Closed
+        ",
+        },
+    )
+}
+
+// Nor has the next segment begun for it, before which it would have begun by itself. That the log
+// is full comes before a lack of memory.
+#[test]
+fn a_record_before_a_segment_or_for_a_full_log(rt: HostRuntime) -> Result<(), Fail> {
+    let due = Limits {
+        calls: 5,
+        rotate_at: 2,
+    };
+    starves_shared(
+        &rt,
+        Talk {
+            limits: due,
+            lines: "
+        0 run bob show version = 0:0 permitted
+        0 record bob 7 = 2 Memory
+        1 rotate = 0 of 1
+        1 run bob show version = 1:0 permitted
+        1 record bob 7 = 2 Memory
+        0 run bob show version = 2:0 permitted
+        ",
+        },
+    )?;
+    let full = Limits {
+        calls: 1,
+        rotate_at: NEVER,
+    };
+    starves_shared(
+        &rt,
+        Talk {
+            limits: full,
+            lines: "
+        1 run bob show version = 0:0 permitted
+        0 record bob 7 = 1 LogFull
+        ",
+        },
     )
 }

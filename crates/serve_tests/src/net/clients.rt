@@ -109,10 +109,15 @@ pub(crate) fn key() -> io::Result<Key> {
     }
 }
 
+/// A desk of bob's policy.
+pub(crate) fn desk_of(alloc: Global) -> Result<PlainDesk, Fail> {
+    let policy = Policy::read(alloc, POLICY)?;
+    Ok(PlainDesk::new(alloc, policy, 9)?)
+}
+
 /// A hall whose log takes so many calls.
 pub(crate) fn hall_of<R: AllocGlobal>(rt: &R, limit: usize) -> Result<Hall<PlainDesk>, Fail> {
-    let policy = Policy::read(rt.alloc(), POLICY)?;
-    let desk = PlainDesk::new(rt.alloc(), policy, 9)?;
+    let desk = desk_of(rt.alloc())?;
     Ok(Hall::new(rt, desk, limit)?)
 }
 

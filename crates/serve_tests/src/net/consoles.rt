@@ -1,6 +1,6 @@
 //! A server with a console, which ends by itself.
 
-use crate::net::clients::{asks, hall_of, is_answered, key, permission, seats_of, visits};
+use crate::net::clients::{asks, desk_of, is_answered, key, permission, visits};
 use std::alloc::{AllocError, Global};
 use std::io::{self, ErrorKind, Read, Write};
 use std::net::{Ipv4Addr, Net, SocketAddr, TcpListener, TcpStream};
@@ -10,7 +10,7 @@ use std::test::Fail;
 use std::thread::Threads;
 use std::time::{Clock, Duration, Instant};
 use tac_desks::PlainDesk;
-use tac_hall::Hall;
+use tac_forum::Limits;
 use tac_journal::{Log, LogFiles, Refused};
 use tac_net::{Port, ServeFault, Settings, serve};
 
@@ -22,12 +22,8 @@ struct Course {
     idle: u32,
     /// He keeps a silent connection open.
     keeps: bool,
-    /// So many calls the hall's log takes.
-    limit: usize,
-    /// So many of the hall's 64 seats are others' before the server begins.
-    taken: usize,
-    /// Before this call of a segment the log is taken out.
-    rotate_at: u32,
+    /// How long the segments may be.
+    limits: Limits,
     /// He asks as a client does, once for each letter, and goes on if he was permitted at each p,
     /// and at each x his connection was closed without a byte. At each v he makes a device's visit.
     asks: &'static str,
@@ -45,9 +41,10 @@ const QUITS: Course = Course {
     workers: 4,
     idle: 0,
     keeps: false,
-    limit: 9,
-    taken: 0,
-    rotate_at: 9,
+    limits: Limits {
+        calls: 9,
+        rotate_at: 9,
+    },
     asks: "p",
     types: "quit\n",
     fails: false,
@@ -190,8 +187,7 @@ impl Write for Screen {
 // What a server prints before its console begins: its port, or nothing where there aren't enough
 // seats for the console and each worker.
 fn printed_first(alloc: Global, course: &Course, port: u16) -> Result<String, AllocError> {
-    let workers = course.workers as usize;
-    if course.taken.saturating_add(workers) >= 64 {
+    if course.workers >= 64 {
         return Ok(String::new(alloc));
     }
     format!(in alloc; "listening {port}\n")
@@ -202,7 +198,7 @@ fn printed_first(alloc: Global, course: &Course, port: u16) -> Result<String, Al
 fn serves<R>(
     rt: &R,
     port: &Port,
-    hall: Hall<PlainDesk>,
+    desk: PlainDesk,
     settings: &Settings,
     operator: &mut Operator<'_, R>,
     printed: &str,
@@ -218,7 +214,7 @@ where
         refused: operator.course.refused,
         appends: AtomicU64::new(0),
     };
-    let ended = serve(rt, port, hall, settings, &log, operator, &mut screen);
+    let ended = serve(rt, port, desk, settings, &log, operator, &mut screen);
     Ok((ended, screen.taken.as_slice() == wanted.as_bytes()))
 }
 
@@ -242,10 +238,9 @@ where
         workers: course.workers,
         connections: 9,
         idle: course.idle,
-        rotate_at: course.rotate_at,
+        limits: course.limits,
     };
-    let hall = hall_of(rt, course.limit)?;
-    let _taken = seats_of(rt, &hall, course.taken)?;
+    let desk = desk_of(rt.alloc())?;
     let mut operator = Operator {
         rt,
         address,
@@ -253,7 +248,7 @@ where
         silent: None,
         is_done: false,
     };
-    let (ended, is_printed) = serves(rt, &port, hall, &settings, &mut operator, printed)?;
+    let (ended, is_printed) = serves(rt, &port, desk, &settings, &mut operator, printed)?;
     if ended == wanted && is_printed {
         return Ok(());
     }
@@ -309,43 +304,79 @@ fn a_silent_device_is_given_up(rt: HostRuntime) -> Result<(), Fail> {
     ends(&rt, course, "", Ok(()))
 }
 
-// The operator takes the log out in the middle, and finds a full one at his end.
+// The operator ends the segment in the middle. Without that, where the log is full and no segment
+// begins by itself, it has no place for his end.
 #[test]
-fn a_log_that_is_taken_out(rt: HostRuntime) -> Result<(), Fail> {
-    let in_the_middle = Course {
+fn a_segment_that_is_ended(rt: HostRuntime) -> Result<(), Fail> {
+    let full = Course {
+        limits: Limits {
+            calls: 2,
+            rotate_at: 9,
+        },
+        asks: "pp",
         types: "rotate\nshadow\nquit\n",
         room: 99,
         ..QUITS
     };
-    ends(&rt, in_the_middle, "rotated 0 entries 1\nnone\n", Ok(()))?;
-    let full = Course {
-        limit: 2,
-        asks: "pp",
-        ..QUITS
+    ends(&rt, full, "rotated 0 entries 2\nnone\n", Ok(()))?;
+    let not_ended = Course {
+        types: "shadow\nquit\n",
+        ..full
     };
-    ends(&rt, full, "", Ok(()))
+    ends(&rt, not_ended, "hall 1 LogFull\nhall 1 LogFull\n", Ok(()))
 }
 
-// Before each second call the log is taken out, so each log has one call. Where it is taken out too
-// late, an ask comes to a full log and isn't answered, and the one worker serves the next.
+// Before each second call the next segment begins, so each has one call, the operator's too. Where
+// it would begin too late, an ask comes to a full log and isn't answered, and the one worker serves
+// the next.
 #[test]
-fn a_log_that_is_taken_out_by_itself(rt: HostRuntime) -> Result<(), Fail> {
+fn segments_that_begin_by_themselves(rt: HostRuntime) -> Result<(), Fail> {
     let by_itself = Course {
-        limit: 1,
-        rotate_at: 2,
+        limits: Limits {
+            calls: 1,
+            rotate_at: 2,
+        },
         asks: "ppppp",
-        types: "rotate\nquit\n",
+        types: "rotate\nshadow\nshadow\nrotate\nshadow\nquit\n",
         room: 99,
         ..QUITS
     };
-    ends(&rt, by_itself, "rotated 4 entries 1\n", Ok(()))?;
+    let printed = "rotated 4 entries 1\nnone\nnone\nrotated 6 entries 1\nnone\n";
+    ends(&rt, by_itself, printed, Ok(()))?;
     let too_late = Course {
         workers: 1,
-        rotate_at: 3,
-        asks: "pxp",
+        limits: Limits {
+            calls: 1,
+            rotate_at: 3,
+        },
+        asks: "pxx",
         ..by_itself
     };
-    ends(&rt, too_late, "rotated 1 entries 1\n", Ok(()))
+    let printed = "\
+rotated 0 entries 1
+none
+hall 1 LogFull
+rotated 1 entries 1
+none
+hall 1 LogFull
+";
+    ends(&rt, too_late, printed, Ok(()))
+}
+
+// Calls of devices and of the operator count together, up to the third of a segment.
+#[test]
+fn segments_of_all_who_call(rt: HostRuntime) -> Result<(), Fail> {
+    let course = Course {
+        limits: Limits {
+            calls: 9,
+            rotate_at: 3,
+        },
+        asks: "ppppp",
+        types: "shadow\nshadow\nrotate\nquit\n",
+        room: 99,
+        ..QUITS
+    };
+    ends(&rt, course, "none\nnone\nrotated 3 entries 1\n", Ok(()))
 }
 
 // Where the log doesn't take the line of a reply, the device has none, and the one worker serves
@@ -413,40 +444,30 @@ fn a_visit_of_all_kinds(rt: HostRuntime) -> Result<(), Fail> {
     ends(&rt, course, printed, Ok(()))
 }
 
-// Where another has one of the hall's seats, the hall can't be closed, though that made no call.
-// This is printed too after an input that fails, which is then the fault.
-#[test]
-fn a_seat_that_was_taken(rt: HostRuntime) -> Result<(), Fail> {
-    let refused = "close refused\n";
-    let taken = Course {
-        taken: 1,
-        room: 99,
-        ..QUITS
-    };
-    ends(&rt, taken, refused, Err(ServeFault::CloseRefused))?;
-    let unread = Course {
-        types: "",
-        fails: true,
-        ..taken
-    };
-    ends(&rt, unread, refused, Err(ServeFault::ReadFault))?;
-    let unwritten = Course { room: 3, ..taken };
-    ends(&rt, unwritten, "clo", Err(ServeFault::WriteFault))
-}
-
-// Without a seat for the console, or for one of the workers, no port is printed. The last server
-// has all of its seats, but the hall can't be closed without those of others.
+// Without a seat for the console, or for one of the workers, no port is printed, and the end of the
+// input isn't waited for.
 #[test]
 fn seats_that_are_missing(rt: HostRuntime) -> Result<(), Fail> {
     let refused = "close refused\n";
-    let none = Course {
-        taken: 64,
+    let none_for_the_console = Course {
+        workers: 64,
         room: 99,
         ..QUITS
     };
-    ends(&rt, none, refused, Err(ServeFault::CloseRefused))?;
-    let one_too_few = Course { taken: 60, ..none };
+    ends(
+        &rt,
+        none_for_the_console,
+        refused,
+        Err(ServeFault::CloseRefused),
+    )?;
+    let one_too_few = Course {
+        workers: 65,
+        ..none_for_the_console
+    };
     ends(&rt, one_too_few, refused, Err(ServeFault::CloseRefused))?;
-    let all = Course { taken: 59, ..none };
-    ends(&rt, all, refused, Err(ServeFault::CloseRefused))
+    let unwritten = Course {
+        room: 3,
+        ..one_too_few
+    };
+    ends(&rt, unwritten, "clo", Err(ServeFault::WriteFault))
 }

@@ -9,7 +9,6 @@ use std::sync::atomic::{AtomicU64, Ordering};
 use std::test::Fail;
 use std::thread::{Threads, map_vec, sleep};
 use std::time::{Clock, Duration};
-use tac_chain::{Archive, Chain};
 use tac_desks::PlainDesk;
 use tac_hall::{Entry, Hall, Seat};
 use tac_journal::LogFiles;
@@ -72,26 +71,6 @@ impl<C: Clock> Gate for Holding<'_, C> {
         if let Some(replies) = self.replies.get(seat as usize) {
             replies.fetch_add(1, Ordering::SeqCst);
         }
-    }
-}
-
-// A gate, and after each reply the log is taken out of the hall, before the gate hears of it.
-#[derive(Drop)]
-struct Rotating<'a, R: Wait, G: Gate> {
-    gate: &'a G,
-    rt: &'a R,
-    hall: &'a Hall<PlainDesk>,
-    archive: &'a Archive,
-}
-
-impl<R: Wait, G: Gate> Gate for Rotating<'_, R, G> {
-    fn may_call(&self, seat: u32) -> bool {
-        self.gate.may_call(seat)
-    }
-
-    fn replied(&self, seat: u32) {
-        let _ = self.archive.rotate(self.rt, self.hall);
-        self.gate.replied(seat);
     }
 }
 
@@ -179,82 +158,6 @@ fn both_work<R: Threads + Wait + Sync + AllocGlobal + Clock>(rt: &R) -> Result<(
 #[test]
 fn over_memory(rt: HostRuntime) -> Result<(), Fail> {
     both_work(&rt)
-}
-
-// Whether the first call of the seat that was held stands first in segment 1, and the other's first
-// in segment 0.
-fn is_after_the_rotation(seat: &Seat, held: u64) -> bool {
-    let segment = u64::from(as_held(seat.number()) == held);
-    match seat.view().first() {
-        Some(made) => made.segment == segment && made.place == 0,
-        None => false,
-    }
-}
-
-// A seat that has shed what the chain keeps.
-fn shed(chain: &Chain, seat: Seat) -> Result<Seat, Fail> {
-    let mut seat = seat;
-    if chain.shed_by(&mut seat) {
-        Ok(seat)
-    } else {
-        Err(Fail::from("not shed"))
-    }
-}
-
-// The hall is closed with these seats, which have shed what the chain keeps; and that was all.
-fn closes_all(hall: Hall<PlainDesk>, chain: &Chain, seats: Vec<Seat>) -> Result<(), Fail> {
-    let Ok(settled) = chain.close(hall, seats) else {
-        return Err(Fail::from("close refused"));
-    };
-    if settled.log.is_empty() {
-        return Ok(());
-    }
-    Err(Fail::from("calls were left"))
-}
-
-// Workers over memory, with a rotation after each reply.
-fn all_work_on<R: Threads + Wait + Sync + AllocGlobal, G: Gate + Sync>(
-    rt: &R,
-    hall: &Hall<PlainDesk>,
-    key: &Key,
-    archive: &Archive,
-    seats: Vec<Seat>,
-    gate: &G,
-) -> Result<Vec<(Seat, bool)>, AllocError> {
-    let work = |seat| {
-        let gate = Rotating {
-            gate,
-            rt,
-            hall,
-            archive,
-        };
-        works(rt, hall, key, seat, &gate)
-    };
-    map_vec(rt, seats, &work)
-}
-
-// Two workers over memory, with a rotation between their first calls.
-fn both_work_on<R: Threads + Wait + Sync + AllocGlobal + Clock>(rt: &R) -> Result<(), Fail> {
-    let hall = hall_of(rt, 9)?;
-    let archive = Archive::new(rt.alloc());
-    let waiting = seats_of(rt, &hall, 2)?;
-    let gate = Holding::new(rt);
-    let worked = all_work_on(rt, &hall, &key()?, &archive, waiting, &gate)?;
-    let held = gate.held.load(Ordering::SeqCst);
-    let chain = archive.into_chain();
-    let mut seats = Vec::new(rt.alloc());
-    for (seat, is_served) in worked {
-        if !is_served || !is_after_the_rotation(&seat, held) {
-            return Err(Fail::from("called in another segment"));
-        }
-        seats.push(shed(&chain, seat)?)?;
-    }
-    closes_all(hall, &chain, seats)
-}
-
-#[test]
-fn over_a_rotation(rt: HostRuntime) -> Result<(), Fail> {
-    both_work_on(&rt)
 }
 
 // Two workers on the network, with a client each that asked before.

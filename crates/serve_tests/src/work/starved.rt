@@ -15,9 +15,9 @@ use tac_desk::{Desk, Query, QueryFault, Report, State, Thrice};
 use tac_desks::{BuildFault, PlainDesk};
 use tac_hall::{Hall, Seat};
 
-// Never has a record, though its limit is nine. A contract sees the desk inside.
+/// Never has a record, though its limit is nine. A contract sees the desk inside.
 #[derive(Drop)]
-struct Starved {
+pub(crate) struct Starved {
     inner: PlainDesk,
 }
 
@@ -33,7 +33,7 @@ impl Model for Starved {
 }
 
 impl Starved {
-    fn new(alloc: Global, policy: Policy) -> Result<Starved, BuildFault> {
+    pub(crate) fn new(alloc: Global, policy: Policy) -> Result<Starved, BuildFault> {
         let inner = PlainDesk::new(alloc, policy, 9)?;
         Ok(Starved { inner })
     }

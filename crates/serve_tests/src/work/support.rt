@@ -1,4 +1,4 @@
-//! What the tests share: halls, and a worker at one.
+//! What the tests share: halls, a worker at one, and a worker with any seat.
 
 use crate::work::packets::{FIRST_PERMISSION, FIRST_QUESTION, RECORD};
 use crate::work::streams::{Counting, Scripted, Sink, WHOLE};
@@ -11,7 +11,7 @@ use tac_desk::Desk;
 use tac_desks::PlainDesk;
 use tac_hall::{Hall, Seat};
 use tac_wire::Key;
-use tac_worker::{End, Worked, work};
+use tac_worker::{Caller, End, Worked, serve, work};
 
 pub(crate) fn key() -> Result<Key, Fail> {
     match Key::read(b"k") {
@@ -66,25 +66,23 @@ fn read_asked(asked: &str) -> Result<Asked<'_>, Fail> {
     })
 }
 
-// How a connection ended, how many receipts there are, what was written, and how many replies the
-// gate heard of.
+/// How a connection ended, what was written, and how many replies the gate heard of.
 #[derive(Drop)]
-struct Seen {
+pub(crate) struct Seen {
     end: End,
-    receipts: usize,
     written: Vec<u8>,
     heard: u64,
 }
 
 // Serves what these letters represent, to a writer with so much room, by a gate that lets so many
-// calls pass.
+// calls pass. The seat comes back, with the number of receipts.
 fn serves<D: Desk, R: Wait + AllocGlobal>(
     rt: &R,
     hall: &Hall<D>,
     packets: &Packets,
     seat: Seat,
     asked: Asked<'_>,
-) -> (Seat, Seen) {
+) -> (Seat, usize, Seen) {
     let mut reader = Scripted {
         letters: asked.letters.as_bytes(),
         question: packets.question.as_slice(),
@@ -110,11 +108,54 @@ fn serves<D: Desk, R: Wait + AllocGlobal>(
     );
     let seen = Seen {
         end,
-        receipts: receipts.len(),
         written: writer.taken,
         heard: gate.replies.load(Ordering::SeqCst),
     };
-    (seat, seen)
+    (seat, receipts.len(), seen)
+}
+
+// The same by this caller.
+fn serves_for<C: Caller, R: Wait + AllocGlobal>(
+    rt: &R,
+    packets: &Packets,
+    caller: &mut C,
+    asked: Asked<'_>,
+) -> Seen {
+    let mut reader = Scripted {
+        letters: asked.letters.as_bytes(),
+        question: packets.question.as_slice(),
+        record: packets.record.as_slice(),
+    };
+    let mut writer = Sink::new(rt.alloc(), asked.room, WHOLE);
+    let gate = Counting {
+        calls: AtomicU64::new(asked.calls),
+        replies: AtomicU64::new(0),
+    };
+    let end = serve(
+        rt,
+        rt.alloc(),
+        &packets.key,
+        &gate,
+        caller,
+        &mut reader,
+        &mut writer,
+    );
+    Seen {
+        end,
+        written: writer.taken,
+        heard: gate.replies.load(Ordering::SeqCst),
+    }
+}
+
+/// A worker whose calls this caller makes, at what `LETTERS ROOM CALLS` says; `-` means no letters.
+pub(crate) fn serves_by<C: Caller, R: Wait + AllocGlobal>(
+    rt: &R,
+    caller: &mut C,
+    asked: &str,
+) -> Result<Seen, Fail> {
+    let asked = read_asked(asked)?;
+    let packets = read_packets(rt.alloc())?;
+    Ok(serves_for(rt, &packets, caller, asked))
 }
 
 // Whether these are replies to the question, each but the last whole.
@@ -128,24 +169,23 @@ fn are_replies(alloc: Global, written: &[u8]) -> Result<bool, Fail> {
     Ok(true)
 }
 
-// The end, how many receipts there are, how many bytes of replies were written, and of how many
-// the gate heard.
-fn shown(alloc: Global, seen: &Seen) -> Result<String, Fail> {
+// The end, how many calls were made, how many bytes of replies were written, and of how many the
+// gate heard.
+fn shown(alloc: Global, seen: &Seen, made: usize) -> Result<String, Fail> {
     if !are_replies(alloc, seen.written.as_slice())? {
         return Err(Fail::from("other bytes"));
     }
     let Seen {
         end,
-        receipts,
         written,
         heard,
     } = seen;
-    Ok(format!(in alloc; "{end:?} {receipts} {} {heard}", written.len())?)
+    Ok(format!(in alloc; "{end:?} {made} {} {heard}", written.len())?)
 }
 
-// This is what was seen.
-fn is_seen(alloc: Global, seen: &Seen, wanted: &str) -> Result<(), Fail> {
-    let told = shown(alloc, seen)?;
+/// This is what was seen, with so many calls.
+pub(crate) fn is_seen(alloc: Global, seen: &Seen, made: usize, wanted: &str) -> Result<(), Fail> {
+    let told = shown(alloc, seen, made)?;
     if told.as_str() == wanted {
         Ok(())
     } else {
@@ -162,8 +202,8 @@ fn serves_so<D: Desk, R: Wait + AllocGlobal>(
     asked: Asked<'_>,
     wanted: &str,
 ) -> Result<Seat, Fail> {
-    let (seat, seen) = serves(rt, hall, packets, seat, asked);
-    is_seen(rt.alloc(), &seen, wanted)?;
+    let (seat, receipts, seen) = serves(rt, hall, packets, seat, asked);
+    is_seen(rt.alloc(), &seen, receipts, wanted)?;
     Ok(seat)
 }
 

@@ -2,4 +2,4 @@ use Rattle.serve_tests.proofs.hall.shared.converses.Given as goal
 
 -- the run that begins here
 abbrev pub ghosts-holds : goal.ghosts-holds
-ghosts-holds g a = record { roll = a.history; base = g.D.Desk.meaning a.desk; limits = a.talk.limits }
+ghosts-holds g a = record { roll = a.history; opening = record { meaning = g.D.Desk.meaning a.desk; limits = a.talk.limits } }

@@ -3,7 +3,6 @@ use Rattle.std.proofs.Crossing.{crosses}
 use Rattle.std.proofs.MapsCrossing.{crosses as maps}
 use Rattle.std.proofs.MapsCrossingOver.{crosses as sets}
 use Rattle.tac_hall.proofs.Crossing.{Policy-send, Seat-send, Hall-sync}
-use Rattle.tac_request.specs.contracts.record.Record as Record
 use Rattle.tac_request.proofs.record.Record.TheSendSync as records
 use Rattle.tac_tally.specs.contracts.account.Account as Account
 use Rattle.tac_tally.specs.contracts.accounts.Accounts as Accounts
