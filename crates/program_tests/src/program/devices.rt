@@ -336,9 +336,9 @@ fn at_an_address(rt: HostRuntime) -> Result<(), Fail> {
     operated(&rt, options, address, Visit::TenTimes, "quit\n", "")
 }
 
-// Each log takes two of the ten calls, so the operator finds two in the fifth.
+// Each segment has two of the ten calls, so the operator ends the fifth, which has two.
 #[test]
-fn a_log_that_is_put_away(rt: HostRuntime) -> Result<(), Fail> {
+fn segments_that_begin_by_themselves(rt: HostRuntime) -> Result<(), Fail> {
     let port = free_port(&rt)?;
     let address = SocketAddr::from((Ipv4Addr::LOCALHOST, port));
     let options = "--workers 1 --rotate-at 3";

@@ -38,16 +38,15 @@ Lines of the console, where a SUBJECT is 'user NAME' or 'group NAME':
   shift SUBJECT N M    rule N gets the number M
   begin, commit, abandon
                        edits after 'begin', up to 64, are kept, and made by 'commit' all or none
-  rotate               puts the log of calls away and begins the next; its number and how many calls
-                       it has are printed
+  rotate               ends the present segment of the history; its number and how many calls it has
+                       are printed
   quit                 the server stops, as it does where the input ends
 
 An edit and a 'commit' are answered by 'ok', and for each user whom they concern by the shortest
 line that is now permitted, and the shortest that is now denied; or by 'refused' and why, and have
 changed nothing.
-A call that the server doesn't take is answered by 'hall' and why. The log of calls in memory takes
-65536. It is put away as --rotate-at says, and nothing is printed then; calls of the console aren't
-counted, so where many are typed, type 'rotate' now and then.
+A call that the server doesn't take is answered by 'hall' and why. The history of calls takes no
+memory. Its segments begin by themselves as --rotate-at says, and nothing is printed then.
 
 Lines of a policy:
   policy 2             the first line, if it is there: patterns may count, as '{1,3}'

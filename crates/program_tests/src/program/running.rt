@@ -630,7 +630,7 @@ Options:
       --workers <W>      How many connections are served at once, 1 to 63 [default: 16]
       --idle <SECONDS>   After how many seconds without a reply a connection is closed, 0 to 86400; 0 is never [default: 300]
       --connections <N>  How many connections each worker serves before it ends, at least 1 [default: 4294967295]
-      --rotate-at <N>    Put the log of calls away, and begin the next, before its Nth call, 1 to 65536 [default: 32768]
+      --rotate-at <N>    Begin a new segment of the history before the Nth call of one, 1 to 65536 [default: 32768]
       --log <PATH>       The file that takes a line of JSON for each request, before the device hears of it
       --sync             Answer a device only once its line is on the disk
       --no-console       Read no standard input, and serve until the process is ended, as by SIGTERM
@@ -681,7 +681,7 @@ Options:
           [default: 4294967295]
 
       --rotate-at <N>
-          Put the log of calls away, and begin the next, before its Nth call, 1 to 65536
+          Begin a new segment of the history before the Nth call of one, 1 to 65536
           
           [default: 32768]
 
@@ -754,7 +754,7 @@ Options:
 
 #[test]
 fn help(rt: HostRuntime) -> Result<(), Fail> {
-    ends(&rt, "tacd --version", "", true, 0, "tacd 0.3.0\n", "");
+    ends(&rt, "tacd --version", "", true, 0, "tacd 0.4.0\n", "");
     ends(&rt, "tacd -h", "", true, 0, SUMMARY, "");
     ends(&rt, "tacd replay -h", "", true, 0, REPLAY_SUMMARY, "");
     // What the long help says before and after the options stands in help.rt.
