@@ -20,8 +20,8 @@ use Rattle.tac_audit.specs.declared.event.Told.TheVariants.{Login, Command, Acco
 use Rattle.tac_audit.specs.declared.event.Event.{Event}
 use Rattle.tac_audit.specs.declared.event.Typed.{Typed}
 use Rattle.tac_audit.specs.Json.{text_json, optional_json, texts_json, member}
-use Rattle.tac_audit.specs.Event.{status_word, why_word, kind_word, session_digits, asker_json, said_json, type_json, told_json, begun, ended, line_of, typed_line}
-use Rattle.tac_audit.specs.Apart.{are_bytes, are_texts, is_asker, is_said, is_told, AreApart, AreTypedApart}
+use Rattle.tac_audit.specs.Event.{status_word, why_word, kind_word, session_digits, asker_json, said_json, type_json, told_json, begun, ended, line_of, size_json, typed_line}
+use Rattle.tac_audit.specs.Apart.{are_bytes, are_texts, is_asker, is_said, is_told, is_size, AreApart, AreTypedApart}
 use Rattle.tac_audit.proofs.JsonApart.{text_apart, optional_apart, texts_apart, IsNext, next_member, unlike, number_apart, member_apart, hexes_are_bytes, hexes_apart}
 
 -- ---- words
@@ -149,10 +149,13 @@ small_byte : (n : ℕ) → nat_lt n 256 ≡ true → n < 256
 small_byte n h = grind (arith, nat_tests)
 
 -- a number, which another member follows
+below : (n : ℕ) → n < 256 → n < 2 ^ 64
+below n h = omega arith
+
 number_member : (name : List ℕ) (m n : ℕ) (x y : List ℕ) → nat_lt m 256 ≡ true → nat_lt n 256 ≡ true → IsNext x → IsNext y
     → member name (decimal m) ++ x ≡ member name (decimal n) ++ y → (m ≡ n) × (x ≡ y)
 number_member name m n x y h k next_x next_y same =
-    number_apart m n x y (small_byte m h) (small_byte n k) next_x next_y (member_apart name (decimal m) (decimal n) x y same)
+    number_apart m n x y (below m (small_byte m h)) (below n (small_byte n k)) next_x next_y (member_apart name (decimal m) (decimal n) x y same)
 
 -- ---- who asks
 
@@ -398,22 +401,43 @@ events_apart a b h k same =
     let told = told_apart a.told b.told ended ended h1.1 k1.1 sessions.1 in
     event_parts a b times.0 devices.0 (sessions_apart a.session b.session (small_session a.session h2.1) (small_session b.session k2.1) sessions.0) told.0
 
-typed_parts : (a b : Typed) → a.time ≡ b.time → a.console ≡ b.console → a.answer ≡ b.answer → a ≡ b
-typed_parts a b time console answer =
+small_size : (n : ℕ) → nat_lt n (2 ^ 64) ≡ true → n < 2 ^ 64
+small_size n h = grind (arith, nat_tests)
+
+-- a size, or none, before an answer
+sizes_apart : (a b : Option ℕ) (v w x y : List ℕ) → is_size a ≡ true → is_size b ≡ true
+    → size_json a ++ (member (codes "answer") v ++ x) ≡ size_json b ++ (member (codes "answer") w ++ y)
+    → (a ≡ b) × (member (codes "answer") v ++ x ≡ member (codes "answer") w ++ y)
+unfolding member
+sizes_apart None None v w x y h k same = (refl, same)
+sizes_apart None (Some n) v w x y h k same = absurd (unlike 0x22 0x5F refl (ap (λ (l : List ℕ). slice_index l 8) same))
+sizes_apart (Some m) None v w x y h k same = absurd (unlike 0x5F 0x22 refl (ap (λ (l : List ℕ). slice_index l 8) same))
+sizes_apart (Some m) (Some n) v w x y h k same =
+    let parts = number_apart m n (member (codes "answer") v ++ x) (member (codes "answer") w ++ y) (small_size m h) (small_size n k)
+    (next_member (codes "answer") v x) (next_member (codes "answer") w y)
+    (member_apart (codes "answer_bytes") (decimal m) (decimal n) (member (codes "answer") v ++ x) (member (codes "answer") w ++ y) same) in
+    (ap (λ (size : ℕ). Some size) parts.0, parts.1)
+
+typed_parts : (a b : Typed) → a.time ≡ b.time → a.console ≡ b.console → a.answer_bytes ≡ b.answer_bytes → a.answer ≡ b.answer → a ≡ b
+typed_parts a b time console size answer =
     ap (λ (x : List ℕ). record a { time = x }) time
-    ∙ ap (λ (x : List ℕ). record { time = b.time; console = x; answer = a.answer }) console
+    ∙ ap (λ (x : List ℕ). record { time = b.time; console = x; answer_bytes = a.answer_bytes; answer = a.answer }) console
+    ∙ ap (λ (x : Option ℕ). record { time = b.time; console = b.console; answer_bytes = x; answer = a.answer }) size
     ∙ ap (λ (x : List (List ℕ)). record b { answer = x }) answer
 
-typed_is : (t : Typed) → typed_line t ≡ begun t.time ++ (member (codes "console") (text_json t.console) ++ (member (codes "answer") (texts_json t.answer) ++ ended))
-typed_is t = nest3 (begun t.time) (member (codes "console") (text_json t.console)) (member (codes "answer") (texts_json t.answer)) ended
+typed_is : (t : Typed) → typed_line t ≡ begun t.time ++ (member (codes "console") (text_json t.console) ++ (size_json t.answer_bytes ++ (member (codes "answer") (texts_json t.answer) ++ ended)))
+typed_is t = nest4 (begun t.time) (member (codes "console") (text_json t.console)) (size_json t.answer_bytes) (member (codes "answer") (texts_json t.answer)) ended
 
 pub typed_apart : (a b : Typed) → AreTypedApart a b
 typed_apart a b h k same =
-    let h1 = and_parts (are_bytes a.time && are_bytes a.console) (are_texts a.answer) h in
-    let k1 = and_parts (are_bytes b.time && are_bytes b.console) (are_texts b.answer) k in
-    let h2 = and_parts (are_bytes a.time) (are_bytes a.console) h1.0 in
-    let k2 = and_parts (are_bytes b.time) (are_bytes b.console) k1.0 in
-    let times = begun_apart a.time b.time _ _ h2.0 k2.0 (sym (typed_is a) ∙ same ∙ typed_is b) in
-    let consoles = text_member (codes "console") a.console b.console _ _ h2.1 k2.1 times.1 in
-    let answers = texts_member (codes "answer") a.answer b.answer ended ended h1.1 k1.1 consoles.1 in
-    typed_parts a b times.0 consoles.0 answers.0
+    let h1 = and_parts (are_bytes a.time && are_bytes a.console && is_size a.answer_bytes) (are_texts a.answer) h in
+    let k1 = and_parts (are_bytes b.time && are_bytes b.console && is_size b.answer_bytes) (are_texts b.answer) k in
+    let h2 = and_parts (are_bytes a.time && are_bytes a.console) (is_size a.answer_bytes) h1.0 in
+    let k2 = and_parts (are_bytes b.time && are_bytes b.console) (is_size b.answer_bytes) k1.0 in
+    let h3 = and_parts (are_bytes a.time) (are_bytes a.console) h2.0 in
+    let k3 = and_parts (are_bytes b.time) (are_bytes b.console) k2.0 in
+    let times = begun_apart a.time b.time _ _ h3.0 k3.0 (sym (typed_is a) ∙ same ∙ typed_is b) in
+    let consoles = text_member (codes "console") a.console b.console _ _ h3.1 k3.1 times.1 in
+    let sizes = sizes_apart a.answer_bytes b.answer_bytes (texts_json a.answer) (texts_json b.answer) ended ended h2.1 k2.1 consoles.1 in
+    let answers = texts_member (codes "answer") a.answer b.answer ended ended h1.1 k1.1 sizes.1 in
+    typed_parts a b times.0 consoles.0 sizes.0 answers.0

@@ -1,6 +1,6 @@
 -- Texts, lists and members are told apart, and so is what follows them.
 use Rattle.std.specs.Prelude.{slice_index}
-use Rattle.std.proofs.Common.{◌≡◌, ℕ, zero, suc, ◌+◌, ◌-◌, ◌*◌, ◌/◌, ◌%◌, ◌<◌, Bool, true, false, not, if◌then◌else◌, eqb, eq-eqb, List, [], ◌∷◌, ◌++◌, drop, Option, Some, None, nat_lt, append_assoc, refl, sym, ap, ◌∙◌, arith}
+use Rattle.std.proofs.Common.{◌≡◌, ℕ, zero, suc, ◌+◌, ◌-◌, ◌*◌, ◌/◌, ◌%◌, ◌<◌, ◌^◌, Bool, true, false, not, if◌then◌else◌, eqb, eq-eqb, List, [], ◌∷◌, ◌++◌, drop, Option, Some, None, nat_lt, append_assoc, refl, sym, ap, ◌∙◌, arith}
 use Rattle.std.specs.List.{list_all, flat_map}
 use Rattle.std.specs.Option.{option_map_or}
 use Rattle.std.specs.Fmt.{digit_glyph, digits_onto, digits, decimal}
@@ -247,11 +247,11 @@ unfolding member
 next_member name value x = refl
 
 -- numbers that another member follows
-pub number_apart : (m n : ℕ) (x y : List ℕ) → m < 256 → n < 256 → IsNext x → IsNext y → decimal m ++ x ≡ decimal n ++ y → (m ≡ n) × (x ≡ y)
+pub number_apart : (m n : ℕ) (x y : List ℕ) → m < 2 ^ 64 → n < 2 ^ 64 → IsNext x → IsNext y → decimal m ++ x ≡ decimal n ++ y → (m ≡ n) × (x ≡ y)
 number_apart m n x y small_m small_n next_x next_y same =
     let parts = plain_apart (decimal m) (decimal n) (drop 1 x) (drop 1 y) (decimal_plain m) (decimal_plain n)
     (sym (ap (λ (r : List ℕ). decimal m ++ r) next_x) ∙ same ∙ ap (λ (r : List ℕ). decimal n ++ r) next_y) in
-    (decimal_injective m n (omega arith) (omega arith) parts.0, next_x ∙ ap (λ (r : List ℕ). 0x2C ∷ r) parts.1 ∙ sym next_y)
+    (decimal_injective m n small_m small_n parts.0, next_x ∙ ap (λ (r : List ℕ). 0x2C ∷ r) parts.1 ∙ sym next_y)
 
 -- ---- members
 

@@ -1,3 +1,4 @@
 mod JsonApart
 pub mod EventsApart
 pub mod MaskingFacts
+pub mod AnswerFacts

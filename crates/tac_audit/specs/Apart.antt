@@ -1,5 +1,5 @@
 -- The lines of events are told apart, so what they tell is read back from them.
-use Rattle.std.specs.Prelude.{◌≡◌, ◌^◌, ℕ, List, Bool, true, ◌&&◌, nat_lt, IsTrue}
+use Rattle.std.specs.Prelude.{◌≡◌, ◌^◌, ℕ, List, Bool, true, ◌&&◌, nat_lt, IsTrue, Option}
 use Rattle.std.specs.List.{list_all}
 use Rattle.std.specs.Option.{option_map_or}
 use Rattle.tac_audit.specs.declared.event.Asker.{Asker}
@@ -39,8 +39,14 @@ is_event event =
     are_bytes event.time && are_bytes event.device && nat_lt event.session (2 ^ 32)
     && is_told event.told
 
+-- a size below 2^64
+abbrev pub is_size : Option ℕ → Bool
+is_size size = option_map_or (λ size. nat_lt size (2 ^ 64)) size true
+
 abbrev pub is_typed : Typed → Bool
-is_typed typed = are_bytes typed.time && are_bytes typed.console && are_texts typed.answer
+is_typed typed =
+    are_bytes typed.time && are_bytes typed.console && is_size typed.answer_bytes
+    && are_texts typed.answer
 
 -- events with the same line are the same
 abbrev pub AreApart : Event → Event → Type 0

@@ -1,5 +1,5 @@
 -- The line that is written of an event (docs/AUDIT.md).
-use Rattle.std.specs.Prelude.{ℕ, List, [], ◌∷◌, ◌++◌, codes}
+use Rattle.std.specs.Prelude.{ℕ, List, [], ◌∷◌, ◌++◌, codes, Option, Some, None}
 use Rattle.std.specs.Int.{to_be_bytes, w32}
 use Rattle.std.specs.List.{flat_map}
 use Rattle.std.specs.Option.{option_map}
@@ -97,8 +97,14 @@ line_of event =
     ++ member (codes "session") (text_json (session_digits event.session))
     ++ told_json event.told ++ ended
 
+-- how many bytes an answer has, where only the first of them are told
+abbrev pub size_json : Option ℕ → List ℕ
+size_json None = []
+size_json (Some size) = member (codes "answer_bytes") (decimal size)
+
 -- the line of what was typed at the console
 abbrev pub typed_line : Typed → List ℕ
 typed_line typed =
     begun typed.time ++ member (codes "console") (text_json typed.console)
+    ++ size_json typed.answer_bytes
     ++ member (codes "answer") (texts_json typed.answer) ++ ended

@@ -1,8 +1,8 @@
--- Lines of the console, and of its answers, without their secrets (docs/AUDIT.md).
-use Rattle.std.specs.Prelude.{◌≡◌, ◌⊎◌, ◌≢◌, ◌+◌, ◌-◌, ℕ, List, [], ◌∷◌, ◌++◌, length, map, take}
-use Rattle.std.specs.Prelude.{drop, Bool, not, ◌||◌, bytes_eq, nat_le, IsTrue, codes, Option, None}
-use Rattle.std.specs.Prelude.{if◌then◌else◌}
-use Rattle.std.specs.List.{list_all, position}
+-- Lines of the console, and its answers, without their secrets (docs/AUDIT.md).
+use Rattle.std.specs.Prelude.{◌≡◌, ◌⊎◌, ◌≢◌, ◌≤◌, ◌+◌, ◌-◌, ℕ, List, [], ◌∷◌, ◌++◌, length, map}
+use Rattle.std.specs.Prelude.{take, drop, Bool, not, ◌||◌, bytes_eq, nat_le, nat_lt, IsTrue, codes}
+use Rattle.std.specs.Prelude.{Option, Some, None, if◌then◌else◌}
+use Rattle.std.specs.List.{list_all, position, flat_map}
 use Rattle.std.specs.Option.{option_and_then, option_map, option_map_or}
 use Rattle.std.specs.Str.{str_eq_ignore_ascii_case}
 use Rattle.basics.specs.Lines.{lines_of, split_at_first}
@@ -85,9 +85,47 @@ masked_setting line parts = if is_setting parts.0 then parts.0 ++ codes " *" els
 unfoldable pub masked_answer : List ℕ → List ℕ
 masked_answer line = option_map_or (masked_setting line) (split_at_first 32 line) line
 
+-- ---- a whole answer
+
+abbrev pub with_end : List ℕ → List ℕ
+with_end line = line ++ 10 ∷ []
+
+-- lines as a text, each with its LF
+abbrev pub text_of : List (List ℕ) → List ℕ
+text_of lines = flat_map with_end lines
+
+-- an answer without its secrets
+abbrev pub masked_text : List ℕ → List ℕ
+masked_text answer = text_of (map masked_answer (lines_of answer))
+
+-- how many bytes of that are told at most
+unfoldable pub most_told : ℕ
+most_told = 4096
+
+-- how many it has, where only the first are told
+abbrev pub size_told : ℕ → Option ℕ
+size_told size = if nat_lt most_told size then Some size else None
+
 -- ---- both
 
--- what was typed, and the lines of its answer
+-- what was typed, and the lines of the first bytes of its answer. Secrets are hidden before it is
+-- cut, so neither the cut nor the size tells how long they are
 unfoldable pub typed_of : List ℕ → List ℕ → List ℕ → Typed
 typed_of time line answer =
-    record { time = time; console = masked line; answer = map masked_answer (lines_of answer) }
+    record {
+      time = time;
+      console = masked line;
+      answer_bytes = size_told (length (masked_text answer));
+      answer = lines_of (take most_told (masked_text answer));
+    }
+
+-- all lines of a short answer are told
+abbrev pub IsToldWhole : List ℕ → List ℕ → List ℕ → Type 0
+IsToldWhole time line answer =
+    length (masked_text answer) ≤ most_told → typed_of time line answer
+    ≡ record {
+      time = time;
+      console = masked line;
+      answer_bytes = None;
+      answer = map masked_answer (lines_of answer);
+    }

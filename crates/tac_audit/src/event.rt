@@ -119,6 +119,8 @@ pub struct Typed {
     pub time: Bytes,
     /// The line, without its secrets.
     pub console: Bytes,
-    /// The lines of its answer, without their secrets.
+    /// How many bytes its answer has without secrets, where only the first of them are told.
+    pub answer_bytes: Option<u64>,
+    /// The lines of its answer, without their secrets, or of the first bytes of that.
     pub answer: Sequence<Bytes>,
 }

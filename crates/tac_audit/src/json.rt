@@ -175,7 +175,7 @@ pub(crate) fn write_list(out: &mut Vec<u8>, name: &[u8], texts: &[Bytes]) -> Res
 
 /// A member with a number.
 #[tactic(auto, unfolding(crate::specs::Json::member))]
-pub(crate) fn write_number(out: &mut Vec<u8>, name: &[u8], number: u8) -> io::Result<()>
+pub(crate) fn write_number(out: &mut Vec<u8>, name: &[u8], number: u64) -> io::Result<()>
     ensures { OnOk result (out.new.items
         ≡ out.old.items ++ json.member name.now (decimal number)) }
 {

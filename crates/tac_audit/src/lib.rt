@@ -7,8 +7,10 @@ mod json;
 mod line;
 mod masking;
 mod telling;
+mod typing;
 
 pub use event::{Asker, Event, Said, Status, Told, Typed, Why};
 pub use line::{push_event, typed_line};
-pub use masking::{masked, masked_answer, typed};
+pub use masking::{masked, masked_answer};
 pub use telling::{Answered, OpenLogin, login_begun, login_named, tell};
+pub use typing::typed;

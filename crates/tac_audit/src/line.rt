@@ -79,8 +79,8 @@ fn write_asker(out: &mut Vec<u8>, asker: &Asker) -> io::Result<()>
     write_member(out, b"user", asker.user.as_slice())?;
     write_member(out, b"port", asker.port.as_slice())?;
     write_member(out, b"from", asker.from.as_slice())?;
-    write_number(out, b"privilege", asker.privilege)?;
-    write_number(out, b"service", asker.service)
+    write_number(out, b"privilege", u64::from(asker.privilege))?;
+    write_number(out, b"service", u64::from(asker.service))
 }
 
 #[tactic(auto, unfolding(crate::specs::Event::said_json))]
@@ -259,6 +259,27 @@ pub fn push_event(out: &mut Vec<u8>, event: &Event) -> Result<(), AllocError>
     }
 }
 
+// How many bytes an answer has, where that is told.
+fn write_size(out: &mut Vec<u8>, size: Option<u64>) -> io::Result<()>
+    ensures { OnOk result (out.new.items ≡ out.old.items ++ lines.size_json size) }
+{
+    match size {
+        Some(size) => write_number(out, b"answer_bytes", size),
+        None => Ok(()),
+    }
+}
+
+fn write_typed(out: &mut Vec<u8>, typed: &Typed) -> io::Result<()>
+    ensures { OnOk result (out.new.items ≡ out.old.items ++ lines.typed_line typed.now) }
+{
+    write_begun(out, typed.time.as_slice())?;
+    write_member(out, b"console", typed.console.as_slice())?;
+    write_size(out, typed.answer_bytes)?;
+    write_list(out, b"answer", typed.answer.as_slice())?;
+    write_ended(out)?;
+    Ok(())
+}
+
 /// The line of what was typed at the console, with its LF. The error means that memory ran out.
 #[tactic(auto, using(crate::proofs::EventsApart::typed_apart))]
 pub fn typed_line(alloc: Global, typed: &Typed) -> Result<Vec<u8>, AllocError>
@@ -267,9 +288,8 @@ pub fn typed_line(alloc: Global, typed: &Typed) -> Result<Vec<u8>, AllocError>
     ensures apart { (a b : TypedValue) → AreTypedApart a b }
 {
     let mut out = Vec::new(alloc);
-    write_begun(&mut out, typed.time.as_slice())?;
-    write_member(&mut out, b"console", typed.console.as_slice())?;
-    write_list(&mut out, b"answer", typed.answer.as_slice())?;
-    write_ended(&mut out)?;
-    Ok(out)
+    match write_typed(&mut out, typed) {
+        Ok(()) => Ok(out),
+        Err(_) => Err(AllocError),
+    }
 }

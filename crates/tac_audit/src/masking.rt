@@ -1,4 +1,4 @@
-//! What is typed at the console, and what it answers, without secrets.
+//! A line of the console, and one of its answers, without secrets.
 
 ghost use Rattle.std.specs.Prelude.{◌≡◌, ◌≤◌, ◌++◌, ℕ, List, length, codes, IfOk, IfSome};
 ghost use Rattle.std.specs.List.{position};
@@ -6,8 +6,7 @@ ghost use Rattle.std.specs.Option.{option_map};
 ghost use Rattle.tac_audit.specs.Masking as words;
 ghost use Rattle.tac_audit.specs.Masking.{OpensSecret, IsSetting};
 
-use crate::event::Typed;
-use basics::{Bytes, Lines, Sequence, split_once};
+use basics::{Bytes, split_once};
 use std::alloc::{AllocError, Global};
 
 // What a secret is shown as.
@@ -125,24 +124,4 @@ pub fn masked_answer(alloc: Global, line: &[u8]) -> Result<Bytes, AllocError>
         Some((word, _)) if is_setting(word) => starred(alloc, &line[..word.len() + 1]),
         _ => Bytes::from_slice(alloc, line),
     }
-}
-
-/// What was typed at the console, and the lines that it was answered, without secrets. The error
-/// means that memory ran out. Linear.
-#[tactic(auto, unfolding(crate::specs::Masking::typed_of))]
-pub fn typed(alloc: Global, time: Bytes, line: &[u8], answer: &[u8]) -> Result<Typed, AllocError>
-    ensures { IfOk result (λ typed. typed ≡ words.typed_of time line.now answer.now) }
-{
-    let console = masked(alloc, line)?;
-    let mut texts = Sequence::new(alloc);
-    let mut lines = Lines::new(answer);
-    'lines: while let Some((_, line)) = lines.take_line() {
-        let text = masked_answer(alloc, line)?;
-        texts.push(text)?;
-    }
-    Ok(Typed {
-        time,
-        console,
-        answer: texts,
-    })
 }
