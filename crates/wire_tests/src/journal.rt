@@ -3,6 +3,7 @@
 //! again by its path.
 
 mod consoles;
+mod cuts;
 mod files;
 mod host;
 mod secrets;

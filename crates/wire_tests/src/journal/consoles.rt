@@ -1,7 +1,7 @@
 //! Conversations at a console, in the order in which the log and the output have them.
 
 use basics::send;
-use std::alloc::Global;
+use std::alloc::{AllocError, Global};
 use std::cell::RefCell;
 use std::io::{self, ErrorKind, Read, Write};
 use std::process::Abort;
@@ -147,6 +147,34 @@ refused 1 BadEdit
 \"console\":\"quit\",\"answer\":[]}
 ";
     converses(&rt, false, typed, &answers, wanted)
+}
+
+// A text so many times.
+fn repeated(alloc: Global, text: &str, times: usize) -> Result<String, AllocError> {
+    let mut all = String::new(alloc);
+    for _ in 0..times {
+        all.push_str(text)?;
+    }
+    Ok(all)
+}
+
+#[test]
+fn a_long_answer_is_printed_whole(rt: HostRuntime) -> Result<(), Fail> {
+    let alloc = rt.alloc();
+    let long = repeated(alloc, "user 1234567890\n", 257)?;
+    let answers = [long.as_str(), "ok\n", long.as_str()];
+    let told = repeated(alloc, ",\"user 1234567890\"", 255)?;
+    let mut cut = String::new(alloc);
+    cut.push_str("\"console\":\"records\",\"answer_bytes\":4112,\"answer\":[\"user 1234567890\"")?;
+    cut.push_str(told.as_str())?;
+    cut.push_str("]}\n")?;
+    cut.push_str(long.as_str())?;
+    let mut wanted = String::new(alloc);
+    wanted.push_str(cut.as_str())?;
+    wanted.push_str("\"console\":\"remove bob\",\"answer\":[\"ok\"]}\nok\n")?;
+    wanted.push_str(cut.as_str())?;
+    let typed = "records\nremove bob\nrecords\n";
+    converses(&rt, false, typed, &answers, wanted.as_str())
 }
 
 #[test]
