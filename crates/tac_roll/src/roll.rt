@@ -3,7 +3,7 @@
 ghost use Rattle.std.specs.Prelude.{◌≡◌, ◌++◌, ◌∷◌, [], suc, IfOk};
 ghost use Rattle.tac_roll.specs.Roll.{Knows, AreGiven};
 
-use crate::rule::{Adds, Admits, Carries, GivesBack, Law, Looks, TakesIn, View};
+use crate::rule::{Adds, Admits, Carries, GivesBack, Law, Looks, Nothing, TakesIn, View};
 use atomic_table::{Seat, Table};
 use std::alloc::{AllocError, Global};
 use std::marker::{Brand, Model};
@@ -112,6 +112,23 @@ impl<E> Roll<E> {
         add_as::<E, Brand>(self, keeper, member, item)
     }
 
+    /// Has a member see all, without an item of its own. What it had seen was a beginning of that,
+    /// and nothing was added for it since. Takes constant time and no memory.
+    pub fn catch_up(&self, keeper: &mut Keeper<E>, member: Member<E>) -> Member<E>
+        requires { (keeper.old.roll ≡ self.now) × (member.roll ≡ self.now) }
+        ensures keeper { keeper.new ≡ keeper.old }
+        ensures member { result ≡ record member { seen = keeper.old.all } }
+        ensures knows { Knows keeper.old.all member.number member.seen }
+    {
+        let Member { seat } = member;
+        let shared = &self.table.shared;
+        shared.join_seat::<TakesIn>(&mut keeper.seat, seat);
+        shared.load::<Looks>(&mut keeper.seat, 0);
+        Member {
+            seat: shared.split_seat::<Adds<Nothing>>(&mut keeper.seat),
+        }
+    }
+
     /// Compares what a member knows with what there is: what it has seen is a beginning of that,
     /// and nothing was added for it since. Each item was added for one of the members. Takes
     /// constant time and no memory.
@@ -141,7 +158,7 @@ impl<E> Roll<E> {
     }
 }
 
-// Adds an item that the caller picks.
+// Adds an item that the call picks.
 fn add_as<E, C: Carries<E>>(
     roll: &Roll<E>,
     keeper: &mut Keeper<E>,
