@@ -196,7 +196,5 @@ place_rotated history seat = place_append beginning history ((seat, events.Rotat
 
 -- ---- a seat that did nothing
 
-pub fresh : (number members : ℕ) (seen history : List (ℕ × Event)) → number ≡ members → seen ≡ history → AreGiven members history → (view_of number seen ≡ []) × (rotations_of number seen ≡ [])
-fresh number members seen history next all given =
-    let others = none_given members history given in
-    rw (next, all) (view_others members beginning history others, rotations_others members beginning history others)
+pub fresh : (number members : ℕ) (seen history : List (ℕ × Event)) → number ≡ members → seen ≡ history → AreGiven members history → AreOthers number seen
+fresh number members seen history next all given = rw (next, all) (none_given members history given)

@@ -6,13 +6,14 @@ use Rattle.tac_hall.specs.declared.call.CallAnswer.{CallAnswer}
 use Rattle.tac_hall.specs.declared.entry.Entry.{Entry}
 use Rattle.tac_hall.specs.declared.entry.Receipt.{Receipt}
 use Rattle.tac_hall.specs.History.{Answers, IsOfKind, is_stop, is_closed, Legal, at_first, and_then}
+use Rattle.tac_hall.specs.Room.{last_segment}
 use Rattle.tac_hall.proofs.HistoryFacts.{closed_after}
-use Rattle.tac_roll.specs.Roll.{Knows}
+use Rattle.tac_roll.specs.Roll.{Knows, Keeping, Membership}
 use Rattle.tac_forum.specs.declared.event.Event.{Event}
 use Rattle.tac_forum.specs.declared.event.Event.TheVariants as events
 use Rattle.tac_forum.specs.declared.limits.Rotated.{Rotated}
 use Rattle.tac_forum.specs.History.{Opening, Place, calls_in, place_of, view_of, rotations_of, next_segment, is_due, place_for, turned, IsLawful, IsCounted}
-use Rattle.tac_forum.specs.Seat.{IsMade, IsRotated}
+use Rattle.tac_forum.specs.Seat.{Seated, IsMade, IsRotated, CatchesUp}
 use Rattle.tac_forum.proofs.HistoryFacts.{calls_ready, calls_called, calls_rotated, place_ready, place_called, place_rotated, room_ready, room_called, room_rotated}
 use Rattle.tac_forum.proofs.HistoryFacts.{view_same, view_ready, view_called, view_rotated, rotations_same, rotations_ready, rotations_called, rotations_rotated}
 
@@ -77,6 +78,7 @@ module _ {opening : Opening} {history : List (ℕ × Event)} {was now : Meaning}
         seat = refl;
         place = at_ready;
         kind = kind;
+        goes_on = ap is_closed (calls_ready history due seat) ∙ c.goes_on;
         meaning = was;
         then = now;
         legal = subst (λ (l : List Entry). Legal opening.meaning l was) (sym (calls_ready history due seat)) c.lawful.legal;
@@ -103,9 +105,9 @@ counted_rotated opening meaning history place closed seat next h is = record {
   stopped = ap is_closed (calls_rotated history seat) ∙ h.stopped;
 }
 
-pub made_rotated : (history : List (ℕ × Event)) (place : Place) (seat : ℕ) (seen : List (ℕ × Event)) (rotated : Rotated) → place_of history ≡ place → Knows history seat seen → rotated ≡ record { number = place.segment; entries = place.entries }
+pub made_rotated : (history : List (ℕ × Event)) (place : Place) (seat : ℕ) (seen : List (ℕ × Event)) (rotated : Rotated) → place_of history ≡ place → is_closed (calls_in history) ≡ false → place.segment < last_segment → Knows history seat seen → rotated ≡ record { number = place.segment; entries = place.entries }
     → IsRotated (record { number = seat; seen = seen }) rotated (record { number = seat; seen = history ++ (seat, events.Rotated) ∷ [] })
-made_rotated history place seat seen rotated at knows is =
+made_rotated history place seat seen rotated at goes_on numbered knows is =
     let others = knows.0 in
     let all : history ≡ seen ++ others = knows.1 in
     let told : record { number = (place_of history).segment; entries = (place_of history).entries } ≡ rotated = (λ i. record { number = (at i).segment; entries = (at i).entries }) ∙ sym is in
@@ -114,7 +116,33 @@ made_rotated history place seat seen rotated at knows is =
       apart = knows.2;
       seen = ap (λ (h : List (ℕ × Event)). h ++ (seat, events.Rotated) ∷ []) all;
       number = refl;
+      goes_on = ap (λ (h : List (ℕ × Event)). is_closed (calls_in h)) (sym all) ∙ goes_on;
+      numbered = subst (λ (r : Rotated). r.number < last_segment) (sym is) numbered;
       place = ap place_of (sym all) ∙ at ∙ (λ i. record { segment = (sym is i).number; entries = (sym is i).entries });
       view = view_rotated seat history ∙ ap (view_of seat) all ∙ view_same seat seen others knows.2;
       rotations = rotations_rotated seat history ∙ (λ i. (ap (rotations_of seat) all ∙ rotations_same seat seen others knows.2) i ++ told i ∷ []);
     }
+
+-- ---- a refusal
+
+-- what is known of the whole, seen by who has seen a beginning of it
+pub caught_up : (history : List (ℕ × Event)) (was now : Seated) → Knows history was.number was.seen → now ≡ record { number = was.number; seen = history } → CatchesUp was now
+caught_up history was now knows is =
+    let others = knows.0 in
+    let all : now.seen ≡ was.seen ++ others = ap (λ (s : Seated). s.seen) is ∙ knows.1 in
+    record {
+      others = others;
+      apart = knows.2;
+      number = ap (λ (s : Seated). s.number) is;
+      seen = all;
+      view = ap (view_of was.number) all ∙ view_same was.number was.seen others knows.2;
+      rotations = ap (rotations_of was.number) all ∙ rotations_same was.number was.seen others knows.2;
+    }
+
+-- the same of a member that was compared, and then caught up
+pub caught_up_as : (keeper kept : Keeping Event) (was same now : Membership Event) → Knows keeper.all was.number was.seen → kept ≡ keeper → same ≡ was → now ≡ record same { seen = kept.all }
+    → CatchesUp (record { number = was.number; seen = was.seen }) (record { number = now.number; seen = now.seen })
+caught_up_as keeper kept was same now knows all is then =
+    let number : now.number ≡ was.number = ap (λ (m : Membership Event). m.number) then ∙ ap (λ (m : Membership Event). m.number) is in
+    let seen : now.seen ≡ keeper.all = ap (λ (m : Membership Event). m.seen) then ∙ ap (λ (k : Keeping Event). k.all) all in
+    caught_up keeper.all (record { number = was.number; seen = was.seen }) (record { number = now.number; seen = now.seen }) knows (λ i. record { number = number i; seen = seen i })

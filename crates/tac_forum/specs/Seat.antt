@@ -1,12 +1,13 @@
 -- A seat at a desk that many call, and what a call adds to the history that it has seen.
-use Rattle.std.specs.Prelude.{◌≡◌, ℕ, List, [], ◌∷◌, ◌++◌, Option, Some, None}
+use Rattle.std.specs.Prelude.{◌≡◌, ◌<◌, ℕ, List, [], ◌∷◌, ◌++◌, false, Option, Some, None}
 use Rattle.tac_desk.specs.Meaning.{Meaning}
 use Rattle.tac_hall.specs.declared.call.Call.{Call}
 use Rattle.tac_hall.specs.declared.entry.Receipt.{Receipt}
 use Rattle.tac_hall.specs.declared.fault.HallFault.{HallFault}
-use Rattle.tac_hall.specs.History.{Answers, IsOfKind, Legal}
+use Rattle.tac_hall.specs.History.{Answers, IsOfKind, is_closed, Legal}
+use Rattle.tac_hall.specs.Room.{last_segment}
 use Rattle.tac_hall.specs.Seat.{made_of}
-use Rattle.tac_roll.specs.Roll.{RollId, Membership, AreOthers, Knows}
+use Rattle.tac_roll.specs.Roll.{RollId, Membership, AreOthers}
 use Rattle.tac_forum.specs.declared.event.Event.{Event}
 use Rattle.tac_forum.specs.declared.event.Event.TheVariants as events
 use Rattle.tac_forum.specs.declared.limits.Rotated.{Rotated}
@@ -17,6 +18,10 @@ use Rattle.tac_forum.specs.History.{calls_in, place_of, before_call, view_of, ro
 pub record Seated : Type 0 where
   pub number : ℕ
   pub seen : List (ℕ × Event)
+
+-- it did nothing: all that it has seen is of others
+abbrev pub IsFresh : Seated → Type 0
+IsFresh seat = AreOthers seat.number seat.seen
 
 -- it is what a member of the history knows
 abbrev pub seated_as : Option (Membership Event) → Seated
@@ -43,6 +48,7 @@ pub record IsMade (opening : Opening) (was : Seated) (call : Call)
   pub seat : receipt.seat ≡ was.number
   pub place : place_of before ≡ record { segment = receipt.segment; entries = receipt.place }
   pub kind : IsOfKind call receipt.answer
+  pub goes_on : is_closed (calls_in before) ≡ false
   pub meaning : Meaning
   pub then : Meaning
   pub legal : Legal opening.meaning (calls_in before) meaning
@@ -51,15 +57,21 @@ pub record IsMade (opening : Opening) (was : Seated) (call : Call)
       ≡ view_of was.number was.seen ++ made_of call receipt ∷ []
   pub rotations : rotations_of was.number now.seen ≡ rotations_of was.number was.seen
 
--- the call was refused so: after a lawful history that begins with what the seat has seen, and in
--- which it did nothing since
-pub record IsRefused (opening : Opening) (seat : Seated) (call : Call)
-    (fault : HallFault) : Type 0 where
-  pub history : List (ℕ × Event)
-  pub meaning : Meaning
-  pub lawful : IsLawful opening history meaning
-  pub knows : Knows history seat.number seat.seen
-  pub refuses : RefusesCall opening.limits history call fault
+-- others did these things meanwhile, and the seat has seen them; it did nothing itself
+pub record CatchesUp (was now : Seated) : Type 0 where
+  pub others : List (ℕ × Event)
+  pub apart : AreOthers was.number others
+  pub number : now.number ≡ was.number
+  pub seen : now.seen ≡ was.seen ++ others
+  pub view : view_of was.number now.seen ≡ view_of was.number was.seen
+  pub rotations : rotations_of was.number now.seen ≡ rotations_of was.number was.seen
+
+-- after what the seat has seen, which is a lawful history, this call is refused so
+pub record IsRefused (opening : Opening) (seat : Seated) (call : Call) (fault : HallFault) : Type 0
+  where
+    pub meaning : Meaning
+    pub lawful : IsLawful opening seat.seen meaning
+    pub refuses : RefusesCall opening.limits seat.seen call fault
 
 -- ---- a rotation
 
@@ -69,16 +81,16 @@ pub record IsRotated (was : Seated) (rotated : Rotated) (now : Seated) : Type 0 
   pub apart : AreOthers was.number others
   pub seen : now.seen ≡ (was.seen ++ others) ++ (was.number, events.Rotated) ∷ []
   pub number : now.number ≡ was.number
+  pub goes_on : is_closed (calls_in (was.seen ++ others)) ≡ false
   pub place : place_of (was.seen ++ others)
       ≡ record { segment = rotated.number; entries = rotated.entries }
+  pub numbered : rotated.number < last_segment
   pub view : view_of was.number now.seen ≡ view_of was.number was.seen
   pub rotations : rotations_of was.number now.seen
       ≡ rotations_of was.number was.seen ++ rotated ∷ []
 
-pub record IsUnrotated (opening : Opening) (seat : Seated) (fault : HallFault)
-    : Type 0 where
-  pub history : List (ℕ × Event)
+-- after what the seat has seen, which is a lawful history, a rotation is refused so
+pub record IsUnrotated (opening : Opening) (seat : Seated) (fault : HallFault) : Type 0 where
   pub meaning : Meaning
-  pub lawful : IsLawful opening history meaning
-  pub knows : Knows history seat.number seat.seen
-  pub refuses : RefusesRotation history fault
+  pub lawful : IsLawful opening seat.seen meaning
+  pub refuses : RefusesRotation seat.seen fault

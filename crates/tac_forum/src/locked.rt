@@ -1,6 +1,6 @@
 //! What lies under the lock, and what is done there while it is held.
 
-ghost use Rattle.std.specs.Prelude.{◌≡◌, ◌↔◌, ◌<◌, ◌++◌, ◌∷◌, [], suc, true, false, Some, Ok, Err};
+ghost use Rattle.std.specs.Prelude.{◌≡◌, ◌↔◌, ◌<◌, ◌≤◌, ◌++◌, ◌∷◌, [], suc, true, false, Some, Ok, Err};
 ghost use Rattle.std.specs.Prelude.{IsTrue, IfOk, IfErr, OnErr};
 ghost use Rattle.tac_forum.specs.Closing.{HasAll};
 ghost use Rattle.tac_forum.specs.History as history;
@@ -119,9 +119,9 @@ impl<J: Run, D: Desk> Locked<J, D> {
     /// A seat that did nothing, under the next number.
     pub(crate) fn seat(&mut self, roll: &Roll<Event>) -> Result<Seat<J>, HallFault>
         requires { roll.now ≡ J.roll }
-        ensures fresh { IfOk result (λ seat. (history.view_of seat.number seat.seen ≡ [])
-            × (history.rotations_of seat.number seat.seen ≡ [])) }
-        ensures fault { IfErr result (λ fault. fault ≡ NoSeat) }
+        ensures fresh { IfOk result seats.IsFresh }
+        ensures fault { IfErr result (λ fault. (fault ≡ NoSeat) × (64 ≤ self.old.seats)) }
+        ensures still { OnErr result (self.new ≡ self.old) }
     {
         if self.seats >= MAX_SEATS {
             return Err(HallFault::NoSeat);
@@ -188,9 +188,11 @@ impl<J: Run, D: Desk> Locked<J, D> {
         ensures made { IfOk result.1 (λ receipt. seats.IsMade J.opening
             (seats.seated_as (Some member)) call.now receipt
             (seats.seated_as (Some result.0))) }
-        ensures err { OnErr result.1 (result.0 ≡ member) }
+        ensures err { OnErr result.1 (seats.CatchesUp
+            (seats.seated_as (Some member)) (seats.seated_as (Some result.0))) }
         ensures refused { IfErr result.1 (seats.IsRefused J.opening
-            (seats.seated_as (Some member)) call.now) }
+            (seats.seated_as (Some result.0)) call.now) }
+        ensures still { OnErr result.1 (self.new ≡ self.old) }
     {
         let member = roll.compare(&mut self.keeper, member);
         let NextCall {
@@ -199,11 +201,14 @@ impl<J: Run, D: Desk> Locked<J, D> {
             entries,
         } = match self.judge() {
             Ok(next) => next,
-            Err(fault) => return (member, Err(fault)),
+            Err(fault) => return (roll.catch_up(&mut self.keeper, member), Err(fault)),
         };
         let answer = match answer(&mut self.desk, call) {
             Ok(answer) => answer,
-            Err(_) => return (member, Err(HallFault::Memory)),
+            Err(_) => {
+                let member = roll.catch_up(&mut self.keeper, member);
+                return (member, Err(HallFault::Memory));
+            }
         };
         self.closed = call.is_stop();
         self.segment = segment;
@@ -230,8 +235,9 @@ impl<J: Run, D: Desk> Locked<J, D> {
         requires { roll.now ≡ J.roll }
         ensures made { IfOk result (λ receipt.
             seats.IsMade J.opening seat.old call.now receipt seat.new) }
-        ensures err { OnErr result (seat.new ≡ seat.old) }
-        ensures refused { IfErr result (seats.IsRefused J.opening seat.old call.now) }
+        ensures err { OnErr result (seats.CatchesUp seat.old seat.new) }
+        ensures refused { IfErr result (seats.IsRefused J.opening seat.new call.now) }
+        ensures still { OnErr result (self.new ≡ self.old) }
     {
         let Some(member) = seat.member.take() else {
             unreachable!()
@@ -253,16 +259,24 @@ impl<J: Run, D: Desk> Locked<J, D> {
         ensures member { seats.IsSeatOf J.roll number (Some result.0) }
         ensures rotated { IfOk result.1 (λ rotated. seats.IsRotated
             (seats.seated_as (Some member)) rotated (seats.seated_as (Some result.0))) }
-        ensures err { OnErr result.1 (result.0 ≡ member) }
+        ensures err { OnErr result.1 (seats.CatchesUp
+            (seats.seated_as (Some member)) (seats.seated_as (Some result.0))) }
         ensures refused { IfErr result.1 (seats.IsUnrotated J.opening
-            (seats.seated_as (Some member))) }
+            (seats.seated_as (Some result.0))) }
+        ensures still { OnErr result.1 (self.new ≡ self.old) }
     {
         let member = roll.compare(&mut self.keeper, member);
         if self.closed {
-            return (member, Err(HallFault::Closed));
+            return (
+                roll.catch_up(&mut self.keeper, member),
+                Err(HallFault::Closed),
+            );
         }
         let Some(next) = self.segment.checked_add(1) else {
-            return (member, Err(HallFault::LogFull));
+            return (
+                roll.catch_up(&mut self.keeper, member),
+                Err(HallFault::LogFull),
+            );
         };
         let member = roll.add(&mut self.keeper, member, &Event::Rotated);
         let rotated = Rotated {
@@ -280,8 +294,9 @@ impl<J: Run, D: Desk> Locked<J, D> {
     ) -> Result<Rotated, HallFault>
         requires { roll.now ≡ J.roll }
         ensures rotated { IfOk result (λ rotated. seats.IsRotated seat.old rotated seat.new) }
-        ensures err { OnErr result (seat.new ≡ seat.old) }
-        ensures refused { IfErr result (seats.IsUnrotated J.opening seat.old) }
+        ensures err { OnErr result (seats.CatchesUp seat.old seat.new) }
+        ensures refused { IfErr result (seats.IsUnrotated J.opening seat.new) }
+        ensures still { OnErr result (self.new ≡ self.old) }
     {
         let Some(member) = seat.member.take() else {
             unreachable!()

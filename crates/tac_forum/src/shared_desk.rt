@@ -1,8 +1,7 @@
 //! A desk that many threads call.
 
-ghost use Rattle.std.specs.Prelude.{◌≡◌, [], All, IfOk, IfErr, OnErr};
+ghost use Rattle.std.specs.Prelude.{◌≡◌, All, IfOk, IfErr, OnErr};
 ghost use Rattle.tac_forum.specs.Closing.{HasAll, IsSettled};
-ghost use Rattle.tac_forum.specs.History.{view_of, rotations_of};
 ghost use Rattle.tac_forum.specs.Seat as seats;
 ghost use Rattle.tac_hall.specs.declared.fault.HallFault.TheVariants.{NoSeat};
 ghost use Rattle.tac_roll.specs.Roll.{Knows};
@@ -53,8 +52,7 @@ impl<J: Run, D: Desk> SharedDesk<J, D> {
     /// of them; a seat may be asked for after a Stop too. Takes constant time once it has the lock,
     /// and no memory.
     pub fn seat<R: Wait>(&self, rt: &R) -> Result<Seat<J>, HallFault>
-        ensures fresh { IfOk result (λ seat. (view_of seat.number seat.seen ≡ [])
-            × (rotations_of seat.number seat.seen ≡ [])) }
+        ensures fresh { IfOk result seats.IsFresh }
         ensures fault { IfErr result (λ fault. fault ≡ NoSeat) }
     {
         take(rt, &self.locked).seat(&self.roll)
@@ -62,11 +60,11 @@ impl<J: Run, D: Desk> SharedDesk<J, D> {
 
     /// Makes a call. Its answer is right after all calls before it, of this seat and of others; the
     /// receipt says where it stands, and has the answer. Where the present segment has one call
-    /// less than `rotate_at`, or more, the next begins before. Takes the time that the desk takes
-    /// to answer, and no memory but the desk's.
+    /// less than `rotate_at`, or more, the next begins before, while numbers are left. Takes the
+    /// time that the desk takes to answer, and no memory but the desk's.
     ///
     /// Refused as Closed after a Stop, then as LogFull, then as Memory, where the desk has none for
-    /// the answer to an ask. Then nothing was done.
+    /// the answer to an ask. Then nothing was done; the seat has seen what others did until then.
     pub fn call<R: Wait>(
         &self,
         rt: &R,
@@ -75,8 +73,8 @@ impl<J: Run, D: Desk> SharedDesk<J, D> {
     ) -> Result<Receipt, HallFault>
         ensures made { IfOk result (λ receipt.
             seats.IsMade J.opening seat.old call.now receipt seat.new) }
-        ensures err { OnErr result (seat.new ≡ seat.old) }
-        ensures refused { IfErr result (seats.IsRefused J.opening seat.old call.now) }
+        ensures err { OnErr result (seats.CatchesUp seat.old seat.new) }
+        ensures refused { IfErr result (seats.IsRefused J.opening seat.new call.now) }
     {
         take(rt, &self.locked).call(&self.roll, seat, call)
     }
@@ -85,11 +83,11 @@ impl<J: Run, D: Desk> SharedDesk<J, D> {
     /// it has. It is no call, and stands in no log. Takes constant time, and no memory.
     ///
     /// Refused as Closed after a Stop, then as LogFull where the present segment has the greatest
-    /// number. Then nothing was done.
+    /// number. Then nothing was done; the seat has seen what others did until then.
     pub fn rotate<R: Wait>(&self, rt: &R, seat: &mut Seat<J>) -> Result<Rotated, HallFault>
         ensures rotated { IfOk result (λ rotated. seats.IsRotated seat.old rotated seat.new) }
-        ensures err { OnErr result (seat.new ≡ seat.old) }
-        ensures refused { IfErr result (seats.IsUnrotated J.opening seat.old) }
+        ensures err { OnErr result (seats.CatchesUp seat.old seat.new) }
+        ensures refused { IfErr result (seats.IsUnrotated J.opening seat.new) }
     {
         take(rt, &self.locked).rotate(&self.roll, seat)
     }

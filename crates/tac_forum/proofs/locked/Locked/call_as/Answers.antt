@@ -4,7 +4,7 @@ use Rattle.tac_forum.specs.declared.event.Event.{Event}
 use Rattle.tac_forum.specs.declared.event.Event.TheVariants as events
 use Rattle.tac_forum.specs.History.{turned, IsCounted}
 use Rattle.tac_forum.specs.Seat.{Seated, IsMade}
-use Rattle.tac_forum.proofs.LockedFacts.{Calling, counted_called, made_called}
+use Rattle.tac_forum.proofs.LockedFacts.{Calling, counted_called, made_called, caught_up_as}
 use Rattle.tac_forum.proofs.locked.Locked.call_as.Goals as goal
 
 pub invariant_of-self-2 : goal.invariant_of-self-2
@@ -52,3 +52,13 @@ returns-clause-made g c =
     let all = ap (λ m. m.seen) added.member ∙ later in
     subst (λ (x : Seated × Seated). IsMade g.J.Run.opening x.0 c.args.call.now (record { seat = c.args.number; segment = c.in-Ok.next.segment; place = c.in-Ok.next.entries; answer = c.in-Ok-answer.answer }) x.1)
     (λ i. (was i, record { number = sym count i; seen = sym all i })) made
+
+pub returns-in-Err-clause-err : goal.returns-in-Err-clause-err
+returns-in-Err-clause-err g c =
+    let same = c.compare-member.ensures.same in
+    caught_up_as c.self.inside.keeper c.compare-member.new.keeper c.args.member c.compare-member.result c.catch_up.result c.compare-member.ensures.knows same.0 same.1 c.catch_up.ensures.member
+
+pub returns-in-Err-answer-clause-err : goal.returns-in-Err-answer-clause-err
+returns-in-Err-answer-clause-err g c =
+    let same = c.compare-member.ensures.same in
+    caught_up_as c.self.inside.keeper c.compare-member.new.keeper c.args.member c.compare-member.result c.catch_up-member.result c.compare-member.ensures.knows same.0 same.1 c.catch_up-member.ensures.member

@@ -1,9 +1,10 @@
-use Rattle.std.proofs.Common.{◌≡◌, ℕ, suc, List, rules, sym, ap, ◌∙◌, subst}
+use Rattle.std.proofs.Common.{◌≡◌, ◌<◌, ℕ, suc, List, false, rules, arith, sym, ap, ◌∙◌, subst}
 use Rattle.tac_roll.specs.Roll.{Knows, Keeping}
+use Rattle.tac_hall.specs.Room.{last_segment}
 use Rattle.tac_forum.specs.declared.event.Event.{Event}
 use Rattle.tac_forum.specs.History.{Place, IsCounted}
 use Rattle.tac_forum.specs.Seat.{Seated, IsRotated}
-use Rattle.tac_forum.proofs.LockedFacts.{counted_rotated, made_rotated}
+use Rattle.tac_forum.proofs.LockedFacts.{counted_rotated, made_rotated, caught_up_as}
 use Rattle.tac_forum.proofs.locked.Locked.rotate_as.Goals as goal
 
 pub invariant_of-self-2 : goal.invariant_of-self-2
@@ -32,9 +33,22 @@ returns-clause-rotated g c =
     let knows : Knows c.compare-member.new.keeper.all number seen = subst (λ (x : List (ℕ × Event) × ℕ). Knows x.0 x.1 seen) (λ i. ((sym same.0 i).all, (sym same.1 i).number)) c.compare-member.ensures.knows in
     let ended : c.replace.result ≡ c.self.inside.segment = search rules in
     let calls : c.replace-2.result ≡ c.self.inside.entries = search rules in
-    let rotated = made_rotated _ _ number seen (record { number = c.replace.result; entries = c.replace-2.result }) counted.stands knows (λ i. record { number = ended i; entries = calls i }) in
+    let still : c.self.inside.closed ≡ false = search rules in
+    let goes_on = counted.stopped ∙ still in
+    let numbered : c.self.inside.segment < last_segment = search (rules, arith) in
+    let rotated = made_rotated _ _ number seen (record { number = c.replace.result; entries = c.replace-2.result }) counted.stands goes_on numbered knows (λ i. record { number = ended i; entries = calls i }) in
     let was : ◌≡◌ {A = Seated} (record { number = number; seen = seen }) (record { number = c.args.member.number; seen = seen }) = (λ i. record { number = (same.1 i).number; seen = seen }) in
     let count = ap (λ m. m.number) added.member in
     let all = ap (λ m. m.seen) added.member ∙ ap (λ k. k.all) added.keeper in
     subst (λ (x : Seated × Seated). IsRotated x.0 (record { number = c.replace.result; entries = c.replace-2.result }) x.1)
     (λ i. (was i, record { number = sym count i; seen = sym all i })) rotated
+
+pub returns-then-self-clause-err : goal.returns-then-self-clause-err
+returns-then-self-clause-err g c =
+    let same = c.compare-member.ensures.same in
+    caught_up_as c.self.inside.keeper c.compare-member.new.keeper c.args.member c.compare-member.result c.catch_up.result c.compare-member.ensures.knows same.0 same.1 c.catch_up.ensures.member
+
+pub returns-in_default-clause-err : goal.returns-in_default-clause-err
+returns-in_default-clause-err g c =
+    let same = c.compare-member.ensures.same in
+    caught_up_as c.self.inside.keeper c.compare-member.new.keeper c.args.member c.compare-member.result c.catch_up-in_default.result c.compare-member.ensures.knows same.0 same.1 c.catch_up-in_default.ensures.member
