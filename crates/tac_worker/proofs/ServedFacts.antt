@@ -15,7 +15,7 @@ use Rattle.tac_worker.specs.declared.worked.End.{End}
 use Rattle.tac_worker.specs.declared.worked.End.TheVariants.{Finished, ByProtocol, Stopped, LogFull, Memory, ReadFault, WriteFault, Held, NoSeat}
 use Rattle.tac_worker.specs.Served.{Sending, served_to, asks_in, bytes_sent, carried}
 use Rattle.tac_hall.specs.declared.fault.HallFault.{HallFault}
-use Rattle.tac_worker.specs.Worked.{Exchange, asks_of, answers_of, AreMade, WritesSome, WritesBeginning, Writes, Ends}
+use Rattle.tac_worker.specs.Worked.{Exchange, asks_of, answers_of, AreMade, AreAllMade, WritesSome, WritesBeginning, Writes, Ends}
 use Rattle.tac_worker.specs.Working.{Handled, GoesOn}
 
 -- ---- lists
@@ -153,12 +153,12 @@ module _ {S : Type 0} (step : S → Exchange → S → Type 0) (key : List ℕ) 
     writes_after NoSeat w = all_after w
 
   -- the others end the connection
-  pub ends-after : (refuses : Ask → HallFault → Type 0) (end : End) (second : List Frame) (now : S) (new : Option (List ℕ))
-      → Ends end key (asks_in key (packets_of key first ++ earlier) second) (served_to key (packets_of key first ++ earlier) second) (λ made. AreMade step mid made now) refuses between new
-      → Ends end key (asks_in key earlier (first ++ second)) (served_to key earlier (first ++ second)) (λ made. AreMade step was made now) refuses old new
-  ends-after refuses end second now new e = record {
+  pub ends-after : (rests : S → S → Type 0) (refuses : Ask → HallFault → Type 0) (end : End) (second : List Frame) (now : S) (new : Option (List ℕ))
+      → Ends end key (asks_in key (packets_of key first ++ earlier) second) (served_to key (packets_of key first ++ earlier) second) (λ made. AreAllMade step rests mid made now) refuses between new
+      → Ends end key (asks_in key earlier (first ++ second)) (served_to key earlier (first ++ second)) (λ made. AreAllMade step rests was made now) refuses old new
+  ends-after rests refuses end second now new e = record {
     made = g.made ++ e.made;
-    makes = are_made-then step g.made e.made was mid now g.makes e.makes;
+    makes = (e.makes.0, are_made-then step g.made e.made was mid e.makes.0 g.makes e.makes.1, e.makes.2);
     left = e.left;
     asks = asks_after key earlier first g.made g.sendings g.handled second e.made e.left e.asks;
     leaves = e.leaves;

@@ -28,7 +28,7 @@ use Rattle.tac_worker.specs.declared.worked.End.TheVariants.{Finished, ByProtoco
 use Rattle.tac_worker.specs.declared.turning.Went.{Went}
 use Rattle.tac_worker.specs.declared.turning.Went.TheVariants.{On, Rests}
 use Rattle.tac_worker.specs.Served.{Sending, plain, carrying, served_for, asked_by, served_to, asks_in, closes, bytes_sent, carried}
-use Rattle.tac_worker.specs.Worked.{Exchange, asks_of, answers_of, AreMade, Leaves, Closes, Writes, Ends}
+use Rattle.tac_worker.specs.Worked.{Exchange, asks_of, answers_of, AreMade, AreAllMade, Leaves, Closes, Writes, Ends}
 use Rattle.tac_worker.specs.Working.{Handled, GoesOn, IsUncalled, Replies, taken_of, left_of, Turned}
 use Rattle.tac_worker.proofs.ServedFacts.{packets_of-append}
 
@@ -159,7 +159,7 @@ module _ (key : List ℕ) (earlier : List Packet) (frame : Frame) where
     carries = refl;
   }
 
-  module _ {S : Type 0} (step : S → Exchange → S → Type 0) (refuses : Ask → HallFault → Type 0) (made : List Exchange) (sending : Sending) (was now : S) (old new : Option (List ℕ)) (had : AreMade step was made now) where
+  module _ {S : Type 0} (step : S → Exchange → S → Type 0) (rests : S → S → Type 0) (rests_so : (x : S) → rests x x) (refuses : Ask → HallFault → Type 0) (made : List Exchange) (sending : Sending) (was now : S) (old new : Option (List ℕ)) (had : AreMade step was made now) where
     -- the packet was written, and the connection stays open
     goes_said : IsSaid made sending false → Appends old new (sent key sending.packet) → GoesOn step key earlier (frame ∷ []) was now old new
     goes_said s written = record {
@@ -172,13 +172,13 @@ module _ (key : List ℕ) (earlier : List Packet) (frame : Frame) where
 
     -- it was, and the connection closes
     ends_said : (more : List Frame) → IsSaid made sending true → Appends old new (sent key sending.packet)
-        → Ends ByProtocol key (asks_in key earlier (frame ∷ more)) (served_to key earlier (frame ∷ more)) (λ l. AreMade step was l now) refuses old new
+        → Ends ByProtocol key (asks_in key earlier (frame ∷ more)) (served_to key earlier (frame ∷ more)) (λ l. AreAllMade step rests was l now) refuses old new
     ends_said more s written =
         let whole : served_to key earlier (frame ∷ more) (answers_of made) ≡ sending ∷ [] =
         ap (λ (l : List Answer). served_to key earlier (frame ∷ more) l) (sym (append-nil (answers_of made))) ∙ s.served more [] in
         record {
           made = made;
-          makes = had;
+          makes = (now, had, rests_so now);
           left = [];
           asks = s.asks more;
           leaves = refl;
@@ -187,14 +187,14 @@ module _ (key : List ℕ) (earlier : List Packet) (frame : Frame) where
 
     -- a beginning of it was
     ends_cut : (more : List Frame) (ends : Bool) → IsSaid made sending ends → (first others : List ℕ) → sent key sending.packet ≡ first ++ others → 0 < length others → Appends old new first
-        → Ends WriteFault key (asks_in key earlier (frame ∷ more)) (served_to key earlier (frame ∷ more)) (λ l. AreMade step was l now) refuses old new
+        → Ends WriteFault key (asks_in key earlier (frame ∷ more)) (served_to key earlier (frame ∷ more)) (λ l. AreAllMade step rests was l now) refuses old new
     ends_cut more ends s first others parts some written =
         let later = if ends then [] else served_to key (clear key frame ∷ earlier) more [] in
         let whole : served_to key earlier (frame ∷ more) (answers_of made) ≡ sending ∷ later =
         ap (λ (l : List Answer). served_to key earlier (frame ∷ more) l) (sym (append-nil (answers_of made))) ∙ s.served more [] in
         record {
           made = made;
-          makes = had;
+          makes = (now, had, rests_so now);
           left = if ends then [] else asks_in key (clear key frame ∷ earlier) more;
           asks = s.asks more;
           leaves = tt;
@@ -284,18 +284,18 @@ module _ (refuses : Ask → HallFault → Type 0) (ask : Ask) where
 
 -- ---- a turn
 
-module _ {S : Type 0} (step : S → Exchange → S → Type 0) (refuses : S → Ask → HallFault → Type 0) (key bytes : List ℕ) (taken : ℕ) where
+module _ {S : Type 0} (step : S → Exchange → S → Type 0) (rests : S → S → Type 0) (rests_so : (x : S) → rests x x) (refuses : S → Ask → HallFault → Type 0) (key bytes : List ℕ) (taken : ℕ) where
   -- the turn's packet is answered by this
   module _ (frame : Frame) (more : List Frame) (left : drop taken (cut bytes).packets ≡ frame ∷ more) (made : List Exchange) (sending : Sending) (was now : S) (old new : Option (List ℕ))
       (stream : Stream) (had : AreMade step was made now) where
     replied : (result : Result Went End) (ends : Bool) → IsSaid key (packets_of key (take taken (cut bytes).packets)) frame made sending ends → Replies result (sent key sending.packet) ends old new
-        → closed_of stream ≡ ends → pending_of stream ≡ None → Stands key stream bytes (suc taken) → Turned step refuses result key bytes taken was now old new stream
+        → closed_of stream ≡ ends → pending_of stream ≡ None → Stands key stream bytes (suc taken) → Turned step rests refuses result key bytes taken was now old new stream
     replied (Ok On) ends s r closed free stands =
         record {
           frame = frame;
           more = more;
           left = left;
-          goes = goes_said key _ frame step (refuses now) made sending was now old new had (rw r.0 at s) r.1;
+          goes = goes_said key _ frame step rests rests_so (refuses now) made sending was now old new had (rw r.0 at s) r.1;
           stays = stays_open _ _ (s.closing ∙ r.0);
           ready = (closed ∙ r.0, free);
           stands = stands;
@@ -307,21 +307,21 @@ module _ {S : Type 0} (step : S → Exchange → S → Type 0) (refuses : S → 
           unfinished = λ e. cc;
           memory = λ e. absurd cc;
           closing = closes_at key bytes taken frame more left (closed_next _ _ (s.closing ∙ r.0));
-          ends = rw left (ends_said key _ frame step (refuses now) made sending was now old new had more (rw r.0 at s) r.1);
+          ends = rw left (ends_said key _ frame step rests rests_so (refuses now) made sending was now old new had more (rw r.0 at s) r.1);
         }
     replied (Err Stopped) ends s r closed free stands = absurd r
     replied (Err LogFull) ends s r closed free stands = absurd r
     replied (Err Memory) ends s r closed free stands = absurd r
     replied (Err ReadFault) ends s r closed free stands = absurd r
     replied (Err WriteFault) ends s r closed free stands =
-        record { unfinished = λ e. cc; memory = λ e. absurd cc; closing = tt; ends = rw left (ends_cut key _ frame step (refuses now) made sending was now old new had more ends s r.0 r.1 r.2 r.3 r.4) }
+        record { unfinished = λ e. cc; memory = λ e. absurd cc; closing = tt; ends = rw left (ends_cut key _ frame step rests rests_so (refuses now) made sending was now old new had more ends s r.0 r.1 r.2 r.3 r.4) }
     replied (Err Held) ends s r closed free stands = absurd r
     replied (Err NoSeat) ends s r closed free stands = absurd r
 
   -- a reply is sent
   pub turned_reply : (was : S) (old new : Option (List ℕ)) (stream : Stream) (packet : List ℕ) (ends : Bool) (result : Result Went End) → IsTurn key bytes taken (Reply packet ends)
       → Replies result packet ends old new → closed_of stream ≡ ends → pending_of stream ≡ None → Stands key stream bytes (suc taken)
-      → Turned step refuses result key bytes taken was was old new stream
+      → Turned step rests refuses result key bytes taken was was old new stream
   turned_reply was old new stream packet ends result (inl f) r closed free stands =
       let s = serves_turn key _ (Reply packet ends) f.is in
       replied f.frame f.more f.left [] (plain s.0) was was old new stream refl result ends (said_plain key _ f.frame s.0 ends s.2 s.3 s.4)
@@ -336,7 +336,7 @@ module _ {S : Type 0} (step : S → Exchange → S → Type 0) (refuses : S → 
   pub turned_answer : (was now : S) (old new : Option (List ℕ)) (stream : Stream) (ask : Ask) (slot : Slot) (segment place : ℕ) (answer : Answer) (given : List ℕ × Bool) (result : Result Went End)
       → IsTurn key bytes taken (Asks ask slot) → step was (record { ask = ask; segment = segment; place = place; answer = answer }) now → given ≡ (sent key (packet_of (reply_in slot (answer_body answer))), not slot.single)
       → Replies result given.0 given.1 old new → closed_of stream ≡ given.1 → pending_of stream ≡ None → Stands key stream bytes (suc taken)
-      → Turned step refuses result key bytes taken was now old new stream
+      → Turned step rests refuses result key bytes taken was now old new stream
   turned_answer was now old new stream ask slot segment place answer given result (inl f) had told r closed free stands =
       let exchange : Exchange = record { ask = ask; segment = segment; place = place; answer = answer } in
       replied f.frame f.more f.left (exchange ∷ []) (carrying slot answer) was now old new stream (now, had, refl) result (not slot.single)
@@ -349,32 +349,32 @@ module _ {S : Type 0} (step : S → Exchange → S → Type 0) (refuses : S → 
       by_tail (fault reason) e = cc
 
   -- it wasn't asked
-  pub turned_uncalled : (was : S) (old : Option (List ℕ)) (stream : Stream) (ask : Ask) (slot : Slot) (end : End) → IsTurn key bytes taken (Asks ask slot) → IsUncalled (refuses was) ask end
-      → Turned step refuses (Err end) key bytes taken was was old old stream
-  turned_uncalled was old stream ask slot end (inl f) u =
+  pub turned_uncalled : (was now : S) (old : Option (List ℕ)) (stream : Stream) (ask : Ask) (slot : Slot) (end : End) → IsTurn key bytes taken (Asks ask slot) → rests was now → IsUncalled (refuses now) ask end
+      → Turned step rests refuses (Err end) key bytes taken was now old old stream
+  turned_uncalled was now old stream ask slot end (inl f) rested u =
       let came = serves_turn key _ (Asks ask slot) f.is in
       record {
-        unfinished = uncalled_unfinished (refuses was) ask end u;
+        unfinished = uncalled_unfinished (refuses now) ask end u;
         memory = λ e. some_left bytes taken f.frame f.more f.left;
-        closing = uncalled_closing (refuses was) ask end (closes key bytes) u;
-        ends = ends_uncalled (λ l. AreMade step was l was) (refuses was) refl key _ _ ask (if slot.single then asks_in key (clear key f.frame ∷ taken_of key bytes taken) f.more else []) old
+        closing = uncalled_closing (refuses now) ask end (closes key bytes) u;
+        ends = ends_uncalled (λ l. AreAllMade step rests was l now) (refuses now) (was, refl, rested) key _ _ ask (if slot.single then asks_in key (clear key f.frame ∷ taken_of key bytes taken) f.more else []) old
             (rw f.left (asks_first key (packets_of key (take taken (cut bytes).packets)) f.frame f.more ∙ rw came refl))
             (rw f.left (served_first key _ f.frame f.more [] ∙ rw came refl)) end u;
       }
-  turned_uncalled was old stream ask slot end (inr n) u = absurd (by_tail (cut bytes).tail n.is)
+  turned_uncalled was now old stream ask slot end (inr n) rested u = absurd (by_tail (cut bytes).tail n.is)
     where
       by_tail : (tail : Tail) → Asks ask slot ≡ turn_by key (packets_of key (take taken (cut bytes).packets)) [] tail → ⊥
       by_tail (open_end rest) e = cc
       by_tail (fault reason) e = cc
 
   pub turned_refusal : (was now : S) (old : Option (List ℕ)) (stream : Stream) (ask : Ask) (slot : Slot) (result : Result Went End) (end : End) → IsTurn key bytes taken (Asks ask slot)
-      → now ≡ was → IsUncalled (refuses was) ask end → IsErrAnd result (λ told. told ≡ end) → Turned step refuses result key bytes taken was now old old stream
-  turned_refusal was now old stream ask slot (Ok went) end turn same u told = absurd told
-  turned_refusal was now old stream ask slot (Err other) end turn same u told = rw (same, told) (turned_uncalled was old stream ask slot end turn u)
+      → rests was now → IsUncalled (refuses now) ask end → IsErrAnd result (λ told. told ≡ end) → Turned step rests refuses result key bytes taken was now old old stream
+  turned_refusal was now old stream ask slot (Ok went) end turn rested u told = absurd told
+  turned_refusal was now old stream ask slot (Err other) end turn rested u told = rw told (turned_uncalled was now old stream ask slot end turn rested u)
 
   -- nothing is sent
   pub turned_silent : (was : S) (old : Option (List ℕ)) (stream : Stream) → IsTurn key bytes taken Silent → closed_of stream ≡ false → pending_of stream ≡ None → Stands key stream bytes (suc taken)
-      → Turned step refuses (Ok On) key bytes taken was was old old stream
+      → Turned step rests refuses (Ok On) key bytes taken was was old old stream
   turned_silent was old stream (inl f) closed free stands = record {
     frame = f.frame;
     more = f.more;
@@ -398,7 +398,7 @@ module _ {S : Type 0} (step : S → Exchange → S → Type 0) (refuses : S → 
 
   -- no packet is left
   pub turned_need : (was : S) (old : Option (List ℕ)) (stream : Stream) → IsTurn key bytes taken Need → closed_of stream ≡ false → pending_of stream ≡ None → Stands key stream bytes taken
-      → Turned step refuses (Ok Rests) key bytes taken was was old old stream
+      → Turned step rests refuses (Ok Rests) key bytes taken was was old old stream
   turned_need was old stream (inl f) closed free stands = absurd (serves_turn key _ Need f.is)
   turned_need was old stream (inr n) closed free stands = record {
     left = n.left;
@@ -414,21 +414,21 @@ module _ {S : Type 0} (step : S → Exchange → S → Type 0) (refuses : S → 
       by_tail (fault reason) e = cc
 
   -- the connection closes without a reply
-  pub turned_close : (was : S) (old : Option (List ℕ)) (stream : Stream) → IsTurn key bytes taken Close → Turned step refuses (Err ByProtocol) key bytes taken was was old old stream
+  pub turned_close : (was : S) (old : Option (List ℕ)) (stream : Stream) → IsTurn key bytes taken Close → Turned step rests refuses (Err ByProtocol) key bytes taken was was old old stream
   turned_close was old stream (inl f) =
       let came = serves_turn key _ Close f.is in
       record {
         unfinished = λ e. cc;
         memory = λ e. absurd cc;
         closing = closes_at key bytes taken f.frame f.more f.left (closed_next _ _ (rw came refl));
-        ends = ends_none (λ l. AreMade step was l was) (refuses was) refl key _ _ ByProtocol old old (rw f.left (asks_first key _ f.frame f.more ∙ rw came refl)) (rw f.left (served_first key _ f.frame f.more [] ∙ rw came refl))
+        ends = ends_none (λ l. AreAllMade step rests was l was) (refuses was) (was, refl, rests_so was) key _ _ ByProtocol old old (rw f.left (asks_first key _ f.frame f.more ∙ rw came refl)) (rw f.left (served_first key _ f.frame f.more [] ∙ rw came refl))
             (Appends-nil old) refl (λ w. w);
       }
   turned_close was old stream (inr n) = record {
     unfinished = λ e. cc;
     memory = λ e. absurd cc;
     closing = ap (λ (b : Bool). is_closed (packets_of key (cut bytes).packets) || b) (by_tail (cut bytes).tail n.is) ∙ or_true (is_closed (packets_of key (cut bytes).packets));
-    ends = ends_none (λ l. AreMade step was l was) (refuses was) refl key _ _ ByProtocol old old (rw n.left (asks_at_end key _)) (rw n.left (served_at_end key _ [])) (Appends-nil old) refl (λ w. w);
+    ends = ends_none (λ l. AreAllMade step rests was l was) (refuses was) (was, refl, rests_so was) key _ _ ByProtocol old old (rw n.left (asks_at_end key _)) (rw n.left (served_at_end key _ [])) (Appends-nil old) refl (λ w. w);
   }
     where
       by_tail : (tail : Tail) → Close ≡ turn_by key (packets_of key (take taken (cut bytes).packets)) [] tail → closed_by tail ≡ true
@@ -437,7 +437,7 @@ module _ {S : Type 0} (step : S → Exchange → S → Type 0) (refuses : S → 
 
   -- memory ran out for a packet
   pub turned_memory : (was : S) (old : Option (List ℕ)) (stream : Stream) (result : Result Went End) → IsErrAnd result (λ told. told ≡ Memory) → taken < length (cut bytes).packets
-      → Turned step refuses result key bytes taken was was old old stream
+      → Turned step rests refuses result key bytes taken was was old old stream
   turned_memory was old stream (Ok went) told some = absurd told
   turned_memory was old stream (Err end) told some =
-      rw told (record { unfinished = λ e. cc; memory = λ e. some_bytes bytes taken some; closing = tt; ends = ends_memory (λ l. AreMade step was l was) (refuses was) refl key _ _ old })
+      rw told (record { unfinished = λ e. cc; memory = λ e. some_bytes bytes taken some; closing = tt; ends = ends_memory (λ l. AreAllMade step rests was l was) (refuses was) (was, refl, rests_so was) key _ _ old })

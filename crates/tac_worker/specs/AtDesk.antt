@@ -1,19 +1,31 @@
 -- What a seat of a desk that many share has done for a connection.
-use Rattle.std.specs.Prelude.{ℕ, List, Option}
+use Rattle.std.proofs.Common.{ℕ, List, [], Option, refl, sym, append-nil}
+use Rattle.std.proofs.lemmas.List.Elements.{All-nil}
 use Rattle.tac_conn.specs.declared.ask.Ask.{Ask}
 use Rattle.tac_forum.specs.History.{Opening}
-use Rattle.tac_forum.specs.Seat.{Seated, IsMade, IsRefused}
+use Rattle.tac_forum.specs.Seat.{Seated, IsMade, CatchesUp, IsRefused}
 use Rattle.tac_hall.specs.declared.call.Call.TheVariants as calls
 use Rattle.tac_hall.specs.declared.fault.HallFault.{HallFault}
 use Rattle.tac_worker.specs.declared.worked.End.{End}
-use Rattle.tac_worker.specs.Worked.{Exchange, receipt_for, AreMade, IsServedBy}
+use Rattle.tac_worker.specs.Worked.{Exchange, receipt_for, AreAllMade, IsServedBy}
 
 -- others did something, and then it made this exchange, and nothing else
 abbrev pub MakesOne : Opening → Seated → Exchange → Seated → Type 0
 MakesOne opening was exchange now =
     IsMade opening was (calls.Ask exchange.ask) (receipt_for was.number exchange) now
 
--- it was refused a call of this ask so
+-- a seat that stays as it is has caught up, with nothing
+pub rests_so : (seat : Seated) → CatchesUp seat seat
+rests_so seat = record {
+  others = [];
+  apart = All-nil _;
+  number = refl;
+  seen = sym (append-nil seat.seen);
+  view = refl;
+  rotations = refl;
+}
+
+-- it is refused a call of this ask so, after what it has seen
 abbrev pub Refuses : Opening → Seated → Ask → HallFault → Type 0
 Refuses opening seat ask fault = IsRefused opening seat (calls.Ask ask) fault
 
@@ -21,5 +33,5 @@ Refuses opening seat ask fault = IsRefused opening seat (calls.Ask ask) fault
 abbrev pub IsServedAt : Opening → End → List ℕ → Seated → Seated → Option (List ℕ)
     → Option (List ℕ) → Option (List ℕ) → Option (List ℕ) → Type 0
 IsServedAt opening end key was now before after old new =
-    IsServedBy end key (λ made. AreMade (MakesOne opening) was made now) (Refuses opening now)
-    before after old new
+    IsServedBy end key (λ made. AreAllMade (MakesOne opening) CatchesUp was made now)
+    (Refuses opening now) before after old new

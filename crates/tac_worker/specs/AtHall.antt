@@ -5,7 +5,8 @@ use Rattle.tac_hall.specs.declared.call.Call.TheVariants as calls
 use Rattle.tac_hall.specs.declared.fault.HallFault.{HallFault}
 use Rattle.tac_hall.specs.Seat.{Sitting, IsMade, IsRefused}
 use Rattle.tac_worker.specs.declared.worked.End.{End}
-use Rattle.tac_worker.specs.Worked.{Exchange, receipt_for, Calling, AreMade, IsServedBy}
+use Rattle.tac_worker.specs.Worked.{Exchange, receipt_for, Calling, AreAllMade}
+use Rattle.tac_worker.specs.Worked.{IsServedBy}
 
 -- it made this exchange, and nothing else
 abbrev pub MakesOne : Sitting → Exchange → Sitting → Type 0
@@ -18,6 +19,10 @@ MakesWithReceipt was exchange now =
     MakesOne was.seat exchange now.seat
     × (now.receipts ≡ was.receipts ++ receipt_for was.seat.number exchange ∷ [])
 
+-- it made no call, and stays as it is
+abbrev pub Rests : Sitting → Sitting → Type 0
+Rests was now = now ≡ was
+
 -- it was refused a call of this ask so
 abbrev pub Refuses : Sitting → Ask → HallFault → Type 0
 Refuses seat ask fault = IsRefused seat (calls.Ask ask) fault
@@ -26,4 +31,5 @@ Refuses seat ask fault = IsRefused seat (calls.Ask ask) fault
 abbrev pub IsServedAt : End → List ℕ → Sitting → Sitting → Option (List ℕ) → Option (List ℕ)
     → Option (List ℕ) → Option (List ℕ) → Type 0
 IsServedAt end key was now before after old new =
-    IsServedBy end key (λ made. AreMade MakesOne was made now) (Refuses now) before after old new
+    IsServedBy end key (λ made. AreAllMade MakesOne Rests was made now) (Refuses now)
+    before after old new

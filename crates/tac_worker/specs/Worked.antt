@@ -58,6 +58,12 @@ AreMade step was [] now = now ≡ was
 AreMade {S} step was (exchange ∷ made) now =
     (then : S) × step was exchange then × AreMade step then made now
 
+-- these exchanges were made, one after another, and then it rested
+abbrev pub AreAllMade : {S : Type 0} → (S → Exchange → S → Type 0) → (S → S → Type 0)
+    → S → List Exchange → S → Type 0
+AreAllMade {S} step rests was made now =
+    (mid : S) × AreMade step was made mid × rests mid now
+
 -- ---- at a hall, with receipts
 
 -- a seat that calls, and the receipts that it got

@@ -22,7 +22,8 @@ use Rattle.tac_worker.specs.declared.turning.Went.{Went}
 use Rattle.tac_worker.specs.declared.turning.Went.TheVariants.{On, Rests}
 use Rattle.tac_worker.specs.Served.{Sending, served_to, asks_in, closes}
 use Rattle.tac_worker.specs.Served.{bytes_sent, carried}
-use Rattle.tac_worker.specs.Worked.{Exchange, asks_of, answers_of, AreMade, Closes, Ends}
+use Rattle.tac_worker.specs.Worked.{Exchange, asks_of, answers_of, AreMade, AreAllMade}
+use Rattle.tac_worker.specs.Worked.{Closes, Ends}
 
 -- ---- packets that were served
 
@@ -85,8 +86,8 @@ taken_of key bytes taken = packets_of key (take taken (cut bytes).packets)
 abbrev pub left_of : List ℕ → ℕ → List Frame
 left_of bytes taken = drop taken (cut bytes).packets
 
--- by a caller that makes exchanges by such steps, and is refused asks so
-module _ {S : Type 0} (step : S → Exchange → S → Type 0)
+-- by a caller that makes exchanges by such steps, rests so, and is refused asks so
+module _ {S : Type 0} (step : S → Exchange → S → Type 0) (rests : S → S → Type 0)
     (refuses : S → Ask → HallFault → Type 0) where
   -- the next packet was served, and the connection stays open
   pub record TakesOne (key : List ℕ) (bytes : List ℕ) (taken : ℕ) (was now : S)
@@ -118,7 +119,7 @@ module _ {S : Type 0} (step : S → Exchange → S → Type 0)
     pub closing : Closes end (closes key bytes)
     pub ends : Ends end key (asks_in key (taken_of key bytes taken) (left_of bytes taken))
         (served_to key (taken_of key bytes taken) (left_of bytes taken))
-        (λ made. AreMade step was made now) (refuses now) old new
+        (λ made. AreAllMade step rests was made now) (refuses now) old new
 
   abbrev pub Turned : Result Went End → List ℕ → List ℕ → ℕ → S → S
       → Option (List ℕ) → Option (List ℕ) → Stream → Type 0

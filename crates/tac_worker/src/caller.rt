@@ -19,19 +19,25 @@ pub trait Caller: Drop {
     /// The caller made this exchange, and nothing else, and is this one then.
     ghost makes: { Self → Exchange → Self → Type 0 };
 
-    /// It was refused a call of this ask so.
+    /// It made no call, though it may have seen what others did.
+    ghost rests: { Self → Self → Type 0 };
+
+    /// It is refused a call of this ask so.
     ghost refuses: { Self → Ask → HallFault → Type 0 };
 
     /// The number of its seat.
     fn number(&self) -> u32;
 
-    /// Calls an ask. Where that is refused, nothing was done.
+    /// Calls an ask. Where that is refused, it did nothing.
     fn ask(&mut self, ask: Ask) -> Result<Answer, HallFault>
         ensures makes { IfOk result (λ answer. (segment : ℕ) × (place : ℕ) × makes self.old
             (record { ask = ask; segment = segment; place = place; answer = answer }) self.new) }
         ensures kind { IfOk result (λ answer. kind_of_answer answer ≡ kind_of_ask ask) }
-        ensures unmade { IfErr result (IsUnmade (refuses self.old) ask) }
-        ensures err { OnErr result (self.new ≡ self.old) };
+        ensures unmade { IfErr result (IsUnmade (refuses self.new) ask) }
+        ensures err { OnErr result (rests self.old self.new) };
+
+    /// Who does nothing rests.
+    ghost rests_so: { (caller : Self) → rests caller caller };
 }
 
 /// The answer in the receipt of an ask.

@@ -1,6 +1,7 @@
 //! A seat of a shared desk that makes the calls of a connection.
 
 ghost use Rattle.std.specs.Prelude.{◌≡◌};
+ghost use Rattle.tac_forum.specs.Seat.{CatchesUp};
 ghost use Rattle.tac_worker.specs.AtDesk as at_desk;
 
 use crate::caller::{Caller, answer_in};
@@ -60,6 +61,8 @@ impl<'a, H: Wait, J: Run, D: Desk> DeskCaller<'a, H, J, D> {
 impl<'a, H: Wait, J: Run, D: Desk> Caller for DeskCaller<'a, H, J, D> {
     ghost makes = { at_desk.MakesOne J.opening };
 
+    ghost rests = { CatchesUp };
+
     ghost refuses = { at_desk.Refuses J.opening };
 
     fn number(&self) -> u32
@@ -72,4 +75,6 @@ impl<'a, H: Wait, J: Run, D: Desk> Caller for DeskCaller<'a, H, J, D> {
         let receipt = self.desk.call(self.rt, &mut self.seat, &Call::Ask(ask))?;
         Ok(answer_in(&receipt))
     }
+
+    ghost rests_so = { at_desk.rests_so };
 }

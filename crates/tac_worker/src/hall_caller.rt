@@ -1,6 +1,6 @@
 //! A seat of a hall that makes the calls of a connection.
 
-ghost use Rattle.std.specs.Prelude.{◌≡◌, IfOk, IfErr, OnErr};
+ghost use Rattle.std.specs.Prelude.{◌≡◌, refl, IfOk, IfErr, OnErr};
 ghost use Rattle.tac_hall.specs.Seat.{IsMade};
 ghost use Rattle.tac_hall.specs.declared.call.Call.TheVariants as calls;
 ghost use Rattle.tac_worker.specs.AtHall as at_hall;
@@ -68,7 +68,7 @@ impl<'a, H: Wait, D: Desk> HallCaller<'a, H, D> {
         ensures made { IfOk result (λ receipt.
             IsMade self.old (calls.Ask ask) receipt self.new) }
         ensures refused { IfErr result (at_hall.Refuses self.old ask) }
-        ensures err { OnErr result (self.new ≡ self.old) }
+        ensures err { OnErr result (at_hall.Rests self.old self.new) }
     {
         self.hall.call(self.rt, &mut self.seat, Call::Ask(ask))
     }
@@ -76,6 +76,8 @@ impl<'a, H: Wait, D: Desk> HallCaller<'a, H, D> {
 
 impl<'a, H: Wait, D: Desk> Caller for HallCaller<'a, H, D> {
     ghost makes = { at_hall.MakesOne };
+
+    ghost rests = { at_hall.Rests };
 
     ghost refuses = { at_hall.Refuses };
 
@@ -89,4 +91,6 @@ impl<'a, H: Wait, D: Desk> Caller for HallCaller<'a, H, D> {
         let receipt = self.call(ask)?;
         Ok(answer_in(&receipt))
     }
+
+    ghost rests_so = { λ _. refl };
 }

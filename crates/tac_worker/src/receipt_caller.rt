@@ -1,6 +1,6 @@
 //! A seat of a hall that keeps its receipts.
 
-ghost use Rattle.std.specs.Prelude.{◌≡◌, []};
+ghost use Rattle.std.specs.Prelude.{◌≡◌, refl, []};
 ghost use Rattle.tac_worker.specs.AtHall as at_hall;
 
 use crate::caller::{Caller, answer_in};
@@ -63,6 +63,8 @@ impl<'a, H: Wait, D: Desk> ReceiptCaller<'a, H, D> {
 impl<'a, H: Wait, D: Desk> Caller for ReceiptCaller<'a, H, D> {
     ghost makes = { at_hall.MakesWithReceipt };
 
+    ghost rests = { λ was now. now ≡ was };
+
     ghost refuses = { λ calling ask fault. at_hall.Refuses calling.seat ask fault };
 
     fn number(&self) -> u32
@@ -79,4 +81,6 @@ impl<'a, H: Wait, D: Desk> Caller for ReceiptCaller<'a, H, D> {
         self.receipts.push(receipt).unwrap();
         Ok(answer)
     }
+
+    ghost rests_so = { λ _. refl };
 }

@@ -3,7 +3,7 @@
 ghost use Rattle.std.specs.Prelude.{◌≡◌, ℕ, List, IfOk, IfErr, OnErr};
 ghost use Rattle.tac_conn.specs.Ask.{kind_of_ask, kind_of_answer};
 ghost use Rattle.tac_stream.specs.Kept.{IsReady, Stands};
-ghost use Rattle.tac_worker.specs.Worked.{AreMade, IsServedBy};
+ghost use Rattle.tac_worker.specs.Worked.{AreAllMade, IsServedBy};
 ghost use Rattle.tac_worker.specs.Working as working;
 
 use crate::caller::Caller;
@@ -57,8 +57,8 @@ fn ask_by<C: Caller, G: Gate>(caller: &mut C, gate: &G, ask: Ask) -> Result<Answ
     ensures makes { IfOk result (λ answer. (segment : ℕ) × (place : ℕ) × C.makes caller.old
         (record { ask = ask; segment = segment; place = place; answer = answer }) caller.new) }
     ensures kind { IfOk result (λ answer. kind_of_answer answer ≡ kind_of_ask ask) }
-    ensures uncalled { IfErr result (working.IsUncalled (C.refuses caller.old) ask) }
-    ensures err { OnErr result (caller.new ≡ caller.old) }
+    ensures uncalled { IfErr result (working.IsUncalled (C.refuses caller.new) ask) }
+    ensures err { OnErr result (C.rests caller.old caller.new) }
 {
     if !lets_call(gate, caller.number()) {
         return Err(End::Held);
@@ -77,8 +77,8 @@ fn take_turn<C: Caller, W: Write, G: Gate>(
 ) -> Result<Went, End>
     ensures { (bytes : List ℕ) (taken : ℕ) → IsReady stream.old →
         Stands key.now stream.old bytes taken →
-        working.Turned C.makes C.refuses result key.now bytes taken caller.old caller.new
-        (W.contents writer.old) (W.contents writer.new) stream.new }
+        working.Turned C.makes C.rests C.refuses result key.now bytes taken
+        caller.old caller.new (W.contents writer.old) (W.contents writer.new) stream.new }
 {
     match stream.next(key)? {
         Turn::Reply(packet, closes) => reply(writer, gate, caller.number(), &packet, closes),
@@ -109,8 +109,9 @@ pub fn serve<H: Wait, C: Caller, R: Read, W: Write, G: Gate>(
     reader: &mut R,
     writer: &mut W,
 ) -> End
-    ensures { IsServedBy result key.now (λ made. AreMade C.makes caller.old made caller.new)
-        (C.refuses caller.new) (R.remaining reader.old) (R.remaining reader.new)
+    ensures { IsServedBy result key.now
+        (λ made. AreAllMade C.makes C.rests caller.old made caller.new) (C.refuses caller.new)
+        (R.remaining reader.old) (R.remaining reader.new)
         (W.contents writer.old) (W.contents writer.new) }
 {
     let mut stream = Stream::new(alloc);
