@@ -6,7 +6,7 @@ use Rattle.pol_edit.specs.declared.edit.Edit.{Edit}
 use Rattle.tac_console.specs.Batching.{action_of}
 use Rattle.tac_console.specs.ConsoleText.{asked_by}
 use Rattle.tac_forum.specs.History.{Opening}
-use Rattle.tac_forum.specs.Seat.{Seated, IsMade, IsRefused}
+use Rattle.tac_forum.specs.Seat.{Seated, IsMade, IsRefused, CatchesUp}
 use Rattle.tac_hall.specs.declared.call.Call.TheVariants as calls
 use Rattle.tac_hall.specs.declared.entry.Receipt.{Receipt}
 use Rattle.tac_hall.specs.declared.fault.HallFault.{HallFault}
@@ -40,10 +40,10 @@ tells_rotation opening batch was now line text is t =
 
 module _ (opening : Opening) where
   -- what came of it
-  pub comes_of : (result : Result Receipt HallFault) (was now : Seated) → IfOk result (λ receipt. IsMade opening was calls.Stop receipt now) → OnErr result (now ≡ was) → IfErr result (IsRefused opening was calls.Stop)
+  pub comes_of : (result : Result Receipt HallFault) (was now : Seated) → IfOk result (λ receipt. IsMade opening was calls.Stop receipt now) → OnErr result (CatchesUp was now) → IfErr result (IsRefused opening now calls.Stop)
       → (outcome : Outcome) × StopComesTo opening was outcome now
-  comes_of (Ok receipt) was now is same so = (made (made_of calls.Stop receipt), (receipt, refl, is))
-  comes_of (Err fault) was now is same so = (refused fault, (so, same))
+  comes_of (Ok receipt) was now is caught so = (made (made_of calls.Stop receipt), (receipt, refl, is))
+  comes_of (Err fault) was now is caught so = (refused fault, (so, caught))
 
   -- the console has failed, and nothing is told
   pub stops_untold : (heard end : Result (Unit {0}) OperatorFault) (fault : OperatorFault) (was now : Seated) (old : Option (List ℕ)) → heard ≡ Err fault → IsErrAnd end (λ e. e ≡ fault)
@@ -58,6 +58,6 @@ module _ (opening : Opening) where
       rw e (record { stop = made (made_of calls.Stop receipt); came = (receipt, refl, is); ends = (Appends-nil old, (λ no. absurd cc)) })
 
   -- it was refused
-  pub stops_refused : (heard end : Result (Unit {0}) OperatorFault) (u : Unit {0}) (fault : HallFault) (was now : Seated) (old new : Option (List ℕ)) → heard ≡ Ok u → now ≡ was → IsRefused opening was calls.Stop fault
+  pub stops_refused : (heard end : Result (Unit {0}) OperatorFault) (u : Unit {0}) (fault : HallFault) (was now : Seated) (old new : Option (List ℕ)) → heard ≡ Ok u → CatchesUp was now → IsRefused opening now calls.Stop fault
       → SendsUnlessMemory end (refusal_line fault) old new → Stops opening heard end was now old new
-  stops_refused heard end u fault was now old new e same so sent = rw e (record { stop = refused fault; came = (so, same); ends = (sent, (λ is. tt)) })
+  stops_refused heard end u fault was now old new e caught so sent = rw e (record { stop = refused fault; came = (so, caught); ends = (sent, (λ is. tt)) })

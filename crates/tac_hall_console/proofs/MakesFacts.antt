@@ -9,7 +9,7 @@ use Rattle.tac_console.specs.declared.batching.Action.{Action}
 use Rattle.tac_console.specs.declared.batching.Action.TheVariants as actions
 use Rattle.tac_forum.specs.History.{Opening, view_of}
 use Rattle.tac_forum.specs.History as history
-use Rattle.tac_forum.specs.Seat.{Seated}
+use Rattle.tac_forum.specs.Seat.{Seated, CatchesUp}
 use Rattle.tac_forum.specs.declared.limits.Rotated.{Rotated}
 use Rattle.tac_hall.specs.declared.call.Call.{Call}
 use Rattle.tac_hall.specs.declared.call.Call.TheVariants as calls
@@ -23,6 +23,14 @@ makes_none was = record { number = refl; view = sym (append-nil (view_of was.num
 
 makes_same : (was now : Seated) → now ≡ was → Makes was now [] []
 makes_same was now same = rw same (makes_none was)
+
+-- others alone did something
+makes_caught : (was now : Seated) → CatchesUp was now → Makes was now [] []
+makes_caught was now caught = record {
+  number = caught.number;
+  view = caught.view ∙ sym (append-nil (view_of was.number was.seen));
+  rotations = caught.rotations ∙ sym (append-nil (history.rotations_of was.number was.seen));
+}
 
 -- some things were done, and then others
 pub makes_then : (was mid now : Seated) (outcomes others : List Outcome) → Makes was mid (entries_of outcomes) (rotations_of outcomes) → Makes mid now (entries_of others) (rotations_of others)
@@ -45,13 +53,13 @@ module _ (opening : Opening) where
       subst (λ (e : Made). Makes was now (e ∷ []) []) (sym came.1)
       (record { number = came.2.number; view = came.2.view; rotations = came.2.rotations ∙ sym (append-nil (history.rotations_of was.number was.seen)) })
   call_makes was now call (rotated rotation) came = absurd came
-  call_makes was now call (refused fault) came = makes_same was now came.1
+  call_makes was now call (refused fault) came = makes_caught was now came.1
 
   rotation_makes : (was now : Seated) (outcome : Outcome) → IsRotation opening was outcome now → Makes was now (entries_of (outcome ∷ [])) (rotations_of (outcome ∷ []))
   rotation_makes was now (noticed notice) came = absurd came
   rotation_makes was now (made entry) came = absurd came
   rotation_makes was now (rotated rotation) came = record { number = came.number; view = came.view ∙ sym (append-nil (view_of was.number was.seen)); rotations = came.rotations }
-  rotation_makes was now (refused fault) came = makes_same was now came.1
+  rotation_makes was now (refused fault) came = makes_caught was now came.1
 
   action_makes : (was now : Seated) (action : Action) (outcome : Outcome) → ComesTo opening was action outcome now → Makes was now (entries_of (outcome ∷ [])) (rotations_of (outcome ∷ []))
   action_makes was now (actions.Edit edit) outcome came = call_makes was now (calls.Edit edit) outcome came

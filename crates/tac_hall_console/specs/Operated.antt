@@ -14,7 +14,7 @@ use Rattle.tac_console.specs.declared.batching.Action.TheVariants as actions
 use Rattle.tac_console.specs.declared.batching.Notice.{Notice}
 use Rattle.tac_forum.specs.History.{Opening}
 use Rattle.tac_forum.specs.History as history
-use Rattle.tac_forum.specs.Seat.{Seated, IsMade, IsRefused, IsRotated, IsUnrotated}
+use Rattle.tac_forum.specs.Seat.{Seated, IsMade, IsRefused, IsRotated, IsUnrotated, CatchesUp}
 use Rattle.tac_forum.specs.declared.limits.Rotated.{Rotated}
 use Rattle.tac_hall.specs.declared.call.Call.{Call}
 use Rattle.tac_hall.specs.declared.call.Call.TheVariants as calls
@@ -49,13 +49,15 @@ entry_of (refused fault) = None
 abbrev pub entries_of : List Outcome → List Made
 entries_of outcomes = filter_map entry_of outcomes
 
--- this call was made by the seat, after whatever others did, or it was refused so, and nothing done
+-- this call was made by the seat, after whatever others did; or it was refused so, after all that
+-- others did, and the seat has seen that, and did nothing
 abbrev pub CallsFor : Opening → Seated → Call → Outcome → Seated → Type 0
 CallsFor opening was call (noticed notice) now = ⊥
 CallsFor opening was call (made entry) now =
     (receipt : Receipt) × (entry ≡ made_of call receipt) × IsMade opening was call receipt now
 CallsFor opening was call (rotated rotation) now = ⊥
-CallsFor opening was call (refused fault) now = IsRefused opening was call fault × (now ≡ was)
+CallsFor opening was call (refused fault) now =
+    IsRefused opening now call fault × CatchesUp was now
 
 -- the edits of a batch are one call, and only a notice makes none
 abbrev pub ComesTo : Opening → Seated → Action → Outcome → Seated → Type 0
@@ -65,13 +67,13 @@ ComesTo opening was (actions.Query query) = CallsFor opening was (calls.Query qu
 ComesTo opening was (actions.Tell notice) =
     λ outcome now. (outcome ≡ noticed notice) × (now ≡ was)
 
--- the seat ended the segment that is told of, after whatever others did, or that was refused so,
--- and nothing done
+-- the seat ended the segment that is told of, after whatever others did; or that was refused so,
+-- after all that others did, and the seat has seen that, and did nothing
 abbrev pub IsRotation : Opening → Seated → Outcome → Seated → Type 0
 IsRotation opening was (noticed notice) now = ⊥
 IsRotation opening was (made entry) now = ⊥
 IsRotation opening was (rotated rotation) now = IsRotated was rotation now
-IsRotation opening was (refused fault) now = IsUnrotated opening was fault × (now ≡ was)
+IsRotation opening was (refused fault) now = IsUnrotated opening now fault × CatchesUp was now
 
 -- what may come of a line at a console with this batch and seat, and the seat after it: `rotate` is
 -- no line of a desk's console

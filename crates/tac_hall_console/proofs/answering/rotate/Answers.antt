@@ -14,3 +14,8 @@ pub returns-in-Err-clause-ok : goal.returns-in-Err-clause-ok
 returns-in-Err-clause-ok g c =
     tells_ok (IsRotation g.J.Run.opening c.args.seat.now) (refused c.in-Err.fault) c.rotate.new.seat c.args.out.now.items c.write_refusal.new.out.items c.write_refusal.result
     (c.in-Err.ensures.refused, c.in-Err.ensures.err) c.write_refusal.ensures
+
+pub returns-in-Err-clause-err : goal.returns-in-Err-clause-err
+returns-in-Err-clause-err g c =
+    tells_err (IsRotation g.J.Run.opening c.args.seat.now) (refused c.in-Err.fault) c.args.seat.now c.rotate.new.seat c.write_refusal.result
+    (c.in-Err.ensures.refused, c.in-Err.ensures.err)

@@ -18,3 +18,8 @@ pub returns-in-Err-clause-ok : goal.returns-in-Err-clause-ok
 returns-in-Err-clause-ok g c =
     tells_ok (CallsFor g.J.Run.opening c.args.seat.now c.args.call.now) (refused c.in-Err.fault) c.call.new.seat c.args.out.now.items c.write_refusal.new.out.items c.write_refusal.result
     (c.in-Err.ensures.refused, c.in-Err.ensures.err) c.write_refusal.ensures
+
+pub returns-in-Err-clause-err : goal.returns-in-Err-clause-err
+returns-in-Err-clause-err g c =
+    tells_err (CallsFor g.J.Run.opening c.args.seat.now c.args.call.now) (refused c.in-Err.fault) c.args.seat.now c.call.new.seat c.write_refusal.result
+    (c.in-Err.ensures.refused, c.in-Err.ensures.err)
