@@ -13,10 +13,11 @@ use Rattle.tac_forum.specs.History.{logs_of, joined}
 use Rattle.tac_forum.specs.History.{view_of as view_in}
 use Rattle.tac_forum.proofs.LogFacts.{logs_law}
 use Rattle.tac_worker.proofs.DeskFacts.{number_after, view_after}
+use Rattle.tac_worker.proofs.HallFacts.{view_after as hall_view_after}
 use Rattle.tac_worker.specs.Served.{served, asks, bytes_sent}
 use Rattle.tac_worker.specs.Worked.{Exchange, asks_of, answers_of, in_view}
 use Rattle.tac_net.specs.Shared.{packets_in, answers_by}
-use Rattle.tac_net.specs.Places.{calls_before, StoodAt, IsSaid, PlacesLaw, HallPlacesLaw}
+use Rattle.tac_net.specs.Places.{calls_before, StoodAt, IsSaid, PlacesLaw, HallPlacesLaw, ReceiptPlacesLaw}
 use Rattle.tac_net.proofs.SharedFacts.{sent_on, sent_stream_law}
 
 -- ---- the calls of a log, one after another
@@ -136,8 +137,8 @@ said_at key bytes base last logs number before after made left legal view asks_t
       sent = ap (λ (l : List Answer). bytes_sent key (served key bytes l)) answers ∙ sent_stream_law key base bytes s.meanings;
     }
 
-pub hall_places_law : HallPlacesLaw
-hall_places_law end key was now before after old new work base last logs later legal view =
+pub receipt_places_law : ReceiptPlacesLaw
+receipt_places_law end key was now before after old new work base last logs later legal view =
     let ends = work.ends in
     said_at key work.input base last logs now.seat.number was.seat.view later ends.made ends.left legal
     (view ∙ ap (λ (l : List Made). l ++ later) ends.makes.view ∙ append_assoc was.seat.view (map in_view ends.made) later) ends.asks
@@ -152,3 +153,9 @@ places_law opening end key was now before after old new work last history later 
     said_at key work.input opening.meaning last (logs_of history) now.number (view_in now.number was.seen) later ends.made ends.left
     (subst (λ (l : List Entry). Legal opening.meaning l last) (sym laws.0) legal)
     (laws.1 now.number ∙ view ∙ ap (λ (l : List Made). l ++ later) seen ∙ append_assoc (view_in now.number was.seen) (map in_view ends.made) later) ends.asks
+
+pub hall_places_law : HallPlacesLaw
+hall_places_law end key was now before after old new work base last logs later legal view =
+    let ends = work.ends in
+    said_at key work.input base last logs now.number was.view later ends.made ends.left legal
+    (view ∙ ap (λ (l : List Made). l ++ later) (hall_view_after was ends.made now ends.makes) ∙ append_assoc was.view (map in_view ends.made) later) ends.asks

@@ -1,35 +1,46 @@
 -- A server's course, put together from its parts.
-use Rattle.std.proofs.Common.{ℕ, List, ◌∷◌, map, Option, Result, Ok, Err, IfOk, IfErr, refl}
+use Rattle.std.proofs.Common.{◌≡◌, ℕ, List, ◌∷◌, map, length, All, Option, Result, Ok, Err, refl}
 use mathlib.Core.Logic.{inl, inr}
 use Rattle.std.specs.Io.KnownBytes.{Appends}
 use Rattle.tac_forum.specs.History.{Opening}
-use Rattle.tac_forum.specs.Seat.{Seated}
+use Rattle.tac_forum.specs.Seat.{Seated, IsFresh}
 use Rattle.tac_worker.specs.declared.worked.End.{End}
 use Rattle.tac_hall_console.specs.Operated.{IsOperated}
 use Rattle.tac_hall_console.specs.declared.fault.OperatorFault.{OperatorFault}
-use Rattle.tac_net.specs.Ending.{Closes, IsUnserved}
-use Rattle.tac_net.specs.Opening.{listening_line, IsFresh}
-use Rattle.tac_net.specs.Program.{HaveWorked, Ends, Runs, end_by}
+use Rattle.tac_net.specs.Ending.{Closes}
+use Rattle.tac_net.specs.Opening.{listening_line}
+use Rattle.tac_net.specs.Program.{HasAttended, Ends, Runs, end_by}
+use Rattle.tac_net.specs.Serving.{IsDeskConnection, HaveServed}
 use Rattle.tac_net.specs.declared.settings.Settings.{Settings}
 use Rattle.tac_net.specs.declared.fault.ServeFault.{ServeFault}
+use Rattle.tac_net.specs.declared.fault.ServeFault.TheVariants.{Memory}
 
-ends : {X E : Type 0} (items : X → List (Seated × End)) (settings : Settings) (opening : Opening) (console : Seated) (old new : Option (List ℕ)) (closed : Result (Unit {0}) ServeFault) (served : Result X E)
-    → IfOk served (λ s. HaveWorked settings opening (items s)) → IfOk served (λ s. Closes closed opening (console ∷ map (λ one. one.0) (items s)) old new) → IfErr served (λ _. IsUnserved closed old new)
-    → Ends closed settings opening console old new
-ends items settings opening console old new closed (Ok s) have closes unserved = inl (items s, have, closes)
-ends items settings opening console old new closed (Err e) have closes unserved = inr unserved
-
--- the console was operated, workers served or had no seats, and the desk was closed or not
-pub ran : {X E : Type 0} (items : X → List (Seated × End)) (settings : Settings) (opening : Opening) (seat console : Seated) (operated : Result (Unit {0}) OperatorFault) (before after old announced told new : Option (List ℕ)) (closed : Result (Unit {0}) ServeFault) (served : Result X E)
-    → Appends old announced (listening_line settings.port) → IsFresh seat → IsOperated opening operated seat console before after announced told
-    → IfOk served (λ s. HaveWorked settings opening (items s)) → IfOk served (λ s. Closes closed opening (console ∷ map (λ one. one.0) (items s)) told new) → IfErr served (λ _. IsUnserved closed told new)
+-- the console was operated, and the desk's end is told
+ended : (settings : Settings) (opening : Opening) (seat console : Seated) (operated : Result (Unit {0}) OperatorFault) (before after old told new : Option (List ℕ)) (closed : Result (Unit {0}) ServeFault)
+    → HasAttended (console, operated) settings.port opening seat before after old told → IsFresh seat → Ends closed settings opening console told new
     → Runs (end_by operated closed) settings opening before after old new
-ran items settings opening seat console operated before after old announced told new closed served announces fresh operates have closes unserved =
+ended settings opening seat console operated before after old told new closed attended fresh ends =
     inr (record {
+      seat = seat;
+      fresh = fresh;
       console = (console, operated);
       told = told;
-      attended = record { announced = announced; announces = announces; seat = seat; fresh = fresh; operates = operates };
+      attended = attended;
       closed = closed;
-      ends = ends items settings opening console told new closed served have closes unserved;
+      ends = ends;
       is = refl;
     })
+
+-- workers served too, and the desk was closed or not
+pub ran : (settings : Settings) (opening : Opening) (seats : List Seated) (seat console : Seated) (operated : Result (Unit {0}) OperatorFault) (before after old told new : Option (List ℕ)) (served : List (Seated × End)) (closed : Result (Unit {0}) ServeFault)
+    → HasAttended (console, operated) settings.port opening seat before after old told → IsFresh seat → length seats ≡ settings.workers → All IsFresh seats
+    → HaveServed (IsDeskConnection opening settings.key) settings.connections seats served → Closes closed opening (console ∷ map (λ one. one.0) served) told new
+    → Runs (end_by operated closed) settings opening before after old new
+ran settings opening seats seat console operated before after old told new served closed attended fresh count all_fresh have closes =
+    ended settings opening seat console operated before after old told new closed attended fresh (inl (served, record { seats = seats; count = count; fresh = all_fresh; have = have }, closes))
+
+-- memory ran out for the list of those who served
+pub ran_out : (settings : Settings) (opening : Opening) (seat console : Seated) (operated : Result (Unit {0}) OperatorFault) (before after old told : Option (List ℕ))
+    → HasAttended (console, operated) settings.port opening seat before after old told → IsFresh seat → Runs (end_by operated (Err Memory)) settings opening before after old told
+ran_out settings opening seat console operated before after old told attended fresh =
+    ended settings opening seat console operated before after old told told (Err Memory) attended fresh (inr (refl, refl))

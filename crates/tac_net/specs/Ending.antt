@@ -19,12 +19,6 @@ Refuses CloseRefused old new = Appends old new refused_line
 Refuses WriteFault old new = WritesBeginning refused_line old new
 Refuses fault old new = ⊥
 
--- workers had no seats, or memory ran out for them
-abbrev pub IsUnserved : Result (Unit {0}) ServeFault → Option (List ℕ) → Option (List ℕ) → Type 0
-IsUnserved (Ok _) old new = ⊥
-IsUnserved (Err Memory) old new = new ≡ old
-IsUnserved (Err fault) old new = Refuses fault old new
-
 -- the desk was closed with these seats, and nothing printed; or it couldn't be, or memory ran out
 abbrev pub Closes : Result (Unit {0}) ServeFault → Opening → List Seated → Option (List ℕ)
     → Option (List ℕ) → Type 0

@@ -3,8 +3,6 @@ use Rattle.std.specs.Prelude.{◌≡◌, ℕ, List, [], ◌∷◌, ◌++◌, cod
 use Rattle.std.specs.Prelude.{Option, Result, Ok, Err}
 use Rattle.std.specs.Fmt.{decimal}
 use Rattle.std.specs.Io.KnownBytes.{Appends}
-use Rattle.tac_forum.specs.History.{view_of, rotations_of}
-use Rattle.tac_forum.specs.Seat.{Seated}
 use Rattle.tac_hall_console.specs.Operated.{WritesBeginning}
 use Rattle.tac_net.specs.declared.fault.ServeFault.{ServeFault}
 use Rattle.tac_net.specs.declared.fault.ServeFault.TheVariants.{WriteFault, Memory}
@@ -18,8 +16,3 @@ Announces (Ok _) port old new = Appends old new (listening_line port)
 Announces (Err WriteFault) port old new = WritesBeginning (listening_line port) old new
 Announces (Err Memory) port old new = new ≡ old
 Announces (Err fault) port old new = ⊥
-
--- a seat that did nothing
-abbrev pub IsFresh : Seated → Type 0
-IsFresh seat =
-    (view_of seat.number seat.seen ≡ []) × (rotations_of seat.number seat.seen ≡ [])

@@ -5,6 +5,7 @@ use Rattle.tac_hall.specs.declared.entry.Entry.{Entry}
 use Rattle.tac_hall.specs.declared.entry.Made.{Made}
 use Rattle.tac_worker.specs.declared.worked.End.{End}
 use Rattle.tac_hall.specs.History.{Legal}
+use Rattle.tac_hall.specs.Seat.{Sitting}
 use Rattle.tac_hall.specs.Shedding.{view_along}
 use Rattle.tac_forum.specs.declared.event.Event.{Event}
 use Rattle.tac_forum.specs.History.{Opening, calls_in, logs_of, joined, view_of}
@@ -12,6 +13,7 @@ use Rattle.tac_forum.specs.Seat.{Seated}
 use Rattle.tac_worker.specs.Served.{served, bytes_sent}
 use Rattle.tac_worker.specs.Worked.{Exchange, answers_of, Calling, IsServed}
 use Rattle.tac_worker.specs.AtDesk.{IsServedAt}
+use Rattle.tac_worker.specs.AtHall as at_hall
 use Rattle.tac_desk.specs.Serving.{sent_bytes}
 use Rattle.tac_net.specs.Shared.{said_shared_on, packets_in}
 
@@ -57,10 +59,20 @@ PlacesLaw =
     → view_of now.number history ≡ view_of now.number now.seen ++ later
     → IsSaid key work.input opening.meaning (logs_of history) work.ends.made
 
--- and of each that a worker of a hall served, wherever the logs of one segment after another are
--- together a legal history, and have exactly the view of its seat, with what that called later
+-- and of each that a seat of a hall served, wherever the logs of one segment after another are
+-- together a legal history, and have exactly the view of the seat, with what that called later
 abbrev pub HallPlacesLaw : Type 0
 HallPlacesLaw =
+    (end : End) (key : List ℕ) (was now : Sitting) (before after old new : Option (List ℕ))
+    (work : at_hall.IsServedAt end key was now before after old new)
+    (base last : Meaning) (logs : List (List Entry)) (later : List Made)
+    → Legal base (joined logs) last
+    → view_along 0 now.number logs ≡ now.view ++ later
+    → IsSaid key work.input base logs work.ends.made
+
+-- the same where its receipts were kept
+abbrev pub ReceiptPlacesLaw : Type 0
+ReceiptPlacesLaw =
     (end : End) (key : List ℕ) (was now : Calling) (before after old new : Option (List ℕ))
     (work : IsServed end key was now before after old new)
     (base last : Meaning) (logs : List (List Entry)) (later : List Made)

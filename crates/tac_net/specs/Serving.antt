@@ -3,38 +3,38 @@
 use Rattle.std.specs.Prelude.{◌≡◌, ◌≤◌, ◌+◌, ◌⊎◌, ℕ, List, [], ◌∷◌, Bool, true, false, Option}
 use Rattle.tac_conn.specs.declared.ask.Ask.{Ask}
 use Rattle.tac_forum.specs.History.{Opening}
-use Rattle.tac_forum.specs.Seat.{Seated}
+use Rattle.tac_forum.specs.Seat.{Seated, CatchesUp}
 use Rattle.tac_hall.specs.declared.fault.HallFault.{HallFault}
 use Rattle.tac_hall.specs.Seat.{Sitting}
 use Rattle.tac_worker.specs.declared.worked.End.{End}
 use Rattle.tac_worker.specs.declared.worked.End.TheVariants.{Finished, Stopped, ReadFault}
 use Rattle.tac_worker.specs.declared.worked.End.TheVariants.{Held, NoSeat}
-use Rattle.tac_worker.specs.Worked.{Exchange, AreMade, IsServedBy}
+use Rattle.tac_worker.specs.Worked.{Exchange, AreAllMade, IsServedBy}
 use Rattle.tac_worker.specs.AtDesk as at_desk
 use Rattle.tac_worker.specs.AtHall as at_hall
 
 -- ---- one connection
 
--- whoever makes the calls, each by such a step, served it, and it ended so; a call is refused so.
--- That its bytes are the device's is in no contract
-pub record IsConnection {S : Type 0} (step : S → Exchange → S → Type 0)
+-- whoever makes the calls, each by such a step, and then rests, served it, and it ended so; a call
+-- is refused so. That its bytes are the device's is in no contract
+pub record IsConnection {S : Type 0} (step : S → Exchange → S → Type 0) (rests : S → S → Type 0)
     (refuses : S → Ask → HallFault → Type 0) (key : List ℕ) (was : S) (end : End) (now : S)
     : Type 0 where
   pub before : Option (List ℕ)
   pub after : Option (List ℕ)
   pub old : Option (List ℕ)
   pub new : Option (List ℕ)
-  pub served : IsServedBy end key (λ made. AreMade step was made now) (refuses now)
+  pub served : IsServedBy end key (λ made. AreAllMade step rests was made now) (refuses now)
       before after old new
 
 -- a seat of a hall served it
 abbrev pub IsHallConnection : List ℕ → Sitting → End → Sitting → Type 0
-IsHallConnection key = IsConnection at_hall.MakesOne at_hall.Refuses key
+IsHallConnection key = IsConnection at_hall.MakesOne at_hall.Rests at_hall.Refuses key
 
 -- a seat of a shared desk did
 abbrev pub IsDeskConnection : Opening → List ℕ → Seated → End → Seated → Type 0
 IsDeskConnection opening key =
-    IsConnection (at_desk.MakesOne opening) (at_desk.Refuses opening) key
+    IsConnection (at_desk.MakesOne opening) CatchesUp (at_desk.Refuses opening) key
 
 -- how it ends where no connection was accepted: as one that couldn't be read, or as Stopped, since
 -- the server was stopping

@@ -2,7 +2,6 @@
 
 ghost use Rattle.tac_net.specs.Program as program;
 
-use crate::ending::refuse;
 use crate::fault::ServeFault;
 use crate::opening::announce;
 use crate::port::Port;
@@ -21,19 +20,17 @@ fn open_console<R: Wait + Clock + AllocGlobal, J: Run, D: Desk, I: Read, O: Writ
     desk: &SharedDesk<J, D>,
     settings: &Settings,
     vigil: &Vigil,
+    console: Seat<J>,
     input: &mut I,
     output: &mut O,
 ) -> Result<(Seat<J>, Result<(), OperatorFault>), ServeFault>
-    ensures { program.Attends result settings.now.port J.opening
+    ensures { program.Attends result settings.now.port J.opening console
         (I.remaining input.old) (I.remaining input.new)
         (O.contents output.old) (O.contents output.new) }
 {
     if !vigil.have_begun(rt, settings.workers) {
         return Err(ServeFault::Threads);
     }
-    let Ok(console) = desk.seat(rt) else {
-        return Err(refuse(output));
-    };
     announce(rt.alloc(), output, settings.port)?;
     Ok(operate(rt, rt.alloc(), desk, console, input, output))
 }
@@ -46,14 +43,15 @@ pub(crate) fn attend<R: Wait + Clock + AllocGlobal, J: Run, D: Desk, I: Read, O:
     desk: &SharedDesk<J, D>,
     settings: &Settings,
     vigil: &Vigil,
+    console: Seat<J>,
     input: &mut I,
     output: &mut O,
 ) -> Result<(Seat<J>, Result<(), OperatorFault>), ServeFault>
-    ensures { program.Attends result settings.now.port J.opening
+    ensures { program.Attends result settings.now.port J.opening console
         (I.remaining input.old) (I.remaining input.new)
         (O.contents output.old) (O.contents output.new) }
 {
-    let attended = open_console(rt, desk, settings, vigil, input, output);
+    let attended = open_console(rt, desk, settings, vigil, console, input, output);
     vigil.stop();
     port.close();
     attended

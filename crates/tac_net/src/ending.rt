@@ -1,6 +1,6 @@
 //! The ending of a server: its desk is closed.
 
-ghost use Rattle.std.specs.Prelude.{◌≡◌, [], ◌∷◌, ◌++◌, map, IfOk, IfErr, OnOk};
+ghost use Rattle.std.specs.Prelude.{◌≡◌, [], ◌∷◌, ◌++◌, map, OnOk};
 ghost use Rattle.tac_net.specs.Ending as ending;
 
 use crate::fault::ServeFault;
@@ -9,7 +9,6 @@ use std::alloc::AllocError;
 use std::io::Write;
 use tac_desk::Desk;
 use tac_forum::{Run, Seat, SharedDesk};
-use tac_hall::HallFault;
 use tac_worker::End;
 
 const REFUSED: &[u8] = b"close refused\n";
@@ -38,8 +37,8 @@ fn add_seats<J: Run>(
     Ok(())
 }
 
-// Closes a desk with the console's seat and those of its workers. The list has room for them.
-fn close_with<J: Run, D: Desk, W: Write>(
+/// Closes a desk with the console's seat and those of its workers. The list has room for them.
+pub(crate) fn close<J: Run, D: Desk, W: Write>(
     desk: SharedDesk<J, D>,
     console: Seat<J>,
     served: Vec<(Seat<J>, End)>,
@@ -55,29 +54,6 @@ fn close_with<J: Run, D: Desk, W: Write>(
     add_seats(&mut seats, served)?;
     match desk.close(seats) {
         Ok(_) => Ok(()),
-        Err(_) => Err(refuse(output)),
-    }
-}
-
-/// Closes a desk with the console's seat and those of its workers, where these have served. The
-/// list has room for them.
-pub(crate) fn close<J: Run, D: Desk, W: Write>(
-    desk: SharedDesk<J, D>,
-    console: Seat<J>,
-    served: Result<Vec<(Seat<J>, End)>, HallFault>,
-    room: Vec<Seat<J>>,
-    output: &mut W,
-) -> Result<(), ServeFault>
-    requires { room.items ≡ [] }
-    ensures closes { IfOk served (λ served. ending.Closes result J.opening
-        (console ∷ map (λ one. one.0) served.items) (W.contents output.old)
-        (W.contents output.new)) }
-    ensures unserved { IfErr served (λ _. ending.IsUnserved result (W.contents output.old)
-        (W.contents output.new)) }
-{
-    match served {
-        Ok(served) => close_with(desk, console, served, room, output),
-        Err(HallFault::Memory) => Err(ServeFault::Memory),
         Err(_) => Err(refuse(output)),
     }
 }

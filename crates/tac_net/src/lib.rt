@@ -4,6 +4,7 @@
 mod attending;
 mod ending;
 mod fault;
+mod lent;
 mod line;
 mod opening;
 mod patience;

@@ -1,6 +1,7 @@
 //! The opening of a server: its seats, and its first line.
 
 ghost use Rattle.std.specs.Prelude.{◌≡◌, length, All, IfOk};
+ghost use Rattle.tac_forum.specs.Seat.{IsFresh};
 ghost use Rattle.tac_net.specs.Opening as opening;
 
 use crate::fault::ServeFault;
@@ -20,7 +21,7 @@ pub(crate) fn seats_of<R: Wait, J: Run, D: Desk>(
     count: u32,
 ) -> Result<Vec<Seat<J>>, HallFault>
     ensures count { IfOk result (λ seats. length seats.items ≡ count) }
-    ensures fresh { IfOk result (λ seats. All opening.IsFresh seats.items) }
+    ensures fresh { IfOk result (λ seats. All IsFresh seats.items) }
 {
     let mut seats = Vec::new(alloc);
     'seats: for _ in 0..count {

@@ -1,16 +1,20 @@
 //! A server with a console.
 
-ghost use Rattle.std.specs.Prelude.{◌≡◌, ℕ, List, Option, Err, IfOk};
+ghost use Rattle.std.specs.Prelude.{◌≡◌, IfOk, IfSome, IsSome};
 ghost use Rattle.pol_pattern.specs.Matching.{MatchLaw};
 ghost use Rattle.tac_net.specs.Program as program;
+ghost use Rattle.tac_net.specs.Serving.{IsDeskConnection, HaveServed};
 
 use crate::attending::attend;
 use crate::ending::{close, refuse};
 use crate::fault::ServeFault;
+use crate::lent::Lent;
+use crate::opening::seats_of;
 use crate::port::Port;
-use crate::serving::serve_desk;
+use crate::serving::serve_seats;
 use crate::settings::Settings;
 use crate::vigil::Vigil;
+use std::alloc::AllocError;
 use std::io::{Read, Write};
 use std::marker::Brand;
 use std::sync::Wait;
@@ -24,64 +28,65 @@ use tac_journal::{Log, LogFiles};
 use tac_worker::End;
 
 // Workers serve in threads of their own, while this one serves the console. Once that has ended,
-// they end; and where they can't begin, it doesn't.
-fn serve_both<R, J: Run + Send + Sync, D: Desk + Send, L: Log + Sync, I: Read, O: Write>(
+// they end.
+fn serve_both<R, J: Run + Send + Sync, D: Desk + Send, L: Log + Sync, S, C, I: Read, O: Write>(
     rt: &R,
     port: &Port,
     desk: &SharedDesk<J, D>,
     settings: &Settings,
     vigil: &Vigil,
     log: &L,
+    seats: &mut S,
+    console: &mut C,
     input: &mut I,
     output: &mut O,
 ) -> (
-    Result<Vec<(Seat<J>, End)>, HallFault>,
+    Result<Vec<(Seat<J>, End)>, AllocError>,
     Result<(Seat<J>, Result<(), OperatorFault>), ServeFault>,
 )
 where
     R: Threads + Wait + Clock + Sync + AllocGlobal + Eprint + LogFiles,
-    ensures served { IfOk result.0 (λ served.
-        program.HaveWorked settings.now J.opening served.items) }
-    ensures attended { program.Attends result.1 settings.now.port J.opening
+    S: Lent<Item = Vec<Seat<J>>> + Send,
+    C: Lent<Item = Seat<J>>,
+    requires seats { IsSome (S.item seats.now) }
+    requires console { IsSome (C.item console.now) }
+    ensures served { IfOk result.0 (λ served. IfSome (S.item seats.old) (λ waiting.
+        HaveServed (IsDeskConnection J.opening settings.now.key) settings.now.connections
+        waiting.items served.items)) }
+    ensures attended { IfSome (C.item console.old) (λ seat.
+        program.Attends result.1 settings.now.port J.opening seat
         (I.remaining input.old) (I.remaining input.new)
-        (O.contents output.old) (O.contents output.new) }
+        (O.contents output.old) (O.contents output.new)) }
 {
     let listener = port.listener();
-    let mut serving = || -> Result<Vec<(Seat<J>, End)>, HallFault>
-        ensures { IfOk result (λ served.
-            program.HaveWorked settings.entry.now J.opening served.items) }
+    let mut serving = || -> Result<Vec<(Seat<J>, End)>, AllocError>
+        requires { IsSome (S.item seats.now) }
+        ensures { IfOk result (λ served. IfSome (S.item seats.entry.now) (λ waiting.
+            HaveServed (IsDeskConnection J.opening settings.entry.now.key)
+            settings.entry.now.connections waiting.items served.items)) }
     {
-        let served = serve_desk(rt, listener, desk, settings, vigil, log);
-        if let Err(_) = served {
-            vigil.stop();
+        match seats.take_item() {
+            Some(seats) => {
+                let served = serve_seats(rt, listener, desk, settings, seats, vigil, log);
+                port.leave();
+                served
+            }
+            None => unreachable!(),
         }
-        port.leave();
-        served
     };
     let mut attending = || -> Result<(Seat<J>, Result<(), OperatorFault>), ServeFault>
-        ensures { program.Attends result settings.entry.now.port J.opening
+        requires { IsSome (C.item console.now) }
+        ensures { IfSome (C.item console.entry.now) (λ seat.
+            program.Attends result settings.entry.now.port J.opening seat
             (I.remaining input.entry.now) (I.remaining input.exit.now)
-            (O.contents output.entry.now) (O.contents output.exit.now) }
-    { attend(rt, port, desk, settings, vigil, input, output) };
+            (O.contents output.entry.now) (O.contents output.exit.now)) }
+    {
+        match console.take_item() {
+            Some(seat) => attend(rt, port, desk, settings, vigil, seat, input, output),
+            None => unreachable!(),
+        }
+    };
     join_mut(rt, &mut serving, &mut attending)
-}
-
-// The fault of a server whose console didn't begin, for this reason: where it waited in vain for
-// workers who had no seats, that is why.
-fn unopened<J: Run, O: Write>(
-    served: &Result<Vec<(Seat<J>, End)>, HallFault>,
-    fault: ServeFault,
-    output: &mut O,
-) -> ServeFault
-    ensures { (port : ℕ) → (first : Option (List ℕ)) →
-        program.Fails (Err fault) port first (O.contents output.old) →
-        program.Fails (Err result) port first (O.contents output.new) }
-{
-    match (served, fault) {
-        (Err(HallFault::Memory), ServeFault::Threads) => ServeFault::Memory,
-        (Err(_), ServeFault::Threads) => refuse(output),
-        _ => fault,
-    }
 }
 
 // Serves a desk of this run, whose history is empty yet.
@@ -107,12 +112,36 @@ where
     let room = Vec::with_capacity(rt.alloc(), settings.workers as usize + 1)?;
     let vigil = Vigil::new(settings.idle);
     let desk = SharedDesk::<J, D>::new(history, desk, settings.limits);
-    let (served, attended) = serve_both(rt, port, &desk, settings, &vigil, log, input, output);
+    let Ok(console) = desk.seat(rt) else {
+        return Err(refuse(output));
+    };
+    let seats = match seats_of(rt, rt.alloc(), &desk, settings.workers) {
+        Ok(seats) => seats,
+        Err(HallFault::Memory) => return Err(ServeFault::Memory),
+        Err(_) => return Err(refuse(output)),
+    };
+    let mut seats = Some(seats);
+    let mut console = Some(console);
+    let (served, attended) = serve_both(
+        rt,
+        port,
+        &desk,
+        settings,
+        &vigil,
+        log,
+        &mut seats,
+        &mut console,
+        input,
+        output,
+    );
     let (console, operated) = match attended {
         Ok(ended) => ended,
-        Err(fault) => return Err(unopened(&served, fault, output)),
+        Err(fault) => return Err(fault),
     };
-    let closed = close(desk, console, served, room, output);
+    let closed = match served {
+        Ok(served) => close(desk, console, served, room, output),
+        Err(_) => Err(ServeFault::Memory),
+    };
     operated?;
     closed
 }

@@ -1,10 +1,8 @@
 //! Workers in threads.
 
 ghost use Rattle.std.specs.Prelude.{IfOk};
-ghost use Rattle.tac_net.specs.Program.{HaveWorked};
 ghost use Rattle.tac_net.specs.Serving as serving;
 
-use crate::opening::seats_of;
 use crate::settings::Settings;
 use crate::vigil::Vigil;
 use crate::worker::serve_all;
@@ -15,7 +13,7 @@ use std::thread::{Threads, map_vec};
 use std::time::Clock;
 use tac_desk::Desk;
 use tac_forum::{Run, Seat as DeskSeat, SharedDesk};
-use tac_hall::{Hall, HallFault, Seat};
+use tac_hall::{Hall, Seat};
 use tac_journal::{Log, LogFiles, Nowhere};
 use tac_wire::Key;
 use tac_worker::{DeskCaller, End, Gate, HallCaller, OpenGate};
@@ -57,9 +55,9 @@ where
     map_vec(rt, seats, &work)
 }
 
-// The same at a shared desk, and each reply is written only once the auditor's log has its line,
-// where there is one.
-fn serve_seats<R, J: Run + Send + Sync, D: Desk + Send, L: Log + Sync>(
+/// The same at a shared desk, and each reply is written only once the auditor's log has its line,
+/// where there is one.
+pub(crate) fn serve_seats<R, J: Run + Send + Sync, D: Desk + Send, L: Log + Sync>(
     rt: &R,
     listener: &TcpListener,
     desk: &SharedDesk<J, D>,
@@ -92,25 +90,6 @@ where
         (caller.into_seat(), end)
     };
     map_vec(rt, seats, &work)
-}
-
-/// Serves a shared desk on the network, by so many new seats as the settings say. The error is
-/// Memory or NoSeat.
-pub(crate) fn serve_desk<R, J: Run + Send + Sync, D: Desk + Send, L: Log + Sync>(
-    rt: &R,
-    listener: &TcpListener,
-    desk: &SharedDesk<J, D>,
-    settings: &Settings,
-    vigil: &Vigil,
-    log: &L,
-) -> Result<Vec<(DeskSeat<J>, End)>, HallFault>
-where
-    R: Threads + Wait + Clock + Sync + AllocGlobal + Eprint + LogFiles,
-    ensures { IfOk result (λ served. HaveWorked settings.now J.opening served.items) }
-{
-    let seats = seats_of(rt, rt.alloc(), desk, settings.workers)?;
-    let served = serve_seats(rt, listener, desk, settings, seats, vigil, log)?;
-    Ok(served)
 }
 
 /// Serves a hall on the network: for each seat there is a worker in a thread of its own, which

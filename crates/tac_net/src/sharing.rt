@@ -1,6 +1,6 @@
 //! What a worker sends, by what its desk represents.
 
-ghost use Rattle.tac_net.specs.Places.{PlacesLaw, HallPlacesLaw};
+ghost use Rattle.tac_net.specs.Places.{PlacesLaw, HallPlacesLaw, ReceiptPlacesLaw};
 ghost use Rattle.tac_net.specs.Shared.{SharingLaws};
 
 /// Does nothing. The clauses are true of all connections: what a worker sends is what a server says
@@ -10,4 +10,5 @@ pub fn sharing_laws()
     ensures shared { SharingLaws }
     ensures places { PlacesLaw }
     ensures hall_places { HallPlacesLaw }
+    ensures receipt_places { ReceiptPlacesLaw }
 {}

@@ -48,7 +48,7 @@ impl Vigil {
 
     /// Waits until so many workers have begun. Where threads can't be made the closures of workers
     /// run one after another, so that none begins while another serves. The wait gives up after two
-    /// seconds in which none begins, and where the server is to end.
+    /// seconds in which none begins.
     pub(crate) fn have_begun<C: Clock>(&self, clock: &C, workers: u32) -> bool {
         let mut seen = 0;
         let mut glances = 0_u32;
@@ -61,7 +61,7 @@ impl Vigil {
                 seen = begun;
                 glances = 0;
             }
-            if glances >= MOST_GLANCES || self.is_stopping() {
+            if glances >= MOST_GLANCES {
                 return false;
             }
             glances = glances.saturating_add(1);

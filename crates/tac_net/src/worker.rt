@@ -56,7 +56,7 @@ fn serve_line<'a, R: Wait + Clock + AllocGlobal, C: Caller, G: Gate>(
     gate: &G,
     line: &'a Line<'a, &'a TcpStream, R>,
 ) -> End
-    ensures { serving.Connects (serving.IsConnection C.makes C.refuses key.now)
+    ensures { serving.Connects (serving.IsConnection C.makes C.rests C.refuses key.now)
         caller.old result caller.new }
 {
     let mut reader = line;
@@ -74,7 +74,7 @@ fn serve_audited<'a, R, C: Caller, G: Gate, L: Log>(
 ) -> End
 where
     R: Wait + Clock + AllocGlobal + Eprint + LogFiles,
-    ensures { serving.Connects (serving.IsConnection C.makes C.refuses key.now)
+    ensures { serving.Connects (serving.IsConnection C.makes C.rests C.refuses key.now)
         caller.old result caller.new }
 {
     let mut reader = audited;
@@ -98,7 +98,7 @@ fn serve_stream<'a, R, C: Caller, G: Gate, L: Log>(
 ) -> End
 where
     R: Wait + Clock + AllocGlobal + Eprint + LogFiles,
-    ensures { serving.Connects (serving.IsConnection C.makes C.refuses key.now)
+    ensures { serving.Connects (serving.IsConnection C.makes C.rests C.refuses key.now)
         caller.old result caller.new }
 {
     if let Err(_) = limit_waits(stream) {
@@ -128,7 +128,7 @@ fn serve_one<R, C: Caller, G: Gate, L: Log>(
 ) -> End
 where
     R: Wait + Clock + AllocGlobal + Eprint + LogFiles,
-    ensures { serving.Connects (serving.IsConnection C.makes C.refuses key.now)
+    ensures { serving.Connects (serving.IsConnection C.makes C.rests C.refuses key.now)
         caller.old result caller.new }
 {
     match accept(rt, listener, vigil, pause) {
@@ -152,7 +152,7 @@ pub(crate) fn serve_all<R, C: Caller, G: Gate, L: Log>(
 ) -> End
 where
     R: Wait + Clock + AllocGlobal + Eprint + LogFiles,
-    ensures { serving.Serves (serving.IsConnection C.makes C.refuses key.now) connections
+    ensures { serving.Serves (serving.IsConnection C.makes C.rests C.refuses key.now) connections
         caller.old result caller.new }
 {
     vigil.begin();

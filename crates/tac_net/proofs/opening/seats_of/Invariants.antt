@@ -1,5 +1,5 @@
 use Rattle.std.proofs.Common.{◌≡◌, length, All}
-use Rattle.tac_net.specs.Opening.{IsFresh}
+use Rattle.tac_forum.specs.Seat.{IsFresh}
 use Rattle.tac_net.proofs.opening.seats_of.Given as goal
 
 abbrev pub invariant-seats : goal.invariant-seats

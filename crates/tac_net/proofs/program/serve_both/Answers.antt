@@ -1,7 +1,8 @@
 use mathlib.Core.List.{[]}
 use mir.Syntax.{of_param}
 use denote.Param.{param}
-use denote.Param.Send.{IsSync, sendable, Quiet-if}
+use base.Fraction.{full_share}
+use denote.Param.Send.{IsSync, sendable, part_keyless, Quiet-if}
 use Rattle.std.proofs.Crossing.{crosses}
 use Rattle.tac_forum.specs.contracts.shared_desk.SharedDesk as SharedDesk
 use Rattle.tac_forum.proofs.shared_desk.SharedDesk.TheSendSync as shared
@@ -10,6 +11,7 @@ use Rattle.tac_net.proofs.program.serve_both.Goals as goal
 
 pub join_mut-requires-send-F : goal.join_mut-requires-send-F
 join_mut-requires-send-F g c κs within =
+    let waiting = c.type_bounds.send-S in
     let runtime = c.type_bounds.sync-R in
     let desk : IsSync (SharedDesk.the_row (param 1 g.row.J) (param 2 g.row.D) g.J.Run g.D.Desk) = search (shared.the_sync, c.type_bounds.send-J, c.type_bounds.sync-J, c.type_bounds.send-D, crosses, sendable) depth 60 fits 20000 in
     let log = c.type_bounds.sync-L in
@@ -17,20 +19,23 @@ join_mut-requires-send-F g c κs within =
       owned = λ d vs vss. (
         tt,
         (
-          (tt, runtime.shared d.0.now d.0.ref_ptr.0 d.0.ref_ptr.1 _),
+          (tt, (tt, λ y. (part_keyless _ waiting full_share y d.0.ref_ptr.0 d.0.ref_ptr.1, tt))),
           (
-            (tt, Listener-sync.shared d.1.now d.1.ref_ptr.0 d.1.ref_ptr.1 []),
+            (tt, runtime.shared d.1.now d.1.ref_ptr.0 d.1.ref_ptr.1 _),
             (
-              (tt, desk.shared d.2.now d.2.ref_ptr.0 d.2.ref_ptr.1 _),
+              (tt, Listener-sync.shared d.2.now d.2.ref_ptr.0 d.2.ref_ptr.1 []),
               (
-                (tt, Settings-sync.shared d.3.now d.3.ref_ptr.0 d.3.ref_ptr.1 _),
+                (tt, desk.shared d.3.now d.3.ref_ptr.0 d.3.ref_ptr.1 _),
                 (
-                  (tt, Vigil-sync.shared d.4.now d.4.ref_ptr.0 d.4.ref_ptr.1 _),
+                  (tt, Settings-sync.shared d.4.now d.4.ref_ptr.0 d.4.ref_ptr.1 _),
                   (
-                    (tt, log.shared d.5.now d.5.ref_ptr.0 d.5.ref_ptr.1 _),
+                    (tt, Vigil-sync.shared d.5.now d.5.ref_ptr.0 d.5.ref_ptr.1 _),
                     (
-                      (tt, Port-sync.shared d.6.now d.6.ref_ptr.0 d.6.ref_ptr.1 _),
-                      tt,
+                      (tt, log.shared d.6.now d.6.ref_ptr.0 d.6.ref_ptr.1 _),
+                      (
+                        (tt, Port-sync.shared d.7.now d.7.ref_ptr.0 d.7.ref_ptr.1 _),
+                        tt,
+                      ),
                     ),
                   ),
                 ),
@@ -39,5 +44,5 @@ join_mut-requires-send-F g c κs within =
           ),
         ),
       );
-      leaving = λ k. Quiet-if (k (of_param 1)) _ _ (λ x w. tt) (λ x w. tt);
+      leaving = λ k. Quiet-if (k (of_param 1)) _ _ (λ x w. (tt, tt)) (λ x w. tt);
     }

@@ -1,6 +1,6 @@
 use Rattle.tac_net.proofs.SharedFacts.{piece_law, alone_law, alone_stream_law, sent_law, sent_stream_law}
 use Rattle.tac_net.proofs.ClosedFacts.{close_law}
-use Rattle.tac_net.proofs.PlacesFacts.{places_law, hall_places_law}
+use Rattle.tac_net.proofs.PlacesFacts.{places_law, hall_places_law, receipt_places_law}
 use Rattle.tac_net.proofs.sharing.sharing_laws.Goals as goal
 
 pub returns-clause-shared : goal.returns-clause-shared
@@ -18,3 +18,6 @@ returns-clause-places c = places_law
 
 pub returns-clause-hall_places : goal.returns-clause-hall_places
 returns-clause-hall_places c = hall_places_law
+
+pub returns-clause-receipt_places : goal.returns-clause-receipt_places
+returns-clause-receipt_places c = receipt_places_law

@@ -9,7 +9,7 @@ connections-init g c = (at_first, refl)
 pub returns-then-not-goes_on : goal.returns-then-not-goes_on
 returns-then-not-goes_on g c =
     let stops = sym c.goes_on.ensures ∙ c.if-not-goes_on.true in
-    came_stops (IsConnection g.C.Caller.makes g.C.Caller.refuses c.args.key.now) c.args.connections c.args.caller.now c.connections.caller c.serve_one-end.new.caller c.connections.counter c.connections.end c.serve_one-end.result
+    came_stops (IsConnection g.C.Caller.makes g.C.Caller.rests g.C.Caller.refuses c.args.key.now) c.args.connections c.args.caller.now c.connections.caller c.serve_one-end.new.caller c.connections.counter c.connections.end c.serve_one-end.result
     c.connections.invariant.0 c.connections.invariant.1 c.serve_one-end.ensures stops (omega (arith, c.connections-test.true))
 
 pub connections-preserved : goal.connections-preserved

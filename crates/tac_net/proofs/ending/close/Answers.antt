@@ -2,7 +2,7 @@ use Rattle.std.proofs.Common.{List, [], ◌∷◌, ◌++◌, map, refl, ap, ◌�
 use Rattle.tac_forum.specs.Seat.{Seated}
 use Rattle.tac_forum.specs.Closing.{IsSettled}
 use Rattle.tac_worker.specs.declared.worked.End.{End}
-use Rattle.tac_net.proofs.ending.close_with.Goals as goal
+use Rattle.tac_net.proofs.ending.close.Goals as goal
 
 pub returns-in-Ok : goal.returns-in-Ok
 returns-in-Ok g c =
