@@ -444,30 +444,25 @@ fn a_visit_of_all_kinds(rt: HostRuntime) -> Result<(), Fail> {
     ends(&rt, course, printed, Ok(()))
 }
 
-// Without a seat for the console, or for one of the workers, no port is printed, and the end of the
+// Without a seat for each worker, beside that of the console, no port is printed, and the end of the
 // input isn't waited for.
 #[test]
 fn seats_that_are_missing(rt: HostRuntime) -> Result<(), Fail> {
     let refused = "close refused\n";
-    let none_for_the_console = Course {
+    let one_too_few = Course {
         workers: 64,
         room: 99,
         ..QUITS
     };
-    ends(
-        &rt,
-        none_for_the_console,
-        refused,
-        Err(ServeFault::CloseRefused),
-    )?;
-    let one_too_few = Course {
-        workers: 65,
-        ..none_for_the_console
-    };
     ends(&rt, one_too_few, refused, Err(ServeFault::CloseRefused))?;
+    let two_too_few = Course {
+        workers: 65,
+        ..one_too_few
+    };
+    ends(&rt, two_too_few, refused, Err(ServeFault::CloseRefused))?;
     let unwritten = Course {
         room: 3,
-        ..one_too_few
+        ..two_too_few
     };
     ends(&rt, unwritten, "clo", Err(ServeFault::WriteFault))
 }
