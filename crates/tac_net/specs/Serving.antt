@@ -1,5 +1,5 @@
--- What a worker has done that served connections one after another, and what several have: at a hall,
--- or at a shared desk.
+-- What a worker has done that served connections one after another, and what several have: at a
+-- hall, or at a shared desk.
 use Rattle.std.specs.Prelude.{◌≡◌, ◌≤◌, ◌+◌, ◌⊎◌, ℕ, List, [], ◌∷◌, Bool, true, false, Option}
 use Rattle.tac_conn.specs.declared.ask.Ask.{Ask}
 use Rattle.tac_forum.specs.History.{Opening}

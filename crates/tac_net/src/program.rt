@@ -154,14 +154,15 @@ where
 /// alone; its segments begin by themselves as the settings say. `quit` or the input's end stops
 /// the desk. Then the port is closed, and each worker ends within half a second, whatever its
 /// device does: as Stopped, where no connection was accepted any more. At last the desk is closed
-/// with all its seats. Where one is missing, `close refused` is printed.
+/// with all its seats. These are made before the threads: where one is missing, `close refused` is
+/// printed, and nothing is served.
 ///
 /// A connection is given up, as one that can't be read or written, where so many seconds as the
 /// settings say have passed since it was accepted or since its last reply was written, whatever
 /// comes meanwhile; before its first reply after ten seconds; and where a reply isn't taken for so
 /// long. Where there is a log, each reply is written only once that has its line
-/// ([`Audited`](tac_journal::Audited)). Of several faults the console's comes first. There may be 63
-/// workers: a desk has 64 seats, and the console takes one.
+/// ([`Audited`](tac_journal::Audited)). Of several faults the console's comes first. There may be
+/// 63 workers: a desk has 64 seats, and the console takes one.
 pub fn serve<R, D: Desk + Send, L: Log + Sync, I: Read, O: Write>(
     rt: &R,
     port: &Port,
