@@ -1,4 +1,5 @@
 pub mod Beside
+pub mod KeepingFacts
 pub mod Texts
 pub mod OpenTasks
 pub mod OpenSet

@@ -1,3 +1,4 @@
+pub mod Keeping
 pub mod Book
 pub mod Tally
 pub mod Recount

@@ -1,9 +1,9 @@
 //! The accounts of all users that have records, by name.
 
 ghost use Rattle.std.specs.Prelude.{◌≡◌, ◌^◌, ◌<◌, ◌++◌, ◌∷◌, [], ℕ, Bool, List, Some};
-ghost use Rattle.std.specs.Prelude.{length, slice_get, OnOk, OnErr};
+ghost use Rattle.std.specs.Prelude.{length, slice_get, IfOk, OnOk, OnErr};
 ghost use Rattle.std.specs.Option.{option_copied};
-ghost use Rattle.tac_tally.specs.Book.{Entry};
+ghost use Rattle.tac_tally.specs.Book.{Entry, beside};
 ghost use Rattle.tac_tally.specs.Accounts.{Run, account_of, with_mark_at};
 
 use crate::account::Account;
@@ -14,7 +14,7 @@ use tac_request::Record;
 // The accounts, each under its user's name.
 #[derive(Drop)]
 pub(crate) struct Accounts {
-    alloc: Global,
+    pub(crate) alloc: Global,
     by_user: BTreeMap<Vec<u8>, Account>,
 }
 
@@ -27,6 +27,22 @@ impl Accounts {
             alloc,
             by_user: BTreeMap::new(alloc),
         }
+    }
+
+    // The accounts of these records alone, by their marks. One look-up for each.
+    pub(crate) fn of(
+        alloc: Global,
+        records: &[Record],
+        marks: &[bool],
+    ) -> Result<Accounts, AllocError>
+        requires { length marks.now ≡ length records.now }
+        ensures { IfOk result (λ accounts. Run (beside records.now marks.now) accounts) }
+    {
+        let mut accounts = Accounts::new(alloc);
+        'records: for (place, record) in records.iter().enumerate() {
+            accounts.enter(record, marks[place], place)?;
+        }
+        Ok(accounts)
     }
 
     // The account of the user. One look-up.

@@ -5,10 +5,12 @@ mod account;
 mod accounts;
 mod book;
 mod counting;
+mod limit;
 mod recount;
 mod tally;
 
 pub use book::{Book, StoreFault};
+pub use limit::{AtLimit, RecordLimit};
 pub use recount::Recount;
 pub use tac_request::{AcctKind, Record};
 pub use tally::Tally;

@@ -49,9 +49,10 @@ invariant_of-self c =
       length-set book.marks.items c.args.place c.args.denied ∙ c.self.invariant.0,
       c.self.invariant.1,
       subst (λ l. Run l c.remark.new.self) (sym (beside-set book.records.items book.marks.items c.args.place c.args.denied)) runs,
+      c.self.invariant.3,
     )
 
 pub returns : goal.returns
 returns c =
     let book = c.self.inside in
-    rw (← c.self.view_is) (ap (λ l. record { entries = l; limit = book.limit }) (beside-set book.records.items book.marks.items c.args.place c.args.denied))
+    rw (← c.self.view_is) (ap (λ l. record { entries = l; limit = book.limit; forgotten = book.forgotten }) (beside-set book.records.items book.marks.items c.args.place c.args.denied))

@@ -19,4 +19,4 @@ returns c =
     let put : with_marks c.as_slice.result.now old.entries ≡ settled c.args.recount old.entries =
     ap (λ l. with_marks l old.entries) c.as_slice.ensures.value ∙ sym (settled-spread recount.size recount.marks.items old.entries c.recount.invariant)
     ∙ ap (λ l. settled l old.entries) c.recount.view_is in
-    c.put_marks.ensures ∙ ap (λ l. record { entries = l; limit = old.limit }) put
+    c.put_marks.ensures ∙ ap (λ l. record { entries = l; limit = old.limit; forgotten = old.forgotten }) put
