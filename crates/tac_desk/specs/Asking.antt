@@ -1,7 +1,7 @@
 -- What is asked for the packets of connections, and what the desk answers: what the policy
 -- says of who a user is and of what a user may do, and whether a record is kept (RFC 8907,
 -- sections 5.4, 6.1 and 7.1).
-use Rattle.std.specs.Prelude.{◌≡◌, ℕ, List, [], ◌∷◌, ◌++◌, length, Bool, false, not, ◌==◌, Option}
+use Rattle.std.specs.Prelude.{◌≡◌, ℕ, ◌+◌, List, [], ◌∷◌, length, Bool, false, not, ◌==◌, Option}
 use Rattle.std.specs.Prelude.{Some, None, if◌then◌else◌}
 use Rattle.std.specs.Option.{option_and_then}
 use Rattle.std.specs.Str.{bytes_eq}
@@ -18,6 +18,7 @@ use Rattle.pol_names.specs.declared.decision.By.{By}
 use Rattle.tac_authen.specs.declared.start.Service.{Service}
 use Rattle.tac_authen.specs.Start.{authen_svc_enable}
 use Rattle.tac_request.specs.declared.record.Record.{Record}
+use Rattle.tac_tally.specs.Keeping as keeping
 use Rattle.tac_conn.specs.declared.ask.Proof.{Proof}
 use Rattle.tac_conn.specs.declared.ask.Proof.TheVariants.{Plain, Chap}
 use Rattle.tac_conn.specs.declared.ask.Ask.{Ask}
@@ -95,7 +96,7 @@ authorisation policy name line = authorised policy name line (user_named policy 
 
 -- no further record is taken
 abbrev pub is_full : Meaning → Bool
-is_full meaning = length meaning.records == meaning.limit
+is_full meaning = keeping.is_full meaning.limit meaning.forgotten (length meaning.records)
 
 -- ---- all of these
 
@@ -104,14 +105,18 @@ pub record Answered : Type 0 where
   pub answer : Answer
   pub meaning : Meaning
 
--- the record after the others; none goes beyond the limit
+-- the desk with one more record, after those that it keeps
+abbrev pub with_record : Record → Meaning → Meaning
+with_record item meaning = record meaning {
+  records = keeping.kept meaning.limit meaning.records item;
+  forgotten = meaning.forgotten + keeping.goes meaning.limit (length meaning.records);
+}
+
+-- the record is stored, unless the desk is full
 abbrev pub stored : Meaning → Record → Answered
 stored meaning item =
     if is_full meaning then record { answer = BookFull; meaning = meaning }
-    else record {
-      answer = Stored;
-      meaning = record meaning { records = meaning.records ++ item ∷ [] };
-    }
+    else record { answer = Stored; meaning = with_record item meaning }
 
 -- the answer to what is asked, and what the desk represents from then on
 abbrev pub asked : Meaning → Ask → Answered

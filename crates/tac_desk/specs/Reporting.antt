@@ -1,6 +1,6 @@
 -- What a question to the desk is answered.
-use Rattle.std.specs.Prelude.{◌≡◌, ℕ, List, Bool, true, false, is_some, Option, Some, None, Result}
-use Rattle.std.specs.Prelude.{Ok, Err, if◌then◌else◌}
+use Rattle.std.specs.Prelude.{◌≡◌, ℕ, ◌+◌, List, [], ◌∷◌, Bool, true, false, is_some, Option, Some}
+use Rattle.std.specs.Prelude.{None, Result, Ok, Err, if◌then◌else◌}
 use Rattle.pol_text.specs.Policy.{find_subject, Entry, decision, decide}
 use Rattle.pol_names.specs.declared.subject_id.Kind.{Kind}
 use Rattle.pol_names.specs.declared.subject_id.Kind.TheVariants.{Group, User}
@@ -16,12 +16,14 @@ use Rattle.tac_tally.specs.Book as book
 use Rattle.tac_tally.specs.Recount.{marked}
 use Rattle.tac_tally.specs.Tally.{tally_of, group_tally_of}
 use Rattle.tac_tally.specs.declared.tally.Tally.{Tally}
+use Rattle.tac_request.specs.declared.record.Record.{Record}
 use Rattle.tac_desk.specs.Meaning.{Meaning}
 use Rattle.tac_desk.specs.Asking.{user_named}
 use Rattle.tac_desk.specs.declared.query.Query.{Query}
 use Rattle.tac_desk.specs.declared.query.Query.TheVariants as queries
 use Rattle.tac_desk.specs.declared.query.Report.{Report}
 use Rattle.tac_desk.specs.declared.query.Report.TheVariants as reports
+use Rattle.tac_desk.specs.declared.numbered.Numbered.{Numbered}
 use Rattle.tac_desk.specs.declared.query.QueryFault.{QueryFault}
 use Rattle.tac_desk.specs.declared.query.QueryFault.TheVariants.{NoSuch, Memory}
 
@@ -53,6 +55,18 @@ tally_at meaning Group name =
 abbrev pub tally_report : Result Tally QueryFault → Result Report QueryFault
 tally_report (Ok tally) = Ok (reports.Tally tally)
 tally_report (Err fault) = Err fault
+
+-- ---- records
+
+-- the records after so many others, each with its number
+abbrev pub numbered_after : ℕ → List Record → List Numbered
+numbered_after before [] = []
+numbered_after before (item ∷ rest) =
+    record { number = before + 1; item = item } ∷ numbered_after (before + 1) rest
+
+-- those that are kept, each with the number that it had when it came
+abbrev pub numbered : Meaning → List Numbered
+numbered meaning = numbered_after meaning.forgotten meaning.records
 
 -- ---- rules
 
@@ -87,7 +101,7 @@ Reports meaning (queries.Tally subject) answer =
     answer ≡ tally_report (tally_at meaning subject.kind subject.name)
 Reports meaning (queries.Why user line) answer =
     answer ≡ Ok (reports.Why (decide meaning.policy user line))
-Reports meaning queries.Records answer = answer ≡ Ok (reports.Records meaning.records)
+Reports meaning queries.Records answer = answer ≡ Ok (reports.Records (numbered meaning))
 
 -- no other answer is right
 abbrev pub IsOnly : Meaning → Query → Result Report QueryFault → Type 0

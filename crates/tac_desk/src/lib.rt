@@ -3,11 +3,13 @@
 #![tactic(auto)]
 
 mod desk;
+mod numbered;
 mod query;
 mod state;
 mod thrice;
 
 pub use desk::Desk;
+pub use numbered::Numbered;
 pub use query::{Query, QueryFault, Report};
 pub use state::State;
 pub use thrice::Thrice;

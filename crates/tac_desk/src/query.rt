@@ -1,5 +1,6 @@
 //! Questions to a desk, and what they are answered.
 
+use crate::numbered::Numbered;
 use basics::{Bytes, Sequence, StructuralEq};
 use pol_meaning::{Reached, Shadowed};
 use pol_names::{Decision, Name, SubjectId};
@@ -7,7 +8,7 @@ use pol_text::Policy;
 use std::alloc::{AllocError, AllocFailed};
 use std::error::Error;
 use std::fmt;
-use tac_tally::{Record, Tally};
+use tac_tally::Tally;
 
 /// A question to a desk.
 #[derive(Debug, PartialEq, Eq)]
@@ -22,7 +23,7 @@ pub enum Query {
     Tally(SubjectId),
     /// What the policy says of a user's command line, and by which rule.
     Why { user: Name, line: Bytes },
-    /// Which records there are.
+    /// Which records are kept.
     Records,
 }
 
@@ -58,7 +59,7 @@ pub enum Report {
     /// Nothing where the policy has no such user.
     Why(Option<Decision>),
     /// In the order in which they came.
-    Records(Sequence<Record>),
+    Records(Sequence<Numbered>),
 }
 
 // By hand, so that a proof of an owner has one call at each exit, not a drop of each field.

@@ -5,15 +5,17 @@ ghost use Rattle.std.specs.Prelude.{◌≡◌, ◌↔◌, IsTrue};
 use basics::{Sequence, StructuralEq};
 use pol_text::Policy;
 use std::marker::Model;
-use tac_tally::Record;
+use tac_tally::{Record, RecordLimit};
 
 /// What a desk represents, apart from the desk. A contract sees that meaning.
 pub struct State {
     pub policy: Policy,
-    /// The accepted records, in the order in which they came.
+    /// The accepted records that are kept, in the order in which they came.
     pub records: Sequence<Record>,
-    /// The most records that are accepted.
-    pub record_limit: usize,
+    /// How many are kept, and what is done with one more.
+    pub record_limit: RecordLimit,
+    /// How many were forgotten.
+    pub forgotten: u64,
 }
 
 // By hand, so that a proof of an owner has one call at each exit, not a drop of each field.
@@ -23,6 +25,7 @@ impl Drop for State {
             policy: _,
             records: _,
             record_limit: _,
+            forgotten: _,
         } = self;
     }
 }
@@ -36,6 +39,7 @@ impl Model for State {
       policy = state.policy;
       records = state.records;
       limit = state.record_limit;
+      forgotten = state.forgotten;
     } };
 }
 
@@ -47,5 +51,6 @@ impl State {
         self.policy.same(&other.policy)
             && self.records.same(&other.records)
             && self.record_limit == other.record_limit
+            && self.forgotten == other.forgotten
     }
 }
