@@ -1,6 +1,6 @@
 -- The lines of records are told apart, and the fields of a line.
 use Rattle.std.proofs.Common.{◌≡◌, ℕ, suc, ◌^◌, ◌<◌, ◌&&◌, true, List, [], ◌∷◌, ◌++◌, drop, Option, Some, None, codes, nat_lt, append-nil, append_assoc, lit<, refl, sym, ap, ◌∙◌, arith}
-use Rattle.std.specs.List.{list_all}
+use Rattle.std.specs.List.{list_all, flat_map}
 use Rattle.std.specs.Fmt.{decimal}
 use Rattle.std.proofs.lemmas.Bool.Decides.{nat_tests}
 use Rattle.std.proofs.lemmas.Bool.{and_parts, and_from}
@@ -11,8 +11,9 @@ use Rattle.tac_request.specs.declared.record.AcctKind.{AcctKind}
 use Rattle.tac_request.specs.declared.record.AcctKind.TheVariants.{Begin, Stop, Watch, Update}
 use Rattle.tac_request.specs.declared.record.Record.{Record}
 use Rattle.tac_console.specs.Percent.{percent_form}
-use Rattle.tac_console.specs.Answers.{kind_text, line_field, record_line, record_lines}
-use Rattle.tac_console.specs.Apart.{are_bytes, is_record, HasNoBlank, AreApart}
+use Rattle.tac_desk.specs.declared.numbered.Numbered.{Numbered}
+use Rattle.tac_console.specs.Answers.{kind_text, line_field, record_line}
+use Rattle.tac_console.specs.Apart.{are_bytes, is_record, is_numbered, HasNoBlank, AreApart}
 use Rattle.tac_console.proofs.Spaces.{is_without, split_whole, split_front}
 use Rattle.tac_console.proofs.PercentFacts as percent
 use Rattle.tac_console.proofs.PercentFacts.{visible-without, percent_apart, decimal_visible}
@@ -101,9 +102,9 @@ body number item =
     codes "record " ++ (decimal number ++ 32 ∷ (codes "user " ++ (percent_form item.user ++ 32 ∷ (kind_text item.kind ++ 32 ∷
     (codes "task " ++ (percent_form item.task ++ 32 ∷ (codes "elapsed " ++ (decimal item.elapsed ++ line_field item.line))))))))
 
-line_is : (number : ℕ) (item : Record) (rest : List ℕ) → record_line number item ++ rest ≡ body number item ++ 10 ∷ rest
+line_is : (entry : Numbered) (rest : List ℕ) → record_line entry ++ rest ≡ body entry.number entry.item ++ 10 ∷ rest
 unfolding body
-line_is number item rest = simp append_assoc
+line_is entry rest = simp append_assoc
 
 record_parts : (a b : Record) → a.user ≡ b.user → a.kind ≡ b.kind → a.task ≡ b.task → a.elapsed ≡ b.elapsed → a.line ≡ b.line → a ≡ b
 record_parts a b user kind task elapsed line =
@@ -129,15 +130,17 @@ known item h =
     (c.0, c.1, b.1, small_seconds item.elapsed a.1)
 
 -- fields that are printed alike are the same
-bodies_apart : (number : ℕ) (a b : Record) → IsRecord a → IsRecord b → body number a ≡ body number b → a ≡ b
+bodies_apart : (m n : ℕ) (a b : Record) → m < 2 ^ 64 → n < 2 ^ 64 → IsRecord a → IsRecord b → body m a ≡ body n b → (m ≡ n) × (a ≡ b)
 unfolding body IsRecord
-bodies_apart number a b h k same =
-    let numbered = split_same 32 (decimal number) (decimal number) _ _ (decimal_without 32 number (lit< tt)) (decimal_without 32 number (lit< tt)) (ap (drop 7) same) in
-    let users = split_same 32 (percent_form a.user) (percent_form b.user) _ _ (percent_without 32 a.user (lit< tt) h.0) (percent_without 32 b.user (lit< tt) k.0) (ap (drop 5) numbered.1) in
+bodies_apart m n a b small_m small_n h k same =
+    let numbers = split_same 32 (decimal m) (decimal n) _ _ (decimal_without 32 m (lit< tt)) (decimal_without 32 n (lit< tt)) (ap (drop 7) same) in
+    let users = split_same 32 (percent_form a.user) (percent_form b.user) _ _ (percent_without 32 a.user (lit< tt) h.0) (percent_without 32 b.user (lit< tt) k.0) (ap (drop 5) numbers.1) in
     let kinds = split_same 32 (kind_text a.kind) (kind_text b.kind) _ _ (kind_without a.kind).0 (kind_without b.kind).0 users.1 in
     let tasks = split_same 32 (percent_form a.task) (percent_form b.task) _ _ (percent_without 32 a.task (lit< tt) h.1) (percent_without 32 b.task (lit< tt) k.1) (ap (drop 5) kinds.1) in
-    let ends = ends_apart a.elapsed b.elapsed a.line b.line h.3 k.3 h.2 k.2 (ap (drop 8) tasks.1) in
-    record_parts a b (percent_apart a.user b.user h.0 k.0 users.0) (kinds_apart a.kind b.kind kinds.0) (percent_apart a.task b.task h.1 k.1 tasks.0) ends.0 ends.1
+    let ends = ends_apart a.elapsed b.elapsed a.line b.line h.3 k.3 h.2 k.2 (ap (drop 8) tasks.1) in (
+      decimal_injective m n small_m small_n numbers.0,
+      record_parts a b (percent_apart a.user b.user h.0 k.0 users.0) (kinds_apart a.kind b.kind kinds.0) (percent_apart a.task b.task h.1 k.1 tasks.0) ends.0 ends.1,
+    )
 
 line_without : (line : Option (List ℕ)) → all_of are_bytes line ≡ true → is_without 10 (line_field line) ≡ true
 line_without None h = refl
@@ -155,26 +158,39 @@ body_without number item h =
 
 -- ---- all lines
 
-lines_apart : (number : ℕ) (a b : List Record) → list_all is_record a ≡ true → list_all is_record b ≡ true → record_lines number a ≡ record_lines number b → a ≡ b
-lines_apart number [] [] h k same = refl
-lines_apart number [] (y ∷ b) h k same = absurd cc
-lines_apart number (x ∷ a) [] h k same = absurd cc
-lines_apart number (x ∷ a) (y ∷ b) h k same =
-    let here = and_parts (is_record x) (list_all is_record a) h in
-    let there = and_parts (is_record y) (list_all is_record b) k in
-    let split = split_same 10 (body number x) (body number y) (record_lines (suc number) a) (record_lines (suc number) b)
-    (body_without number x (known x here.0)) (body_without number y (known y there.0))
-    (sym (line_is number x (record_lines (suc number) a)) ∙ same ∙ line_is number y (record_lines (suc number) b)) in
-    let first = bodies_apart number x y (known x here.0) (known y there.0) split.0 in
-    let rest = lines_apart (suc number) a b here.1 there.1 split.1 in
+small_number : (n : ℕ) → nat_lt n (2 ^ 64) ≡ true → n < 2 ^ 64
+small_number n h = grind (arith, nat_tests)
+
+entry_apart : (x y : Numbered) → is_numbered x ≡ true → is_numbered y ≡ true → body x.number x.item ≡ body y.number y.item → x ≡ y
+entry_apart x y h k same =
+    let here = and_parts (nat_lt x.number (2 ^ 64)) (is_record x.item) h in
+    let there = and_parts (nat_lt y.number (2 ^ 64)) (is_record y.item) k in
+    let parts = bodies_apart x.number y.number x.item y.item (small_number x.number here.0) (small_number y.number there.0) (known x.item here.1) (known y.item there.1) same in
+    ap (λ (n : ℕ). record x { number = n }) parts.0 ∙ ap (λ (i : Record). record y { item = i }) parts.1
+
+entry_without : (entry : Numbered) → is_numbered entry ≡ true → is_without 10 (body entry.number entry.item) ≡ true
+entry_without entry h = body_without entry.number entry.item (known entry.item (and_parts (nat_lt entry.number (2 ^ 64)) (is_record entry.item) h).1)
+
+lines_apart : (a b : List Numbered) → list_all is_numbered a ≡ true → list_all is_numbered b ≡ true → flat_map record_line a ≡ flat_map record_line b → a ≡ b
+lines_apart [] [] h k same = refl
+lines_apart [] (y ∷ b) h k same = absurd cc
+lines_apart (x ∷ a) [] h k same = absurd cc
+lines_apart (x ∷ a) (y ∷ b) h k same =
+    let here = and_parts (is_numbered x) (list_all is_numbered a) h in
+    let there = and_parts (is_numbered y) (list_all is_numbered b) k in
+    let split = split_same 10 (body x.number x.item) (body y.number y.item) (flat_map record_line a) (flat_map record_line b)
+    (entry_without x here.0) (entry_without y there.0)
+    (sym (line_is x (flat_map record_line a)) ∙ same ∙ line_is y (flat_map record_line b)) in
+    let first = entry_apart x y here.0 there.0 split.0 in
+    let rest = lines_apart a b here.1 there.1 split.1 in
     cc
 
 -- records that are printed alike are the same
-pub records_apart : (a b : List Record) → AreApart a b
+pub records_apart : (a b : List Numbered) → AreApart a b
 records_apart [] [] h k same = refl
 records_apart [] (y ∷ b) h k same = absurd cc
 records_apart (x ∷ a) [] h k same = absurd cc
-records_apart (x ∷ a) (y ∷ b) h k same = lines_apart 1 (x ∷ a) (y ∷ b) h k same
+records_apart (x ∷ a) (y ∷ b) h k same = lines_apart (x ∷ a) (y ∷ b) h k same
 
 -- a field in percent form has no blank and no line end
 pub percent_visible : (text : List ℕ) → HasNoBlank text

@@ -1,5 +1,5 @@
 -- How answers are printed (docs/CONSOLE.md). Every line ends in LF.
-use Rattle.std.specs.Prelude.{ℕ, suc, List, [], ◌∷◌, ◌++◌, codes, Option, Some, None, Result, Ok}
+use Rattle.std.specs.Prelude.{ℕ, List, [], ◌∷◌, ◌++◌, codes, Option, Some, None, Result, Ok}
 use Rattle.std.specs.Prelude.{Err}
 use Rattle.std.specs.List.{flat_map}
 use Rattle.std.specs.Option.{option_map_or}
@@ -16,9 +16,9 @@ use Rattle.pol_edit.specs.declared.fault.EditFault.{EditFault}
 use Rattle.pol_meaning.specs.declared.Changed.{Changed}
 use Rattle.tac_request.specs.declared.record.AcctKind.{AcctKind}
 use Rattle.tac_request.specs.declared.record.AcctKind.TheVariants.{Begin, Stop, Watch, Update}
-use Rattle.tac_request.specs.declared.record.Record.{Record}
 use Rattle.tac_tally.specs.declared.tally.Tally.{Tally}
 use Rattle.tac_desk.specs.FaultText as query_faults
+use Rattle.tac_desk.specs.declared.numbered.Numbered.{Numbered}
 use Rattle.tac_desk.specs.declared.query.Query.{Query}
 use Rattle.tac_desk.specs.declared.query.Query.TheVariants as queries
 use Rattle.tac_desk.specs.declared.query.Report.{Report}
@@ -103,21 +103,17 @@ kind_text Update = codes "update"
 abbrev pub line_field : Option (List ℕ) → List ℕ
 line_field line = option_map_or (λ line. codes " line " ++ percent_form line) line []
 
-abbrev pub record_line : ℕ → Record → List ℕ
-record_line number item =
-    codes "record " ++ decimal number ++ codes " user " ++ percent_form item.user
+abbrev pub record_line : Numbered → List ℕ
+record_line entry =
+    let item = entry.item in
+    codes "record " ++ decimal entry.number ++ codes " user " ++ percent_form item.user
     ++ codes " " ++ kind_text item.kind
     ++ codes " task " ++ percent_form item.task
     ++ codes " elapsed " ++ decimal item.elapsed ++ line_field item.line ++ 10 ∷ []
 
--- the first of these has this number
-abbrev pub record_lines : ℕ → List Record → List ℕ
-record_lines number [] = []
-record_lines number (item ∷ rest) = record_line number item ++ record_lines (suc number) rest
-
-abbrev pub records_text : List Record → List ℕ
+abbrev pub records_text : List Numbered → List ℕ
 records_text [] = codes "none" ++ 10 ∷ []
-records_text (item ∷ rest) = record_lines 1 (item ∷ rest)
+records_text (entry ∷ rest) = flat_map record_line (entry ∷ rest)
 
 -- ---- questions
 

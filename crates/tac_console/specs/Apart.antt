@@ -3,6 +3,7 @@ use Rattle.std.specs.Prelude.{◌≡◌, ◌^◌, ℕ, List, Bool, ◌&&◌, nat
 use Rattle.std.specs.List.{list_all}
 use Rattle.pol_text.specs.Policy.{all_of}
 use Rattle.tac_request.specs.declared.record.Record.{Record}
+use Rattle.tac_desk.specs.declared.numbered.Numbered.{Numbered}
 use Rattle.tac_console.specs.Percent.{percent_form}
 use Rattle.tac_console.specs.Answers.{records_text}
 
@@ -24,8 +25,12 @@ is_visible byte = nat_le 0x21 byte && nat_le byte 0x7E
 abbrev pub HasNoBlank : List ℕ → Type 0
 HasNoBlank text = IsTrue (are_bytes text) → IsTrue (list_all is_visible (percent_form text))
 
--- records that are printed alike are the same
-abbrev pub AreApart : List Record → List Record → Type 0
+-- the same with a number of 64 bits
+abbrev pub is_numbered : Numbered → Bool
+is_numbered entry = nat_lt entry.number (2 ^ 64) && is_record entry.item
+
+-- records that are printed alike are the same, and so are their numbers
+abbrev pub AreApart : List Numbered → List Numbered → Type 0
 AreApart a b =
-    IsTrue (list_all is_record a) → IsTrue (list_all is_record b)
+    IsTrue (list_all is_numbered a) → IsTrue (list_all is_numbered b)
     → records_text a ≡ records_text b → a ≡ b

@@ -5,7 +5,7 @@ ghost use Rattle.std.specs.Result.{ForOk};
 ghost use Rattle.pol_names.specs.Decision as decisions;
 ghost use Rattle.pol_names.specs.declared.decision.By.TheVariants as by;
 ghost use Rattle.tac_desk.specs.Reporting.{is_report_to};
-ghost use Rattle.tac_request.specs.declared.record.Record.{Record as RecordValue};
+ghost use Rattle.tac_desk.specs.declared.numbered.Numbered.{Numbered as NumberedValue};
 ghost use Rattle.tac_console.specs.Answers as answers;
 ghost use Rattle.tac_console.specs.Apart.{HasNoBlank, AreApart};
 
@@ -17,8 +17,8 @@ use pol_names::{By, Decision, SubjectId, Verdict};
 use std::alloc::{AllocError, Global};
 use std::io;
 use std::io::Write;
-use tac_desk::{Query, QueryFault, Report};
-use tac_tally::{AcctKind, Record, Tally};
+use tac_desk::{Numbered, Query, QueryFault, Report};
+use tac_tally::{AcctKind, Tally};
 use tac_wire::decimal_digits;
 
 // ---- tallies
@@ -105,9 +105,10 @@ fn write_line_field(out: &mut Vec<u8>, line: &Option<Bytes>) -> io::Result<()>
     Ok(())
 }
 
-fn write_record(out: &mut Vec<u8>, number: usize, item: &Record) -> io::Result<()>
-    ensures { OnOk result (out.new.items ≡ out.old.items ++ answers.record_line number item.now) }
+fn write_record(out: &mut Vec<u8>, entry: &Numbered) -> io::Result<()>
+    ensures { OnOk result (out.new.items ≡ out.old.items ++ answers.record_line entry.now) }
 {
+    let Numbered { number, item } = entry;
     let kind = kind_text(item.kind);
     let elapsed = item.elapsed;
     write!(out, "record {number} user ")?;
@@ -120,14 +121,14 @@ fn write_record(out: &mut Vec<u8>, number: usize, item: &Record) -> io::Result<(
     Ok(())
 }
 
-fn write_records(out: &mut Vec<u8>, records: &[Record]) -> io::Result<()>
+fn write_records(out: &mut Vec<u8>, records: &[Numbered]) -> io::Result<()>
     ensures { OnOk result (out.new.items ≡ out.old.items ++ answers.records_text records.now) }
 {
     if records.is_empty() {
         return writeln!(out, "none");
     }
-    'records: for (at, item) in records.iter().enumerate() {
-        write_record(out, at + 1, item)?;
+    'records: for entry in records {
+        write_record(out, entry)?;
     }
     Ok(())
 }
@@ -171,7 +172,7 @@ pub fn write_query_answer(
 
     // Records that are printed alike are the same, since a field has no blank and no line end.
     ensures fields { (text : List ℕ) → HasNoBlank text }
-    ensures apart { (a b : List RecordValue) → AreApart a b }
+    ensures apart { (a b : List NumberedValue) → AreApart a b }
 {
     match answer {
         Ok(report) => add(out, report_text(alloc, query, report)),
