@@ -1,5 +1,5 @@
 -- A login passes exactly for a user who is there, and proves to know the secret.
-use Rattle.std.proofs.Common.{◌≡◌, ◌↔◌, ℕ, List, [], ◌∷◌, ◌++◌, Bool, true, false, cond, if◌then◌else◌, Option, Some, None, Result, Ok, refl, sym, ap, ◌∙◌}
+use Rattle.std.proofs.Common.{◌≡◌, ◌↔◌, ℕ, List, Bool, true, false, cond, if◌then◌else◌, Option, Some, None, Result, Ok, refl, sym, ap, ◌∙◌}
 use Rattle.std.specs.Option.{option_and_then}
 use Rattle.std.proofs.lemmas.Slice.Eq.{bytes_eq-Decides}
 use Rattle.tac_wire.specs.Chap.{response_to}
@@ -21,7 +21,7 @@ use Rattle.tac_conn.specs.declared.ask.AskKind.{AskKind}
 use Rattle.tac_conn.specs.declared.ask.AskKind.TheVariants.{Authentication, Authorisation, Accounting}
 use Rattle.tac_conn.specs.Ask.{kind_of_answer}
 use Rattle.tac_desk.specs.Meaning.{Meaning}
-use Rattle.tac_desk.specs.Asking.{user_named, secret_for, is_proof_of, authenticated, authentication, Proves, LogsIn, level_for, by_verdict, decided, authorised, is_full, Answered, stored, asked, Passes}
+use Rattle.tac_desk.specs.Asking.{user_named, secret_for, is_proof_of, authenticated, authentication, Proves, LogsIn, level_for, by_verdict, decided, authorised, is_full, Answered, with_record, stored, asked, Passes}
 
 proves_true : (secret : List ℕ) (proof : Proof) → is_proof_of secret proof ≡ true → Proves secret proof
 proves_true secret (Plain password) = (bytes_eq-Decides password secret).0
@@ -72,7 +72,7 @@ stored_kind : (meaning : Meaning) (item : Record) → kind_of_answer (stored mea
 stored_kind meaning item = full (is_full meaning)
   where
     full : (b : Bool) → let told : Answered = (if b then record { answer = BookFull; meaning = meaning }
-        else record { answer = Stored; meaning = record meaning { records = meaning.records ++ item ∷ [] } }) in kind_of_answer told.answer ≡ Accounting
+        else record { answer = Stored; meaning = with_record item meaning }) in kind_of_answer told.answer ≡ Accounting
     full true = refl
     full false = refl
 

@@ -6,5 +6,6 @@ pub mod MarkFacts
 pub mod TallyFacts
 pub mod Unchanged
 pub mod Settling
+pub mod Keeping
 pub mod Recalled
 pub mod Rising

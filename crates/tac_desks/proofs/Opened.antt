@@ -1,13 +1,14 @@
 -- What a desk that is made of a policy represents.
-use Rattle.std.proofs.Common.{◌≡◌, ℕ, List, Ok, Err, refl, sym, ap}
+use Rattle.std.proofs.Common.{◌≡◌, List, Ok, Err, refl, sym, ap}
 use Rattle.pol_text.specs.declared.subject.Subject.{Subject}
 use Rattle.pol_live.specs.declared.fault.BuildFault.{BuildFault}
 use Rattle.pol_live.specs.Live.{Builds, IsOnlyBuilt}
-use Rattle.tac_desk.specs.Meaning.{Meaning, opening}
+use Rattle.tac_tally.specs.declared.limit.RecordLimit.{RecordLimit}
+use Rattle.tac_desk.specs.Meaning.{Meaning, opened}
 use Rattle.tac_desks.specs.Opening.{IsOnlyOpened}
 
-module _ (policy : List Subject) (limit : ℕ) where
-  pub opened_only : (built : List Subject) → Builds policy (Ok built) → IsOnlyBuilt policy (Ok built) → IsOnlyOpened policy limit (Ok (opening policy limit))
+module _ (policy : List Subject) (limit : RecordLimit) where
+  pub opened_only : (built : List Subject) → Builds policy (Ok built) → IsOnlyBuilt policy (Ok built) → IsOnlyOpened policy limit (Ok (opened policy limit))
   opened_only built h only (Ok meaning) k = ap (λ (m : Meaning). Ok m) (sym k.0)
   opened_only built h only (Err fault) k = let e : Ok built ≡ Err fault = only (Err fault) k in absurd cc
 

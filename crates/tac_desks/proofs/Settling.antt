@@ -18,7 +18,10 @@ module _ (policy : List Subject) (old new : Contents) (marks : List (Option Bool
 
   -- the records stay, and the limit does
   pub settled_meaning : (before : List Subject) → meaning_of policy new ≡ with_policy policy (meaning_of before old)
-  settled_meaning before = let limit : new.limit ≡ old.limit = ap (λ (b : Contents). b.limit) is in rw (records_so, limit) refl
+  settled_meaning before =
+      let limit : new.limit ≡ old.limit = ap (λ (b : Contents). b.limit) is in
+      let forgotten : new.forgotten ≡ old.forgotten = ap (λ (b : Contents). b.forgotten) is in
+      rw (records_so, limit, forgotten) refl
 
   -- the marks are by the new policy
   pub settled_marks : HasMarksBy policy new

@@ -7,8 +7,12 @@ use Rattle.tac_desk.specs.Reporting.{entries}
 
 -- the records count, and not their marks
 abbrev pub meaning_of : List Subject → Contents → Meaning
-meaning_of policy book =
-    record { policy = policy; records = items book.entries; limit = book.limit }
+meaning_of policy book = record {
+  policy = policy;
+  records = items book.entries;
+  limit = book.limit;
+  forgotten = book.forgotten;
+}
 
 -- the records of the book, with the marks that this policy gives
 abbrev pub entries_by : List Subject → Contents → List Entry

@@ -11,6 +11,7 @@ mod live_editing;
 mod live_reports;
 mod plain;
 mod reaching;
+mod records;
 mod recounting;
 mod remembering;
 mod tallies;

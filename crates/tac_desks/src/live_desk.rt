@@ -9,6 +9,7 @@ ghost use Rattle.pol_live.specs.Refusing.{is_memory};
 ghost use Rattle.pol_live.specs.Rise.{IsBuildRise, IsEditRise, Rises};
 ghost use Rattle.tac_conn.specs.Ask.{kind_of_ask, kind_of_answer};
 ghost use Rattle.tac_conn.specs.declared.ask.Answer.TheVariants as answers;
+ghost use Rattle.tac_tally.specs.Keeping.{refusing};
 ghost use Rattle.tac_desks.specs.Opening.{Opens, IsOnlyOpened};
 ghost use Rattle.tac_desks.specs.Metered.{unmetered};
 ghost use Rattle.tac_desk.specs.Asking as asking;
@@ -21,7 +22,7 @@ use crate::authentication::authentication;
 use crate::deciding::{authorisation_by, is_denied};
 use crate::live_editing::change_kept;
 use crate::live_reports::{reach_report_of, shadow_report_of, tally_by_marks};
-use crate::plain::copy_records;
+use crate::records::{copy_records, numbered};
 use crate::remembering::Remembered;
 use pol_automaton::Meter;
 use pol_edit::{BatchFault, Edit, EditFault};
@@ -33,7 +34,7 @@ use std::marker::Model;
 use std::slice;
 use tac_conn::{Answer, Ask};
 use tac_desk::{Desk, Query, QueryFault, Report, State, Thrice};
-use tac_tally::{Book, Record};
+use tac_tally::{Book, Record, RecordLimit};
 
 /// A desk that keeps the automata of its policy, the decisions on the lines that were asked last,
 /// and beside each record whether the policy denies its line. A line is decided by what is
@@ -85,9 +86,25 @@ impl LiveDesk {
     /// once.
     pub fn new(alloc: Global, policy: Policy, record_limit: usize) -> Result<LiveDesk, BuildFault>
         ensures found { UnlessMemory is_memory result
-            (Opens policy record_limit (unmetered result)) }
+            (Opens policy (refusing record_limit) (unmetered result)) }
         ensures only { UnlessMemory is_memory result
-            (IsOnlyOpened policy record_limit (unmetered result)) }
+            (IsOnlyOpened policy (refusing record_limit) (unmetered result)) }
+        ensures rises { IfOk result (λ desk. Rises (IsBuildRise policy) 0 desk.meter) }
+    {
+        LiveDesk::with_limit(alloc, policy, RecordLimit::refusing(record_limit))
+    }
+
+    /// A desk of this policy, without records, which keeps them as the limit says. Refused where a
+    /// subject is too large, with the first such subject in the policy's order. Builds all automata
+    /// once.
+    pub fn with_limit(
+        alloc: Global,
+        policy: Policy,
+        limit: RecordLimit,
+    ) -> Result<LiveDesk, BuildFault>
+        ensures found { UnlessMemory is_memory result (Opens policy limit (unmetered result)) }
+        ensures only { UnlessMemory is_memory result
+            (IsOnlyOpened policy limit (unmetered result)) }
 
         // The meter rises from nothing, by the residuals of each automaton that is made.
         ensures rises { IfOk result (λ desk. Rises (IsBuildRise policy) 0 desk.meter) }
@@ -99,7 +116,7 @@ impl LiveDesk {
             alloc,
             live,
             meter,
-            book: Book::new(alloc, record_limit),
+            book: Book::with_limit(alloc, limit),
             remembered,
         })
     }
@@ -112,7 +129,6 @@ impl LiveDesk {
     }
 
     // Stores a copy of the record, if there is room.
-    #[tactic(auto, using(crate::proofs::Unchanged::marks_pushed_so))]
     fn store(&mut self, item: &Record) -> Result<Answer, AllocError>
         ensures answer { IfOk result (λ answer.
             answer ≡ (asking.stored self.old.meaning item.now).answer) }
@@ -155,7 +171,7 @@ impl LiveDesk {
             }
             Query::Why { user, line } => Ok(Report::Why(self.live.decide(user, line.as_slice()))),
             Query::Records => {
-                let records = copy_records(self.alloc, self.book.records())?;
+                let records = numbered(self.alloc, &self.book)?;
                 Ok(Report::Records(records))
             }
         }
@@ -260,6 +276,7 @@ impl Desk for LiveDesk {
             policy,
             records,
             record_limit: self.book.limit(),
+            forgotten: self.book.forgotten(),
         })
     }
 }

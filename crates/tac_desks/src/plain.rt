@@ -3,6 +3,7 @@
 ghost use Rattle.std.specs.Prelude.{◌≡◌, true, Err, IsOk, IfOk, OnOk, OnErr};
 ghost use Rattle.pol_meaning.specs.Memory.{UnlessMemory};
 ghost use Rattle.pol_live.specs.Refusing.{is_memory};
+ghost use Rattle.tac_tally.specs.Keeping.{refusing};
 ghost use Rattle.tac_desks.specs.Opening.{Opens, IsOnlyOpened};
 ghost use Rattle.tac_desk.specs.Asking as asking;
 ghost use Rattle.tac_desk.specs.Reporting as reporting;
@@ -12,8 +13,8 @@ use crate::authentication::authentication;
 use crate::authorisation::authorisation;
 use crate::editing::change;
 use crate::reaching::{live_policy, reach_report, shadow_report};
+use crate::records::{copy_records, numbered};
 use crate::tallies::tally;
-use basics::Sequence;
 use pol_automaton::Meter;
 use pol_edit::{BatchFault, Edit, EditFault};
 use pol_live::{BuildFault, Live};
@@ -23,7 +24,7 @@ use std::alloc::{AllocError, Global};
 use std::marker::Model;
 use tac_conn::{Answer, Ask};
 use tac_desk::{Desk, Query, QueryFault, Report, State, Thrice};
-use tac_tally::{Book, Record};
+use tac_tally::{Book, Record, RecordLimit};
 
 /// A desk that keeps the policy and the records, and nothing that follows from them: each ask
 /// searches the policy from the top, each tally counts over all records, and each edit or batch of
@@ -60,35 +61,36 @@ impl Model for PlainDesk {
     ghost invariant = { λ desk. IsSmall desk.policy };
 }
 
-/// Copies of the records, in order.
-pub(crate) fn copy_records(
-    alloc: Global,
-    records: &[Record],
-) -> Result<Sequence<Record>, AllocError>
-    ensures { IfOk result (λ copy. copy ≡ records.now) }
-{
-    let mut copies = Sequence::new(alloc);
-    for record in records {
-        let copy = record.copy(alloc)?;
-        copies.push(copy)?;
-    }
-    Ok(copies)
-}
-
 impl PlainDesk {
     /// A desk of this policy, without records, that accepts at most so many. Refused where a
     /// subject is too large, with the first such subject in the policy's order. Builds all automata
     /// once.
     pub fn new(alloc: Global, policy: Policy, record_limit: usize) -> Result<PlainDesk, BuildFault>
-        ensures found { UnlessMemory is_memory result (Opens policy record_limit result) }
-        ensures only { UnlessMemory is_memory result (IsOnlyOpened policy record_limit result) }
+        ensures found { UnlessMemory is_memory result
+            (Opens policy (refusing record_limit) result) }
+        ensures only { UnlessMemory is_memory result
+            (IsOnlyOpened policy (refusing record_limit) result) }
+    {
+        PlainDesk::with_limit(alloc, policy, RecordLimit::refusing(record_limit))
+    }
+
+    /// A desk of this policy, without records, which keeps them as the limit says. Refused where a
+    /// subject is too large, with the first such subject in the policy's order. Builds all automata
+    /// once.
+    pub fn with_limit(
+        alloc: Global,
+        policy: Policy,
+        limit: RecordLimit,
+    ) -> Result<PlainDesk, BuildFault>
+        ensures found { UnlessMemory is_memory result (Opens policy limit result) }
+        ensures only { UnlessMemory is_memory result (IsOnlyOpened policy limit result) }
     {
         let mut meter = Meter::new();
         let live = Live::build(alloc, policy, &mut meter)?;
         Ok(PlainDesk {
             alloc,
             policy: live.into_policy(),
-            book: Book::new(alloc, record_limit),
+            book: Book::with_limit(alloc, limit),
         })
     }
 
@@ -134,7 +136,7 @@ impl PlainDesk {
                 Ok(Report::Why(decision))
             }
             Query::Records => {
-                let records = copy_records(self.alloc, self.book.records())?;
+                let records = numbered(self.alloc, &self.book)?;
                 Ok(Report::Records(records))
             }
         }
@@ -179,6 +181,7 @@ impl Desk for PlainDesk {
             policy,
             records,
             record_limit: self.book.limit(),
+            forgotten: self.book.forgotten(),
         })
     }
 }

@@ -1,5 +1,5 @@
 use Rattle.std.proofs.Common.{◌≡◌, take}
-use Rattle.tac_desks.proofs.plain.copy_records.Given as goal
+use Rattle.tac_desks.proofs.records.copy_records.Given as goal
 
 -- the first records are copied
 abbrev pub invariant-loop-record : goal.invariant-loop-record
