@@ -3,7 +3,7 @@ use Rattle.std.proofs.Common.{◌≡◌, ℕ, ◌+◌, Bool, false, List, [], �
 use Rattle.std.specs.Prelude.{is_err}
 use Rattle.std.proofs.lemmas.List.{map-append, reverse-append}
 use Rattle.tac_wire.specs.declared.frame.Frame.{Frame}
-use Rattle.tac_wire.specs.declared.frame.FrameFault.{FrameFault}
+use Rattle.tac_wire.specs.declared.frame.RefusedHeader.{RefusedHeader}
 use Rattle.tac_wire.specs.declared.framer.Next.{Next}
 use Rattle.tac_wire.specs.declared.framer.Next.TheVariants as nexts
 use Rattle.tac_wire.specs.Stream.{Parts, Tail, open_end, fault, Pending, unread, Item, whole, refused, unfinished, cut, cut_within, only, before_parts, first_item, parts_by, told as told_by, next_of, left_of, left_by, fed, continued}
@@ -83,7 +83,7 @@ need_told (whole frame rest) e = cc
 need_told (refused reason) e = cc
 need_told unfinished e = refl
 
-fault_told : (item : Item) (reason : FrameFault) → nexts.Fault reason ≡ told_by item → item ≡ refused reason
+fault_told : (item : Item) (reason : RefusedHeader) → nexts.Fault reason ≡ told_by item → item ≡ refused reason
 fault_told (whole frame rest) reason e = cc
 fault_told (refused other) reason e = cc
 fault_told unfinished reason e = cc
@@ -141,7 +141,7 @@ module _ (key bytes : List ℕ) (done : List Frame) (left : Parts) (old : Trail)
       let parts : left ≡ only (open_end ahead) = left_is unfinished (need_told (first_item ahead) (told_is nexts.Need e)) in
       (ap (λ (p : Parts). p.packets) parts, subst IsOpen (sym (ap (λ (p : Parts). p.tail) parts)) tt)
 
-  pub fault_turn : (reason : FrameFault) → nexts.Fault reason ≡ next_of old.framer → (left.packets ≡ []) × IsFault left.tail
+  pub fault_turn : (reason : RefusedHeader) → nexts.Fault reason ≡ next_of old.framer → (left.packets ≡ []) × IsFault left.tail
   fault_turn reason e =
       let parts : left ≡ only (fault reason) = left_is (refused reason) (fault_told (first_item ahead) reason (told_is (nexts.Fault reason) e)) in
       (ap (λ (p : Parts). p.packets) parts, subst IsFault (sym (ap (λ (p : Parts). p.tail) parts)) tt)

@@ -7,6 +7,7 @@ use Rattle.tac_wire.proofs.HeaderFacts.{header_of-header_bytes}
 use Rattle.tac_wire.specs.declared.header.Header.{Header}
 use Rattle.tac_wire.specs.declared.frame.Frame.{Frame}
 use Rattle.tac_wire.specs.declared.frame.FrameFault.{FrameFault}
+use Rattle.tac_wire.specs.declared.frame.RefusedHeader.{RefusedHeader}
 use Rattle.tac_wire.specs.Header.{header_bytes, header_of}
 use Rattle.tac_wire.specs.declared.framer.Next.{Next}
 use Rattle.tac_wire.specs.declared.framer.Next.TheVariants.{Packet, Fault}
@@ -82,14 +83,14 @@ header_item-append_whole : (reason : Option FrameFault) (header : Header) (tail 
 header_item-append_whole (Some reason) header tail more frame rest e = cc
 header_item-append_whole None header tail more frame rest e = packet_item-append header tail more frame rest e
 
-packet_item-refused : (header : Header) (tail : List ℕ) (reason : FrameFault) → packet_item header tail ≡ refused reason → ⊥
+packet_item-refused : (header : Header) (tail : List ℕ) (reason : RefusedHeader) → packet_item header tail ≡ refused reason → ⊥
 packet_item-refused header tail reason e =
     elim (cases_lt (length tail) header.length) [
       | inl lt ↦ let no : unfinished ≡ refused reason = sym (packet_item-short header tail lt) ∙ e in (cc)
       | inr le ↦ let no : whole (record { header = header; body = take header.length tail }) (drop header.length tail) ≡ refused reason = sym (packet_item-enough header tail le) ∙ e in (cc)
     ]
 
-header_item-append_refused : (found : Option FrameFault) (header : Header) (tail more : List ℕ) (reason : FrameFault) → header_item found header tail ≡ refused reason → header_item found header (tail ++ more) ≡ refused reason
+header_item-append_refused : (found : Option FrameFault) (header : Header) (tail more : List ℕ) (reason : RefusedHeader) → header_item found header tail ≡ refused reason → header_item found header (tail ++ more) ≡ refused reason
 header_item-append_refused (Some other) header tail more reason e = e
 header_item-append_refused None header tail more reason e = absurd (packet_item-refused header tail reason e)
 
@@ -110,7 +111,7 @@ first_item-append_whole bytes more frame rest e =
           ∙ header_item-append_whole (header_fault (header_of (take 12 bytes))) (header_of (take 12 bytes)) (drop 12 bytes) more frame rest (sym (first_item-enough bytes le) ∙ e)
     ]
 
-pub first_item-append_refused : (bytes more : List ℕ) (reason : FrameFault) → first_item bytes ≡ refused reason → first_item (bytes ++ more) ≡ refused reason
+pub first_item-append_refused : (bytes more : List ℕ) (reason : RefusedHeader) → first_item bytes ≡ refused reason → first_item (bytes ++ more) ≡ refused reason
 first_item-append_refused bytes more reason e =
     elim (cases_lt (length bytes) 12) [
       | inl lt ↦ let no : unfinished ≡ refused reason = sym (first_item-short bytes lt) ∙ e in (cc)
@@ -199,13 +200,13 @@ left-packet bytes frame e =
     let it = told-packet (first_item bytes) frame (sym e) in
     ap unread (sym (first_item-whole bytes frame it.0 it.1).after) ∙ ap (λ (item : Item). left_by item bytes) (sym it.1)
 
-pub left-fault : (item : Item) (bytes : List ℕ) (reason : FrameFault) → Fault reason ≡ told item → ended ≡ left_by item bytes
+pub left-fault : (item : Item) (bytes : List ℕ) (reason : RefusedHeader) → Fault reason ≡ told item → ended ≡ left_by item bytes
 left-fault (whole frame rest) bytes reason e = cc
 left-fault (refused other) bytes reason e = refl
 left-fault unfinished bytes reason e = cc
 
 -- where neither a packet nor a fault was told, all is left
-pub left-other : (next : Next) (item : Item) (bytes : List ℕ) → next ≡ told item → ((frame : Frame) → next ≡ Packet frame → ⊥) → ((reason : FrameFault) → next ≡ Fault reason → ⊥) → unread bytes ≡ left_by item bytes
+pub left-other : (next : Next) (item : Item) (bytes : List ℕ) → next ≡ told item → ((frame : Frame) → next ≡ Packet frame → ⊥) → ((reason : RefusedHeader) → next ≡ Fault reason → ⊥) → unread bytes ≡ left_by item bytes
 left-other next (whole frame rest) bytes e no_packet no_fault = absurd (no_packet frame e)
 left-other next (refused reason) bytes e no_packet no_fault = absurd (no_fault reason e)
 left-other next unfinished bytes e no_packet no_fault = refl

@@ -11,6 +11,7 @@ use Rattle.tac_wire.specs.declared.header.Header.{Header}
 use Rattle.tac_wire.specs.declared.frame.Frame.{Frame}
 use Rattle.tac_wire.specs.declared.frame.FrameFault.{FrameFault}
 use Rattle.tac_wire.specs.declared.frame.FrameFault.TheVariants.{BadVersion, Unencrypted, TooLong}
+use Rattle.tac_wire.specs.declared.frame.RefusedHeader.{RefusedHeader}
 use Rattle.tac_wire.specs.declared.framer.Next.{Next}
 use Rattle.tac_wire.specs.declared.framer.Next.TheVariants.{Packet, Need, Fault, Ended}
 
@@ -47,7 +48,7 @@ frame_bytes frame = header_bytes frame.header ++ frame.body
 -- is refused; or neither yet
 pub data Item : Type 0 where
   whole : Frame → List ℕ → Item
-  refused : FrameFault → Item
+  refused : RefusedHeader → Item
   unfinished : Item
 
 -- the item of a header that is taken, and what follows it
@@ -60,7 +61,7 @@ packet_item header rest =
 
 -- the item of a header, with its fault if it has one, and what follows it
 abbrev pub header_item : Option FrameFault → Header → List ℕ → Item
-header_item (Some fault) header rest = refused fault
+header_item (Some reason) header rest = refused (record { header = header; fault = reason })
 header_item None header rest = packet_item header rest
 
 -- a header is judged as soon as it is there, whatever there is of the body
@@ -83,7 +84,7 @@ IsTaken frame =
 -- what follows the last packet: bytes that are no whole item yet, or the header that was refused
 pub data Tail : Type 0 where
   open_end : List ℕ → Tail
-  fault : FrameFault → Tail
+  fault : RefusedHeader → Tail
 
 -- a stream, cut into packets
 pub record Parts : Type 0 where
@@ -101,7 +102,7 @@ before_parts packets parts = record parts { packets = packets ++ parts.packets }
 -- the parts of bytes that begin with this item, by the parts of what follows it
 abbrev pub parts_by : (List ℕ → Parts) → Item → List ℕ → Parts
 parts_by parts_of (whole frame rest) bytes = before_parts (frame ∷ []) (parts_of rest)
-parts_by parts_of (refused reason) bytes = only (fault reason)
+parts_by parts_of (refused header) bytes = only (fault header)
 parts_by parts_of unfinished bytes = only (open_end bytes)
 
 -- the parts, where at most so many packets are cut off
@@ -116,7 +117,7 @@ cut bytes = cut_within (length bytes) bytes
 -- what more bytes make of the parts so far: an open end goes on, and a fault stays
 abbrev pub resumed : List Frame → Tail → List ℕ → Parts
 resumed packets (open_end bytes) more = before_parts packets (cut (bytes ++ more))
-resumed packets (fault reason) more = record { packets = packets; tail = fault reason }
+resumed packets (fault header) more = record { packets = packets; tail = fault header }
 
 abbrev pub continued : Parts → List ℕ → Parts
 continued parts more = resumed parts.packets parts.tail more
@@ -135,7 +136,7 @@ fed ended piece = ended
 -- how an item is told
 abbrev pub told : Item → Next
 told (whole frame rest) = Packet frame
-told (refused reason) = Fault reason
+told (refused header) = Fault header
 told unfinished = Need
 
 abbrev pub next_of : Pending → Next
@@ -146,13 +147,13 @@ next_of ended = Ended
 abbrev pub IsPacket : Next → Type 0
 IsPacket (Packet frame) = Unit {0}
 IsPacket Need = ⊥
-IsPacket (Fault reason) = ⊥
+IsPacket (Fault header) = ⊥
 IsPacket Ended = ⊥
 
 -- what is left of these bytes once their first item was told
 abbrev pub left_by : Item → List ℕ → Pending
 left_by (whole frame rest) bytes = unread rest
-left_by (refused reason) bytes = ended
+left_by (refused header) bytes = ended
 left_by unfinished bytes = unread bytes
 
 abbrev pub left_of : Pending → Pending
@@ -165,7 +166,7 @@ BeginsWith (Packet frame) bytes =
     (bytes ≡ frame_bytes frame ++ drop (12 + length frame.body) bytes)
     × (length frame.body ≡ frame.header.length)
 BeginsWith Need bytes = Unit {0}
-BeginsWith (Fault reason) bytes = Unit {0}
+BeginsWith (Fault header) bytes = Unit {0}
 BeginsWith Ended bytes = Unit {0}
 
 -- these bytes in front of what is held
@@ -179,5 +180,5 @@ abbrev pub WasInFront : Next → Pending → Pending → Type 0
 WasInFront (Packet frame) before left =
     (before ≡ in_front (frame_bytes frame) left) × (length frame.body ≡ frame.header.length)
 WasInFront Need before left = Unit {0}
-WasInFront (Fault reason) before left = Unit {0}
+WasInFront (Fault header) before left = Unit {0}
 WasInFront Ended before left = Unit {0}

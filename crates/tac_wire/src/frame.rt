@@ -30,6 +30,14 @@ pub enum FrameFault {
     TooLong,
 }
 
+/// A header that is refused.
+#[derive(Clone, Copy, Debug, PartialEq, Eq)]
+pub struct RefusedHeader {
+    pub header: Header,
+    /// The first fault that it has.
+    pub fault: FrameFault,
+}
+
 // Why a header is refused, if it is.
 pub(crate) fn fault_of(header: &Header) -> Option<FrameFault>
     ensures { result ≡ header_fault header.now }

@@ -4,7 +4,7 @@ ghost use Rattle.std.specs.Prelude.{◌≡◌, ◌≢◌, ◌<◌, ◌++◌, Lis
 ghost use Rattle.tac_wire.specs.Stream as stream;
 ghost use Rattle.tac_wire.specs.declared.frame.Frame.{Frame as FrameValue};
 
-use crate::frame::{Frame, FrameFault, fault_of};
+use crate::frame::{Frame, RefusedHeader, fault_of};
 use crate::header::Header;
 use basics::Bytes;
 use std::alloc::{AllocError, Global};
@@ -21,7 +21,7 @@ pub enum Next {
     /// No whole item: the stream has to go on first.
     Need,
     /// A header that is refused. Nothing is read after it.
-    Fault(FrameFault),
+    Fault(RefusedHeader),
     /// A fault was told before.
     Ended,
 }
@@ -66,7 +66,7 @@ fn first_item(alloc: Global, bytes: &[u8]) -> Result<Next, AllocError>
     };
     let header = Header::read(head);
     if let Some(fault) = fault_of(&header) {
-        return Ok(Next::Fault(fault));
+        return Ok(Next::Fault(RefusedHeader { header, fault }));
     }
     let len = header.length as usize;
     if rest.len() < len {

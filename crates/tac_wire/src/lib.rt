@@ -16,7 +16,7 @@ pub use body::{
 };
 pub use chap::chap_response;
 pub use decimal::decimal_digits;
-pub use frame::{Frame, FrameFault};
+pub use frame::{Frame, FrameFault, RefusedHeader};
 pub use framer::{Framer, Next};
 pub use header::{Header, PacketType};
 pub use key::Key;

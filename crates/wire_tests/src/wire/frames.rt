@@ -97,12 +97,18 @@ fn a_packet_waits_for_nothing_after_it(rt: HostRuntime) -> Result<(), Fail> {
     waits_for_nothing(&rt, &mut framer)
 }
 
-// The framer tells this fault next.
-fn tells_fault<R: Abort>(rt: &R, framer: &mut Framer, fault: FrameFault) -> Result<(), Fail> {
-    match framer.next()? {
-        Next::Fault(found) => assert_eq!(rt; found, fault),
-        _ => return Err(Fail::from("no fault")),
-    }
+// The framer tells next that this header is refused, and with this fault.
+fn tells_fault<R: Abort>(
+    rt: &R,
+    framer: &mut Framer,
+    header: &[u8],
+    fault: FrameFault,
+) -> Result<(), Fail> {
+    let Next::Fault(refused) = framer.next()? else {
+        return Err(Fail::from("no fault"));
+    };
+    assert_eq!(rt; refused.fault, fault);
+    assert_eq!(rt; refused.header.write().as_slice(), header);
     Ok(())
 }
 
@@ -116,7 +122,7 @@ fn ends_by<R: Abort>(
     framer.feed(&STREAM[..15])?;
     framer.feed(header)?;
     told(rt, framer, 1, b"abc")?;
-    tells_fault(rt, framer, fault)?;
+    tells_fault(rt, framer, header, fault)?;
     // It is told once, and nothing is kept from then on.
     told(rt, framer, 0, b"(ended)")?;
     framer.feed(STREAM)?;
