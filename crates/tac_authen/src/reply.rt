@@ -29,7 +29,7 @@ impl AuthenStatus {
 }
 
 /// An authentication reply (RFC 8907, section 5.2), of those that this server sends: with no data.
-#[derive(Debug, Drop)]
+#[derive(Debug, Drop, PartialEq, Eq)]
 pub struct AuthenReply {
     pub status: AuthenStatus,
     /// Whether the client is not to show what the user types.

@@ -17,7 +17,7 @@ impl AcctStatus {
 }
 
 /// An accounting reply (RFC 8907, section 7.2), of those that this server sends: with no data.
-#[derive(Debug, Drop)]
+#[derive(Debug, Drop, PartialEq, Eq)]
 pub struct AcctReply {
     pub status: AcctStatus,
     /// The field server_msg.

@@ -28,7 +28,7 @@ impl AuthorStatus {
 
 /// An authorisation reply (RFC 8907, section 6.2), of those that this server sends: with no data,
 /// and no argument other than a privilege level.
-#[derive(Debug, Drop)]
+#[derive(Debug, Drop, PartialEq, Eq)]
 pub struct AuthorReply {
     pub status: AuthorStatus,
     /// The field server_msg.
