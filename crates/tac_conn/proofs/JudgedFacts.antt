@@ -180,15 +180,15 @@ module _ {single : Bool} {count : ℕ} {known : Option Session} {packet : Packet
   opens_read silent h = absurd cc
   opens_read shut h = absurd cc
 
-  asks_in_slot : {outcome : Outcome} (key : List ℕ) → ComesTo single count known packet outcome → HasItsSlot (step_of key outcome)
-  asks_in_slot key (begins start none e read turn room) = tt
-  asks_in_slot key (goes_on session answer some waits e read turn) = tt
-  asks_in_slot key (ended kind reply plain) = tt
-  asks_in_slot key (broken kind) = tt
-  asks_in_slot key refused = tt
-  asks_in_slot key (asked ask) = refl
-  asks_in_slot key silent = tt
-  asks_in_slot key shut = tt
+  asks_in_slot : {outcome : Outcome} → ComesTo single count known packet outcome → HasItsSlot (step_of outcome)
+  asks_in_slot (begins start none e read turn room) = tt
+  asks_in_slot (goes_on session answer some waits e read turn) = tt
+  asks_in_slot (ended kind reply plain) = tt
+  asks_in_slot (broken kind) = tt
+  asks_in_slot refused = tt
+  asks_in_slot (asked ask) = refl
+  asks_in_slot silent = tt
+  asks_in_slot shut = tt
 
   grants_nothing : {outcome : Outcome} → ComesTo single count known packet outcome → GrantsNothing outcome
   grants_nothing (begins start none e read turn room) = plain_question start.user
@@ -227,8 +227,8 @@ pub judged_open_is_read : (single : Bool) (count : ℕ) (known : Option Session)
 judged_open_is_read single count known packet h = opens_read (judged_comes single count packet known) h
 
 -- each ask has the slot of its kind
-pub judged_has_its_slot : (key : List ℕ) (single : Bool) (count : ℕ) (known : Option Session) (packet : Packet) → HasItsSlot (step_of key (judged single count known packet))
-judged_has_its_slot key single count known packet = asks_in_slot key (judged_comes single count packet known)
+pub judged_has_its_slot : (single : Bool) (count : ℕ) (known : Option Session) (packet : Packet) → HasItsSlot (step_of (judged single count known packet))
+judged_has_its_slot single count known packet = asks_in_slot (judged_comes single count packet known)
 
 pub judged_grants_nothing : (single : Bool) (count : ℕ) (known : Option Session) (packet : Packet) → GrantsNothing (judged single count known packet)
 judged_grants_nothing single count known packet = grants_nothing (judged_comes single count packet known)

@@ -81,7 +81,7 @@ open_sessions-alone (packet ∷ earlier) e =
 
 -- ---- an answer that is waited for
 
-pub awaited : (said : Outcome) (slot : Slot) (answer : Answer) → slot_in (step_of [] said) ≡ Some slot → (reply_of said answer ≡ Some (reply_in slot (answer_body answer))) × (closes said ≡ not slot.single)
+pub awaited : (said : Outcome) (slot : Slot) (answer : Answer) → slot_in (step_of said) ≡ Some slot → (reply_of said answer ≡ Some (reply_in slot (answer_body answer))) × (closes said ≡ not slot.single)
 awaited (Question reply session) slot answer e = absurd cc
 awaited (Reply reply ends) slot answer e = absurd cc
 awaited (Asks ask other) slot answer e =
@@ -91,7 +91,7 @@ awaited Silent slot answer e = absurd cc
 awaited Close slot answer e = absurd cc
 
 -- what waits for an answer is what the last packet asks
-pub last_asks : (conn : Conn) (packet : Packet) (earlier : List Packet) (slot : Slot) → Stands conn (packet ∷ earlier) → pending_of conn ≡ Some slot → slot_in (step_of [] (outcome earlier packet)) ≡ Some slot
+pub last_asks : (conn : Conn) (packet : Packet) (earlier : List Packet) (slot : Slot) → Stands conn (packet ∷ earlier) → pending_of conn ≡ Some slot → slot_in (step_of (outcome earlier packet)) ≡ Some slot
 last_asks conn packet earlier slot stands waits = subst (λ (k : Option Slot). IsLast k (packet ∷ earlier)) waits stands.pending
 
 -- once the answer is given nothing waits

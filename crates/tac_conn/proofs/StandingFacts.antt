@@ -24,10 +24,10 @@ open_is_read conn packet said e h =
     (subst (λ (o : Outcome). leaves_open o ≡ true) e h)
 
 -- an ask has the slot of its kind
-pub outcome_in_has_its_slot : (key : List ℕ) (conn : Conn) (packet : Packet) → HasItsSlot (step_of key (outcome_in conn packet))
+pub outcome_in_has_its_slot : (conn : Conn) (packet : Packet) → HasItsSlot (step_of (outcome_in conn packet))
 unfolding outcome_in
-outcome_in_has_its_slot key conn packet =
-    judged_has_its_slot key (single_with conn.single packet.header) (length conn.sessions) (session_in conn.sessions packet.header.session) packet
+outcome_in_has_its_slot conn packet =
+    judged_has_its_slot (single_with conn.single packet.header) (length conn.sessions) (session_in conn.sessions packet.header.session) packet
 
 -- ---- no packets
 
@@ -174,7 +174,7 @@ module _ (conn : Conn) (packet : Packet) (earlier : List Packet) (stands : Stand
       ∙ ap (λ (k : Option Session). is_read (is_single (packet ∷ earlier)) (open_sessions earlier) k packet) (lists.each packet.header.session) in
       rw not_closed (sym by_packets ∙ h)
 
-  last_slot : (waits : Option Slot) → slot_in (step_of [] (outcome earlier packet)) ≡ waits → IsLast waits (packet ∷ earlier)
+  last_slot : (waits : Option Slot) → slot_in (step_of (outcome earlier packet)) ≡ waits → IsLast waits (packet ∷ earlier)
   last_slot None e = tt
   last_slot (Some slot) e = e
 
@@ -185,7 +185,7 @@ module _ (conn : Conn) (packet : Packet) (earlier : List Packet) (stands : Stand
     single = λ h. ap (λ (b : Bool). Some b) same_single;
     sessions = λ h. subst (λ (o : Outcome). Lists (settled packet.header.session (session_left o) conn.sessions) (packet ∷ earlier))
         (sym (same_outcome conn.sessions packet earlier (stands.sessions alive))) (lists_next conn.sessions packet earlier (stands.sessions alive));
-    pending = last_slot _ (ap (λ (o : Outcome). slot_in (step_of [] o)) (sym judged_after-outcome));
+    pending = last_slot _ (ap (λ (o : Outcome). slot_in (step_of o)) (sym judged_after-outcome));
   }
 
   -- what is kept after a packet represents the packets with that one

@@ -11,8 +11,7 @@ use Rattle.tac_conn.specs.declared.step.Step.{Step}
 use Rattle.tac_conn.specs.declared.step.Step.TheVariants.{Reply, Asks, Silent, Close}
 use Rattle.tac_conn.specs.declared.conn.Conn.{Conn}
 use Rattle.tac_conn.specs.Ask.{kind_of_ask}
-use Rattle.tac_conn.specs.Packet.{sent}
-use Rattle.tac_conn.specs.Reply.{packet_of, is_success}
+use Rattle.tac_conn.specs.Reply.{is_success}
 use Rattle.tac_conn.specs.Judging.{closes, judged, is_read, max_sessions}
 use Rattle.tac_conn.specs.History.{asks_single, is_single, open_session, open_sessions, is_closed}
 use Rattle.tac_conn.specs.History.{outcome}
@@ -20,13 +19,13 @@ use Rattle.tac_conn.specs.Sessions.{session_in, settled, HasEachOnce}
 
 -- ---- a step
 
--- what is done for a packet of this outcome: the pad is put on what is sent
-abbrev pub step_of : List ℕ → Outcome → Step
-step_of key (comes_to.Question reply session) = Reply (sent key (packet_of reply)) false
-step_of key (comes_to.Reply reply ends) = Reply (sent key (packet_of reply)) ends
-step_of key (comes_to.Asks ask slot) = Asks ask slot
-step_of key comes_to.Silent = Silent
-step_of key comes_to.Close = Close
+-- what is done for a packet of this outcome: only the connection knows of its session
+abbrev pub step_of : Outcome → Step
+step_of (comes_to.Question reply session) = Reply reply false
+step_of (comes_to.Reply reply ends) = Reply reply ends
+step_of (comes_to.Asks ask slot) = Asks ask slot
+step_of comes_to.Silent = Silent
+step_of comes_to.Close = Close
 
 -- the session that is open from then on
 abbrev pub session_left : Outcome → Option Session
@@ -38,21 +37,21 @@ session_left comes_to.Close = None
 
 -- whether the connection closes, at once or with the answer
 abbrev pub step_closes : Step → Bool
-step_closes (Reply sent ends) = ends
+step_closes (Reply reply ends) = ends
 step_closes (Asks ask slot) = not slot.single
 step_closes Silent = false
 step_closes Close = true
 
 -- the slot that waits for its answer
 abbrev pub slot_in : Step → Option Slot
-slot_in (Reply sent ends) = None
+slot_in (Reply reply ends) = None
 slot_in (Asks ask slot) = Some slot
 slot_in Silent = None
 slot_in Close = None
 
 -- the slot of an ask takes the answers to it
 abbrev pub HasItsSlot : Step → Type 0
-HasItsSlot (Reply sent ends) = Unit {0}
+HasItsSlot (Reply reply ends) = Unit {0}
 HasItsSlot (Asks ask slot) = slot.kind ≡ kind_of_ask ask
 HasItsSlot Silent = Unit {0}
 HasItsSlot Close = Unit {0}
@@ -98,7 +97,7 @@ conn_after conn header outcome = record conn {
   single = Some (single_with conn.single header);
   closed = closes outcome;
   sessions = settled header.session (session_left outcome) conn.sessions;
-  pending = slot_in (step_of [] outcome);
+  pending = slot_in (step_of outcome);
 }
 
 -- whether the connection is single, as far as it is known
@@ -117,7 +116,7 @@ pub record Lists (sessions : List Session) (packets : List Packet) : Type 0 wher
 abbrev pub IsLast : Option Slot → List Packet → Type 0
 IsLast None packets = Unit {0}
 IsLast (Some slot) [] = ⊥
-IsLast (Some slot) (packet ∷ earlier) = slot_in (step_of [] (outcome earlier packet)) ≡ Some slot
+IsLast (Some slot) (packet ∷ earlier) = slot_in (step_of (outcome earlier packet)) ≡ Some slot
 
 -- what is kept represents a connection on which these packets came; of a closed one
 -- no session matters

@@ -2,10 +2,9 @@
 
 ghost use Rattle.std.specs.Prelude.{◌≡◌, ◌≤◌, [], ◌∷◌, List, false, not, None, Some, Ok, IsTrue};
 ghost use Rattle.std.specs.Prelude.{IfOk, IfSome, OnOk, OnErr};
-ghost use Rattle.std.specs.Option.{option_map};
 ghost use Rattle.tac_conn.specs.Ask.{kind_of_answer, kind_asked};
-ghost use Rattle.tac_conn.specs.Packet.{clear, sent};
-ghost use Rattle.tac_conn.specs.Reply.{IsReplyTo, packet_of, answer_body};
+ghost use Rattle.tac_conn.specs.Packet.{clear};
+ghost use Rattle.tac_conn.specs.Reply.{IsReplyTo, answer_body};
 ghost use Rattle.tac_conn.specs.Judging as judging;
 ghost use Rattle.tac_conn.specs.History as history;
 ghost use Rattle.tac_conn.specs.Standing as standing;
@@ -17,9 +16,9 @@ use crate::ask::{Answer, Slot};
 use crate::judging::judge;
 use crate::outcome::{Outcome, reply_in};
 use crate::packet::Packet;
-use crate::reply;
+use crate::reply::{Reply, answer_body};
 use crate::session::{Session, find_session, settle};
-use crate::step::{Sent, Step};
+use crate::step::Step;
 use basics::Sequence;
 use std::alloc::{AllocError, Global};
 use tac_wire::{Frame, Header, Key};
@@ -85,14 +84,14 @@ impl Conn {
     }
 
     // Does what follows from the outcome of a packet of this header.
-    fn follow(&mut self, key: &Key, header: &Header, outcome: Outcome) -> Result<Step, AllocError>
+    fn follow(&mut self, header: &Header, outcome: Outcome) -> Result<Step, AllocError>
         ensures ok { OnOk result (self.new ≡ standing.conn_after self.old header.now outcome) }
-        ensures step { IfOk result (λ step. step ≡ standing.step_of key.now outcome) }
+        ensures step { IfOk result (λ step. step ≡ standing.step_of outcome) }
         ensures err { OnErr result (self.new ≡ self.old) }
         ensures memory { OnErr result (IsTrue (judging.leaves_open outcome)) }
     {
         let single = single_with(self.single, header);
-        let (step, session) = outcome.into_step(key);
+        let (step, session) = outcome.into_step();
         settle(&mut self.sessions, header.session, session)?;
         self.single = Some(single);
         self.closed = step.closes();
@@ -101,28 +100,28 @@ impl Conn {
     }
 
     // Takes a packet on a connection that is open.
-    fn take_open(&mut self, key: &Key, packet: &Packet) -> Result<Step, AllocError>
+    fn take_open(&mut self, packet: &Packet) -> Result<Step, AllocError>
         ensures ok { let outcome = standing.outcome_in self.old packet.now in
             OnOk result (self.new ≡ standing.conn_after self.old packet.now.header outcome) }
-        ensures step { IfOk result (λ step.
-            step ≡ standing.step_of key.now (standing.outcome_in self.old packet.now)) }
+        ensures step { IfOk result
+            (λ step. step ≡ standing.step_of (standing.outcome_in self.old packet.now)) }
         ensures err { OnErr result (self.new ≡ self.old) }
         ensures memory { OnErr result (IsTrue (standing.is_read_in self.old packet.now)) }
     {
         let outcome = self.judge(packet)?;
-        self.follow(key, &packet.header, outcome)
+        self.follow(&packet.header, outcome)
     }
 
     /// Takes a packet that came, without its pad, where no answer is waited for.
     ///
     /// A closed connection answers [`Step::Close`] and stays as it is. The error means that memory
     /// ran out: nothing has changed.
-    pub fn take_clear(&mut self, key: &Key, packet: &Packet) -> Result<Step, AllocError>
+    pub fn take_clear(&mut self, packet: &Packet) -> Result<Step, AllocError>
         requires { standing.pending_of self.old ≡ None }
         // What is done is the packet's outcome, by the clear packets that came before it.
         ensures step { (earlier : List PacketValue) → standing.Stands self.old earlier →
             let outcome = history.outcome earlier packet.now in
-            IfOk result (λ step. step ≡ standing.step_of key.now outcome) }
+            IfOk result (λ step. step ≡ standing.step_of outcome) }
         ensures stands { (earlier : List PacketValue) → standing.Stands self.old earlier →
             OnOk result (standing.Stands self.new (packet.now ∷ earlier)) }
         ensures pending { IfOk result
@@ -138,26 +137,28 @@ impl Conn {
         if self.closed {
             return Ok(Step::Close);
         }
-        self.take_open(key, packet)
+        self.take_open(packet)
     }
 
-    /// Takes a packet that came, with the pad on its body, where no answer is waited for.
+    /// Takes a packet that came, with the pad on its body, where no answer is waited for, and gives
+    /// it back without the pad, beside what is done for it.
     ///
     /// A closed connection answers [`Step::Close`] and stays as it is. The error means that memory
     /// ran out: nothing has changed, and the packet is gone.
-    pub fn take(&mut self, key: &Key, frame: Frame) -> Result<Step, AllocError>
+    pub fn take(&mut self, key: &Key, frame: Frame) -> Result<(Packet, Step), AllocError>
         requires { standing.pending_of self.old ≡ None }
+        ensures packet { IfOk result (λ taken. taken.0 ≡ clear key.now frame) }
         // What is done is the packet's outcome, by the clear packets that came before it.
         ensures step { (earlier : List PacketValue) → standing.Stands self.old earlier →
             let outcome = history.outcome earlier (clear key.now frame) in
-            IfOk result (λ step. step ≡ standing.step_of key.now outcome) }
+            IfOk result (λ taken. taken.1 ≡ standing.step_of outcome) }
         ensures stands { (earlier : List PacketValue) → standing.Stands self.old earlier →
             OnOk result (standing.Stands self.new (clear key.now frame ∷ earlier)) }
         ensures pending { IfOk result
-            (λ step. standing.pending_of self.new ≡ standing.slot_in step) }
-        ensures kind { IfOk result standing.HasItsSlot }
+            (λ taken. standing.pending_of self.new ≡ standing.slot_in taken.1) }
+        ensures kind { IfOk result (λ taken. standing.HasItsSlot taken.1) }
         ensures closed { IsTrue (standing.closed_of self.old) →
-            (result ≡ Ok steps.Close) × (self.new ≡ self.old) }
+            (result ≡ Ok (clear key.now frame, steps.Close)) × (self.new ≡ self.old) }
         ensures err { OnErr result (self.new ≡ self.old) }
         // Only a packet that is read takes memory, so any other is refused in any case.
         ensures memory { (earlier : List PacketValue) → standing.Stands self.old earlier →
@@ -171,24 +172,26 @@ impl Conn {
             history.open_sessions packets ≤ 1 }
     {
         let packet = Packet::clear(key, frame);
-        self.take_clear(key, &packet)
+        match self.take_clear(&packet) {
+            Ok(step) => Ok((packet, step)),
+            Err(error) => Err(error),
+        }
     }
 
     /// The reply that carries the desk's answer, and whether the connection closes then. The slot
     /// is the one that waits, and the answer is one to what was asked. Takes no memory.
-    pub fn give(&mut self, key: &Key, slot: Slot, answer: Answer) -> (Sent, bool)
+    pub fn give(&mut self, slot: Slot, answer: Answer) -> (Reply, bool)
         requires pending { standing.pending_of self.old ≡ Some slot }
         requires kind { kind_of_answer answer ≡ kind_asked slot }
         // It is the reply to the packets that came, with this answer.
         ensures reply { (packet : PacketValue) (earlier : List PacketValue) →
             standing.Stands self.old (packet ∷ earlier) →
-            let reply = judging.reply_of (history.outcome earlier packet) answer in
-            Some result.0 ≡ option_map (λ reply. sent key.now (packet_of reply)) reply }
+            Some result.0 ≡ judging.reply_of (history.outcome earlier packet) answer }
         ensures closes { (packet : PacketValue) (earlier : List PacketValue) →
             standing.Stands self.old (packet ∷ earlier) →
             result.1 ≡ judging.closes (history.outcome earlier packet) }
         ensures slot { let reply = judging.reply_in slot (answer_body answer) in
-            result ≡ (sent key.now (packet_of reply), not slot.single) }
+            result ≡ (reply, not slot.single) }
         ensures pending { standing.pending_of self.new ≡ None }
         ensures stands { (packets : List PacketValue) →
             standing.Stands self.old packets → standing.Stands self.new packets }
@@ -199,7 +202,6 @@ impl Conn {
             (IsReplyTo packet.header) }
     {
         self.pending = None;
-        let reply = reply_in(slot, reply::answer_body(answer));
-        (Sent::new(key, &reply), !slot.single)
+        (reply_in(slot, answer_body(answer)), !slot.single)
     }
 }

@@ -6,8 +6,8 @@ ghost use Rattle.tac_conn.specs.Judging as judging;
 use crate::ask::{Ask, AskKind, Slot};
 use crate::reply::{Reply, ReplyBody, bad_body};
 use crate::session::Session;
-use crate::step::{Sent, Step};
-use tac_wire::{Header, Key};
+use crate::step::Step;
+use tac_wire::Header;
 
 /// The outcome of a packet. Contracts speak of it; no public call takes or gives one.
 #[derive(Drop)]
@@ -29,15 +29,13 @@ impl Outcome {
     ghost use Rattle.tac_conn.specs.Standing.{step_of, session_left};
 
     /// What is done, and the packet's session, if that is open from then on.
-    pub(crate) fn into_step(self, key: &Key) -> (Step, Option<Session>)
-        ensures step { result.0 ≡ step_of key.now self }
+    pub(crate) fn into_step(self) -> (Step, Option<Session>)
+        ensures step { result.0 ≡ step_of self }
         ensures session { result.1 ≡ session_left self }
     {
         match self {
-            Outcome::Question(reply, session) => {
-                (Step::Reply(Sent::new(key, &reply), false), Some(session))
-            }
-            Outcome::Reply(reply, closes) => (Step::Reply(Sent::new(key, &reply), closes), None),
+            Outcome::Question(reply, session) => (Step::Reply(reply, false), Some(session)),
+            Outcome::Reply(reply, closes) => (Step::Reply(reply, closes), None),
             Outcome::Asks(ask, slot) => (Step::Asks(ask, slot), None),
             Outcome::Silent => (Step::Silent, None),
             Outcome::Close => (Step::Close, None),

@@ -7,7 +7,7 @@ use basics::Bytes;
 use tac_wire::{Frame, Header, Key, pad_in_place};
 
 /// A packet that came, without the pad.
-#[derive(Drop)]
+#[derive(Drop, PartialEq, Eq)]
 pub struct Packet {
     pub header: Header,
     pub body: Bytes,

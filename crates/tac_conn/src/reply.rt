@@ -16,8 +16,8 @@ use tac_request::{
 use tac_wire::{Header, MESSAGE_MAX, Message, REPLY_MAX, decimal_digits, message_of};
 
 /// What a reply says.
-#[derive(Drop)]
-pub(crate) enum ReplyBody {
+#[derive(Drop, PartialEq, Eq)]
+pub enum ReplyBody {
     Authentication(AuthenReply),
     Authorisation(AuthorReply),
     Accounting(AcctReply),
@@ -40,11 +40,11 @@ impl ReplyBody {
     }
 }
 
-/// A reply before it is spelled. The length in its header is set then.
-#[derive(Drop)]
-pub(crate) struct Reply {
-    pub(crate) header: Header,
-    pub(crate) body: ReplyBody,
+/// A reply in clear, before it is spelled. The length in its header is set then.
+#[derive(Drop, PartialEq, Eq)]
+pub struct Reply {
+    pub header: Header,
+    pub body: ReplyBody,
 }
 
 // An authentication reply that shows what is typed.

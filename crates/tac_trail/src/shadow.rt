@@ -63,7 +63,7 @@ fn some_answer(kind: AskKind) -> Answer
 }
 
 // Gives some answer, where one is waited for, and tells whether the connection closes.
-fn settle(conn: &mut Conn, key: &Key, step: &Step) -> bool
+fn settle(conn: &mut Conn, step: &Step) -> bool
     requires pending { conns.pending_of conn.old ≡ conns.slot_in step.now }
     requires kind { conns.HasItsSlot step.now }
     ensures closes { result ≡ conns.step_closes step.now }
@@ -73,19 +73,19 @@ fn settle(conn: &mut Conn, key: &Key, step: &Step) -> bool
 {
     match step {
         Step::Reply(_, closes) => *closes,
-        Step::Asks(_, slot) => conn.give(key, *slot, some_answer(slot.kind())).1,
+        Step::Asks(_, slot) => conn.give(*slot, some_answer(slot.kind())).1,
         Step::Silent => false,
         Step::Close => true,
     }
 }
 
 // What a step is, by whether the connection closes.
-fn followed(step: Step, closes: bool) -> Course
-    ensures { (key : List ℕ) (said : OutcomeValue) → step ≡ conns.step_of key said →
-        closes ≡ conns.step_closes step → result ≡ course.course_of key said }
+fn followed(key: &Key, step: Step, closes: bool) -> Course
+    ensures { (said : OutcomeValue) → step ≡ conns.step_of said →
+        closes ≡ conns.step_closes step → result ≡ course.course_of key.now said }
 {
     match step {
-        Step::Reply(sent, closes) => Course::Reply(sent, closes),
+        Step::Reply(reply, closes) => Course::Reply(reply.sent(key), closes),
         Step::Asks(_ask, _slot) => Course::Answer(closes),
         Step::Silent => Course::Silent,
         Step::Close => Course::Close,
@@ -128,10 +128,10 @@ impl Shadow {
         ensures stands { (earlier : List PacketValue) → conns.Stands self.old earlier →
             OnOk result (conns.Stands self.new (packet.now ∷ earlier)) }
     {
-        match self.conn.take_clear(key, packet) {
+        match self.conn.take_clear(packet) {
             Ok(step) => {
-                let closes = settle(&mut self.conn, key, &step);
-                Ok(followed(step, closes))
+                let closes = settle(&mut self.conn, &step);
+                Ok(followed(key, step, closes))
             }
             Err(error) => Err(error),
         }

@@ -6,7 +6,7 @@ use std::alloc::{AllocError, Global};
 use std::fmt::Write;
 use std::process::Abort;
 use std::test::Fail;
-use tac_conn::{Answer, Ask, By, Conn, Name, Proof, Record, Step, SubjectId};
+use tac_conn::{Answer, Ask, By, Conn, Name, Proof, Record, Sent, Step, SubjectId};
 use tac_wire::{Frame, Header, Key, pad_in_place};
 
 /// The key of all conversations.
@@ -59,8 +59,8 @@ fn push_packet(text: &mut String, alloc: Global, packet: &[u8]) -> Result<(), Fa
 }
 
 // The same, and whether the connection closes.
-fn push_sent(text: &mut String, alloc: Global, packet: &[u8], closes: bool) -> Result<(), Fail> {
-    push_packet(text, alloc, packet)?;
+fn push_sent(text: &mut String, alloc: Global, packet: &Sent, closes: bool) -> Result<(), Fail> {
+    push_packet(text, alloc, packet.as_slice())?;
     if closes {
         text.push_str(" closes")?;
     }
@@ -126,15 +126,16 @@ fn push_said<R: AllocGlobal>(
         return Err(Fail::from("an answer is due"));
     }
     let key = key()?;
-    match conn.take(&key, frame(rt, packet)?)? {
-        Step::Reply(sent, closes) => push_sent(text, rt.alloc(), sent.as_slice(), closes),
+    let (_packet, step) = conn.take(&key, frame(rt, packet)?)?;
+    match step {
+        Step::Reply(reply, closes) => push_sent(text, rt.alloc(), &reply.sent(&key), closes),
         Step::Asks(ask, slot) => {
             push_asked(text, ask)?;
             if answer.kind() != slot.kind() {
                 return Err(Fail::from("no answer to this"));
             }
-            let (sent, closes) = conn.give(&key, slot, answer);
-            push_sent(text, rt.alloc(), sent.as_slice(), closes)
+            let (reply, closes) = conn.give(slot, answer);
+            push_sent(text, rt.alloc(), &reply.sent(&key), closes)
         }
         Step::Silent => Ok(text.push_str("silent")?),
         Step::Close => Ok(text.push_str("close")?),

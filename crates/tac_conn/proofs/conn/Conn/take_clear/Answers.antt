@@ -9,14 +9,14 @@ use Rattle.tac_conn.proofs.conn.Conn.take_clear.Goals as goal
 
 pub returns-then-self-clause-step : goal.returns-then-self-clause-step
 returns-then-self-clause-step c = λ earlier stands.
-    ap (step_of c.args.key.now) (sym (closed_outcome c.args.self.now c.args.packet.now earlier stands c.if-self.true))
+    ap (step_of) (sym (closed_outcome c.args.self.now c.args.packet.now earlier stands c.if-self.true))
 
 pub returns-then-self-clause-stands : goal.returns-then-self-clause-stands
 returns-then-self-clause-stands c = λ earlier stands. stands_closed c.args.self.now c.args.packet.now earlier stands c.if-self.true c.requires
 
 pub returns-clause-step : goal.returns-clause-step
 returns-clause-step c = λ earlier stands.
-    subst (λ (o : Outcome). IfOk c.take_open.result (λ step. step ≡ step_of c.args.key.now o))
+    subst (λ (o : Outcome). IfOk c.take_open.result (λ step. step ≡ step_of o))
     (outcome_in-outcome c.args.self.now c.args.packet.now earlier stands c.if-self.false) c.take_open.ensures.step
 
 pub returns-clause-stands : goal.returns-clause-stands
@@ -27,8 +27,8 @@ returns-clause-stands c = λ earlier stands.
 pub returns-clause-kind : goal.returns-clause-kind
 returns-clause-kind c =
     let packet = c.args.packet.now in
-    IfOk-weaker c.take_open.result (λ step. step ≡ step_of c.args.key.now (outcome_in c.args.self.now packet)) HasItsSlot
-    (λ step e. subst HasItsSlot (sym e) (outcome_in_has_its_slot c.args.key.now c.args.self.now packet)) c.take_open.ensures.step
+    IfOk-weaker c.take_open.result (λ step. step ≡ step_of (outcome_in c.args.self.now packet)) HasItsSlot
+    (λ step e. subst HasItsSlot (sym e) (outcome_in_has_its_slot c.args.self.now packet)) c.take_open.ensures.step
 
 pub returns-clause-memory : goal.returns-clause-memory
 returns-clause-memory c = λ earlier stands.
