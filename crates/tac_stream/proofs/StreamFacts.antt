@@ -1,23 +1,22 @@
 -- The packets of a stream, one taken after another.
-use Rattle.std.proofs.Common.{◌≡◌, ℕ, zero, suc, ◌+◌, ◌≤◌, ◌<◌, List, [], ◌∷◌, ◌++◌, length, take, drop, map, reverse, Ok, Err, IfOk, OnErr, Result, refl, sym, ap, subst, ◌∙◌, length-append, ◌⊎◌, inl, inr, arith}
+use Rattle.std.proofs.Common.{◌≡◌, ℕ, zero, suc, ◌+◌, ◌≤◌, ◌<◌, List, [], ◌∷◌, ◌++◌, length, take, drop, map, reverse, Ok, Err, IfOk, OnErr, Result, refl, sym, ap, subst, ◌∙◌, length-append, inl, inr, arith}
 use Rattle.std.proofs.lemmas.List.{map-append, reverse-append, take-append-le, drop-append-le}
 use Rattle.std.specs.declared.alloc.AllocError.{AllocError}
 use Rattle.tac_wire.specs.declared.frame.Frame.{Frame}
-use Rattle.tac_wire.specs.declared.frame.FrameFault.{FrameFault}
+use Rattle.tac_wire.specs.declared.frame.RefusedHeader.{RefusedHeader}
 use Rattle.tac_wire.specs.declared.framer.Next.{Next}
 use Rattle.tac_wire.specs.declared.framer.Next.TheVariants as nexts
 use Rattle.tac_wire.specs.Stream.{Parts, Tail, open_end, fault, Pending, unread, ended, Item, whole, refused, unfinished, cut, cut_within, only, first_item, parts_by, told, next_of, left_of, left_by, fed, continued, IsPacket, WasInFront, frame_bytes}
 use Rattle.tac_conn.specs.declared.packet.Packet.{Packet}
 use Rattle.tac_conn.specs.declared.step.Step.{Step}
-use Rattle.tac_conn.specs.declared.step.Step.TheVariants as steps
 use Rattle.tac_conn.specs.Packet.{clear}
 use Rattle.tac_conn.specs.History.{outcome}
 use Rattle.tac_conn.specs.Standing as conns
 use Rattle.tac_stream.specs.declared.stream.Stream.{Stream}
 use Rattle.tac_stream.specs.declared.turn.Turn.{Turn}
-use Rattle.tac_stream.specs.declared.turn.Turn.TheVariants.{Reply, Asks, Silent, Need, Close}
-use Rattle.tac_stream.specs.Turns.{packets_of, turn_of, turn_by, next_turn, IsTurn}
-use Rattle.tac_stream.specs.Kept.{Stands, StandsAfter, Shortens, unread_len}
+use Rattle.tac_stream.specs.declared.turn.Turn.TheVariants.{Packet as Taken, Need, Refused, Close}
+use Rattle.tac_stream.specs.Turns.{packets_of, turn_by, next_turn, IsTurn}
+use Rattle.tac_stream.specs.Kept.{Stands, StandsAfter, unread_len}
 
 -- ---- lists
 
@@ -104,23 +103,15 @@ stands_same : (key : List ℕ) (old new : Stream) (bytes : List ℕ) (taken : �
 stands_same key old new bytes taken framer conn s = record { held = s.held; framer = framer ∙ s.framer; left = s.left; within = s.within; conn = rw conn s.conn }
 
 after_same : (turn : Turn) (key : List ℕ) (old new : Stream) (bytes : List ℕ) (taken : ℕ) → new.framer ≡ old.framer → new.conn ≡ old.conn → StandsAfter turn key old bytes taken → StandsAfter turn key new bytes taken
-after_same (Reply reply ends) key old new bytes taken framer conn s = stands_same key old new bytes (suc taken) framer conn s
-after_same (Asks ask slot) key old new bytes taken framer conn s = stands_same key old new bytes (suc taken) framer conn s
-after_same Silent key old new bytes taken framer conn s = stands_same key old new bytes (suc taken) framer conn s
+after_same (Taken packet step) key old new bytes taken framer conn s = stands_same key old new bytes (suc taken) framer conn s
 after_same Need key old new bytes taken framer conn s = stands_same key old new bytes taken framer conn s
+after_same (Refused header) key old new bytes taken framer conn s = tt
 after_same Close key old new bytes taken framer conn s = tt
 
 pub result_after : (result : Result Turn AllocError) (key : List ℕ) (old new : Stream) (bytes : List ℕ) (taken : ℕ) → new.framer ≡ old.framer → new.conn ≡ old.conn
     → IfOk result (λ turn. StandsAfter turn key old bytes taken) → IfOk result (λ turn. StandsAfter turn key new bytes taken)
 result_after (Ok turn) key old new bytes taken framer conn s = after_same turn key old new bytes taken framer conn s
 result_after (Err error) key old new bytes taken framer conn s = s
-
--- a packet was taken
-pub taken_after : (step : Step) (key : List ℕ) (new : Stream) (bytes : List ℕ) (taken : ℕ) → Stands key new bytes (suc taken) → StandsAfter (turn_of step) key new bytes taken
-taken_after (steps.Reply reply ends) key new bytes taken s = s
-taken_after (steps.Asks ask slot) key new bytes taken s = s
-taken_after steps.Silent key new bytes taken s = s
-taken_after steps.Close key new bytes taken s = tt
 
 -- ---- what is held
 
@@ -133,14 +124,8 @@ held_falls (unread bytes) (unread rest) frame e was =
 held_falls (unread bytes) ended frame e was = let same : unread bytes ≡ ended = was.0 in cc
 held_falls ended left frame e was = cc
 
-packet_falls : (pending left : Pending) (frame : Frame) (next : Next) → next ≡ nexts.Packet frame → next ≡ next_of pending → WasInFront next pending left → unread_len left < unread_len pending
+pub packet_falls : (pending left : Pending) (frame : Frame) (next : Next) → next ≡ nexts.Packet frame → next ≡ next_of pending → WasInFront next pending left → unread_len left < unread_len pending
 packet_falls pending left frame next e f was = held_falls pending left frame (sym e ∙ f) (subst (λ (n : Next). WasInFront n pending left) e was)
-
-pub shortens : (step : Step) (old new : Stream) (frame : Frame) (next : Next) → next ≡ nexts.Packet frame → next ≡ next_of old.framer → WasInFront next old.framer new.framer → Shortens (turn_of step) old new
-shortens (steps.Reply reply ends) old new frame next e f was = packet_falls old.framer new.framer frame next e f was
-shortens (steps.Asks ask slot) old new frame next e f was = packet_falls old.framer new.framer frame next e f was
-shortens steps.Silent old new frame next e f was = packet_falls old.framer new.framer frame next e f was
-shortens steps.Close old new frame next e f was = tt
 
 -- what holds anyway holds at an error
 pub on_err : {T E : Type 0} (result : Result T E) (P : Type 0) → P → OnErr result P
@@ -180,7 +165,7 @@ module _ (items : (bytes : List ℕ) → cut bytes ≡ parts_by cut (first_item 
   need_told (refused reason) e = cc
   need_told unfinished e = refl
 
-  fault_told : (item : Item) (reason : FrameFault) → nexts.Fault reason ≡ told item → item ≡ refused reason
+  fault_told : (item : Item) (reason : RefusedHeader) → nexts.Fault reason ≡ told item → item ≡ refused reason
   fault_told (whole frame rest) reason e = cc
   fault_told (refused other) reason e = cc
   fault_told unfinished reason e = cc
@@ -205,9 +190,10 @@ module _ (items : (bytes : List ℕ) → cut bytes ≡ parts_by cut (first_item 
     packet_within = (next_of_list taken (cut bytes).packets frame (cut found.0).packets first_left).2
 
     -- a packet is taken
-    pub packet_turn : (step : Step) → step ≡ conns.step_of key (outcome (packets_of key (take taken (cut bytes).packets)) (clear key frame)) → turn_of step ≡ next_turn key bytes taken
+    pub packet_next : (packet : Packet) (step : Step) → packet ≡ clear key frame → step ≡ conns.step_of (outcome (packets_of key (take taken (cut bytes).packets)) (clear key frame))
+        → Taken packet step ≡ next_turn key bytes taken
     unfolding next_turn
-    packet_turn step is = rw (first_left, is) refl
+    packet_next packet step same is = rw (first_left, is, same) refl
 
     pub packet_stands : (new : Stream) → new.framer ≡ left_of old.framer → conns.Stands new.conn (clear key frame ∷ packets_of key (take taken (cut bytes).packets))
         → Stands key new bytes (suc taken)
@@ -239,9 +225,9 @@ module _ (items : (bytes : List ℕ) → cut bytes ≡ parts_by cut (first_item 
     conn = rw same s.conn;
   }
 
-  pub fault_turn : (reason : FrameFault) → nexts.Fault reason ≡ next_of old.framer → Close ≡ next_turn key bytes taken
+  pub refused_turn : (reason : RefusedHeader) → nexts.Fault reason ≡ next_of old.framer → Refused reason.header ≡ next_turn key bytes taken
   unfolding next_turn
-  fault_turn reason e =
+  refused_turn reason e =
       let left = left_is (refused reason) (fault_told (first_item s.held) reason (told_is (nexts.Fault reason) e)) in rw (left.0, left.1) refl
 
   pub ended_turn : nexts.Ended ≡ next_of old.framer → Close ≡ next_turn key bytes taken
@@ -253,8 +239,3 @@ module _ (items : (bytes : List ℕ) → cut bytes ≡ parts_by cut (first_item 
   packet_left nexts.Need e packet = absurd packet
   packet_left (nexts.Fault reason) e packet = absurd packet
   packet_left nexts.Ended e packet = absurd packet
-
-  -- nothing is read after what stands first
-  pub close_turn : (next : Next) → next ≡ next_of old.framer → ((reason : FrameFault) × (next ≡ nexts.Fault reason)) ⊎ (next ≡ nexts.Ended) → Close ≡ next_turn key bytes taken
-  close_turn next f (inl (reason, e)) = fault_turn reason (sym e ∙ f)
-  close_turn next f (inr e) = ended_turn (sym e ∙ f)

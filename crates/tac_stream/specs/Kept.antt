@@ -1,13 +1,13 @@
 -- What is kept of a connection, and what it represents.
 use Rattle.std.specs.Prelude.{◌≡◌, ◌≤◌, ◌<◌, ℕ, suc, List, length, take, drop, Bool, true, false}
-use Rattle.std.specs.Prelude.{Option, Some, None, Result, Ok, Err}
+use Rattle.std.specs.Prelude.{Option, None, Result, Ok, Err}
 use Rattle.std.specs.declared.alloc.AllocError.{AllocError}
 use Rattle.tac_wire.specs.Stream.{Pending, unread, ended, cut}
 use Rattle.tac_conn.specs.declared.ask.Slot.{Slot}
 use Rattle.tac_conn.specs.Standing as conns
 use Rattle.tac_stream.specs.Turns.{packets_of, turn_closes}
 use Rattle.tac_stream.specs.declared.turn.Turn.{Turn}
-use Rattle.tac_stream.specs.declared.turn.Turn.TheVariants.{Reply, Asks, Silent, Need, Close}
+use Rattle.tac_stream.specs.declared.turn.Turn.TheVariants.{Packet, Need, Refused, Close}
 use Rattle.tac_stream.specs.declared.stream.Stream.{Stream}
 
 abbrev pub closed_of : Stream → Bool
@@ -33,18 +33,16 @@ pub record Stands (key : List ℕ) (stream : Stream) (bytes : List ℕ) (taken :
 -- what it represents after this turn: the packet was taken, if there was one; closed, it represents
 -- nothing
 abbrev pub StandsAfter : Turn → List ℕ → Stream → List ℕ → ℕ → Type 0
-StandsAfter (Reply reply ends) key stream bytes taken = Stands key stream bytes (suc taken)
-StandsAfter (Asks ask slot) key stream bytes taken = Stands key stream bytes (suc taken)
-StandsAfter Silent key stream bytes taken = Stands key stream bytes (suc taken)
+StandsAfter (Packet packet step) key stream bytes taken = Stands key stream bytes (suc taken)
 StandsAfter Need key stream bytes taken = Stands key stream bytes taken
+StandsAfter (Refused header) key stream bytes taken = Unit {0}
 StandsAfter Close key stream bytes taken = Unit {0}
 
--- an ask waits for its answer
+-- an ask waits for its answer, and where nothing is asked nothing waits
 abbrev pub Waits : Turn → Stream → Type 0
-Waits (Reply reply ends) stream = Unit {0}
-Waits (Asks ask slot) stream = pending_of stream ≡ Some slot
-Waits Silent stream = Unit {0}
+Waits (Packet packet step) stream = pending_of stream ≡ conns.slot_in step
 Waits Need stream = Unit {0}
+Waits (Refused header) stream = Unit {0}
 Waits Close stream = Unit {0}
 
 -- how many bytes are held of which no packet was taken yet
@@ -57,10 +55,9 @@ unread_of stream = unread_len stream.framer
 
 -- a packet that is taken is no longer held
 abbrev pub Shortens : Turn → Stream → Stream → Type 0
-Shortens (Reply reply ends) old new = unread_of new < unread_of old
-Shortens (Asks ask slot) old new = unread_of new < unread_of old
-Shortens Silent old new = unread_of new < unread_of old
+Shortens (Packet packet step) old new = unread_of new < unread_of old
 Shortens Need old new = Unit {0}
+Shortens (Refused header) old new = Unit {0}
 Shortens Close old new = Unit {0}
 
 -- whether it closes: where memory ran out, a packet is lost

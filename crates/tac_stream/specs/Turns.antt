@@ -1,41 +1,41 @@
 -- What is to be done next on a connection, by all bytes that came on it (RFC 8907, section 4).
 use Rattle.std.specs.Prelude.{◌≡◌, ◌⊎◌, ℕ, List, [], ◌∷◌, map, reverse, take, drop, Bool, true}
-use Rattle.std.specs.Prelude.{false, Option, Some, None, if◌then◌else◌}
+use Rattle.std.specs.Prelude.{false, Option, None}
 use Rattle.tac_wire.specs.declared.frame.Frame.{Frame}
 use Rattle.tac_wire.specs.Stream.{Tail, open_end, fault, cut}
 use Rattle.tac_conn.specs.declared.packet.Packet.{Packet}
 use Rattle.tac_conn.specs.declared.ask.Slot.{Slot}
 use Rattle.tac_conn.specs.declared.step.Step.{Step}
 use Rattle.tac_conn.specs.declared.step.Step.TheVariants as steps
-use Rattle.tac_conn.specs.Ask.{kind_of_ask, kind_asked}
 use Rattle.tac_conn.specs.Packet.{clear}
 use Rattle.tac_conn.specs.History.{outcome}
-use Rattle.tac_conn.specs.Standing.{step_of}
+use Rattle.tac_conn.specs.Standing as conns
 use Rattle.tac_stream.specs.declared.turn.Turn.{Turn}
-use Rattle.tac_stream.specs.declared.turn.Turn.TheVariants.{Reply, Asks, Silent, Need, Close}
+use Rattle.tac_stream.specs.declared.turn.Turn.TheVariants as turns
 
 -- the packets without their pads, the latest first, as the history of a connection has them
 abbrev pub packets_of : List ℕ → List Frame → List Packet
 packets_of key frames = reverse (map (clear key) frames)
 
--- what is done for a packet
-abbrev pub turn_of : Step → Turn
-turn_of (steps.Reply reply ends) = Reply reply ends
-turn_of (steps.Asks ask slot) = Asks ask slot
-turn_of steps.Silent = Silent
-turn_of steps.Close = Close
-
 -- a header that is refused closes the connection
 abbrev pub closed_by : Tail → Bool
 closed_by (open_end bytes) = false
-closed_by (fault reason) = true
+closed_by (fault refused) = true
+
+-- a packet that came after these, and what is done for it
+abbrev pub packet_turn : List Packet → Packet → Turn
+packet_turn earlier packet = turns.Packet packet (conns.step_of (outcome earlier packet))
+
+-- after the last packet: more bytes have to come first, unless the next header is refused
+abbrev pub tail_turn : Tail → Turn
+tail_turn (open_end bytes) = turns.Need
+tail_turn (fault refused) = turns.Refused refused.header
 
 -- what is done for the first of these packets, where others came earlier, the latest first; the
 -- tail follows the packets
 abbrev pub turn_by : List ℕ → List Packet → List Frame → Tail → Turn
-turn_by key earlier (frame ∷ frames) tail =
-    turn_of (step_of key (outcome earlier (clear key frame)))
-turn_by key earlier [] tail = if closed_by tail then Close else Need
+turn_by key earlier (frame ∷ frames) tail = packet_turn earlier (clear key frame)
+turn_by key earlier [] tail = tail_turn tail
 
 -- what is to be done where so many of the packets in these bytes were taken
 unfoldable pub next_turn : List ℕ → List ℕ → ℕ → Turn
@@ -49,39 +49,40 @@ pub record IsForFirst (key bytes : List ℕ) (taken : ℕ) (turn : Turn) : Type 
   pub frame : Frame
   pub more : List Frame
   pub left : drop taken (cut bytes).packets ≡ frame ∷ more
-  pub is :
-      turn ≡ turn_of
-      (step_of key (outcome (packets_of key (take taken (cut bytes).packets)) (clear key frame)))
+  pub is : turn ≡ packet_turn (packets_of key (take taken (cut bytes).packets)) (clear key frame)
 
 -- no packet is left, and the turn is the one for what follows them
-pub record IsForTail (key bytes : List ℕ) (taken : ℕ) (turn : Turn) : Type 0 where
+pub record IsForTail (bytes : List ℕ) (taken : ℕ) (turn : Turn) : Type 0 where
   pub left : drop taken (cut bytes).packets ≡ []
-  pub is : turn ≡ turn_by key (packets_of key (take taken (cut bytes).packets)) [] (cut bytes).tail
+  pub is : turn ≡ tail_turn (cut bytes).tail
 
 -- which of the two a turn is
 abbrev pub IsTurn : List ℕ → List ℕ → ℕ → Turn → Type 0
-IsTurn key bytes taken turn = IsForFirst key bytes taken turn ⊎ IsForTail key bytes taken turn
+IsTurn key bytes taken turn = IsForFirst key bytes taken turn ⊎ IsForTail bytes taken turn
 
--- whether the connection closes at once
+-- whether the connection closes at once: an ask may close it with its answer
+abbrev pub closes_at_once : Step → Bool
+closes_at_once (steps.Reply reply ends) = ends
+closes_at_once (steps.Asks ask slot) = false
+closes_at_once steps.Silent = false
+closes_at_once steps.Close = true
+
 abbrev pub turn_closes : Turn → Bool
-turn_closes (Reply reply ends) = ends
-turn_closes (Asks ask slot) = false
-turn_closes Silent = false
-turn_closes Need = false
-turn_closes Close = true
+turn_closes (turns.Packet packet step) = closes_at_once step
+turn_closes turns.Need = false
+turn_closes (turns.Refused header) = true
+turn_closes turns.Close = true
 
 -- the slot that waits for its answer
 abbrev pub slot_in : Turn → Option Slot
-slot_in (Reply reply ends) = None
-slot_in (Asks ask slot) = Some slot
-slot_in Silent = None
-slot_in Need = None
-slot_in Close = None
+slot_in (turns.Packet packet step) = conns.slot_in step
+slot_in turns.Need = None
+slot_in (turns.Refused header) = None
+slot_in turns.Close = None
 
 -- the slot of an ask takes the answers to it
 abbrev pub HasItsSlot : Turn → Type 0
-HasItsSlot (Reply reply ends) = Unit {0}
-HasItsSlot (Asks ask slot) = kind_asked slot ≡ kind_of_ask ask
-HasItsSlot Silent = Unit {0}
-HasItsSlot Need = Unit {0}
-HasItsSlot Close = Unit {0}
+HasItsSlot (turns.Packet packet step) = conns.HasItsSlot step
+HasItsSlot turns.Need = Unit {0}
+HasItsSlot (turns.Refused header) = Unit {0}
+HasItsSlot turns.Close = Unit {0}

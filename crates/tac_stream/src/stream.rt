@@ -4,8 +4,7 @@ ghost use Rattle.std.specs.Prelude.{◌≡◌, ◌<◌, ◌++◌, List, ℕ, [],
 ghost use Rattle.std.specs.Prelude.{Some, Ok, IfOk, OnOk, OnErr};
 ghost use Rattle.tac_wire.specs.Stream.{cut, continued};
 ghost use Rattle.tac_conn.specs.Ask.{kind_asked, kind_of_answer};
-ghost use Rattle.tac_conn.specs.Packet.{sent};
-ghost use Rattle.tac_conn.specs.Reply.{packet_of, answer_body};
+ghost use Rattle.tac_conn.specs.Reply.{answer_body};
 ghost use Rattle.tac_conn.specs.Judging.{reply_in};
 ghost use Rattle.tac_stream.specs.Turns as turns;
 ghost use Rattle.tac_stream.specs.Kept as kept;
@@ -13,7 +12,7 @@ ghost use Rattle.tac_stream.specs.declared.turn.Turn.TheVariants as told;
 
 use crate::turn::Turn;
 use std::alloc::{AllocError, Global};
-use tac_conn::{Answer, Conn, Sent, Slot};
+use tac_conn::{Answer, Conn, Reply, Slot};
 use tac_wire::{Framer, Key, Next};
 
 /// An open connection: the packets that came on it, and the beginning of one that isn't whole yet.
@@ -92,10 +91,11 @@ impl Stream {
         let frame = match self.framer.next()? {
             Next::Packet(frame) => frame,
             Next::Need => return Ok(Turn::Need),
-            Next::Fault(_) | Next::Ended => return Ok(Turn::Close),
+            Next::Fault(refused) => return Ok(Turn::Refused(refused.header)),
+            Next::Ended => return Ok(Turn::Close),
         };
         match self.conn.take(key, frame) {
-            Ok(step) => Ok(Turn::from(step)),
+            Ok((packet, step)) => Ok(Turn::Packet(packet, step)),
             Err(error) => Err(error),
         }
     }
@@ -142,20 +142,20 @@ impl Stream {
 
     /// The reply that carries the desk's answer, and whether the connection closes then. The slot
     /// is the one that waits, and the answer is one to what was asked. Takes no memory.
-    pub fn give(&mut self, key: &Key, slot: Slot, answer: Answer) -> (Sent, bool)
+    pub fn give(&mut self, slot: Slot, answer: Answer) -> (Reply, bool)
         requires pending { kept.pending_of self.old ≡ Some slot }
         requires kind { kind_of_answer answer ≡ kind_asked slot }
         ensures reply { let reply = reply_in slot (answer_body answer) in
-            result ≡ (sent key.now (packet_of reply), not slot.single) }
+            result ≡ (reply, not slot.single) }
         ensures pending { kept.pending_of self.new ≡ None }
         ensures closed { kept.closed_of self.old ≡ false →
             kept.closed_of self.new ≡ result.1 }
         ensures over { kept.closed_of self.old ≡ true → kept.closed_of self.new ≡ true }
-        ensures stands { (bytes : List ℕ) (taken : ℕ) → kept.Stands key.now self.old bytes taken →
-            kept.Stands key.now self.new bytes taken }
+        ensures stands { (key bytes : List ℕ) (taken : ℕ) → kept.Stands key self.old bytes taken →
+            kept.Stands key self.new bytes taken }
         ensures unread { kept.unread_of self.new ≡ kept.unread_of self.old }
     {
-        let (reply, closes) = self.conn.give(key, slot, answer);
+        let (reply, closes) = self.conn.give(slot, answer);
         self.closed = self.closed || closes;
         (reply, closes)
     }

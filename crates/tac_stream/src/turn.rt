@@ -3,34 +3,20 @@
 ghost use Rattle.std.specs.Prelude.{◌≡◌};
 ghost use Rattle.tac_stream.specs.Turns as turns;
 
-use tac_conn::{Ask, Sent, Slot, Step};
+use tac_conn::{Packet, Step};
+use tac_wire::Header;
 
 /// What is to be done next on a connection.
 #[derive(Drop, PartialEq, Eq)]
 pub enum Turn {
-    /// A reply is sent, and the connection closes (true) or stays open.
-    Reply(Sent, bool),
-    /// The desk is asked, and its answer belongs into this slot.
-    Asks(Ask, Slot),
-    /// A packet was taken for which nothing is sent.
-    Silent,
+    /// A packet was taken, which is here without its pad, and this is done for it.
+    Packet(Packet, Step),
     /// All whole packets were taken: more bytes have to come first.
     Need,
-    /// Nothing is sent, and the connection closes.
+    /// This header is refused. Nothing is sent, and the connection closes.
+    Refused(Header),
+    /// The connection is closed, or closes since its answer was lost.
     Close,
-}
-
-impl From<Step> for Turn {
-    ghost from_gives = { λ step turn. turn ≡ turns.turn_of step };
-
-    fn from(step: Step) -> Turn {
-        match step {
-            Step::Reply(reply, closes) => Turn::Reply(reply, closes),
-            Step::Asks(ask, slot) => Turn::Asks(ask, slot),
-            Step::Silent => Turn::Silent,
-            Step::Close => Turn::Close,
-        }
-    }
 }
 
 impl Turn {
@@ -39,8 +25,8 @@ impl Turn {
         ensures { result ≡ turns.turn_closes self.now }
     {
         match self {
-            Turn::Reply(_, closes) => *closes,
-            Turn::Close => true,
+            Turn::Packet(_, Step::Reply(_, closes)) => *closes,
+            Turn::Packet(_, Step::Close) | Turn::Refused(_) | Turn::Close => true,
             _ => false,
         }
     }

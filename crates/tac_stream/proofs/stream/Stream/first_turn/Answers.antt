@@ -1,5 +1,5 @@
 use Rattle.std.proofs.Common.{refl, sym, ◌∙◌}
-use Rattle.tac_stream.proofs.StreamFacts.{on_err, packet_left, need_turn, close_turn, packet_turn, packet_stands, taken_after, shortens}
+use Rattle.tac_stream.proofs.StreamFacts.{on_err, packet_left, need_turn, refused_turn, ended_turn, packet_next, packet_stands, packet_falls}
 use Rattle.tac_stream.proofs.stream.Stream.first_turn.Goals as goal
 
 pub returns-in_err-frame-clause-memory : goal.returns-in_err-frame-clause-memory
@@ -12,21 +12,22 @@ returns-in-Need-clause-turn c = λ bytes taken s.
 
 pub returns-in-Fault-clause-turn : goal.returns-in-Fault-clause-turn
 returns-in-Fault-clause-turn c = λ bytes taken s.
-    close_turn c.in_ok-frame.ensures.items c.args.key.now c.args.self.now bytes taken s c.in_ok-frame.field-0 c.in_ok-frame.ensures.told c.in-Fault.is
+    refused_turn c.in_ok-frame.ensures.items c.args.key.now c.args.self.now bytes taken s c.in-Fault.refused (sym c.in-Fault.is ∙ c.in_ok-frame.ensures.told)
+
+pub returns-in-Ended-clause-turn : goal.returns-in-Ended-clause-turn
+returns-in-Ended-clause-turn c = λ bytes taken s.
+    ended_turn c.in_ok-frame.ensures.items c.args.key.now c.args.self.now bytes taken s (sym c.in-Ended.is ∙ c.in_ok-frame.ensures.told)
 
 pub returns-in-Ok-clause-turn : goal.returns-in-Ok-clause-turn
 returns-in-Ok-clause-turn c = λ bytes taken s.
-    c.from.ensures
-    ∙ packet_turn c.in_ok-frame.ensures.items c.args.key.now c.args.self.now bytes taken s c.in-Packet.frame (sym c.in-Packet.is ∙ c.in_ok-frame.ensures.told)
-    c.in-Ok.step (c.in-Ok.ensures.step _ s.conn)
+    packet_next c.in_ok-frame.ensures.items c.args.key.now c.args.self.now bytes taken s c.in-Packet.frame (sym c.in-Packet.is ∙ c.in_ok-frame.ensures.told)
+    c.in-Ok.packet c.in-Ok.step c.in-Ok.ensures.packet (c.in-Ok.ensures.step _ s.conn)
 
 pub returns-in-Ok-clause-stands : goal.returns-in-Ok-clause-stands
 returns-in-Ok-clause-stands c = λ bytes taken s.
-    rw c.from.ensures
-    (taken_after c.in-Ok.step c.args.key.now _ bytes taken
-    (packet_stands c.in_ok-frame.ensures.items c.args.key.now c.args.self.now bytes taken s c.in-Packet.frame (sym c.in-Packet.is ∙ c.in_ok-frame.ensures.told)
-    _ c.in_ok-frame.ensures.left (c.in-Ok.ensures.stands _ s.conn)))
+    packet_stands c.in_ok-frame.ensures.items c.args.key.now c.args.self.now bytes taken s c.in-Packet.frame (sym c.in-Packet.is ∙ c.in_ok-frame.ensures.told)
+    _ c.in_ok-frame.ensures.left (c.in-Ok.ensures.stands _ s.conn)
 
 pub returns-in-Ok-clause-shorter : goal.returns-in-Ok-clause-shorter
 returns-in-Ok-clause-shorter c =
-    rw c.from.ensures (shortens c.in-Ok.step c.args.self.now _ c.in-Packet.frame c.in_ok-frame.field-0 c.in-Packet.is c.in_ok-frame.ensures.told c.in_ok-frame.ensures.found)
+    packet_falls c.args.self.now.framer _ c.in-Packet.frame c.in_ok-frame.field-0 c.in-Packet.is c.in_ok-frame.ensures.told c.in_ok-frame.ensures.found
