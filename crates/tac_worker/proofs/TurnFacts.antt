@@ -1,9 +1,10 @@
 -- What one turn of a worker does.
-use Rattle.std.proofs.Common.{◌≡◌, ℕ, suc, List, [], ◌∷◌, ◌++◌, length, ◌<◌, take, drop, Bool, true, false, not, ◌||◌, Option, None, Result, Ok, Err, IsErrAnd, if◌then◌else◌, inl, inr, refl, sym, ap, subst, ◌∙◌, append_assoc, append-nil, length-append, length-drop, arith}
+use Rattle.std.proofs.Common.{◌≡◌, ℕ, suc, List, [], ◌∷◌, ◌++◌, length, ◌<◌, take, drop, Bool, true, false, not, ◌||◌, Option, None, Result, Ok, Err, IsErrAnd, if◌then◌else◌, ◌⊎◌, inl, inr, refl, sym, ap, subst, ◌∙◌, append_assoc, append-nil, length-append, length-drop, arith}
 use Rattle.std.proofs.lemmas.List.{take-append-drop}
 use Rattle.std.specs.Io.KnownBytes.{Appends}
 use Rattle.std.proofs.KnownBytes.{Appends-nil}
 use Rattle.tac_wire.specs.declared.frame.Frame.{Frame}
+use Rattle.tac_wire.specs.declared.header.Header.{Header}
 use Rattle.tac_wire.specs.Stream.{Tail, open_end, fault, cut, cut_within}
 use Rattle.tac_conn.specs.declared.ask.Answer.{Answer}
 use Rattle.tac_conn.specs.declared.ask.Ask.{Ask}
@@ -17,11 +18,13 @@ use Rattle.tac_conn.specs.Reply.{packet_of, answer_body}
 use Rattle.tac_conn.specs.Judging.{reply_in, closes as outcome_closes}
 use Rattle.tac_conn.specs.History.{outcome, judged_after, is_closed}
 use Rattle.tac_conn.specs.Standing.{step_of}
+use Rattle.tac_conn.specs.declared.step.Step.{Step}
+use Rattle.tac_conn.specs.declared.step.Step.TheVariants.{Reply, Asks, Silent, Close}
 use Rattle.tac_hall.specs.declared.fault.HallFault.{HallFault}
 use Rattle.tac_stream.specs.declared.stream.Stream.{Stream}
 use Rattle.tac_stream.specs.declared.turn.Turn.{Turn}
-use Rattle.tac_stream.specs.declared.turn.Turn.TheVariants.{Reply, Asks, Silent, Need, Close}
-use Rattle.tac_stream.specs.Turns.{packets_of, closed_by, turn_of, turn_by, IsTurn}
+use Rattle.tac_stream.specs.declared.turn.Turn.TheVariants as turns
+use Rattle.tac_stream.specs.Turns.{packets_of, closed_by, tail_turn, IsTurn}
 use Rattle.tac_stream.specs.Kept.{Stands, closed_of, pending_of}
 use Rattle.tac_worker.specs.declared.worked.End.{End}
 use Rattle.tac_worker.specs.declared.worked.End.TheVariants.{Finished, ByProtocol, Stopped, LogFull, Memory, ReadFault, WriteFault, Held, NoSeat}
@@ -32,28 +35,60 @@ use Rattle.tac_worker.specs.Worked.{Exchange, asks_of, answers_of, AreMade, AreA
 use Rattle.tac_worker.specs.Working.{Handled, GoesOn, IsUncalled, Replies, taken_of, left_of, Turned}
 use Rattle.tac_worker.proofs.ServedFacts.{packets_of-append}
 
--- ---- the outcome of a packet, by its turn
+-- ---- the outcome of a packet, by its step
 
-abbrev pub ServesBy : Turn → List ℕ → Outcome → Type 0
-ServesBy (Reply bytes ends) key came =
-    (reply : ReplyValue) × (bytes ≡ sent key (packet_of reply))
-    × ((answers : List Answer) (later : List Answer → List Sending) → served_for came answers later ≡ plain reply ∷ (if ends then [] else later answers))
+abbrev pub ServesBy : Step → Outcome → Type 0
+ServesBy (Reply reply ends) came =
+    ((answers : List Answer) (later : List Answer → List Sending) → served_for came answers later ≡ plain reply ∷ (if ends then [] else later answers))
     × ((later : List Ask) → asked_by came later ≡ (if ends then [] else later))
     × (outcome_closes came ≡ ends)
-ServesBy (Asks ask slot) key came = came ≡ comes_to.Asks ask slot
-ServesBy Silent key came = came ≡ comes_to.Silent
-ServesBy Need key came = ⊥
-ServesBy Close key came = came ≡ comes_to.Close
+ServesBy (Asks ask slot) came = came ≡ comes_to.Asks ask slot
+ServesBy Silent came = came ≡ comes_to.Silent
+ServesBy Close came = came ≡ comes_to.Close
 
-serves_by : (key : List ℕ) (came : Outcome) → ServesBy (turn_of (step_of key came)) key came
-serves_by key (comes_to.Question reply session) = (reply, refl, λ answers later. refl, λ later. refl, refl)
-serves_by key (comes_to.Reply reply ends) = (reply, refl, λ answers later. refl, λ later. refl, refl)
-serves_by key (comes_to.Asks ask slot) = refl
-serves_by key comes_to.Silent = refl
-serves_by key comes_to.Close = refl
+serves_by : (came : Outcome) → ServesBy (step_of came) came
+serves_by (comes_to.Question reply session) = (λ answers later. refl, λ later. refl, refl)
+serves_by (comes_to.Reply reply ends) = (λ answers later. refl, λ later. refl, refl)
+serves_by (comes_to.Asks ask slot) = refl
+serves_by comes_to.Silent = refl
+serves_by comes_to.Close = refl
 
-pub serves_turn : (key : List ℕ) (came : Outcome) (turn : Turn) → turn ≡ turn_of (step_of key came) → ServesBy turn key came
-serves_turn key came turn is = subst (λ (t : Turn). ServesBy t key came) (sym is) (serves_by key came)
+same_step : (packet other : Packet) (it said : Step) → turns.Packet packet it ≡ turns.Packet other said → it ≡ said
+same_step packet other it said e = cc
+
+-- after the last packet nothing is done for a packet
+no_packet : (packet : Packet) (it : Step) (tail : Tail) → turns.Packet packet it ≡ tail_turn tail → ⊥
+no_packet packet it (open_end rest) e = cc
+no_packet packet it (fault refused) e = cc
+
+-- the next packet, for which this is done
+pub record IsNext (key bytes : List ℕ) (taken : ℕ) (it : Step) : Type 0 where
+  pub frame : Frame
+  pub more : List Frame
+  pub left : drop taken (cut bytes).packets ≡ frame ∷ more
+  pub serves : ServesBy it (outcome (packets_of key (take taken (cut bytes).packets)) (clear key frame))
+
+next_is : (key bytes : List ℕ) (taken : ℕ) (packet : Packet) (it : Step) → IsTurn key bytes taken (turns.Packet packet it) → IsNext key bytes taken it
+next_is key bytes taken packet it (inl f) =
+    let came = outcome (packets_of key (take taken (cut bytes).packets)) (clear key f.frame) in
+    record {
+      frame = f.frame;
+      more = f.more;
+      left = f.left;
+      serves = subst (λ (s : Step). ServesBy s came) (sym (same_step packet (clear key f.frame) it (step_of came) f.is)) (serves_by came);
+    }
+next_is key bytes taken packet it (inr n) = absurd (no_packet packet it (cut bytes).tail n.is)
+
+-- the turns by which nothing is sent and the connection closes
+abbrev pub Shuts : Turn → Type 0
+Shuts (turns.Packet packet it) = it ≡ Close
+Shuts turns.Need = ⊥
+Shuts (turns.Refused header) = Unit {0}
+Shuts turns.Close = Unit {0}
+
+pub shuts : (turn : Turn) → ((header : Header) × (turn ≡ turns.Refused header)) ⊎ (turn ≡ turns.Close) → Shuts turn
+shuts turn (inl (header, e)) = subst Shuts (sym e) tt
+shuts turn (inr e) = subst Shuts (sym e) tt
 
 -- ---- what closes a connection
 
@@ -319,40 +354,30 @@ module _ {S : Type 0} (step : S → Exchange → S → Type 0) (rests : S → S 
     replied (Err NoSeat) ends s r closed free stands = absurd r
 
   -- a reply is sent
-  pub turned_reply : (was : S) (old new : Option (List ℕ)) (stream : Stream) (packet : List ℕ) (ends : Bool) (result : Result Went End) → IsTurn key bytes taken (Reply packet ends)
-      → Replies result packet ends old new → closed_of stream ≡ ends → pending_of stream ≡ None → Stands key stream bytes (suc taken)
+  pub turned_reply : (was : S) (old new : Option (List ℕ)) (stream : Stream) (packet : Packet) (reply : ReplyValue) (ends : Bool) (result : Result Went End)
+      → IsTurn key bytes taken (turns.Packet packet (Reply reply ends)) → Replies result (sent key (packet_of reply)) ends old new → closed_of stream ≡ ends → pending_of stream ≡ None → Stands key stream bytes (suc taken)
       → Turned step rests refuses result key bytes taken was was old new stream
-  turned_reply was old new stream packet ends result (inl f) r closed free stands =
-      let s = serves_turn key _ (Reply packet ends) f.is in
-      replied f.frame f.more f.left [] (plain s.0) was was old new stream refl result ends (said_plain key _ f.frame s.0 ends s.2 s.3 s.4)
-      (subst (λ (p : List ℕ). Replies result p ends old new) s.1 r) closed free stands
-  turned_reply was old new stream packet ends result (inr n) r closed free stands = absurd (by_tail (cut bytes).tail n.is)
-    where
-      by_tail : (tail : Tail) → Reply packet ends ≡ turn_by key (packets_of key (take taken (cut bytes).packets)) [] tail → ⊥
-      by_tail (open_end rest) e = cc
-      by_tail (fault reason) e = cc
+  turned_reply was old new stream packet reply ends result turn r closed free stands =
+      let f = next_is key bytes taken packet (Reply reply ends) turn in
+      replied f.frame f.more f.left [] (plain reply) was was old new stream refl result ends (said_plain key _ f.frame reply ends f.serves.0 f.serves.1 f.serves.2) r closed free stands
 
   -- the desk has answered
-  pub turned_answer : (was now : S) (old new : Option (List ℕ)) (stream : Stream) (ask : Ask) (slot : Slot) (segment place : ℕ) (answer : Answer) (given : List ℕ × Bool) (result : Result Went End)
-      → IsTurn key bytes taken (Asks ask slot) → step was (record { ask = ask; segment = segment; place = place; answer = answer }) now → given ≡ (sent key (packet_of (reply_in slot (answer_body answer))), not slot.single)
-      → Replies result given.0 given.1 old new → closed_of stream ≡ given.1 → pending_of stream ≡ None → Stands key stream bytes (suc taken)
+  pub turned_answer : (was now : S) (old new : Option (List ℕ)) (stream : Stream) (packet : Packet) (ask : Ask) (slot : Slot) (segment place : ℕ) (answer : Answer) (given : ReplyValue × Bool) (result : Result Went End)
+      → IsTurn key bytes taken (turns.Packet packet (Asks ask slot)) → step was (record { ask = ask; segment = segment; place = place; answer = answer }) now → given ≡ (reply_in slot (answer_body answer), not slot.single)
+      → Replies result (sent key (packet_of given.0)) given.1 old new → closed_of stream ≡ given.1 → pending_of stream ≡ None → Stands key stream bytes (suc taken)
       → Turned step rests refuses result key bytes taken was now old new stream
-  turned_answer was now old new stream ask slot segment place answer given result (inl f) had told r closed free stands =
+  turned_answer was now old new stream packet ask slot segment place answer given result turn had told r closed free stands =
       let exchange : Exchange = record { ask = ask; segment = segment; place = place; answer = answer } in
+      let f = next_is key bytes taken packet (Asks ask slot) turn in
       replied f.frame f.more f.left (exchange ∷ []) (carrying slot answer) was now old new stream (now, had, refl) result (not slot.single)
-      (said_answer key _ f.frame exchange slot (serves_turn key _ (Asks ask slot) f.is))
-      (subst (λ (p : List ℕ × Bool). Replies result p.0 p.1 old new) told r) (closed ∙ ap (λ (p : List ℕ × Bool). p.1) told) free stands
-  turned_answer was now old new stream ask slot segment place answer given result (inr n) had told r closed free stands = absurd (by_tail (cut bytes).tail n.is)
-    where
-      by_tail : (tail : Tail) → Asks ask slot ≡ turn_by key (packets_of key (take taken (cut bytes).packets)) [] tail → ⊥
-      by_tail (open_end rest) e = cc
-      by_tail (fault reason) e = cc
+      (said_answer key _ f.frame exchange slot f.serves)
+      (subst (λ (p : ReplyValue × Bool). Replies result (sent key (packet_of p.0)) p.1 old new) told r) (closed ∙ ap (λ (p : ReplyValue × Bool). p.1) told) free stands
 
   -- it wasn't asked
-  pub turned_uncalled : (was now : S) (old : Option (List ℕ)) (stream : Stream) (ask : Ask) (slot : Slot) (end : End) → IsTurn key bytes taken (Asks ask slot) → rests was now → IsUncalled (refuses now) ask end
+  turned_uncalled : (was now : S) (old : Option (List ℕ)) (stream : Stream) (ask : Ask) (slot : Slot) (end : End) → IsNext key bytes taken (Asks ask slot) → rests was now → IsUncalled (refuses now) ask end
       → Turned step rests refuses (Err end) key bytes taken was now old old stream
-  turned_uncalled was now old stream ask slot end (inl f) rested u =
-      let came = serves_turn key _ (Asks ask slot) f.is in
+  turned_uncalled was now old stream ask slot end f rested u =
+      let came = f.serves in
       record {
         unfinished = uncalled_unfinished (refuses now) ask end u;
         memory = λ e. some_left bytes taken f.frame f.more f.left;
@@ -361,45 +386,40 @@ module _ {S : Type 0} (step : S → Exchange → S → Type 0) (rests : S → S 
             (rw f.left (asks_first key (packets_of key (take taken (cut bytes).packets)) f.frame f.more ∙ rw came refl))
             (rw f.left (served_first key _ f.frame f.more [] ∙ rw came refl)) end u;
       }
-  turned_uncalled was now old stream ask slot end (inr n) rested u = absurd (by_tail (cut bytes).tail n.is)
-    where
-      by_tail : (tail : Tail) → Asks ask slot ≡ turn_by key (packets_of key (take taken (cut bytes).packets)) [] tail → ⊥
-      by_tail (open_end rest) e = cc
-      by_tail (fault reason) e = cc
 
-  pub turned_refusal : (was now : S) (old : Option (List ℕ)) (stream : Stream) (ask : Ask) (slot : Slot) (result : Result Went End) (end : End) → IsTurn key bytes taken (Asks ask slot)
+  pub turned_refusal : (was now : S) (old : Option (List ℕ)) (stream : Stream) (packet : Packet) (ask : Ask) (slot : Slot) (result : Result Went End) (end : End) → IsTurn key bytes taken (turns.Packet packet (Asks ask slot))
       → rests was now → IsUncalled (refuses now) ask end → IsErrAnd result (λ told. told ≡ end) → Turned step rests refuses result key bytes taken was now old old stream
-  turned_refusal was now old stream ask slot (Ok went) end turn rested u told = absurd told
-  turned_refusal was now old stream ask slot (Err other) end turn rested u told = rw told (turned_uncalled was now old stream ask slot end turn rested u)
+  turned_refusal was now old stream packet ask slot (Ok went) end turn rested u told = absurd told
+  turned_refusal was now old stream packet ask slot (Err other) end turn rested u told = rw told (turned_uncalled was now old stream ask slot end (next_is key bytes taken packet (Asks ask slot) turn) rested u)
 
   -- nothing is sent
-  pub turned_silent : (was : S) (old : Option (List ℕ)) (stream : Stream) → IsTurn key bytes taken Silent → closed_of stream ≡ false → pending_of stream ≡ None → Stands key stream bytes (suc taken)
+  pub turned_silent : (was : S) (old : Option (List ℕ)) (stream : Stream) (packet : Packet) → IsTurn key bytes taken (turns.Packet packet Silent) → closed_of stream ≡ false → pending_of stream ≡ None → Stands key stream bytes (suc taken)
       → Turned step rests refuses (Ok On) key bytes taken was was old old stream
-  turned_silent was old stream (inl f) closed free stands = record {
-    frame = f.frame;
-    more = f.more;
-    left = f.left;
-    goes = record {
-      made = [];
-      sendings = [];
-      handled = handled_silent key _ f.frame (serves_turn key _ Silent f.is);
-      makes = refl;
-      written = Appends-nil old;
-    };
-    stays = stays_open _ _ (rw (serves_turn key _ Silent f.is) refl);
-    ready = (closed, free);
-    stands = stands;
-  }
-  turned_silent was old stream (inr n) closed free stands = absurd (by_tail (cut bytes).tail n.is)
-    where
-      by_tail : (tail : Tail) → Silent ≡ turn_by key (packets_of key (take taken (cut bytes).packets)) [] tail → ⊥
-      by_tail (open_end rest) e = cc
-      by_tail (fault reason) e = cc
+  turned_silent was old stream packet turn closed free stands =
+      let f = next_is key bytes taken packet Silent turn in
+      record {
+        frame = f.frame;
+        more = f.more;
+        left = f.left;
+        goes = record {
+          made = [];
+          sendings = [];
+          handled = handled_silent key _ f.frame f.serves;
+          makes = refl;
+          written = Appends-nil old;
+        };
+        stays = stays_open _ _ (rw f.serves refl);
+        ready = (closed, free);
+        stands = stands;
+      }
 
   -- no packet is left
-  pub turned_need : (was : S) (old : Option (List ℕ)) (stream : Stream) → IsTurn key bytes taken Need → closed_of stream ≡ false → pending_of stream ≡ None → Stands key stream bytes taken
+  pub turned_need : (was : S) (old : Option (List ℕ)) (stream : Stream) → IsTurn key bytes taken turns.Need → closed_of stream ≡ false → pending_of stream ≡ None → Stands key stream bytes taken
       → Turned step rests refuses (Ok Rests) key bytes taken was was old old stream
-  turned_need was old stream (inl f) closed free stands = absurd (serves_turn key _ Need f.is)
+  turned_need was old stream (inl f) closed free stands = absurd (by_packet f.is)
+    where
+      by_packet : {packet : Packet} {it : Step} → turns.Need ≡ turns.Packet packet it → ⊥
+      by_packet e = cc
   turned_need was old stream (inr n) closed free stands = record {
     left = n.left;
     tail = by_tail (cut bytes).tail n.is;
@@ -409,31 +429,52 @@ module _ {S : Type 0} (step : S → Exchange → S → Type 0) (rests : S → S 
     stands = stands;
   }
     where
-      by_tail : (tail : Tail) → Need ≡ turn_by key (packets_of key (take taken (cut bytes).packets)) [] tail → closed_by tail ≡ false
+      by_tail : (tail : Tail) → turns.Need ≡ tail_turn tail → closed_by tail ≡ false
       by_tail (open_end rest) e = refl
-      by_tail (fault reason) e = cc
+      by_tail (fault refused) e = cc
 
-  -- the connection closes without a reply
-  pub turned_close : (was : S) (old : Option (List ℕ)) (stream : Stream) → IsTurn key bytes taken Close → Turned step rests refuses (Err ByProtocol) key bytes taken was was old old stream
-  turned_close was old stream (inl f) =
-      let came = serves_turn key _ Close f.is in
+  -- a packet closes the connection without a reply
+  closes_packet : (was : S) (old : Option (List ℕ)) (stream : Stream) → IsNext key bytes taken Close → Turned step rests refuses (Err ByProtocol) key bytes taken was was old old stream
+  closes_packet was old stream f =
       record {
         unfinished = λ e. cc;
         memory = λ e. absurd cc;
-        closing = closes_at key bytes taken f.frame f.more f.left (closed_next _ _ (rw came refl));
-        ends = ends_none (λ l. AreAllMade step rests was l was) (refuses was) (was, refl, rests_so was) key _ _ ByProtocol old old (rw f.left (asks_first key _ f.frame f.more ∙ rw came refl)) (rw f.left (served_first key _ f.frame f.more [] ∙ rw came refl))
+        closing = closes_at key bytes taken f.frame f.more f.left (closed_next _ _ (rw f.serves refl));
+        ends = ends_none (λ l. AreAllMade step rests was l was) (refuses was) (was, refl, rests_so was) key _ _ ByProtocol old old (rw f.left (asks_first key _ f.frame f.more ∙ rw f.serves refl)) (rw f.left (served_first key _ f.frame f.more [] ∙ rw f.serves refl))
             (Appends-nil old) refl (λ w. w);
       }
-  turned_close was old stream (inr n) = record {
+
+  -- so does a header that is refused
+  closes_tail : (was : S) (old : Option (List ℕ)) (stream : Stream) → drop taken (cut bytes).packets ≡ [] → closed_by (cut bytes).tail ≡ true → Turned step rests refuses (Err ByProtocol) key bytes taken was was old old stream
+  closes_tail was old stream left shut = record {
     unfinished = λ e. cc;
     memory = λ e. absurd cc;
-    closing = ap (λ (b : Bool). is_closed (packets_of key (cut bytes).packets) || b) (by_tail (cut bytes).tail n.is) ∙ or_true (is_closed (packets_of key (cut bytes).packets));
-    ends = ends_none (λ l. AreAllMade step rests was l was) (refuses was) (was, refl, rests_so was) key _ _ ByProtocol old old (rw n.left (asks_at_end key _)) (rw n.left (served_at_end key _ [])) (Appends-nil old) refl (λ w. w);
+    closing = ap (λ (b : Bool). is_closed (packets_of key (cut bytes).packets) || b) shut ∙ or_true (is_closed (packets_of key (cut bytes).packets));
+    ends = ends_none (λ l. AreAllMade step rests was l was) (refuses was) (was, refl, rests_so was) key _ _ ByProtocol old old (rw left (asks_at_end key _)) (rw left (served_at_end key _ [])) (Appends-nil old) refl (λ w. w);
   }
+
+  -- the connection closes without a reply
+  pub turned_close : (was : S) (old : Option (List ℕ)) (stream : Stream) (turn : Turn) → IsTurn key bytes taken turn → Shuts turn → Turned step rests refuses (Err ByProtocol) key bytes taken was was old old stream
+  turned_close was old stream (turns.Packet packet it) turn shuts = closes_packet was old stream (subst (IsNext key bytes taken) shuts (next_is key bytes taken packet it turn))
+  turned_close was old stream turns.Need turn shuts = absurd shuts
+  turned_close was old stream (turns.Refused header) (inl f) shuts = absurd (by_packet f.is)
     where
-      by_tail : (tail : Tail) → Close ≡ turn_by key (packets_of key (take taken (cut bytes).packets)) [] tail → closed_by tail ≡ true
+      by_packet : {packet : Packet} {it : Step} → turns.Refused header ≡ turns.Packet packet it → ⊥
+      by_packet e = cc
+  turned_close was old stream (turns.Refused header) (inr n) shuts = closes_tail was old stream n.left (by_tail (cut bytes).tail n.is)
+    where
+      by_tail : (tail : Tail) → turns.Refused header ≡ tail_turn tail → closed_by tail ≡ true
       by_tail (open_end rest) e = cc
-      by_tail (fault reason) e = refl
+      by_tail (fault refused) e = refl
+  turned_close was old stream turns.Close (inl f) shuts = absurd (by_packet f.is)
+    where
+      by_packet : {packet : Packet} {it : Step} → turns.Close ≡ turns.Packet packet it → ⊥
+      by_packet e = cc
+  turned_close was old stream turns.Close (inr n) shuts = absurd (by_tail (cut bytes).tail n.is)
+    where
+      by_tail : (tail : Tail) → turns.Close ≡ tail_turn tail → ⊥
+      by_tail (open_end rest) e = cc
+      by_tail (fault refused) e = cc
 
   -- memory ran out for a packet
   pub turned_memory : (was : S) (old : Option (List ℕ)) (stream : Stream) (result : Result Went End) → IsErrAnd result (λ told. told ≡ Memory) → taken < length (cut bytes).packets

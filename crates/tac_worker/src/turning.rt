@@ -2,6 +2,8 @@
 
 ghost use Rattle.std.specs.Prelude.{◌≡◌, ℕ, List, IfOk, IfErr, OnErr};
 ghost use Rattle.tac_conn.specs.Ask.{kind_of_ask, kind_of_answer};
+ghost use Rattle.tac_conn.specs.Packet.{sent};
+ghost use Rattle.tac_conn.specs.Reply.{packet_of};
 ghost use Rattle.tac_stream.specs.Kept.{IsReady, Stands};
 ghost use Rattle.tac_worker.specs.Worked.{AreAllMade, IsServedBy};
 ghost use Rattle.tac_worker.specs.Working as working;
@@ -14,7 +16,7 @@ use basics::send;
 use std::alloc::Global;
 use std::io::{Read, Write};
 use std::sync::Wait;
-use tac_conn::{Answer, Ask, Sent};
+use tac_conn::{Answer, Ask, Reply, Step};
 use tac_stream::{Stream, Turn};
 use tac_wire::Key;
 
@@ -30,17 +32,19 @@ pub(crate) enum Went {
     Rests,
 }
 
-// Writes a packet, after which the connection closes or not.
-fn reply<W: Write, G: Gate>(
+// Writes a reply, with the pad put on, after which the connection closes or not.
+fn write_reply<W: Write, G: Gate>(
+    key: &Key,
     writer: &mut W,
     gate: &G,
     seat: u32,
-    packet: &Sent,
+    reply: &Reply,
     closes: bool,
 ) -> Result<Went, End>
-    ensures { working.Replies result packet.now closes
+    ensures { working.Replies result (sent key.now (packet_of reply.now)) closes
         (W.contents writer.old) (W.contents writer.new) }
 {
+    let packet = reply.sent(key);
     let (_, sent) = send(writer, packet.as_slice());
     if let Err(_) = sent {
         return Err(End::WriteFault);
@@ -81,15 +85,20 @@ fn take_turn<C: Caller, W: Write, G: Gate>(
         caller.old caller.new (W.contents writer.old) (W.contents writer.new) stream.new }
 {
     match stream.next(key)? {
-        Turn::Reply(packet, closes) => reply(writer, gate, caller.number(), &packet, closes),
-        Turn::Asks(ask, slot) => {
-            let answer = ask_by(caller, gate, ask)?;
-            let (packet, closes) = stream.give(key, slot, answer);
-            reply(writer, gate, caller.number(), &packet, closes)
-        }
-        Turn::Silent => Ok(Went::On),
+        Turn::Packet(_packet, step) => match step {
+            Step::Reply(reply, closes) => {
+                write_reply(key, writer, gate, caller.number(), &reply, closes)
+            }
+            Step::Asks(ask, slot) => {
+                let answer = ask_by(caller, gate, ask)?;
+                let (reply, closes) = stream.give(slot, answer);
+                write_reply(key, writer, gate, caller.number(), &reply, closes)
+            }
+            Step::Silent => Ok(Went::On),
+            Step::Close => Err(End::ByProtocol),
+        },
         Turn::Need => Ok(Went::Rests),
-        Turn::Close => Err(End::ByProtocol),
+        Turn::Refused(_) | Turn::Close => Err(End::ByProtocol),
     }
 }
 
