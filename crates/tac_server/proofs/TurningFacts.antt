@@ -1,9 +1,11 @@
 -- One packet after another of what came on a connection.
-use Rattle.std.proofs.Common.{◌≡◌, ℕ, suc, ◌+◌, ◌≤◌, ◌<◌, List, [], ◌∷◌, ◌++◌, length, take, drop, length-drop, Bool, true, false, not, None, Result, Ok, Err, IsErr, refl, sym, ap, subst, ◌∙◌, ◌⊎◌, inl, inr, append-nil, arith}
+use Rattle.std.proofs.Common.{◌≡◌, ℕ, suc, ◌+◌, ◌<◌, List, [], ◌∷◌, ◌++◌, length, take, drop, length-drop, Bool, true, false, not, None, Result, Ok, Err, IsErr, refl, sym, ap, subst, ◌∙◌, ◌⊎◌, inl, inr, append-nil, arith}
 use Rattle.std.proofs.Math.Seq.{take-add}
 use Rattle.std.proofs.lemmas.List.{drop-drop, drop_all, take-append-drop}
+use Rattle.std.specs.declared.ops.ControlFlow.TheVariants.{Continue, Break}
 use Rattle.std.specs.declared.alloc.AllocError.{AllocError}
 use Rattle.tac_wire.specs.declared.frame.Frame.{Frame}
+use Rattle.tac_wire.specs.declared.header.Header.{Header}
 use Rattle.tac_wire.specs.Stream.{Tail, open_end, fault, cut}
 use Rattle.tac_conn.specs.declared.ask.Ask.{Ask}
 use Rattle.tac_conn.specs.declared.ask.Slot.{Slot}
@@ -16,37 +18,55 @@ use Rattle.tac_conn.specs.Reply.{packet_of, answer_body}
 use Rattle.tac_conn.specs.Judging.{reply_in}
 use Rattle.tac_conn.specs.History.{outcome}
 use Rattle.tac_conn.specs.Standing.{step_of}
+use Rattle.tac_conn.specs.declared.step.Step.{Step}
+use Rattle.tac_conn.specs.declared.step.Step.TheVariants.{Reply, Asks, Silent, Close}
 use Rattle.tac_stream.specs.declared.stream.Stream.{Stream}
 use Rattle.tac_stream.specs.declared.turn.Turn.{Turn}
-use Rattle.tac_stream.specs.declared.turn.Turn.TheVariants.{Reply, Asks, Silent, Need, Close}
-use Rattle.tac_stream.specs.Turns.{packets_of, closed_by, turn_of, turn_by, next_turn}
+use Rattle.tac_stream.specs.declared.turn.Turn.TheVariants as turns
+use Rattle.tac_stream.specs.Turns.{packets_of, closed_by, tail_turn, turn_by, next_turn}
 use Rattle.tac_stream.specs.Kept.{IsReady, Stands, closed_of, pending_of}
 use Rattle.tac_desk.specs.Meaning.{Meaning}
 use Rattle.tac_desk.specs.Asking.{asked}
 use Rattle.tac_desk.specs.Serving.{Said, says, answered, sent_before, unless_closed, said_to, said_from, said_part, whole_packets}
 use Rattle.tac_server.specs.Kept.{Sends}
-use Rattle.tac_server.specs.declared.turning.Went.TheVariants as went
-use Rattle.tac_server.specs.Turning.{went_by, Goes, GoesOn, IsAtRest, ClosesWith, SaysAll, SaysSome, SaysPiece}
+use Rattle.tac_server.specs.Turning.{after_reply, Goes, GoesOn, IsAtRest, ClosesWith, SaysAll, SaysSome, SaysPiece}
 use Rattle.tac_desk.proofs.ServingFacts.{said_to-none, said_to-append, packets_of-append}
 use Rattle.tac_server.proofs.SentFacts.{sends_none, sends_one, sends-append}
 
--- ---- what a turn says
+-- ---- what a step says
 
--- what is said to the packet of this turn
-abbrev pub TurnSays : List ℕ → Meaning → Turn → Said → Type 0
-TurnSays key meaning (Reply bytes ends) said =
-    (reply : ReplyValue) × (bytes ≡ sent key (packet_of reply)) × (said ≡ record { sent = packet_of reply ∷ []; closes = ends; meaning = meaning })
-TurnSays key meaning (Asks ask slot) said = said ≡ answered slot (asked meaning ask)
-TurnSays key meaning Silent said = said ≡ record { sent = []; closes = false; meaning = meaning }
-TurnSays key meaning Need said = ⊥
-TurnSays key meaning Close said = said ≡ record { sent = []; closes = true; meaning = meaning }
+-- what is said to the packet of this step
+abbrev pub StepSays : Meaning → Step → Said → Type 0
+StepSays meaning (Reply reply ends) said = said ≡ record { sent = packet_of reply ∷ []; closes = ends; meaning = meaning }
+StepSays meaning (Asks ask slot) said = said ≡ answered slot (asked meaning ask)
+StepSays meaning Silent said = said ≡ record { sent = []; closes = false; meaning = meaning }
+StepSays meaning Close said = said ≡ record { sent = []; closes = true; meaning = meaning }
 
-turn_says : (key : List ℕ) (meaning : Meaning) (said : Outcome) → TurnSays key meaning (turn_of (step_of key said)) (says meaning said)
-turn_says key meaning (comes_to.Question reply session) = (reply, refl, refl)
-turn_says key meaning (comes_to.Reply reply ends) = (reply, refl, refl)
-turn_says key meaning (comes_to.Asks ask slot) = refl
-turn_says key meaning comes_to.Silent = refl
-turn_says key meaning comes_to.Close = refl
+step_says : (meaning : Meaning) (said : Outcome) → StepSays meaning (step_of said) (says meaning said)
+step_says meaning (comes_to.Question reply session) = refl
+step_says meaning (comes_to.Reply reply ends) = refl
+step_says meaning (comes_to.Asks ask slot) = refl
+step_says meaning comes_to.Silent = refl
+step_says meaning comes_to.Close = refl
+
+same_step : (packet other : Packet) (it said : Step) → turns.Packet packet it ≡ turns.Packet other said → it ≡ said
+same_step packet other it said e = cc
+
+-- after the last packet nothing is done for a packet
+no_packet : (packet : Packet) (it : Step) (tail : Tail) → turns.Packet packet it ≡ tail_turn tail → ⊥
+no_packet packet it (open_end rest) e = cc
+no_packet packet it (fault refused) e = cc
+
+-- the turns by which nothing is sent and the connection closes
+abbrev pub Shuts : Turn → Type 0
+Shuts (turns.Packet packet it) = it ≡ Close
+Shuts turns.Need = ⊥
+Shuts (turns.Refused header) = Unit {0}
+Shuts turns.Close = Unit {0}
+
+pub shuts : (turn : Turn) → ((header : Header) × (turn ≡ turns.Refused header)) ⊎ (turn ≡ turns.Close) → Shuts turn
+shuts turn (inl (header, e)) = subst Shuts (sym e) tt
+shuts turn (inr e) = subst Shuts (sym e) tt
 
 -- ---- one packet of a stream
 
@@ -55,27 +75,40 @@ module _ (key : List ℕ) (bytes : List ℕ) (taken : ℕ) where
   earlier = packets_of key (take taken (cut bytes).packets)
 
   -- the next packet, and what is said to it
-  pub record IsFirst (meaning : Meaning) (turn : Turn) : Type 0 where
+  pub record IsNext (meaning : Meaning) (it : Step) : Type 0 where
     pub frame : Frame
     pub more : List Frame
     pub left : drop taken (cut bytes).packets ≡ frame ∷ more
-    pub says : TurnSays key meaning turn (says meaning (outcome (packets_of key (take taken (cut bytes).packets)) (clear key frame)))
+    pub says : StepSays meaning it (says meaning (outcome (packets_of key (take taken (cut bytes).packets)) (clear key frame)))
 
-  -- no packet is left
-  pub record IsNone (turn : Turn) : Type 0 where
-    pub left : drop taken (cut bytes).packets ≡ []
-    pub turn_is : turn ≡ turn_by key (packets_of key (take taken (cut bytes).packets)) [] (cut bytes).tail
-
-  by_list : (meaning : Meaning) (turn : Turn) (frames : List Frame) → drop taken (cut bytes).packets ≡ frames
-      → turn ≡ turn_by key (packets_of key (take taken (cut bytes).packets)) frames (cut bytes).tail → IsFirst meaning turn ⊎ IsNone turn
-  by_list meaning turn [] e is = inr (record { left = e; turn_is = is })
-  by_list meaning turn (frame ∷ more) e is =
+  next_by : (meaning : Meaning) (packet : Packet) (it : Step) (frames : List Frame) → drop taken (cut bytes).packets ≡ frames
+      → turns.Packet packet it ≡ turn_by key (packets_of key (take taken (cut bytes).packets)) frames (cut bytes).tail → IsNext meaning it
+  next_by meaning packet it [] e is = absurd (no_packet packet it (cut bytes).tail is)
+  next_by meaning packet it (frame ∷ more) e is =
       let said = outcome (packets_of key (take taken (cut bytes).packets)) (clear key frame) in
-      inl (record { frame = frame; more = more; left = e; says = subst (λ (t : Turn). TurnSays key meaning t (says meaning said)) (sym is) (turn_says key meaning said) })
+      record {
+        frame = frame;
+        more = more;
+        left = e;
+        says = subst (λ (s : Step). StepSays meaning s (says meaning said)) (sym (same_step packet (clear key frame) it (step_of said) is)) (step_says meaning said);
+      }
 
-  pub by_turn : (meaning : Meaning) (turn : Turn) → turn ≡ next_turn key bytes taken → IsFirst meaning turn ⊎ IsNone turn
+  next_is : (meaning : Meaning) (packet : Packet) (it : Step) → turns.Packet packet it ≡ next_turn key bytes taken → IsNext meaning it
   unfolding next_turn
-  by_turn meaning turn is = by_list meaning turn (drop taken (cut bytes).packets) refl is
+  next_is meaning packet it is = next_by meaning packet it (drop taken (cut bytes).packets) refl is
+
+  -- a turn without a packet: none is left
+  abbrev Lacks : Turn → Type 0
+  Lacks turn = (packet : Packet) (it : Step) → turn ≡ turns.Packet packet it → ⊥
+
+  none_by : (turn : Turn) (frames : List Frame) → drop taken (cut bytes).packets ≡ frames → turn ≡ turn_by key (packets_of key (take taken (cut bytes).packets)) frames (cut bytes).tail → Lacks turn
+      → (drop taken (cut bytes).packets ≡ []) × (turn ≡ tail_turn (cut bytes).tail)
+  none_by turn [] e is lacks = (e, is)
+  none_by turn (frame ∷ more) e is lacks = absurd (lacks _ _ is)
+
+  none_is : (turn : Turn) → turn ≡ next_turn key bytes taken → Lacks turn → (drop taken (cut bytes).packets ≡ []) × (turn ≡ tail_turn (cut bytes).tail)
+  unfolding next_turn
+  none_is turn is lacks = none_by turn (drop taken (cut bytes).packets) refl is lacks
 
   -- some packet is left
   left_within : (frame : Frame) (more : List Frame) → drop taken (cut bytes).packets ≡ frame ∷ more → taken < whole_packets bytes
@@ -100,7 +133,7 @@ module _ (key : List ℕ) (bytes : List ℕ) (taken : ℕ) where
     served : (packets : List Packet) (ends : Bool)
         → says was (outcome (packets_of key (take taken (cut bytes).packets)) (clear key frame)) ≡ record { sent = packets; closes = ends; meaning = now }
         → Sends key old new packets → closed_of stream ≡ ends → pending_of stream ≡ None → Stands key stream bytes (suc taken)
-        → Goes (went_by ends) key was now old new stream bytes taken
+        → Goes (after_reply ends) key was now old new stream bytes taken
     served packets false e sends closed free stands = record {
       packets = packets;
       within = left_within frame more left;
@@ -116,96 +149,94 @@ module _ (key : List ℕ) (bytes : List ℕ) (taken : ℕ) where
     }
 
   -- a reply is sent
-  pub goes_reply : (meaning : Meaning) (old new : List ℕ) (stream : Stream) (reply : List ℕ) (ends : Bool) → Reply reply ends ≡ next_turn key bytes taken
-      → new ≡ old ++ reply → IsWhole reply → closed_of stream ≡ ends → pending_of stream ≡ None → Stands key stream bytes (suc taken)
-      → Goes (went_by ends) key meaning meaning old new stream bytes taken
-  goes_reply meaning old new stream reply ends is added whole closed free stands = by_case (by_turn meaning (Reply reply ends) is)
-    where
-      by_tail : (tail : Tail) → Reply reply ends ≡ turn_by key (packets_of key (take taken (cut bytes).packets)) [] tail → ⊥
-      by_tail (open_end rest) e = cc
-      by_tail (fault reason) e = cc
-
-      by_case : IsFirst meaning (Reply reply ends) ⊎ IsNone (Reply reply ends) → Goes (went_by ends) key meaning meaning old new stream bytes taken
-      by_case (inl f) =
-          served meaning meaning old new stream f.frame f.more f.left (packet_of f.says.0 ∷ []) ends f.says.2
-          (sends_one key old new f.says.0 (added ∙ ap (λ (t : List ℕ). old ++ t) f.says.1) (subst IsWhole f.says.1 whole)) closed free stands
-      by_case (inr n) = absurd (by_tail (cut bytes).tail n.turn_is)
+  pub goes_reply : (meaning : Meaning) (old new : List ℕ) (stream : Stream) (packet : Packet) (reply : ReplyValue) (ends : Bool) → turns.Packet packet (Reply reply ends) ≡ next_turn key bytes taken
+      → new ≡ old ++ sent key (packet_of reply) → IsWhole (sent key (packet_of reply)) → closed_of stream ≡ ends → pending_of stream ≡ None → Stands key stream bytes (suc taken)
+      → Goes (after_reply ends) key meaning meaning old new stream bytes taken
+  goes_reply meaning old new stream packet reply ends is added whole closed free stands =
+      let f = next_is meaning packet (Reply reply ends) is in
+      served meaning meaning old new stream f.frame f.more f.left (packet_of reply ∷ []) ends f.says (sends_one key old new reply added whole) closed free stands
 
   -- the desk has answered
-  pub goes_answer : (was now : Meaning) (old new : List ℕ) (stream : Stream) (ask : Ask) (slot : Slot) (reply : List ℕ) (ends : Bool) → Asks ask slot ≡ next_turn key bytes taken
-      → now ≡ (asked was ask).meaning → reply ≡ sent key (packet_of (reply_in slot (answer_body (asked was ask).answer))) → ends ≡ not slot.single
-      → new ≡ old ++ reply → IsWhole reply → closed_of stream ≡ ends → pending_of stream ≡ None → Stands key stream bytes (suc taken)
-      → Goes (went_by ends) key was now old new stream bytes taken
-  goes_answer was now old new stream ask slot reply ends is told same closing added whole closed free stands = by_case (by_turn was (Asks ask slot) is)
-    where
-      by_tail : (tail : Tail) → Asks ask slot ≡ turn_by key (packets_of key (take taken (cut bytes).packets)) [] tail → ⊥
-      by_tail (open_end rest) e = cc
-      by_tail (fault reason) e = cc
-
-      by_case : IsFirst was (Asks ask slot) ⊎ IsNone (Asks ask slot) → Goes (went_by ends) key was now old new stream bytes taken
-      by_case (inl f) =
-          let answer = reply_in slot (answer_body (asked was ask).answer) in
-          served was now old new stream f.frame f.more f.left (packet_of answer ∷ []) ends (f.says ∙ rw (told, closing) refl)
-          (sends_one key old new answer (added ∙ ap (λ (t : List ℕ). old ++ t) same) (subst IsWhole same whole)) closed free stands
-      by_case (inr n) = absurd (by_tail (cut bytes).tail n.turn_is)
+  pub goes_answer : (was now : Meaning) (old new : List ℕ) (stream : Stream) (packet : Packet) (ask : Ask) (slot : Slot) (reply : ReplyValue) (ends : Bool) → turns.Packet packet (Asks ask slot) ≡ next_turn key bytes taken
+      → now ≡ (asked was ask).meaning → reply ≡ reply_in slot (answer_body (asked was ask).answer) → ends ≡ not slot.single
+      → new ≡ old ++ sent key (packet_of reply) → IsWhole (sent key (packet_of reply)) → closed_of stream ≡ ends → pending_of stream ≡ None → Stands key stream bytes (suc taken)
+      → Goes (after_reply ends) key was now old new stream bytes taken
+  goes_answer was now old new stream packet ask slot reply ends is told same closing added whole closed free stands =
+      let f = next_is was packet (Asks ask slot) is in
+      served was now old new stream f.frame f.more f.left (packet_of reply ∷ []) ends (f.says ∙ rw (told, closing, same) refl) (sends_one key old new reply added whole) closed free stands
 
   -- nothing is sent
-  pub goes_silent : (meaning : Meaning) (old new : List ℕ) (stream : Stream) → Silent ≡ next_turn key bytes taken
-      → new ≡ old → closed_of stream ≡ false → pending_of stream ≡ None → Stands key stream bytes (suc taken) → Goes went.On key meaning meaning old new stream bytes taken
-  goes_silent meaning old new stream is added closed free stands = by_case (by_turn meaning Silent is)
-    where
-      by_tail : (tail : Tail) → Silent ≡ turn_by key (packets_of key (take taken (cut bytes).packets)) [] tail → ⊥
-      by_tail (open_end rest) e = cc
-      by_tail (fault reason) e = cc
-
-      by_case : IsFirst meaning Silent ⊎ IsNone Silent → Goes went.On key meaning meaning old new stream bytes taken
-      by_case (inl f) = served meaning meaning old new stream f.frame f.more f.left [] false f.says (sends_none key old new added) closed free stands
-      by_case (inr n) = absurd (by_tail (cut bytes).tail n.turn_is)
+  pub goes_silent : (meaning : Meaning) (old new : List ℕ) (stream : Stream) (packet : Packet) → turns.Packet packet Silent ≡ next_turn key bytes taken
+      → new ≡ old → closed_of stream ≡ false → pending_of stream ≡ None → Stands key stream bytes (suc taken) → Goes (Continue tt) key meaning meaning old new stream bytes taken
+  goes_silent meaning old new stream packet is added closed free stands =
+      let f = next_is meaning packet Silent is in
+      served meaning meaning old new stream f.frame f.more f.left [] false f.says (sends_none key old new added) closed free stands
 
   -- no packet is left
-  pub goes_need : (meaning : Meaning) (old new : List ℕ) (stream : Stream) → Need ≡ next_turn key bytes taken
-      → new ≡ old → closed_of stream ≡ false → pending_of stream ≡ None → Stands key stream bytes taken → Goes went.Rests key meaning meaning old new stream bytes taken
-  goes_need meaning old new stream is added closed free stands = by_case (by_turn meaning Need is)
+  pub goes_need : (meaning : Meaning) (old new : List ℕ) (stream : Stream) → turns.Need ≡ next_turn key bytes taken
+      → new ≡ old → closed_of stream ≡ false → pending_of stream ≡ None → Stands key stream bytes taken → Goes (Break false) key meaning meaning old new stream bytes taken
+  goes_need meaning old new stream is added closed free stands =
+      let n = none_is turns.Need is lacks in
+      let tail = by_tail (cut bytes).tail n.1 in
+      let none : length (drop taken (cut bytes).packets) ≡ 0 = ap length n.0 in
+      let within = stands.within in
+      record {
+        rest = tail.0;
+        tail = tail.1;
+        all = omega (arith, none, length-drop taken (cut bytes).packets, within);
+        nothing = added;
+        same = refl;
+        ready = (closed, free);
+        stands = stands;
+      }
     where
-      by_tail : (tail : Tail) → Need ≡ turn_by key (packets_of key (take taken (cut bytes).packets)) [] tail → (rest : List ℕ) × (tail ≡ open_end rest)
+      lacks : Lacks turns.Need
+      lacks packet it e = cc
+
+      by_tail : (tail : Tail) → turns.Need ≡ tail_turn tail → (rest : List ℕ) × (tail ≡ open_end rest)
       by_tail (open_end rest) e = (rest, refl)
-      by_tail (fault reason) e = cc
+      by_tail (fault refused) e = cc
 
-      by_case : IsFirst meaning Need ⊎ IsNone Need → Goes went.Rests key meaning meaning old new stream bytes taken
-      by_case (inl f) = absurd f.says
-      by_case (inr n) =
-          let tail = by_tail (cut bytes).tail n.turn_is in
-          let none : length (drop taken (cut bytes).packets) ≡ 0 = ap length n.left in
-          let within = stands.within in
-          record {
-            rest = tail.0;
-            tail = tail.1;
-            all = omega (arith, none, length-drop taken (cut bytes).packets, within);
-            nothing = added;
-            same = refl;
-            ready = (closed, free);
-            stands = stands;
-          }
-
-  -- the connection closes without a reply
-  pub goes_close : (meaning : Meaning) (old new : List ℕ) (stream : Stream) → Close ≡ next_turn key bytes taken → new ≡ old → Goes went.Closes key meaning meaning old new stream bytes taken
-  goes_close meaning old new stream is added = by_case (by_turn meaning Close is)
-    where
-      by_tail : (tail : Tail) → Close ≡ turn_by key (packets_of key (take taken (cut bytes).packets)) [] tail → closed_by tail ≡ true
-      by_tail (open_end rest) e = cc
-      by_tail (fault reason) e = refl
-
-      by_case : IsFirst meaning Close ⊎ IsNone Close → Goes went.Closes key meaning meaning old new stream bytes taken
-      by_case (inl f) = record {
+  -- a packet closes the connection without a reply
+  closes_packet : (meaning : Meaning) (old new : List ℕ) (stream : Stream) (packet : Packet) → turns.Packet packet Close ≡ next_turn key bytes taken → new ≡ old → Goes (Break true) key meaning meaning old new stream bytes taken
+  closes_packet meaning old new stream packet is added =
+      let f = next_is meaning packet Close is in
+      record {
         packets = [];
         said = all meaning f.frame f.more f.left ∙ rw f.says refl;
         sends = sends_none key old new added;
       }
-      by_case (inr n) = record {
-        packets = [];
-        said = rw (n.left) (said_to-none key meaning (packets_of key (take taken (cut bytes).packets)) (cut bytes).tail ∙ rw (by_tail (cut bytes).tail n.turn_is) refl);
-        sends = sends_none key old new added;
-      }
+
+  -- so does a header that is refused
+  closes_tail : (meaning : Meaning) (old new : List ℕ) (stream : Stream) → drop taken (cut bytes).packets ≡ [] → closed_by (cut bytes).tail ≡ true → new ≡ old → Goes (Break true) key meaning meaning old new stream bytes taken
+  closes_tail meaning old new stream left shut added = record {
+    packets = [];
+    said = rw left (said_to-none key meaning (packets_of key (take taken (cut bytes).packets)) (cut bytes).tail ∙ rw shut refl);
+    sends = sends_none key old new added;
+  }
+
+  -- the connection closes without a reply
+  pub goes_close : (meaning : Meaning) (old new : List ℕ) (stream : Stream) (turn : Turn) → turn ≡ next_turn key bytes taken → Shuts turn → new ≡ old → Goes (Break true) key meaning meaning old new stream bytes taken
+  goes_close meaning old new stream (turns.Packet packet it) is shuts added =
+      closes_packet meaning old new stream packet (subst (λ (s : Step). turns.Packet packet s ≡ next_turn key bytes taken) shuts is) added
+  goes_close meaning old new stream turns.Need is shuts added = absurd shuts
+  goes_close meaning old new stream (turns.Refused header) is shuts added =
+      let n = none_is (turns.Refused header) is lacks in closes_tail meaning old new stream n.0 (by_tail (cut bytes).tail n.1) added
+    where
+      lacks : Lacks (turns.Refused header)
+      lacks packet it e = cc
+
+      by_tail : (tail : Tail) → turns.Refused header ≡ tail_turn tail → closed_by tail ≡ true
+      by_tail (open_end rest) e = cc
+      by_tail (fault refused) e = refl
+  goes_close meaning old new stream turns.Close is shuts added = absurd (by_tail (cut bytes).tail (none_is turns.Close is lacks).1)
+    where
+      lacks : Lacks turns.Close
+      lacks packet it e = cc
+
+      by_tail : (tail : Tail) → turns.Close ≡ tail_turn tail → ⊥
+      by_tail (open_end rest) e = cc
+      by_tail (fault refused) e = cc
 
 -- ---- turn after turn
 
@@ -314,6 +345,12 @@ module _ (key : List ℕ) (bytes : List ℕ) (from : ℕ) where
               (sends-append key old mid new p.packets r.packets p.sends r.sends);
           serves = tt;
         }
+
+    -- nothing more is to be done
+    pub stopping : (closes : Bool) (next : Meaning) (new : List ℕ) (after : Stream) → Goes (Break closes) key now next mid new after bytes (from + p.count)
+        → SaysAll key next old new closes after bytes (said_from key was bytes from)
+    stopping false next new after r = at_rest next new after r
+    stopping true next new after r = closing next new after r
 
     -- memory ran out before the next packet
     pub cut_short : (new : List ℕ) (next : Meaning) → new ≡ mid → next ≡ now → (before piece : List ℕ) → before ++ piece ≡ bytes → from ≡ whole_packets before → SaysSome key was next old new before piece

@@ -1,5 +1,7 @@
 -- How a piece of bytes is served, one turn after another.
 use Rattle.std.specs.Prelude.{◌≡◌, ◌<◌, ℕ, suc, List, ◌++◌, Bool, true, false, Result, Ok, Err}
+use Rattle.std.specs.declared.ops.ControlFlow.{ControlFlow}
+use Rattle.std.specs.declared.ops.ControlFlow.TheVariants.{Continue, Break}
 use Rattle.std.specs.declared.alloc.AllocError.{AllocError}
 use Rattle.tac_wire.specs.Stream.{open_end, cut}
 use Rattle.tac_conn.specs.declared.packet.Packet.{Packet}
@@ -8,15 +10,17 @@ use Rattle.tac_stream.specs.Kept.{IsReady, Stands, unread_of}
 use Rattle.tac_desk.specs.Meaning.{Meaning}
 use Rattle.tac_desk.specs.Serving.{Said, said_part, said_from, said_on, said_first, whole_packets}
 use Rattle.tac_server.specs.Kept.{Sends, Serves}
-use Rattle.tac_server.specs.declared.turning.Went.{Went}
-use Rattle.tac_server.specs.declared.turning.Went.TheVariants.{On, Rests, Closes}
 
 -- ---- one turn
 
--- a packet was served, and the connection closes or not
-abbrev pub went_by : Bool → Went
-went_by false = On
-went_by true = Closes
+-- how it goes on after a turn: by the next one, or not, and whether the connection closes then
+abbrev pub Flow : Type 0
+Flow = ControlFlow Bool (Unit {0})
+
+-- after a packet was served, and the connection closes or not
+abbrev pub after_reply : Bool → Flow
+after_reply false = Continue tt
+after_reply true = Break true
 
 -- the next packet was served, and the connection stays open
 pub record GoesOn (key : List ℕ) (was now : Meaning) (old new : List ℕ) (stream : Stream)
@@ -47,16 +51,18 @@ pub record ClosesWith (key : List ℕ) (was now : Meaning) (old new : List ℕ) 
   pub said : said_from key was bytes taken ≡ record { sent = packets; closes = true; meaning = now }
   pub sends : Sends key old new packets
 
-abbrev pub Goes : Went → List ℕ → Meaning → Meaning → List ℕ → List ℕ → Stream → List ℕ → ℕ → Type 0
-Goes On key was now old new stream bytes taken = GoesOn key was now old new stream bytes taken
-Goes Rests key was now old new stream bytes taken = IsAtRest key was now old new stream bytes taken
-Goes Closes key was now old new stream bytes taken = ClosesWith key was now old new bytes taken
+abbrev pub Goes : Flow → List ℕ → Meaning → Meaning → List ℕ → List ℕ → Stream → List ℕ → ℕ → Type 0
+Goes (Continue _) key was now old new stream bytes taken =
+    GoesOn key was now old new stream bytes taken
+Goes (Break false) key was now old new stream bytes taken =
+    IsAtRest key was now old new stream bytes taken
+Goes (Break true) key was now old new stream bytes taken =
+    ClosesWith key was now old new bytes taken
 
 -- each turn that goes on takes bytes from what is held
-abbrev pub Shortens : Went → Stream → Stream → Type 0
-Shortens On old new = unread_of new < unread_of old
-Shortens Rests old new = Unit {0}
-Shortens Closes old new = Unit {0}
+abbrev pub Shortens : Flow → Stream → Stream → Type 0
+Shortens (Continue _) old new = unread_of new < unread_of old
+Shortens (Break closes) old new = Unit {0}
 
 -- ---- all turns of a piece
 

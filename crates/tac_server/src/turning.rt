@@ -14,7 +14,8 @@ ghost use Rattle.tac_server.specs.Kept.{Serves};
 ghost use Rattle.tac_server.specs.Turning as turning;
 
 use std::alloc::AllocError;
-use tac_conn::{Ask, Sent, Slot};
+use std::ops::ControlFlow;
+use tac_conn::{Ask, Reply, Slot, Step};
 use tac_desk::Desk;
 use tac_stream::{Stream, Turn};
 use tac_wire::Key;
@@ -22,91 +23,86 @@ use tac_wire::Key;
 // The most bytes of a packet that is sent.
 const SENT_MAX: usize = 96;
 
-/// How a turn went.
-#[derive(Clone, Copy, PartialEq, Eq)]
-pub(crate) enum Went {
-    /// A packet was served, and the connection stays open.
-    On,
-    /// No whole packet is left.
-    Rests,
-    /// The connection closes.
-    Closes,
-}
-
-// A packet was served, and the connection closes or not.
-fn after_reply(closes: bool) -> Went
-    ensures { result ≡ turning.went_by closes }
+// After a packet was served: the next turn, or the connection closes.
+fn after_reply(closes: bool) -> ControlFlow<bool>
+    ensures { result ≡ turning.after_reply closes }
 {
-    if closes { Went::Closes } else { Went::On }
+    if closes {
+        ControlFlow::Break(true)
+    } else {
+        ControlFlow::Continue(())
+    }
 }
 
-// Adds a packet, for which there is room.
-fn add(out: &mut Vec<u8>, reply: &Sent)
+// Adds a reply as it is sent, for which there is room.
+fn add(key: &Key, out: &mut Vec<u8>, reply: &Reply)
     requires { vec_len out.old + SENT_MAX ≤ vec_capacity out.old }
-    ensures bytes { out.new.items ≡ out.old.items ++ reply.now }
-    ensures whole { IsWhole reply.now }
+    ensures bytes { out.new.items ≡ out.old.items ++ sent key.now (packet_of reply.now) }
+    ensures whole { IsWhole (sent key.now (packet_of reply.now)) }
 {
-    out.extend_from_slice(reply.as_slice()).unwrap();
+    out.extend_from_slice(reply.sent(key).as_slice()).unwrap();
 }
 
 // The reply that carries the desk's answer, and whether the connection closes.
 fn answer_to<D: Desk>(
-    key: &Key,
     desk: &mut D,
     stream: &mut Stream,
     ask: &Ask,
     slot: Slot,
-) -> Result<(Sent, bool), AllocError>
+) -> Result<(Reply, bool), AllocError>
     requires pending { pending_of stream.old ≡ Some slot }
     requires kind { kind_asked slot ≡ kind_of_ask ask.now }
     ensures reply { let body = answer_body (asked (D.meaning desk.old) ask.now).answer in
-        IfOk result (λ reply.
-        reply ≡ (sent key.now (packet_of (reply_in slot body)), not slot.single)) }
+        IfOk result (λ reply. reply ≡ (reply_in slot body, not slot.single)) }
     ensures desk { OnOk result (D.meaning desk.new ≡ (asked (D.meaning desk.old) ask.now).meaning) }
     ensures pending { OnOk result (pending_of stream.new ≡ None) }
     ensures closed { closed_of stream.old ≡ false →
         IfOk result (λ reply. closed_of stream.new ≡ reply.1) }
-    ensures stands { (bytes : List ℕ) (taken : ℕ) → Stands key.now stream.old bytes taken →
-        OnOk result (Stands key.now stream.new bytes taken) }
+    ensures stands { (key bytes : List ℕ) (taken : ℕ) → Stands key stream.old bytes taken →
+        OnOk result (Stands key stream.new bytes taken) }
     ensures unread { OnOk result (unread_of stream.new ≡ unread_of stream.old) }
     ensures err { OnErr result (D.meaning desk.new ≡ D.meaning desk.old) }
 {
     match desk.ask(ask) {
-        Ok(answer) => Ok(stream.give(key, slot, answer)),
+        Ok(answer) => Ok(stream.give(slot, answer)),
         Err(error) => Err(error),
     }
 }
 
-// Serves what stands first. The place of its reply is taken before its packet is, so that memory
+// Serves what stands first. It breaks where nothing more is to be done, and tells whether the
+// connection closes then. The place of its reply is taken before its packet is, so that memory
 // runs out only where nothing was done for the packet.
 fn take_turn<D: Desk>(
     key: &Key,
     desk: &mut D,
     stream: &mut Stream,
     out: &mut Vec<u8>,
-) -> Result<Went, AllocError>
+) -> Result<ControlFlow<bool>, AllocError>
     ensures goes { (bytes : List ℕ) (taken : ℕ) → IsReady stream.old →
-        Stands key.now stream.old bytes taken → IfOk result (λ went. turning.Goes went key.now
+        Stands key.now stream.old bytes taken → IfOk result (λ flow. turning.Goes flow key.now
         (D.meaning desk.old) (D.meaning desk.new) out.old.items out.new.items stream.new
         bytes taken) }
-    ensures shorter { IfOk result (λ went. turning.Shortens went stream.old stream.new) }
+    ensures shorter { IfOk result (λ flow. turning.Shortens flow stream.old stream.new) }
     ensures desk { OnErr result (D.meaning desk.new ≡ D.meaning desk.old) }
     ensures out { OnErr result (out.new.items ≡ out.old.items) }
 {
     out.reserve(SENT_MAX)?;
     match stream.next(key)? {
-        Turn::Reply(reply, closes) => {
-            add(out, &reply);
-            Ok(after_reply(closes))
-        }
-        Turn::Asks(ask, slot) => {
-            let (reply, closes) = answer_to(key, desk, stream, &ask, slot)?;
-            add(out, &reply);
-            Ok(after_reply(closes))
-        }
-        Turn::Silent => Ok(Went::On),
-        Turn::Need => Ok(Went::Rests),
-        Turn::Close => Ok(Went::Closes),
+        Turn::Packet(_packet, step) => match step {
+            Step::Reply(reply, closes) => {
+                add(key, out, &reply);
+                Ok(after_reply(closes))
+            }
+            Step::Asks(ask, slot) => {
+                let (reply, closes) = answer_to(desk, stream, &ask, slot)?;
+                add(key, out, &reply);
+                Ok(after_reply(closes))
+            }
+            Step::Silent => Ok(ControlFlow::Continue(())),
+            Step::Close => Ok(ControlFlow::Break(true)),
+        },
+        Turn::Need => Ok(ControlFlow::Break(false)),
+        Turn::Refused(_) | Turn::Close => Ok(ControlFlow::Break(true)),
     }
 }
 
@@ -134,10 +130,8 @@ pub(crate) fn serve_piece<D: Desk>(
 {
     stream.feed(piece)?;
     'turns: loop {
-        match take_turn(key, desk, stream, out)? {
-            Went::On => {}
-            Went::Rests => return Ok(false),
-            Went::Closes => return Ok(true),
+        if let ControlFlow::Break(closes) = take_turn(key, desk, stream, out)? {
+            return Ok(closes);
         }
     }
 }
