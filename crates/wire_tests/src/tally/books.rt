@@ -8,7 +8,7 @@ use std::alloc::{AllocError, Global};
 use std::fmt::Write;
 use std::process::Abort;
 use std::test::Fail;
-use tac_tally::{AcctKind, Book, Record, StoreFault, Tally};
+use tac_tally::{AcctKind, Book, Record, RecordLimit, StoreFault, Tally};
 
 // The first word of a text, and what follows the blank.
 fn word(text: &str) -> (&str, &str) {
@@ -93,13 +93,24 @@ struct Bench {
 }
 
 impl Bench {
-    fn new(alloc: Global, policy: &str, limit: usize) -> Result<Bench, Fail> {
+    fn of(alloc: Global, policy: &str, book: Book) -> Result<Bench, Fail> {
         let policy = Policy::read(alloc, policy.as_bytes())?;
         Ok(Bench {
             alloc,
-            book: Book::new(alloc, limit),
+            book,
             policy,
         })
+    }
+
+    // One whose book refuses what comes at its limit.
+    fn new(alloc: Global, policy: &str, limit: usize) -> Result<Bench, Fail> {
+        Bench::of(alloc, policy, Book::new(alloc, limit))
+    }
+
+    // One whose book forgets then.
+    fn forgetting(alloc: Global, policy: &str, limit: usize) -> Result<Bench, Fail> {
+        let limit = RecordLimit::forgetting(limit);
+        Bench::of(alloc, policy, Book::with_limit(alloc, limit))
     }
 
     fn store(&mut self, words: &str, denied: bool, out: &mut String) -> Result<(), Fail> {
@@ -139,6 +150,16 @@ impl Bench {
         Ok(())
     }
 
+    // How many records were forgotten, and the tasks of the others in order.
+    fn kept(&self, out: &mut String) -> Result<(), Fail> {
+        write!(out, "after {}:", self.book.forgotten())?;
+        for record in self.book.records() {
+            out.push(' ')?;
+            out.push_str(str::from_utf8(record.task.as_slice())?)?;
+        }
+        Ok(())
+    }
+
     fn answer(&mut self, line: &str, out: &mut String) -> Result<(), Fail> {
         let (verb, rest) = word(line);
         match verb {
@@ -148,6 +169,7 @@ impl Bench {
             "group" => self.group(rest, out),
             "recount" => self.recount(rest, out),
             "records" => self.records(out),
+            "kept" => self.kept(out),
             _ => Err(Fail::from("nothing is asked")),
         }
     }
@@ -204,6 +226,185 @@ fn a_full_book(rt: HostRuntime) -> Result<(), Fail> {
         ",
     )?;
     works(&rt, "", 0, "store bob start 1 0 = full\nrecords = full")
+}
+
+// The same, of a new book that forgets.
+fn forgets<R: Abort + AllocGlobal>(
+    rt: &R,
+    policy: &str,
+    limit: usize,
+    text: &str,
+) -> Result<(), Fail> {
+    let mut bench = Bench::forgetting(rt.alloc(), policy, limit)?;
+    answers(rt, &mut bench, text)
+}
+
+// The older half goes, rounded up, once there is one record more than may be kept. The numbers of
+// tasks are those of their records.
+#[test]
+fn the_older_half_goes(rt: HostRuntime) -> Result<(), Fail> {
+    forgets(&rt, "", 0, "store bob start 1 0 = full\nkept = after 0:")?;
+    forgets(
+        &rt,
+        "",
+        1,
+        "
+        store bob start 1 0 = stored
+        records = room Begin
+        kept = after 0: 1
+        store bob start 2 0 = stored
+        kept = after 1: 2
+        store eve start 3 0 = stored
+        kept = after 2: 3
+        tally bob = 0 0 0 0 0 0 0
+        tally eve = 1 0 0 0 1 0 0
+        ",
+    )?;
+    forgets(
+        &rt,
+        "",
+        2,
+        "
+        store bob start 1 0 = stored
+        store eve start 2 0 = stored
+        kept = after 0: 1 2
+        store bob stop 3 0 = stored
+        kept = after 1: 2 3
+        records = room Begin Stop
+        store bob stop 4 0 = stored
+        kept = after 2: 3 4
+        ",
+    )?;
+    forgets(
+        &rt,
+        "",
+        3,
+        "
+        store bob start 1 0 = stored
+        store bob start 2 0 = stored
+        store bob start 3 0 = stored
+        kept = after 0: 1 2 3
+        store bob start 4 0 = stored
+        kept = after 2: 3 4
+        store bob start 5 0 = stored
+        kept = after 2: 3 4 5
+        store bob start 6 0 = stored
+        kept = after 4: 5 6
+        tally bob = 2 0 0 0 2 0 0
+        ",
+    )
+}
+
+// Stores records of tasks with these numbers.
+fn stores_from<R: Abort + AllocGlobal>(
+    rt: &R,
+    bench: &mut Bench,
+    first: usize,
+    last: usize,
+) -> Result<(), Fail> {
+    for number in first..=last {
+        let line = format!(in rt.alloc(); "store bob start {number} 0 = stored")?;
+        is_answered(rt, bench, line.as_str())?;
+    }
+    Ok(())
+}
+
+fn forgets_five<R: Abort + AllocGlobal>(rt: &R, bench: &mut Bench) -> Result<(), Fail> {
+    stores_from(rt, bench, 1, 10)?;
+    is_answered(rt, bench, "kept = after 0: 1 2 3 4 5 6 7 8 9 10")?;
+    stores_from(rt, bench, 11, 11)?;
+    is_answered(rt, bench, "kept = after 5: 6 7 8 9 10 11")?;
+    stores_from(rt, bench, 12, 15)?;
+    is_answered(rt, bench, "kept = after 5: 6 7 8 9 10 11 12 13 14 15")?;
+    stores_from(rt, bench, 16, 16)?;
+    is_answered(rt, bench, "kept = after 10: 11 12 13 14 15 16")?;
+    is_answered(rt, bench, "tally bob = 6 0 0 0 6 0 0")
+}
+
+fn forgets_six<R: Abort + AllocGlobal>(rt: &R, bench: &mut Bench) -> Result<(), Fail> {
+    stores_from(rt, bench, 1, 11)?;
+    is_answered(rt, bench, "kept = after 0: 1 2 3 4 5 6 7 8 9 10 11")?;
+    stores_from(rt, bench, 12, 12)?;
+    is_answered(rt, bench, "kept = after 6: 7 8 9 10 11 12")?;
+    stores_from(rt, bench, 13, 18)?;
+    is_answered(rt, bench, "kept = after 12: 13 14 15 16 17 18")
+}
+
+#[test]
+fn half_of_ten_and_of_eleven(rt: HostRuntime) -> Result<(), Fail> {
+    let mut even = Bench::forgetting(rt.alloc(), "", 10)?;
+    forgets_five(&rt, &mut even)?;
+    let mut odd = Bench::forgetting(rt.alloc(), "", 11)?;
+    forgets_six(&rt, &mut odd)
+}
+
+// What was forgotten counts nowhere: a task whose start was forgotten is open no more, and its stop
+// is a stop and ends nothing. A task whose stop was forgotten, and not the start after it, is open.
+#[test]
+fn tallies_of_what_is_kept(rt: HostRuntime) -> Result<(), Fail> {
+    forgets(
+        &rt,
+        "group ops\nuser bob in ops\nuser eve in ops\n",
+        4,
+        "
+        store bob start 1 0 = stored
+        store bob start 2 0 = stored
+        store bob watchdog 1 50 = stored
+        store bob start 3 0 = stored
+        tally bob = 3 0 1 0 3 0 0
+        store bob stop 1 5 = stored
+        kept = after 2: 1 3 1
+        tally bob = 1 1 1 0 1 5 0
+        group ops = 1 1 1 0 1 5 0
+        store bob stop 2 7 = stored
+        tally bob = 1 2 1 0 1 12 0
+        store eve update 9 0 = stored
+        kept = after 4: 1 2 9
+        tally bob = 0 2 0 0 0 12 0
+        tally eve = 0 0 0 1 0 0 0
+        group ops = 0 2 0 1 0 12 0
+        ",
+    )?;
+    forgets(
+        &rt,
+        "",
+        2,
+        "
+        store bob stop 1 3 = stored
+        store bob start 1 0 = stored
+        tally bob = 1 1 0 0 1 3 0
+        store bob watchdog 1 0 = stored
+        tally bob = 1 0 1 0 1 0 0
+        ",
+    )
+}
+
+// Marks stay with their records, and are worked out anew for what is kept.
+#[test]
+fn marks_of_what_is_kept(rt: HostRuntime) -> Result<(), Fail> {
+    forgets(
+        &rt,
+        "user bob\npermit reload\n",
+        4,
+        "
+        mark bob stop 1 2 reload = stored
+        store bob stop 2 2 show = stored
+        mark bob stop 3 2 reload = stored
+        store bob stop 4 2 show = stored
+        tally bob = 0 4 0 0 0 8 2
+        mark bob stop 5 2 reload = stored
+        tally bob = 0 3 0 0 0 6 2
+        recount bob = settled
+        tally bob = 0 3 0 0 0 6 1
+        store bob stop 6 2 reload = stored
+        tally bob = 0 4 0 0 0 8 1
+        store bob stop 7 2 reload = stored
+        kept = after 4: 5 6 7
+        tally bob = 0 3 0 0 0 6 0
+        recount bob = settled
+        tally bob = 0 3 0 0 0 6 0
+        ",
+    )
 }
 
 #[test]
@@ -307,7 +508,7 @@ fn fills<R: Abort + AllocGlobal>(rt: &R, bench: &mut Bench) -> Result<(), Fail> 
     for size in 1..=300 {
         has_room(rt, bench, size)?;
     }
-    assert_eq!(rt; bench.book.limit(), 300);
+    assert_eq!(rt; bench.book.limit(), RecordLimit::refusing(300));
     is_answered(rt, bench, "store bob start 1 0 = full")
 }
 
