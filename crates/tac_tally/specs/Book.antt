@@ -1,5 +1,5 @@
 -- A book of accounting records.
-use Rattle.std.specs.Prelude.{ℕ, ◌+◌, Bool, IsTrue, List, [], ◌∷◌, length, map}
+use Rattle.std.specs.Prelude.{◌≡◌, ℕ, ◌+◌, ◌≤◌, Bool, IsTrue, List, [], ◌∷◌, length, map, drop}
 use Rattle.tac_request.specs.declared.record.Record.{Record}
 use Rattle.tac_tally.specs.Keeping.{goes, is_full, kept}
 use Rattle.tac_tally.specs.declared.limit.RecordLimit.{RecordLimit}
@@ -23,6 +23,11 @@ empty limit = record { entries = []; limit = limit; forgotten = 0 }
 -- the records alone
 abbrev pub items : List Entry → List Record
 items entries = map (λ entry. entry.item) entries
+
+-- of all these entries, in the order in which they came, the book keeps those that it hasn't forgotten
+pub record AreLast (book : Contents) (all : List Entry) : Type 0 where
+  pub kept : book.entries ≡ drop book.forgotten all
+  pub many : book.forgotten ≤ length all
 
 -- no further record is stored
 abbrev pub IsFull : Contents → Type 0

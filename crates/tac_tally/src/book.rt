@@ -1,9 +1,9 @@
 //! The book of records: storing them, and reading them.
 
-ghost use Rattle.std.specs.Prelude.{◌≡◌, ◌↔◌, ◌<◌, ◌≤◌, ◌+◌, ◌++◌, [], ◌∷◌, length, drop, Err};
-ghost use Rattle.std.specs.Prelude.{IsTrue, IfOk, OnOk, OnErr};
+ghost use Rattle.std.specs.Prelude.{◌≡◌, ◌↔◌, ◌<◌, ◌≤◌, ◌+◌, ◌++◌, List, [], ◌∷◌, length, drop};
+ghost use Rattle.std.specs.Prelude.{Err, IsTrue, IfOk, OnOk, OnErr};
 ghost use Rattle.tac_tally.specs.declared.book.StoreFault.TheVariants.{Full, Memory};
-ghost use Rattle.tac_tally.specs.Book.{items, empty, IsFull, with_entry};
+ghost use Rattle.tac_tally.specs.Book.{Entry, items, empty, AreLast, IsFull, with_entry};
 ghost use Rattle.tac_tally.specs.Keeping.{refusing, goes, last_number};
 ghost use Rattle.tac_tally.specs.Accounts.{Run, with_mark_at};
 
@@ -205,6 +205,11 @@ impl Book {
     /// each that stays.
     pub fn store(&mut self, record: Record, denied: bool) -> Result<(), StoreFault>
         ensures ok { OnOk result (self.new ≡ with_entry «record» denied self.old) }
+
+        // What is kept are the last of all that came, whatever was forgotten.
+        ensures last { let entry : Entry = record { item = «record»; denied = denied } in
+            (all : List Entry) → AreLast self.old all →
+            OnOk result (AreLast self.new (all ++ entry ∷ [])) }
 
         // The limit comes first: memory runs out only for a book with room.
         ensures full { (result ≡ Err Full) ↔ IsFull self.old }
