@@ -6,3 +6,4 @@ pub mod Shared
 pub mod Places
 pub mod Patience
 pub mod Pause
+pub mod Filling

@@ -4,6 +4,8 @@
 mod attending;
 mod ending;
 mod fault;
+mod filling;
+mod gauge;
 mod lent;
 mod line;
 mod opening;
@@ -18,6 +20,8 @@ mod vigil;
 mod worker;
 
 pub use fault::ServeFault;
+pub use filling::FillingDesk;
+pub use gauge::{Gauge, Level};
 pub use line::Line;
 pub use patience::Patience;
 pub use pause::{Pause, accepted};

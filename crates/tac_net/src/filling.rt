@@ -1,0 +1,106 @@
+//! A desk that says when its records fill up.
+
+ghost use Rattle.std.specs.Prelude.{◌≡◌, ◌↔◌, false, Ok, IsOk, IfOk, OnOk, OnErr};
+ghost use Rattle.tac_conn.specs.Ask.{kind_of_ask, kind_of_answer};
+ghost use Rattle.tac_conn.specs.declared.ask.Answer.TheVariants as answers;
+ghost use Rattle.tac_desk.specs.Asking.{asked, stores, Passes};
+ghost use Rattle.tac_net.specs.Filling as filling;
+
+use crate::gauge::{Gauge, Level};
+use pol_edit::{BatchFault, Edit, EditFault};
+use pol_meaning::Changes;
+use std::alloc::AllocError;
+use tac_conn::{Answer, Ask};
+use tac_desk::{Desk, Query, QueryFault, Report, State, Thrice};
+use tac_tally::RecordLimit;
+
+/// Another desk, which is asked and edited as that one is. Where its limit refuses records,
+/// standard error is told when nine tenths of them are stored, and when all are, once each. That
+/// is written during the call that stores the record, before it is answered: twice in the life of a
+/// server. Whether it could be written makes no difference.
+#[derive(Drop)]
+pub struct FillingDesk<'a, R, D> {
+    rt: &'a R,
+    desk: D,
+    gauge: Gauge,
+}
+
+impl<'a, R: Eprint, D: Desk> FillingDesk<'a, R, D> {
+    /// This desk, which has no records yet, and this limit to them.
+    pub fn new(rt: &'a R, desk: D, limit: RecordLimit) -> FillingDesk<'a, R, D>
+        ensures desk { result.desk ≡ «desk» }
+        ensures gauge { result.gauge ≡ filling.empty limit }
+    {
+        FillingDesk {
+            rt,
+            desk,
+            gauge: Gauge::new(limit),
+        }
+    }
+
+    // Says what is to say of how many records are stored.
+    fn tell(&self, level: Level) {
+        let stored = self.gauge.stored();
+        let most = self.gauge.most();
+        let _ = match level {
+            Level::NearlyFull => eprintln!(self.rt;
+                "tacd: {stored} of at most {most} records are stored; after that, accounting is \
+                 answered 'records full' (--keep-records)"
+            ),
+            Level::Full => eprintln!(self.rt;
+                "tacd: {stored} records are stored, and no further one: accounting is answered \
+                 'records full' until a restart (--keep-records)"
+            ),
+        };
+    }
+
+    // Counts a record that was stored.
+    fn count(&mut self)
+        ensures desk { self.new.desk ≡ self.old.desk }
+        ensures gauge { self.new.gauge ≡ filling.counted self.old.gauge }
+    {
+        if let Some(level) = self.gauge.count() {
+            self.tell(level);
+        }
+    }
+}
+
+impl<R: Eprint, D: Desk> Desk for FillingDesk<'_, R, D> {
+    ghost meaning = { λ desk. D.meaning desk.desk };
+
+    fn ask(&mut self, ask: &Ask) -> Result<Answer, AllocError>
+        ensures answer { IfOk result (λ answer.
+            answer ≡ (asked (D.meaning self.old.desk) ask.now).answer) }
+        ensures after { OnOk result
+            (D.meaning self.new.desk ≡ (asked (D.meaning self.old.desk) ask.now).meaning) }
+        ensures kind { IfOk result (λ answer. kind_of_answer answer ≡ kind_of_ask ask.now) }
+        ensures passes { (result ≡ Ok answers.Pass) ↔ Passes (D.meaning self.old.desk) ask.now }
+        ensures sure { stores (D.meaning self.old.desk) ask.now ≡ false → IsOk result }
+        ensures err { OnErr result (D.meaning self.new.desk ≡ D.meaning self.old.desk) }
+
+        // A record that is answered as stored is counted, and nothing else is.
+        ensures gauge { self.new.gauge ≡ filling.after result self.old.gauge }
+    {
+        let answered = self.desk.ask(ask);
+        if let Ok(Answer::Stored) = answered {
+            self.count();
+        }
+        answered
+    }
+
+    fn edit(&mut self, edit: &Edit) -> Result<Thrice<Changes>, EditFault> {
+        self.desk.edit(edit)
+    }
+
+    fn edit_all(&mut self, edits: &[Edit]) -> Result<Thrice<Changes>, BatchFault> {
+        self.desk.edit_all(edits)
+    }
+
+    fn query(&mut self, query: &Query) -> Result<Thrice<Report>, QueryFault> {
+        self.desk.query(query)
+    }
+
+    fn state(&self) -> Result<State, AllocError> {
+        self.desk.state()
+    }
+}
