@@ -9,7 +9,8 @@ use Rattle.pol_live.specs.declared.fault.BuildFault.TheVariants as builds
 use Rattle.std.proofs.lemmas.List.{append_cancel_left}
 use Rattle.pol_text.specs.declared.subject.Subject.{Subject}
 use Rattle.pol_text.specs.Text.{policy_of, text_of_lines}
-use Rattle.tac_desk.specs.Meaning.{Meaning}
+use Rattle.tac_tally.specs.Keeping.{refusing}
+use Rattle.tac_desk.specs.Meaning.{Meaning, max_records}
 use Rattle.tac_desks.specs.Opening.{IsOnlyOpened}
 use Rattle.tac_server.specs.declared.server.Server.{Server}
 use Rattle.tac_server.specs.declared.server.ServerFault.{ServerFault}
@@ -234,13 +235,13 @@ body_none text key lines at none number =
 
 module _ (key : List ℕ) (policy : List Subject) (number : ℕ) (events : List (List ℕ)) (old new : List ℕ) where
   -- no other run of a policy that may stand
-  small_back : (meaning : Meaning) → IsOnlyOpened policy 1000000 (Ok meaning) → (run : Run) → DeskRuns key policy number events run → Runs (opening key (desk_of policy)) number events run
+  small_back : (meaning : Meaning) → IsOnlyOpened policy (refusing max_records) (Ok meaning) → (run : Run) → DeskRuns key policy number events run → Runs (opening key (desk_of policy)) number events run
   unfolding DeskRuns
   small_back meaning only run (inl small) = small.1
   small_back meaning only run (inr large) =
       let e : ◌≡◌ {A = Result Meaning BuildFault} (Ok meaning) (Err (builds.TooManyStates large.0)) = only (Err (builds.TooManyStates large.0)) large.1 in absurd cc
 
-  module _ (meaning : Meaning) (is : meaning ≡ desk_of policy) (small : IsSmall policy) (only : IsOnlyOpened policy 1000000 (Ok meaning)) where
+  module _ (meaning : Meaning) (is : meaning ≡ desk_of policy) (small : IsSmall policy) (only : IsOnlyOpened policy (refusing max_records) (Ok meaning)) where
     ends_at_desk : (fault : Option Located) → Ends old new fault (Runs (opening key (desk_of policy)) number events) → Ends old new fault (DeskRuns key policy number events)
     unfolding DeskRuns
     ends_at_desk fault h = record {
@@ -261,7 +262,7 @@ module _ (key : List ℕ) (policy : List Subject) (number : ℕ) (events : List 
         runs_so result (subst (λ (m : Meaning). Prints old new result (Runs (opening key m) number events)) is (prints_course (opening key meaning) number events old new result h))
 
   -- a policy that may not stand
-  module _ (subject : SubjectId) (first : IsFirstLarge policy policy subject) (only : IsOnlyOpened policy 1000000 (Err (builds.TooManyStates subject))) where
+  module _ (subject : SubjectId) (first : IsFirstLarge policy policy subject) (only : IsOnlyOpened policy (refusing max_records) (Err (builds.TooManyStates subject))) where
     large : SubjectId → Located
     large id = record { line = None; fault = TooManyStates id }
 
