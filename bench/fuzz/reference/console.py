@@ -67,7 +67,7 @@ def ask(desk, line):
         case ["shadow"]:
             return shadow_lines(desk.policy)
         case ["records"]:
-            return record_lines(desk.records)
+            return record_lines(desk.records, desk.forgotten)
         case ["reach", kind, name] if is_subject(kind, name):
             return reach_lines(desk.policy, kind, name)
         case ["tally", kind, name] if is_subject(kind, name):
@@ -109,9 +109,9 @@ def why_line(desk, name, line):
     return f"{'permitted' if permits(entry) else 'denied'} by {entry or 'default'}"
 
 
-def record_lines(records):
+def record_lines(records, forgotten):
     lines = []
-    for number, record in enumerate(records, start=1):
+    for number, record in enumerate(records, start=forgotten + 1):
         user, task = percent_form(record.user), percent_form(record.task)
         line = f"record {number} user {user} {record.kind} task {task} elapsed {record.elapsed}"
         if record.line is not None:

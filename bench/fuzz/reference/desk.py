@@ -13,9 +13,14 @@ ENABLE_SERVICE = 2
 
 
 class Desk:
-    def __init__(self, policy):
+    """Where `keep` is given, so many records are kept: the older half, rounded up, goes where one
+    more comes. Else no further record is stored at the limit."""
+
+    def __init__(self, policy, keep=None):
         self.policy = policy
         self.records = []
+        self.forgotten = 0
+        self.keep = keep
         self.batch = None
 
     def user(self, name):
@@ -54,8 +59,12 @@ class Desk:
         return f"denied by {entry or 'default'}"
 
     def store(self, record):
-        if len(self.records) == MOST_RECORDS:
-            return False
+        if len(self.records) == (MOST_RECORDS if self.keep is None else self.keep):
+            gone = 0 if self.keep is None else (self.keep + 1) // 2
+            if gone == 0:
+                return False
+            del self.records[:gone]
+            self.forgotten += gone
         self.records.append(record)
         return True
 
