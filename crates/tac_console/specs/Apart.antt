@@ -25,7 +25,7 @@ is_visible byte = nat_le 0x21 byte && nat_le byte 0x7E
 abbrev pub HasNoBlank : List ℕ → Type 0
 HasNoBlank text = IsTrue (are_bytes text) → IsTrue (list_all is_visible (percent_form text))
 
--- the same with a number of 64 bits
+-- a record as there can be one, and a number of 64 bits
 abbrev pub is_numbered : Numbered → Bool
 is_numbered entry = nat_lt entry.number (2 ^ 64) && is_record entry.item
 

@@ -7,7 +7,7 @@ use Rattle.tac_tally.specs.Keeping.{refusing}
 use Rattle.tac_tally.specs.declared.limit.RecordLimit.{RecordLimit}
 
 -- the present policy, the accepted accounting records that are kept, in the order in which they
--- came, how many are kept, and how many were forgotten
+-- came, their limit, and how many were forgotten
 pub record Meaning : Type 0 where
   pub policy : List Subject
   pub records : List Record

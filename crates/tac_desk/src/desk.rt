@@ -22,8 +22,7 @@ use tac_conn::{Answer, Ask};
 
 /// A desk: it answers the asks of connections, takes edits of its policy, and answers questions.
 /// Each call is one step, and what it answers depends on what the desk represents, and on nothing
-/// else: the policy, the accepted records that are kept, how many are kept, and how many were
-/// forgotten.
+/// else: the policy, the accepted records that are kept, their limit, and how many were forgotten.
 pub trait Desk: Drop {
     /// What the desk represents.
     ghost meaning: { Self → Meaning };

@@ -12,7 +12,7 @@ pub struct State {
     pub policy: Policy,
     /// The accepted records that are kept, in the order in which they came.
     pub records: Sequence<Record>,
-    /// How many are kept, and what is done with one more.
+    /// The most that are kept, and what is done with one more.
     pub record_limit: RecordLimit,
     /// How many were forgotten.
     pub forgotten: u64,

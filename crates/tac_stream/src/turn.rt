@@ -15,7 +15,7 @@ pub enum Turn {
     Need,
     /// This header is refused. Nothing is sent, and the connection closes.
     Refused(Header),
-    /// The connection is closed, or closes since its answer was lost.
+    /// The connection is closed, or an answer is still waited for, and it closes.
     Close,
 }
 

@@ -9,8 +9,8 @@ pub record Entry : Type 0 where
   pub item : Record
   pub denied : Bool
 
--- what a book holds: its entries in the order in which they came, how many it keeps, and how many it
--- has forgotten
+-- what a book holds: its entries in the order in which they came, their limit, and how many it has
+-- forgotten
 pub record Contents : Type 0 where
   pub entries : List Entry
   pub limit : RecordLimit
