@@ -23,13 +23,15 @@ pub(crate) struct Starved {
 
 impl Model for Starved {
     ghost use Rattle.std.specs.Prelude.{◌≡◌, []};
+    ghost use Rattle.tac_tally.specs.Keeping.{refusing};
     ghost use Rattle.tac_desk.specs.Meaning.{Meaning};
 
     ghost Value = { Meaning };
 
     ghost view = { λ desk. desk.inner };
 
-    ghost invariant = { λ desk. (desk.inner.records ≡ []) × (desk.inner.limit ≡ 9) };
+    ghost invariant = { λ desk. (desk.inner.records ≡ []) × (desk.inner.limit ≡ refusing 9)
+        × (desk.inner.forgotten ≡ 0) };
 }
 
 impl Starved {
