@@ -13,6 +13,7 @@ use tac_conn::Answer;
 use tac_console::Batch;
 use tac_desk::Desk;
 use tac_desks::{LiveDesk, PlainDesk};
+use tac_tally::RecordLimit;
 
 // An answer to a connection, whole.
 fn push_answer(text: &mut String, answer: Answer) -> Result<(), AllocError> {
@@ -252,4 +253,177 @@ fn automata_are_built_for_a_batch(rt: HostRuntime) -> Result<(), Fail> {
          meter 13\n"
     );
     Ok(())
+}
+
+// What desks are asked that keep at most ten records, the latest, and what they answer.
+const KEPT: &str = "\
+? record bob start 1 0
+stored
+? record bob stop 2 2 show run
+stored
+? record eve stop 3 2 show version
+stored
+? record bob stop 4 2 show version
+stored
+? record bob stop 5 2 show run
+stored
+? record bob start 6 0
+stored
+? record eve start 7 0
+stored
+? record bob stop 8 2 show run
+stored
+? record bob stop 9 2 show version
+stored
+? record bob update 10 0
+stored
+> tally user bob
+tally user bob starts 2 stops 5 watchdogs 0 updates 1 open 2 elapsed 10 drift 0
+> insert group ops 1 deny show run
+ok
+user bob now denies: show run
+user eve now denies: show run
+> tally user bob
+tally user bob starts 2 stops 5 watchdogs 0 updates 1 open 2 elapsed 10 drift 3
+> records
+record 1 user bob start task 1 elapsed 0
+record 2 user bob stop task 2 elapsed 2 line show%20run
+record 3 user eve stop task 3 elapsed 2 line show%20version
+record 4 user bob stop task 4 elapsed 2 line show%20version
+record 5 user bob stop task 5 elapsed 2 line show%20run
+record 6 user bob start task 6 elapsed 0
+record 7 user eve start task 7 elapsed 0
+record 8 user bob stop task 8 elapsed 2 line show%20run
+record 9 user bob stop task 9 elapsed 2 line show%20version
+record 10 user bob update task 10 elapsed 0
+? record bob stop 1 3 show run
+stored
+> records
+record 6 user bob start task 6 elapsed 0
+record 7 user eve start task 7 elapsed 0
+record 8 user bob stop task 8 elapsed 2 line show%20run
+record 9 user bob stop task 9 elapsed 2 line show%20version
+record 10 user bob update task 10 elapsed 0
+record 11 user bob stop task 1 elapsed 3 line show%20run
+> tally user bob
+tally user bob starts 1 stops 3 watchdogs 0 updates 1 open 1 elapsed 7 drift 2
+> tally user eve
+tally user eve starts 1 stops 0 watchdogs 0 updates 0 open 1 elapsed 0 drift 0
+> tally group ops
+tally group ops starts 2 stops 3 watchdogs 0 updates 1 open 2 elapsed 7 drift 2
+> insert group ops 1 deny show version
+ok
+user bob now denies: show version
+user eve now denies: show version
+> tally user bob
+tally user bob starts 1 stops 3 watchdogs 0 updates 1 open 1 elapsed 7 drift 3
+> drop group ops 2
+ok
+user bob now permits: show run
+user eve now permits: show run
+> tally group ops
+tally group ops starts 2 stops 3 watchdogs 0 updates 1 open 2 elapsed 7 drift 1
+";
+
+// The next twenty-four records are these, six times.
+const FOUR_MORE: &str = "\
+? record bob watchdog w 0
+stored
+? record bob watchdog w 0
+stored
+? record bob watchdog w 0
+stored
+? record bob watchdog w 0
+stored
+";
+
+// What is asked after that.
+const KEPT_AT_LAST: &str = "\
+> records
+record 26 user bob watchdog task w elapsed 0
+record 27 user bob watchdog task w elapsed 0
+record 28 user bob watchdog task w elapsed 0
+record 29 user bob watchdog task w elapsed 0
+record 30 user bob watchdog task w elapsed 0
+record 31 user bob watchdog task w elapsed 0
+record 32 user bob watchdog task w elapsed 0
+record 33 user bob watchdog task w elapsed 0
+record 34 user bob watchdog task w elapsed 0
+record 35 user bob watchdog task w elapsed 0
+> tally user bob
+tally user bob starts 0 stops 0 watchdogs 10 updates 0 open 0 elapsed 0 drift 0
+? record bob stop w 1 show version
+stored
+> records
+record 31 user bob watchdog task w elapsed 0
+record 32 user bob watchdog task w elapsed 0
+record 33 user bob watchdog task w elapsed 0
+record 34 user bob watchdog task w elapsed 0
+record 35 user bob watchdog task w elapsed 0
+record 36 user bob stop task w elapsed 1 line show%20version
+> tally group ops
+tally group ops starts 0 stops 1 watchdogs 5 updates 0 open 0 elapsed 1 drift 1
+> drop group ops 1
+ok
+user bob now permits: show version
+user eve now permits: show version
+> tally user bob
+tally user bob starts 0 stops 1 watchdogs 5 updates 0 open 0 elapsed 1 drift 0
+";
+
+// All of it.
+fn whole_talk(alloc: Global) -> Result<String, AllocError> {
+    let mut talk = String::new(alloc);
+    talk.push_str(KEPT)?;
+    for _ in 0..6 {
+        talk.push_str(FOUR_MORE)?;
+    }
+    talk.push_str(KEPT_AT_LAST)?;
+    Ok(talk)
+}
+
+fn kept_policy(alloc: Global) -> Result<Policy, Fail> {
+    let policy = b"group ops\npermit show .*\nuser bob in ops\nuser eve in ops\n";
+    Ok(Policy::read(alloc, policy.as_slice())?)
+}
+
+// The calls of a talk.
+fn calls_of(alloc: Global, talk: &str) -> Result<String, AllocError> {
+    let mut calls = String::new(alloc);
+    for line in talk.lines() {
+        if line.starts_with("? ") || line.starts_with("> ") {
+            writeln!(calls, "{line}")?;
+        }
+    }
+    Ok(calls)
+}
+
+// A desk says its part of the talk.
+fn says<R: Abort + AllocGlobal, D: Desk>(rt: &R, desk: &mut D, whole: &str) -> Result<(), Fail> {
+    let calls = calls_of(rt.alloc(), whole)?;
+    let mut out = Vec::new(rt.alloc());
+    talk(rt.alloc(), desk, calls.as_str(), &mut out)?;
+    let said = str::from_utf8(out.as_slice())?;
+    assert!(rt; said == whole, "wanted\n{whole}said\n{said}");
+    Ok(())
+}
+
+fn says_plainly<R: Abort + AllocGlobal>(rt: &R, whole: &str) -> Result<(), Fail> {
+    let policy = kept_policy(rt.alloc())?;
+    let mut desk = PlainDesk::with_limit(rt.alloc(), policy, RecordLimit::forgetting(10))?;
+    says(rt, &mut desk, whole)
+}
+
+fn says_live<R: Abort + AllocGlobal>(rt: &R, whole: &str) -> Result<(), Fail> {
+    let policy = kept_policy(rt.alloc())?;
+    let mut desk = LiveDesk::with_limit(rt.alloc(), policy, RecordLimit::forgetting(10))?;
+    says(rt, &mut desk, whole)
+}
+
+// Where an eleventh record comes five go. Numbers, tallies and drift are of those that are kept.
+#[test]
+fn the_latest_ten_records(rt: HostRuntime) -> Result<(), Fail> {
+    let whole = whole_talk(rt.alloc())?;
+    says_plainly(&rt, whole.as_str())?;
+    says_live(&rt, whole.as_str())
 }

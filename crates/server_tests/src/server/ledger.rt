@@ -4,6 +4,7 @@ ghost use Rattle.std.specs.Prelude.{◌≡◌, true, reverse, Err, IsOk, IfOk, O
 ghost use Rattle.pol_meaning.specs.Memory.{UnlessMemory};
 ghost use Rattle.tac_desk.specs.Asking as asking;
 ghost use Rattle.tac_desk.specs.Reporting as reporting;
+ghost use Rattle.tac_desk.specs.Reporting.{numbered_after};
 ghost use Rattle.tac_desk.specs.declared.query.QueryFault.TheVariants.{NoSuch};
 ghost use Rattle.server_tests.specs.Ledger.{kept_by};
 
@@ -14,8 +15,8 @@ use pol_names::Kind;
 use pol_text::Policy;
 use std::alloc::{AllocError, Global};
 use tac_conn::{Answer, Ask};
-use tac_desk::{Desk, Query, QueryFault, Report, State, Thrice};
-use tac_request::Record;
+use tac_desk::{Desk, Numbered, Query, QueryFault, Report, State, Thrice};
+use tac_tally::{Record, RecordLimit};
 
 /// A desk that knows nobody, and keeps its records backwards. It takes no edit and makes no tally:
 /// it says that memory ran out.
@@ -41,7 +42,29 @@ fn turned(alloc: Global, records: &[Record]) -> Result<Sequence<Record>, AllocEr
     Ok(copies)
 }
 
+// Copies of all records, each with its number.
+fn numbered(alloc: Global, records: &[Record]) -> Result<Sequence<Numbered>, AllocError>
+    ensures { IfOk result (λ copies. copies ≡ numbered_after 0 records.now) }
+{
+    let mut copies = Sequence::new(alloc);
+    let mut number = 0_u64;
+    'records: for record in records {
+        number += 1;
+        let item = record.copy(alloc)?;
+        copies.push(Numbered { number, item })?;
+    }
+    Ok(copies)
+}
+
 impl Ledger {
+    // Whether there is no room for one more record, or no number.
+    fn is_full(&self) -> bool
+        ensures { result ≡ asking.is_full (kept_by self.now) }
+    {
+        let many = self.latest.len();
+        many == self.limit || many == usize::MAX
+    }
+
     // Stores a copy of the record, if there is room.
     fn store(&mut self, item: &Record) -> Result<Answer, AllocError>
         ensures answer { IfOk result (λ answer.
@@ -51,7 +74,7 @@ impl Ledger {
         ensures sure { asking.is_full (kept_by self.old) ≡ true → IsOk result }
         ensures err { OnErr result (kept_by self.new ≡ kept_by self.old) }
     {
-        if self.latest.len() == self.limit {
+        if self.is_full() {
             return Ok(Answer::BookFull);
         }
         let Some(room) = self.room.checked_sub(1) else {
@@ -83,7 +106,8 @@ impl Ledger {
             Query::Why { .. } => Ok(Report::Why(None)),
             Query::Records => {
                 let records = turned(self.alloc, self.latest.as_slice())?;
-                Ok(Report::Records(records))
+                let copies = numbered(self.alloc, records.as_slice())?;
+                Ok(Report::Records(copies))
             }
         }
     }
@@ -115,7 +139,8 @@ impl Desk for Ledger {
         Ok(State {
             policy: Policy::new(self.alloc),
             records,
-            record_limit: self.limit,
+            record_limit: RecordLimit::refusing(self.limit),
+            forgotten: 0,
         })
     }
 }

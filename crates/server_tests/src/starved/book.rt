@@ -4,7 +4,7 @@ use crate::starved::findings::{Finding, Trouble, must, must_be_made};
 use crate::starved::scene::record;
 use basics::Bytes;
 use std::alloc::Global;
-use tac_tally::{AcctKind, Book, Record, StoreFault, Tally};
+use tac_tally::{AcctKind, Book, Record, RecordLimit, StoreFault, Tally};
 
 /// How many records the book takes.
 const LIMIT: usize = 9;
@@ -48,17 +48,20 @@ fn store_plainly(book: &mut Book, record: Record) -> Result<(), Trouble> {
     }
 }
 
-// The call, of the second of these records or of the first, and what stands after it.
-fn stored(alloc: Global, book: &mut Book, records: &[Record]) -> Result<Finding, Trouble> {
-    let [before @ .., last] = records else {
-        return Err(Trouble::Wrong("there is no record to store"));
-    };
+// The call, of this record in a book that has these, and what stands after it: these.
+fn stored(
+    alloc: Global,
+    book: &mut Book,
+    before: &[Record],
+    last: &Record,
+    after: &[Record],
+) -> Result<Finding, Trouble> {
     let record = last.copy(alloc)?;
     match book.store(record, false) {
         Ok(()) => {
-            let count = records.len() as u128;
+            let count = after.len() as u128;
             must(
-                has(book, records, begun(count)),
+                has(book, after, begun(count)),
                 "the record is stored wrongly",
             )?;
             Ok(Finding::Made)
@@ -84,21 +87,29 @@ fn store_all(alloc: Global, book: &mut Book, records: &[Record]) -> Result<(), T
     Ok(())
 }
 
-// Stores the last of these records after the others. One that found no memory can be stored later.
-fn stored_at_last(alloc: Global, book: &mut Book, records: &[Record]) -> Result<(), Trouble> {
-    if let [before @ .., _] = records {
-        store_all(alloc, book, before)?;
-    }
-    let finding = stored(alloc, book, records)?;
+// Stores the last of these records after the others, of which so many go. One that found no memory
+// can be stored later.
+fn stored_at_last(
+    alloc: Global,
+    book: &mut Book,
+    records: &[Record],
+    gone: usize,
+) -> Result<(), Trouble> {
+    let [before @ .., last] = records else {
+        return Err(Trouble::Wrong("there is no record to store"));
+    };
+    let after = records.get(gone..).unwrap_or(&[]);
+    store_all(alloc, book, before)?;
+    let finding = stored(alloc, book, before, last, after)?;
     if finding == Finding::Memory {
-        must_be_made(stored(alloc, book, records)?)?;
+        must_be_made(stored(alloc, book, before, last, after)?)?;
     }
     finding.told()
 }
 
 fn store_last(alloc: Global, records: &[Record]) -> Result<(), Trouble> {
     let mut book = Book::new(alloc, LIMIT);
-    stored_at_last(alloc, &mut book, records)
+    stored_at_last(alloc, &mut book, records, 0)
 }
 
 // Stores the first record of a book.
@@ -116,6 +127,20 @@ fn store_open(rt: HostRuntime) -> Result<(), Trouble> {
     let first = record(alloc, AcctKind::Begin, "7")?;
     let second = record(alloc, AcctKind::Begin, "8")?;
     store_last(alloc, &[first, second])
+}
+
+// Stores a record in a book that keeps three, and has them: two go.
+#[test]
+fn store_forgetting(rt: HostRuntime) -> Result<(), Trouble> {
+    let alloc = rt.alloc();
+    let records = [
+        record(alloc, AcctKind::Begin, "7")?,
+        record(alloc, AcctKind::Begin, "8")?,
+        record(alloc, AcctKind::Begin, "9")?,
+        record(alloc, AcctKind::Begin, "10")?,
+    ];
+    let mut book = Book::with_limit(alloc, RecordLimit::forgetting(3));
+    stored_at_last(alloc, &mut book, &records, 2)
 }
 
 // The call, and what stands after it: the record is then marked as denied.
