@@ -3,20 +3,29 @@ use Rattle.std.specs.Prelude.{◌≡◌, ℕ, List, [], Option, Some, None, Resu
 use Rattle.pol_text.specs.Text.{policy_of}
 use Rattle.pol_text.specs.declared.subject.Subject.{Subject}
 use Rattle.pol_text.specs.declared.fault.PolicyFault.{PolicyFault}
+use Rattle.tac_tally.specs.Keeping.{refusing, forgetting}
+use Rattle.tac_tally.specs.declared.limit.RecordLimit.{RecordLimit}
 use Rattle.tac_desk.specs.Meaning.{max_records}
 use Rattle.tac_desks.specs.Metered.{Metered}
 use Rattle.tac_desks.specs.Opening.{Opens}
 use Rattle.tac_check.specs.Check.{IsCheckOf}
 use Rattle.tac_check.specs.declared.checking.CheckEnd.TheVariants.{Refused}
 
--- a policy that may stand has a desk, and nothing is printed; of one that is refused, what its check
--- prints is printed
-abbrev pub IsDeskOf : Result (List Subject) PolicyFault → List ℕ → Option Metered → Type 0
-IsDeskOf (Ok policy) printed (Some desk) =
-    Opens policy max_records (Ok desk.meaning) × (printed ≡ [])
-IsDeskOf (Err fault) printed (Some desk) = ⊥
-IsDeskOf policy printed None = IsCheckOf policy printed Refused
+-- a server that is told how many records to keep keeps the latest; else the first that come are kept,
+-- and no more
+abbrev pub record_limit : Option ℕ → RecordLimit
+record_limit None = refusing max_records
+record_limit (Some most) = forgetting most
+
+-- a policy that may stand has a desk that keeps records by this limit, and nothing is printed; of
+-- one that is refused, what its check prints is printed
+abbrev pub IsDeskOf : RecordLimit → Result (List Subject) PolicyFault → List ℕ → Option Metered
+    → Type 0
+IsDeskOf limit (Ok policy) printed (Some desk) =
+    Opens policy limit (Ok desk.meaning) × (printed ≡ [])
+IsDeskOf limit (Err fault) printed (Some desk) = ⊥
+IsDeskOf limit policy printed None = IsCheckOf policy printed Refused
 
 -- the same of a policy's text
-abbrev pub IsDeskOfText : List ℕ → List ℕ → Option Metered → Type 0
-IsDeskOfText text printed desk = IsDeskOf (policy_of text) printed desk
+abbrev pub IsDeskOfText : RecordLimit → List ℕ → List ℕ → Option Metered → Type 0
+IsDeskOfText limit text printed desk = IsDeskOf limit (policy_of text) printed desk

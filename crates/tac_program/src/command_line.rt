@@ -4,12 +4,13 @@ use crate::help::{
     ABOUT, ADDRESS_HELP, AFTER_LONG_HELP, CASES_HELP, CHECK_ABOUT, CHECK_AFTER_HELP,
     CHECK_AFTER_LONG_HELP, CHECK_LONG_ABOUT, CONNECTIONS_HELP, DIFF_ABOUT, DIFF_AFTER_HELP,
     DIFF_AFTER_LONG_HELP, DIFF_LONG_ABOUT, EDITS_HELP, EXIT_CODE_HELP, FILE_HELP, IDLE_HELP,
-    KEY_FILE_HELP, KEY_HELP, LINE_HELP, LINT_ABOUT, LINT_AFTER_HELP, LINT_AFTER_LONG_HELP,
-    LINT_LONG_ABOUT, LOG_HELP, LONG_ABOUT, NEW_HELP, NO_CONSOLE_HELP, OLD_HELP, PORT_HELP,
-    REPLAY_ABOUT, REPLAY_AFTER_HELP, REPLAY_AFTER_LONG_HELP, REPLAY_LONG_ABOUT, ROTATE_AT_HELP,
-    SERVE_ABOUT, SERVE_AFTER_HELP, SERVE_AFTER_LONG_HELP, SERVE_LONG_ABOUT, SYNC_HELP, TEST_ABOUT,
-    TEST_AFTER_HELP, TEST_AFTER_LONG_HELP, TEST_LONG_ABOUT, USER_HELP, WHY_ABOUT, WHY_AFTER_HELP,
-    WHY_AFTER_LONG_HELP, WHY_LONG_ABOUT, WORKERS_HELP,
+    KEEP_RECORDS_HELP, KEY_FILE_HELP, KEY_HELP, LINE_HELP, LINT_ABOUT, LINT_AFTER_HELP,
+    LINT_AFTER_LONG_HELP, LINT_LONG_ABOUT, LOG_HELP, LONG_ABOUT, NEW_HELP, NO_CONSOLE_HELP,
+    OLD_HELP, PORT_HELP, REPLAY_ABOUT, REPLAY_AFTER_HELP, REPLAY_AFTER_LONG_HELP,
+    REPLAY_LONG_ABOUT, ROTATE_AT_HELP, SERVE_ABOUT, SERVE_AFTER_HELP, SERVE_AFTER_LONG_HELP,
+    SERVE_LONG_ABOUT, SYNC_HELP, TEST_ABOUT, TEST_AFTER_HELP, TEST_AFTER_LONG_HELP,
+    TEST_LONG_ABOUT, USER_HELP, WHY_ABOUT, WHY_AFTER_HELP, WHY_AFTER_LONG_HELP, WHY_LONG_ABOUT,
+    WORKERS_HELP,
 };
 use clap::{Arg, ArgAction, ArgGroup, Command, value_parser};
 use std::alloc::{AllocError, Global};
@@ -69,6 +70,10 @@ pub(crate) const ADDRESS: &str = "address";
 /// After how many seconds without a reply a connection is given up.
 pub(crate) const IDLE: &str = "idle";
 
+/// The most records that are kept, of a server that forgets the older half of them where one more
+/// comes.
+pub(crate) const KEEP_RECORDS: &str = "keep-records";
+
 /// Before which call of a segment of the history the next one begins.
 pub(crate) const ROTATE_AT: &str = "rotate-at";
 
@@ -122,6 +127,7 @@ fn flag<'a>(alloc: Global, id: &'a str, help: &'a str) -> Arg<'a> {
 // The options of a server, in the order of its help.
 fn with_options<'a>(alloc: Global, command: Command<'a>) -> Result<Command<'a>, AllocError> {
     let connections = (1, 4_294_967_295);
+    let records = (1_000, 10_000_000);
     command
         .arg(number(alloc, PORT, "P", (1, 65_535), PORT_HELP).required(true))?
         .arg(text(alloc, KEY, "K", KEY_HELP))?
@@ -129,6 +135,7 @@ fn with_options<'a>(alloc: Global, command: Command<'a>) -> Result<Command<'a>, 
         .arg(text(alloc, ADDRESS, "ADDR", ADDRESS_HELP).default_value("0.0.0.0"))?
         .arg(number(alloc, WORKERS, "W", (1, 63), WORKERS_HELP).default_value("16"))?
         .arg(number(alloc, IDLE, "SECONDS", (0, 86_400), IDLE_HELP).default_value("300"))?
+        .arg(number(alloc, KEEP_RECORDS, "N", records, KEEP_RECORDS_HELP))?
         .arg(number(alloc, CONNECTIONS, "N", connections, CONNECTIONS_HELP).default_value(
             "4294967295",
         ))?
@@ -237,7 +244,7 @@ pub(crate) fn command<'a>(alloc: Global) -> Result<Command<'a>, AllocError> {
         .about(ABOUT)
         .long_about(LONG_ABOUT)
         .after_long_help(AFTER_LONG_HELP)
-        .version("0.4.0")
+        .version("0.5.0")
         .subcommand_required(true);
     let command = with(command, serve(alloc))?;
     let command = with(command, check(alloc))?;

@@ -73,6 +73,9 @@ pub(crate) const ADDRESS_HELP: &str =
 pub(crate) const IDLE_HELP: &str =
     "After how many seconds without a reply a connection is closed, 0 to 86400; 0 is never";
 
+pub(crate) const KEEP_RECORDS_HELP: &str =
+    "Keep the latest records, at most N, 1000 to 10000000; else the first 1000000 are kept";
+
 pub(crate) const WORKERS_HELP: &str = "How many connections are served at once, 1 to 63";
 
 pub(crate) const CONNECTIONS_HELP: &str =
@@ -111,7 +114,7 @@ Lines of the console, where a SUBJECT is 'user NAME' or 'group NAME':
   reach SUBJECT        the shortest line that each of the rules decides
   why NAME LINE        which rule decides on a line of this user
   tally SUBJECT        what the records of a user, or of a group's users, add up to
-  records              the accounting records
+  records              the accounting records that are kept
   add SUBJECT          a new user or group; with ' in GROUP', one that has that group's rules too
   remove SUBJECT       removes it
   move SUBJECT in GROUP, or move SUBJECT out

@@ -16,8 +16,9 @@ use std::io::{Read, Write};
 use std::os::unix::fs::PermissionsExt;
 use std::rt::Files;
 use tac_console::{write_policy_fault, write_size_fault};
-use tac_desks::{LiveDesk, MAX_RECORDS};
+use tac_desks::LiveDesk;
 use tac_io::{AnswerFault, InputFault, MAX_INPUT, read_whole, write_answer};
+use tac_tally::RecordLimit;
 
 /// The right by which any user of a machine reads a file.
 const OTHERS_READ: u32 = 0o004;
@@ -75,10 +76,14 @@ fn too_large(alloc: Global, subject: SubjectId) -> Result<Vec<u8>, AllocError>
 }
 
 // The desk of a policy, and nothing to print; or no desk, and what is printed instead.
-fn desk_of_policy(alloc: Global, policy: Policy) -> Result<(Vec<u8>, Option<LiveDesk>), AllocError>
-    ensures { IfOk result (λ opened. IsDeskOf (Ok policy) opened.0.items opened.1) }
+fn desk_of_policy(
+    alloc: Global,
+    limit: RecordLimit,
+    policy: Policy,
+) -> Result<(Vec<u8>, Option<LiveDesk>), AllocError>
+    ensures { IfOk result (λ opened. IsDeskOf limit (Ok policy) opened.0.items opened.1) }
 {
-    match LiveDesk::new(alloc, policy, MAX_RECORDS) {
+    match LiveDesk::with_limit(alloc, policy, limit) {
         Ok(desk) => Ok((Vec::new(alloc), Some(desk))),
         Err(BuildFault::TooManyStates(subject)) => {
             let printed = too_large(alloc, subject)?;
@@ -89,11 +94,15 @@ fn desk_of_policy(alloc: Global, policy: Policy) -> Result<(Vec<u8>, Option<Live
 }
 
 // The same of a policy's text.
-fn desk_of_text(alloc: Global, text: &[u8]) -> Result<(Vec<u8>, Option<LiveDesk>), AllocError>
-    ensures { IfOk result (λ opened. IsDeskOfText text.now opened.0.items opened.1) }
+fn desk_of_text(
+    alloc: Global,
+    limit: RecordLimit,
+    text: &[u8],
+) -> Result<(Vec<u8>, Option<LiveDesk>), AllocError>
+    ensures { IfOk result (λ opened. IsDeskOfText limit text.now opened.0.items opened.1) }
 {
     match Policy::read(alloc, text) {
-        Ok(policy) => desk_of_policy(alloc, policy),
+        Ok(policy) => desk_of_policy(alloc, limit, policy),
         Err(PolicyFault::Memory) => Err(AllocError),
         Err(fault) => {
             let mut printed = Vec::new(alloc);
@@ -104,19 +113,25 @@ fn desk_of_text(alloc: Global, text: &[u8]) -> Result<(Vec<u8>, Option<LiveDesk>
 }
 
 // The same of what the reader gives.
-fn answer<R: Read>(alloc: Global, reader: &mut R) -> Result<(Vec<u8>, Option<LiveDesk>), InputFault>
+fn answer<R: Read>(
+    alloc: Global,
+    limit: RecordLimit,
+    reader: &mut R,
+) -> Result<(Vec<u8>, Option<LiveDesk>), InputFault>
     ensures end { OnOk result (IsAtEnd (R.remaining reader.new)) }
-    ensures worked { IsWorked IsDeskOfText (R.remaining reader.old) result }
+    ensures worked { IsWorked (IsDeskOfText limit) (R.remaining reader.old) result }
 {
     let text = read_whole(alloc, reader, MAX_INPUT)?;
-    let (printed, desk) = desk_of_text(alloc, text.as_slice())?;
+    let (printed, desk) = desk_of_text(alloc, limit, text.as_slice())?;
     Ok((printed, desk))
 }
 
-/// Makes the desk of the policy whose text the reader gives. Where the policy is refused there is
-/// no desk, and the reason is written as by a check. The whole text is read first.
+/// Makes the desk of the policy whose text the reader gives, which keeps records as the limit says.
+/// Where the policy is refused there is no desk, and the reason is written as by a check. The whole
+/// text is read first.
 pub(crate) fn open_desk<R: Read, W: Write>(
     alloc: Global,
+    limit: RecordLimit,
     reader: &mut R,
     writer: &mut W,
 ) -> Result<Option<LiveDesk>, AnswerFault>
@@ -125,8 +140,8 @@ pub(crate) fn open_desk<R: Read, W: Write>(
 
     // The desk is the policy's, or there is none and what the check of the text prints was written;
     // or what a fault leaves.
-    ensures answered { IsAnswered IsDeskOfText (R.remaining reader.old)
+    ensures answered { IsAnswered (IsDeskOfText limit) (R.remaining reader.old)
         (W.contents writer.old) (W.contents writer.new) result }
 {
-    write_answer(writer, answer(alloc, reader))
+    write_answer(writer, answer(alloc, limit, reader))
 }

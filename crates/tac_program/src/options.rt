@@ -3,9 +3,12 @@
 //! Each fault is said on standard error. The status tells it too, so it doesn't matter whether that
 //! could be written.
 
+ghost use Rattle.std.specs.Prelude.{◌≡◌};
+ghost use Rattle.tac_program.specs.Opening as opening;
+
 use crate::command_line::{
-    ADDRESS, CONNECTIONS, FILE, IDLE, KEY, KEY_FILE, LOG, NO_CONSOLE, PORT, ROTATE_AT, SYNC,
-    WORKERS,
+    ADDRESS, CONNECTIONS, FILE, IDLE, KEEP_RECORDS, KEY, KEY_FILE, LOG, NO_CONSOLE, PORT,
+    ROTATE_AT, SYNC, WORKERS,
 };
 use crate::opening::open_secret;
 use crate::status::Status;
@@ -13,9 +16,11 @@ use basics::split_once;
 use clap::ArgMatches;
 use std::net::{IpAddr, SocketAddr};
 use std::rt::Files;
+use tac_desks::MAX_RECORDS;
 use tac_forum::Limits;
 use tac_io::{InputFault, read_whole};
 use tac_net::Settings;
+use tac_tally::RecordLimit;
 use tac_wire::Key;
 
 const BAD_KEY: &str =
@@ -37,6 +42,8 @@ pub(crate) struct Options<'a> {
     pub(crate) address: SocketAddr,
     /// The policy's file.
     pub(crate) path: &'a str,
+    /// How many records are kept, and what is done with one more.
+    pub(crate) record_limit: RecordLimit,
     /// The file that takes the lines of an auditor, if there is one.
     pub(crate) log: Option<&'a str>,
     /// Whether a line counts only once it is on the disk.
@@ -150,6 +157,17 @@ fn settings_of(matches: &ArgMatches<'_>, key: Key) -> Option<Settings> {
     })
 }
 
+// How many records are kept, and what is done with one more: by what the option says, where it is
+// given.
+fn record_limit_of(most: Option<u32>) -> RecordLimit
+    ensures { result ≡ opening.record_limit most }
+{
+    match most {
+        Some(most) => RecordLimit::forgetting(most as usize),
+        None => RecordLimit::refusing(MAX_RECORDS),
+    }
+}
+
 impl<'a> Options<'a> {
     /// The options of a command line that was parsed. The error is the status to end with: of the
     /// address, which is judged first, or of the key.
@@ -164,6 +182,7 @@ impl<'a> Options<'a> {
                 address: SocketAddr::from((address, settings.port)),
                 settings,
                 path,
+                record_limit: record_limit_of(matches.get_one::<u32>(KEEP_RECORDS)),
                 log: matches.get_str(LOG),
                 syncs: matches.get_flag(SYNC),
                 has_console: !matches.get_flag(NO_CONSOLE),

@@ -20,15 +20,18 @@ use std::thread::Threads;
 use std::time::Clock;
 use tac_desks::LiveDesk;
 use tac_journal::{AuditedConsole, AuditedInput, AuditedOutput, Journal, LogFiles};
-use tac_net::{Port, ServeFault, serve};
+use tac_net::{FillingDesk, Port, ServeFault, serve};
+use tac_tally::RecordLimit;
 
-// The desk of the policy in a file. The error here and below is the status to end with.
+// The desk of the policy in a file, which keeps records as the limit says. The error here and below
+// is the status to end with.
 fn desk_of_file<R: Files + Print + Eprint + AllocGlobal>(
     rt: &R,
+    limit: RecordLimit,
     path: &str,
 ) -> Result<LiveDesk, Status> {
     let mut file = open_secret(rt, path)?;
-    match open_desk(rt.alloc(), &mut file, &mut io::writer(rt)) {
+    match open_desk(rt.alloc(), limit, &mut file, &mut io::writer(rt)) {
         Ok(Some(desk)) => Ok(desk),
         Ok(None) => {
             name_lint(rt, path);
@@ -95,7 +98,7 @@ where
     }
 }
 
-// Serves with a console on this input, until that ends.
+// Serves with a console on this input, until that ends. Standard error says when records fill up.
 fn serve_console<R, H, I: Read + Drop>(
     rt: &R,
     host: &H,
@@ -109,6 +112,7 @@ where
     R: Print,
     H: Threads + Wait + Clock + Sync + AllocGlobal + Eprint + LogFiles,
 {
+    let desk = FillingDesk::new(host, desk, options.record_limit);
     let console = AuditedConsole::new(host, journal);
     let outcome = serve(
         host,
@@ -150,7 +154,7 @@ where
     H: Threads + Wait + Clock + Sync + AllocGlobal + Eprint + LogFiles,
     H: Net<Listener = TcpListener, Stream = TcpStream>,
 {
-    let desk = desk_of_file(rt, options.path)?;
+    let desk = desk_of_file(rt, options.record_limit, options.path)?;
     let journal = journal_of(rt, host, options)?;
     let port = port_at(rt, host, options.address)?;
     let outcome = if options.has_console {

@@ -3,6 +3,7 @@
 
 use crate::program::fake::Fake;
 use std::alloc::Global;
+use std::fmt::Write as _;
 use std::io::{self, ErrorKind, Read, Write};
 use std::net::{Ipv4Addr, Net, SocketAddr, TcpListener, TcpStream};
 use std::process::ExitCode;
@@ -31,6 +32,12 @@ const ASK_AGAIN: &str =
 // What that is answered.
 const PERMITTED_AGAIN: &str = "c00202040000000100000006d549912637db";
 
+// An update by bob of task 7, on a connection that is kept open.
+const RECORD: &str = "c0030104000000010000001adbcb6454bc5ca288c5f37df85ac1ae863b2f4197bfbc02915ace";
+
+// It is stored.
+const STORED: &str = "c00302040000000100000005d449912636";
+
 // A login without a name.
 const LOGIN: &str = "c0010100000000010000000cd0cc6454bd5ba688b08e66a7";
 
@@ -44,6 +51,8 @@ enum Visit {
     AtOnce(u32),
     /// One connection is kept open, and bob asks on it ten times.
     TenTimes,
+    /// One connection is kept open, and so many records of bob come on it.
+    Records(u32),
     /// Bob asks on two connections, one after the other.
     Twice,
     /// Bob asks on a connection that is kept open, and again after a second and a half.
@@ -151,6 +160,19 @@ where
     Ok(true)
 }
 
+fn stores<R>(rt: &R, address: SocketAddr, count: u32) -> io::Result<bool>
+where
+    R: Clock + AllocGlobal + Net<Listener = TcpListener, Stream = TcpStream>,
+{
+    let stream = connect(rt, address)?;
+    for _ in 0..count {
+        if !is_answered(rt.alloc(), &stream, RECORD, STORED)? {
+            return Ok(false);
+        }
+    }
+    Ok(true)
+}
+
 fn twice<R>(rt: &R, address: SocketAddr) -> io::Result<bool>
 where
     R: Clock + AllocGlobal + Net<Listener = TcpListener, Stream = TcpStream>,
@@ -219,6 +241,7 @@ impl Visit {
         let went = match self {
             Visit::AtOnce(count) => at_once(rt, address, count),
             Visit::TenTimes => ten_times(rt, address),
+            Visit::Records(count) => stores(rt, address, count),
             Visit::Twice => twice(rt, address),
             Visit::AfterAPause => after_a_pause(rt, address),
             Visit::AfterASilentOne => after_a_silent_one(rt, address),
@@ -345,6 +368,48 @@ fn segments_that_begin_by_themselves(rt: HostRuntime) -> Result<(), Fail> {
     let lines = "rotate\nquit\n";
     let answers = "rotated 4 entries 2\n";
     operated(&rt, options, address, Visit::TenTimes, lines, answers)
+}
+
+// What is printed of bob's records from one number to another, and of what they add up to.
+fn kept(alloc: Global, first: u32, last: u32) -> Result<String, Fail> {
+    let mut text = String::new(alloc);
+    let mut many = 0_u32;
+    for number in first..=last {
+        writeln!(text, "record {number} user bob update task 7 elapsed 0")?;
+        many = many.saturating_add(1);
+    }
+    write!(text, "tally user bob starts 0 stops 0 watchdogs 0 ")?;
+    writeln!(text, "updates {many} open 0 elapsed 0 drift 0")?;
+    Ok(text)
+}
+
+// The server with these options takes so many records, and keeps them from this number on.
+fn keeps<R>(rt: &R, options: &str, count: u32, first: u32) -> Result<(), Fail>
+where
+    R: Threads + Wait + Clock + Sync + AllocGlobal + LogFiles + Eprint,
+    R: Net<Listener = TcpListener, Stream = TcpStream>,
+{
+    let port = free_port(rt)?;
+    let address = SocketAddr::from((Ipv4Addr::LOCALHOST, port));
+    let lines = "records\ntally user bob\nquit\n";
+    let printed = kept(rt.alloc(), first, count)?;
+    operated(
+        rt,
+        options,
+        address,
+        Visit::Records(count),
+        lines,
+        printed.as_str(),
+    )
+}
+
+// Where one more record comes than may be kept, the older half goes. Without the option none goes.
+#[test]
+fn the_latest_records(rt: HostRuntime) -> Result<(), Fail> {
+    keeps(&rt, "--workers 1 --keep-records 1000", 1000, 1)?;
+    keeps(&rt, "--workers 1 --keep-records 1000", 1001, 501)?;
+    keeps(&rt, "--workers 1 --keep-records 10000000", 1001, 1)?;
+    keeps(&rt, "--workers 1", 1001, 1)
 }
 
 // The one worker gives the silent device up a second after its reply, and then serves the other one.

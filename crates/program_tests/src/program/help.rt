@@ -26,7 +26,7 @@ Lines of the console, where a SUBJECT is 'user NAME' or 'group NAME':
   reach SUBJECT        the shortest line that each of the rules decides
   why NAME LINE        which rule decides on a line of this user
   tally SUBJECT        what the records of a user, or of a group's users, add up to
-  records              the accounting records
+  records              the accounting records that are kept
   add SUBJECT          a new user or group; with ' in GROUP', one that has that group's rules too
   remove SUBJECT       removes it
   move SUBJECT in GROUP, or move SUBJECT out

@@ -473,6 +473,19 @@ fn bad_options(rt: HostRuntime) -> Result<(), Fail> {
         idle,
         "86401 is not in 0..=86400",
     )?;
+    let keep = "--keep-records <N>";
+    bad_option(
+        &rt,
+        "--port 1 --keep-records 999",
+        keep,
+        "999 is not in 1000..=10000000",
+    )?;
+    bad_option(
+        &rt,
+        "--port 1 --keep-records 10000001",
+        keep,
+        "10000001 is not in 1000..=10000000",
+    )?;
     bad_option(
         &rt,
         "--port 1 --rotate-at 0",
@@ -623,18 +636,19 @@ Arguments:
   <FILE>  The policy's text, at most 268435456 bytes
 
 Options:
-      --port <P>         The TCP port that devices call, 1 to 65535
-      --key <K>          The key that server and devices share; other users of this machine see it
-      --key-file <PATH>  The file whose first line is that key
-      --address <ADDR>   The IPv4 or IPv6 address to listen at; '::' is every address of both kinds [default: 0.0.0.0]
-      --workers <W>      How many connections are served at once, 1 to 63 [default: 16]
-      --idle <SECONDS>   After how many seconds without a reply a connection is closed, 0 to 86400; 0 is never [default: 300]
-      --connections <N>  How many connections each worker serves before it ends, at least 1 [default: 4294967295]
-      --rotate-at <N>    Begin a new segment of the history before the Nth call of one, 1 to 65536 [default: 32768]
-      --log <PATH>       The file that takes a line of JSON for each request, before the device hears of it
-      --sync             Answer a device only once its line is on the disk
-      --no-console       Read no standard input, and serve until the process is ended, as by SIGTERM
-  -h, --help             Print help (see more with '--help')
+      --port <P>          The TCP port that devices call, 1 to 65535
+      --key <K>           The key that server and devices share; other users of this machine see it
+      --key-file <PATH>   The file whose first line is that key
+      --address <ADDR>    The IPv4 or IPv6 address to listen at; '::' is every address of both kinds [default: 0.0.0.0]
+      --workers <W>       How many connections are served at once, 1 to 63 [default: 16]
+      --idle <SECONDS>    After how many seconds without a reply a connection is closed, 0 to 86400; 0 is never [default: 300]
+      --keep-records <N>  Keep the latest records, at most N, 1000 to 10000000; else the first 1000000 are kept
+      --connections <N>   How many connections each worker serves before it ends, at least 1 [default: 4294967295]
+      --rotate-at <N>     Begin a new segment of the history before the Nth call of one, 1 to 65536 [default: 32768]
+      --log <PATH>        The file that takes a line of JSON for each request, before the device hears of it
+      --sync              Answer a device only once its line is on the disk
+      --no-console        Read no standard input, and serve until the process is ended, as by SIGTERM
+  -h, --help              Print help (see more with '--help')
 
 Example:
   tacd serve --port 49 --key-file tacd.key campus.policy
@@ -674,6 +688,9 @@ Options:
           After how many seconds without a reply a connection is closed, 0 to 86400; 0 is never
           
           [default: 300]
+
+      --keep-records <N>
+          Keep the latest records, at most N, 1000 to 10000000; else the first 1000000 are kept
 
       --connections <N>
           How many connections each worker serves before it ends, at least 1
@@ -754,7 +771,7 @@ Options:
 
 #[test]
 fn help(rt: HostRuntime) -> Result<(), Fail> {
-    ends(&rt, "tacd --version", "", true, 0, "tacd 0.4.0\n", "");
+    ends(&rt, "tacd --version", "", true, 0, "tacd 0.5.0\n", "");
     ends(&rt, "tacd -h", "", true, 0, SUMMARY, "");
     ends(&rt, "tacd replay -h", "", true, 0, REPLAY_SUMMARY, "");
     // What the long help says before and after the options stands in help.rt.
