@@ -8,8 +8,8 @@ use Rattle.tac_tally.specs.declared.limit.RecordLimit.{RecordLimit}
 use Rattle.tac_conn.specs.declared.ask.Answer.{Answer}
 use Rattle.tac_conn.specs.declared.ask.Answer.TheVariants.{Stored}
 use Rattle.tac_net.specs.declared.gauge.Gauge.{Gauge}
-use Rattle.tac_net.specs.declared.gauge.Level.{Level}
-use Rattle.tac_net.specs.declared.gauge.Level.TheVariants.{NearlyFull, Full}
+use Rattle.tac_net.specs.declared.gauge.Fullness.{Fullness}
+use Rattle.tac_net.specs.declared.gauge.Fullness.TheVariants.{NearlyFull, Full}
 
 -- no record was stored yet
 abbrev pub empty : RecordLimit → Gauge
@@ -33,15 +33,15 @@ abbrev pub nine_tenths : ℕ → ℕ
 nine_tenths most = most - most / 10
 
 -- what is to say where so many of at most so many are stored: each at one number of them alone
-abbrev pub level : ℕ → ℕ → Option Level
-level stored most =
+abbrev pub fullness : ℕ → ℕ → Option Fullness
+fullness stored most =
     if stored == most then Some Full
     else if stored == nine_tenths most then Some NearlyFull else None
 
 -- what is to say once one more record was stored
-abbrev pub said : Gauge → Option Level
+abbrev pub said : Gauge → Option Fullness
 said gauge =
-    if is_filling gauge then level (gauge.stored + 1) gauge.limit.most else None
+    if is_filling gauge then fullness (gauge.stored + 1) gauge.limit.most else None
 
 -- a desk counts the records that it answers to have stored
 abbrev pub after : Result Answer AllocError → Gauge → Gauge

@@ -1,12 +1,18 @@
 //! A desk that says when its records fill up.
 
-ghost use Rattle.std.specs.Prelude.{◌≡◌, ◌↔◌, false, Ok, IsOk, IfOk, OnOk, OnErr};
+ghost use Rattle.std.specs.Prelude.{◌≡◌, ◌↔◌, false, Ok, Err, IsOk, IsTrue, IfOk, OnOk, OnErr};
+ghost use Rattle.pol_edit.specs.Applying.{is_memory};
+ghost use Rattle.pol_edit.specs.Batches.{ran_out};
+ghost use Rattle.pol_meaning.specs.Memory.{UnlessMemory};
 ghost use Rattle.tac_conn.specs.Ask.{kind_of_ask, kind_of_answer};
 ghost use Rattle.tac_conn.specs.declared.ask.Answer.TheVariants as answers;
 ghost use Rattle.tac_desk.specs.Asking.{asked, stores, Passes};
+ghost use Rattle.tac_desk.specs.Editing as editing;
+ghost use Rattle.tac_desk.specs.Reporting as reporting;
+ghost use Rattle.tac_desk.specs.declared.query.QueryFault.TheVariants.{NoSuch};
 ghost use Rattle.tac_net.specs.Filling as filling;
 
-use crate::gauge::{Gauge, Level};
+use crate::gauge::{Fullness, Gauge};
 use pol_edit::{BatchFault, Edit, EditFault};
 use pol_meaning::Changes;
 use std::alloc::AllocError;
@@ -15,9 +21,9 @@ use tac_desk::{Desk, Query, QueryFault, Report, State, Thrice};
 use tac_tally::RecordLimit;
 
 /// Another desk, which is asked and edited as that one is. Where its limit refuses records,
-/// standard error is told when nine tenths of them are stored, and when all are, once each. That
-/// is written during the call that stores the record, before it is answered: twice in the life of a
-/// server. Whether it could be written makes no difference.
+/// standard error is told when nine tenths of it are stored, and when all is, once each. That is
+/// written during the call that stores the record, before it is answered: twice in the life of a
+/// server. A write that fails makes no difference; one that blocks holds up the call.
 #[derive(Drop)]
 pub struct FillingDesk<'a, R, D> {
     rt: &'a R,
@@ -39,17 +45,17 @@ impl<'a, R: Eprint, D: Desk> FillingDesk<'a, R, D> {
     }
 
     // Says what is to say of how many records are stored.
-    fn tell(&self, level: Level) {
+    fn tell(&self, fullness: Fullness) {
         let stored = self.gauge.stored();
         let most = self.gauge.most();
-        let _ = match level {
-            Level::NearlyFull => eprintln!(self.rt;
-                "tacd: {stored} of at most {most} records are stored; after that, accounting is \
-                 answered 'records full' (--keep-records)"
+        let _ = match fullness {
+            Fullness::NearlyFull => eprintln!(self.rt;
+                "tacd: {stored} of at most {most} records are stored; once all are, accounting is \
+                 answered 'records full'. --keep-records N keeps the latest instead"
             ),
-            Level::Full => eprintln!(self.rt;
-                "tacd: {stored} records are stored, and no further one: accounting is answered \
-                 'records full' until a restart (--keep-records)"
+            Fullness::Full => eprintln!(self.rt;
+                "tacd: all {stored} records are stored: accounting is answered 'records full' \
+                 until a restart. --keep-records N keeps the latest instead"
             ),
         };
     }
@@ -59,8 +65,8 @@ impl<'a, R: Eprint, D: Desk> FillingDesk<'a, R, D> {
         ensures desk { self.new.desk ≡ self.old.desk }
         ensures gauge { self.new.gauge ≡ filling.counted self.old.gauge }
     {
-        if let Some(level) = self.gauge.count() {
-            self.tell(level);
+        if let Some(fullness) = self.gauge.count() {
+            self.tell(fullness);
         }
     }
 }
@@ -88,15 +94,40 @@ impl<R: Eprint, D: Desk> Desk for FillingDesk<'_, R, D> {
         answered
     }
 
-    fn edit(&mut self, edit: &Edit) -> Result<Thrice<Changes>, EditFault> {
+    fn edit(&mut self, edit: &Edit) -> Result<Thrice<Changes>, EditFault>
+        ensures found { UnlessMemory is_memory result (editing.Edits (D.meaning self.old.desk)
+            edit.now result (D.meaning self.new.desk)) }
+        ensures only { UnlessMemory is_memory result (editing.IsOnly (D.meaning self.old.desk)
+            edit.now result (D.meaning self.new.desk)) }
+        ensures err { OnErr result (D.meaning self.new.desk ≡ D.meaning self.old.desk) }
+        ensures gauge { self.new.gauge ≡ self.old.gauge }
+    {
         self.desk.edit(edit)
     }
 
-    fn edit_all(&mut self, edits: &[Edit]) -> Result<Thrice<Changes>, BatchFault> {
+    fn edit_all(&mut self, edits: &[Edit]) -> Result<Thrice<Changes>, BatchFault>
+        ensures found { UnlessMemory ran_out result (editing.EditsAll (D.meaning self.old.desk)
+            edits.now result (D.meaning self.new.desk)) }
+        ensures only { UnlessMemory ran_out result (editing.IsOnlyAll (D.meaning self.old.desk)
+            edits.now result (D.meaning self.new.desk)) }
+        ensures err { OnErr result (D.meaning self.new.desk ≡ D.meaning self.old.desk) }
+        ensures gauge { self.new.gauge ≡ self.old.gauge }
+    {
         self.desk.edit_all(edits)
     }
 
-    fn query(&mut self, query: &Query) -> Result<Thrice<Report>, QueryFault> {
+    fn query(&mut self, query: &Query) -> Result<Thrice<Report>, QueryFault>
+        ensures found { UnlessMemory reporting.is_memory result
+            (reporting.Reports (D.meaning self.old.desk) query.now result) }
+        ensures only { UnlessMemory reporting.is_memory result
+            (reporting.IsOnly (D.meaning self.old.desk) query.now result) }
+        ensures kind { IfOk result (λ report.
+            IsTrue (reporting.is_report_to query.now report)) }
+        ensures sure { reporting.Reports (D.meaning self.old.desk) query.now (Err NoSuch) →
+            result ≡ Err NoSuch }
+        ensures after { D.meaning self.new.desk ≡ D.meaning self.old.desk }
+        ensures gauge { self.new.gauge ≡ self.old.gauge }
+    {
         self.desk.query(query)
     }
 

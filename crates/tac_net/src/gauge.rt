@@ -7,7 +7,7 @@ use tac_tally::{AtLimit, RecordLimit};
 
 /// What an operator is told of records that fill up.
 #[derive(Clone, Copy, Debug, PartialEq, Eq)]
-pub enum Level {
+pub enum Fullness {
     /// Nine tenths of the records that there may be are stored.
     NearlyFull,
     /// All of them are, and no further one will be.
@@ -15,7 +15,7 @@ pub enum Level {
 }
 
 /// How many records were stored, against the most that there may be, as long as an operator is to
-/// be told of it: of a limit that forgets nothing is said.
+/// be told of it. Where the limit forgets, there is nothing to tell.
 #[derive(Clone, Copy, Debug, PartialEq, Eq)]
 pub struct Gauge {
     limit: RecordLimit,
@@ -31,14 +31,14 @@ impl Gauge {
     }
 
     // What is to say where so many are stored.
-    fn level(self) -> Option<Level>
-        ensures { result ≡ filling.level self.stored self.limit.most }
+    fn fullness(self) -> Option<Fullness>
+        ensures { result ≡ filling.fullness self.stored self.limit.most }
     {
         let most = self.limit.most;
         if self.stored == most {
-            Some(Level::Full)
+            Some(Fullness::Full)
         } else if self.stored == most - most / 10 {
-            Some(Level::NearlyFull)
+            Some(Fullness::NearlyFull)
         } else {
             None
         }
@@ -46,7 +46,7 @@ impl Gauge {
 
     /// One more record was stored. The answer is what an operator is to be told of that: of nine
     /// tenths once, and of the limit once, which is all where both come with one record.
-    pub fn count(&mut self) -> Option<Level>
+    pub fn count(&mut self) -> Option<Fullness>
         ensures said { result ≡ filling.said self.old }
         ensures after { self.new ≡ filling.counted self.old }
     {
@@ -59,7 +59,7 @@ impl Gauge {
             return None;
         }
         self.stored += 1;
-        self.level()
+        self.fullness()
     }
 
     /// How many records were stored, as far as they are counted.

@@ -21,7 +21,7 @@ mod worker;
 
 pub use fault::ServeFault;
 pub use filling::FillingDesk;
-pub use gauge::{Gauge, Level};
+pub use gauge::{Fullness, Gauge};
 pub use line::Line;
 pub use patience::Patience;
 pub use pause::{Pause, accepted};

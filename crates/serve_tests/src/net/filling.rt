@@ -12,7 +12,7 @@ use std::test::Fail;
 use tac_conn::{Answer, Ask};
 use tac_desk::Desk;
 use tac_desks::PlainDesk;
-use tac_net::{FillingDesk, Gauge, Level};
+use tac_net::{FillingDesk, Fullness, Gauge};
 use tac_tally::{AcctKind, Record, RecordLimit};
 
 /// A runtime whose standard error is a text.
@@ -65,8 +65,8 @@ fn letters(alloc: Global, limit: RecordLimit, records: u32) -> Result<String, Al
     for _ in 0..records {
         letters.push(match gauge.count() {
             None => '.',
-            Some(Level::NearlyFull) => 'n',
-            Some(Level::Full) => 'f',
+            Some(Fullness::NearlyFull) => 'n',
+            Some(Fullness::Full) => 'f',
         })?;
     }
     Ok(letters)
@@ -156,15 +156,15 @@ fn tells<R: Abort + AllocGlobal>(
 }
 
 const NEARLY_TEN: &str =
-    "tacd: 9 of at most 10 records are stored; after that, accounting is answered 'records full' (--keep-records)\n";
+    "tacd: 9 of at most 10 records are stored; once all are, accounting is answered 'records full'. --keep-records N keeps the latest instead\n";
 
 const NEARLY_TEN_AND_TEN: &str =
-    "tacd: 9 of at most 10 records are stored; after that, accounting is answered 'records full' (--keep-records)
-tacd: 10 records are stored, and no further one: accounting is answered 'records full' until a restart (--keep-records)
+    "tacd: 9 of at most 10 records are stored; once all are, accounting is answered 'records full'. --keep-records N keeps the latest instead
+tacd: all 10 records are stored: accounting is answered 'records full' until a restart. --keep-records N keeps the latest instead
 ";
 
 const FIVE: &str =
-    "tacd: 5 records are stored, and no further one: accounting is answered 'records full' until a restart (--keep-records)\n";
+    "tacd: all 5 records are stored: accounting is answered 'records full' until a restart. --keep-records N keeps the latest instead\n";
 
 // Lines, edits and records that aren't stored don't count.
 #[test]
