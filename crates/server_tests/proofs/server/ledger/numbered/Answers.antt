@@ -11,11 +11,12 @@ records-preserved c =
     let item = c.in_ok-item.item in
     let first = numbered_after 0 (take at records) in
     let number : c.records.number + 1 ≡ at + 1 = omega (arith, c.records.invariant.1) in
+    let next : c.records.number + 1 ≡ 0 + (at + 1) = omega (arith, c.records.invariant.1) in
     let copied = c.in_ok-item.ensures ∙ c.record-item.is in
     let more = numbered_more 0 records at item _ c.records-test.true copied in (
       c.in_ok-push.ensures.ok
           ∙ ap (λ (l : List Numbered). l ++ record { number = c.records.number + 1; item = item } ∷ []) c.records.invariant.0
-          ∙ ap (λ n. first ++ record { number = n; item = item } ∷ []) number
+          ∙ ap (λ n. first ++ record { number = n; item = item } ∷ []) next
           ∙ sym more,
       number,
     )
