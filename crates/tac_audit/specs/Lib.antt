@@ -3,3 +3,5 @@ pub mod Event
 pub mod Apart
 pub mod Telling
 pub mod Masking
+pub mod Witness
+pub mod Notices

@@ -6,11 +6,15 @@ mod event;
 mod json;
 mod line;
 mod masking;
+mod notice;
 mod telling;
 mod typing;
+mod witness;
 
 pub use event::{Asker, Event, Said, Status, Told, Typed, Why};
 pub use line::{push_event, typed_line};
 pub use masking::{masked, masked_answer};
+pub use notice::{Notice, Typing};
 pub use telling::{Answered, OpenLogin, login_begun, login_named, tell};
 pub use typing::typed;
+pub use witness::{Nobody, Refused, Witness};
