@@ -2,3 +2,6 @@ mod JsonApart
 pub mod EventsApart
 pub mod MaskingFacts
 pub mod AnswerFacts
+mod LoginFacts
+mod ReplyFacts
+mod NoticeFacts

@@ -5,3 +5,5 @@ pub mod Telling
 pub mod Masking
 pub mod Witness
 pub mod Notices
+pub mod Logins
+pub mod Noted

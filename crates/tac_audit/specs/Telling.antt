@@ -1,6 +1,6 @@
 -- What is told of a packet, by what came before it on its session, and by what it was answered.
-use Rattle.std.specs.Prelude.{ℕ, ◌+◌, List, [], ◌∷◌, Bool, false, ◌==◌, ◌&&◌, Option, Some, None}
-use Rattle.std.specs.Prelude.{if◌then◌else◌}
+use Rattle.std.specs.Prelude.{ℕ, ◌+◌, List, [], ◌∷◌, Bool, true, false, ◌==◌, ◌&&◌, Option, Some}
+use Rattle.std.specs.Prelude.{None, if◌then◌else◌}
 use Rattle.std.specs.Option.{option_map, option_map_or}
 use Rattle.std.specs.Result.{result_ok}
 use Rattle.tac_wire.specs.Flag.{has_flag}
@@ -26,6 +26,7 @@ use Rattle.tac_conn.specs.declared.ask.AskKind.{AskKind}
 use Rattle.tac_conn.specs.declared.ask.AskKind.TheVariants.{Authentication, Authorisation}
 use Rattle.tac_conn.specs.declared.ask.AskKind.TheVariants.{Accounting}
 use Rattle.tac_conn.specs.declared.packet.Packet.{Packet}
+use Rattle.tac_conn.specs.declared.reply.Reply.{Reply}
 use Rattle.tac_conn.specs.declared.reply.ReplyBody.{ReplyBody}
 use Rattle.tac_conn.specs.declared.reply.ReplyBody.TheVariants as replies
 use Rattle.tac_conn.specs.Judging.{kind_of, reply_of}
@@ -206,10 +207,20 @@ answered_by (Some (replies.Authorisation reply)) =
 answered_by (Some (replies.Accounting reply)) =
     last (acct_status reply.status.0) reply.msg.items
 
+-- what a packet is answered that has this reply, or none
+abbrev pub answered_with : Option Reply → Answered
+answered_with reply = answered_by (option_map (λ reply. reply.body) reply)
+
+-- a question: the login goes on
+abbrev pub is_question : Answered → Bool
+is_question Nothing = false
+is_question Empty = false
+is_question Question = true
+is_question (Last said) = false
+
 -- what a packet after these is answered, where the desk answers so
 abbrev pub answered_to : List Packet → Packet → Answer → Answered
-answered_to earlier packet answer =
-    answered_by (option_map (λ reply. reply.body) (reply_of (outcome earlier packet) answer))
+answered_to earlier packet answer = answered_with (reply_of (outcome earlier packet) answer)
 
 -- what is told of it
 abbrev pub told_after : List Packet → Packet → Answer → Option Told

@@ -5,6 +5,7 @@
 mod event;
 mod json;
 mod line;
+mod logins;
 mod masking;
 mod notice;
 mod telling;
@@ -13,8 +14,9 @@ mod witness;
 
 pub use event::{Asker, Event, Said, Status, Told, Typed, Why};
 pub use line::{push_event, typed_line};
+pub use logins::{Logins, Noted};
 pub use masking::{masked, masked_answer};
 pub use notice::{Notice, Typing};
-pub use telling::{Answered, OpenLogin, login_begun, login_named, tell};
+pub use telling::{Answered, OpenLogin, answered_of, login_begun, login_named, tell};
 pub use typing::typed;
 pub use witness::{Nobody, Refused, Witness};

@@ -11,18 +11,20 @@ ghost use Rattle.tac_request.specs.AuthorRequest.{author_request_of};
 ghost use Rattle.tac_request.specs.AcctRequest.{acct_request_of};
 ghost use Rattle.tac_conn.specs.declared.ask.Answer.{Answer as AnswerValue};
 ghost use Rattle.tac_conn.specs.declared.packet.Packet.{Packet as PacketValue};
+ghost use Rattle.tac_conn.specs.declared.reply.ReplyBody.TheVariants as bodies;
 ghost use Rattle.tac_conn.specs.Judging as judging;
 ghost use Rattle.tac_audit.specs.Telling as telling;
 ghost use Rattle.tac_audit.specs.declared.event.Asker.{Asker as AskerValue};
 ghost use Rattle.tac_audit.specs.declared.event.Said.{Said as SaidValue};
 
-use crate::event::{Asker, Said, Told, Why};
+use crate::event::{Asker, Said, Status, Told, Why};
 use basics::Bytes;
 use std::alloc::{AllocError, Global};
-use tac_authen::{read_continue, read_start};
-use tac_conn::{AskKind, Packet};
+use tac_authen::{AuthenReply, AuthenStatus, read_continue, read_start};
+use tac_conn::{AskKind, Packet, Reply, ReplyBody};
 use tac_request::{
-    LineOf, acct_kind, read_acct_request, read_author_request, request_line, task_id,
+    AcctStatus, AuthorStatus, LineOf, acct_kind, read_acct_request, read_author_request,
+    request_line, task_id,
 };
 use tac_wire::{Header, PacketType, well_formed};
 
@@ -60,6 +62,82 @@ impl Asker {
             privilege: self.privilege,
             service: self.service,
         })
+    }
+}
+
+// ---- replies
+
+// The status of a last reply; questions have none.
+fn authen_status(status: AuthenStatus) -> Option<Status>
+    ensures { result ≡ telling.authen_status status.0 }
+{
+    match status {
+        AuthenStatus::PASS => Some(Status::Pass),
+        AuthenStatus::FAIL => Some(Status::Fail),
+        AuthenStatus::ERROR => Some(Status::Error),
+        _ => None,
+    }
+}
+
+fn author_status(status: AuthorStatus) -> Status
+    ensures { result ≡ telling.author_status status.0 }
+{
+    match status {
+        AuthorStatus::PASS_ADD => Status::PassAdd,
+        AuthorStatus::FAIL => Status::Fail,
+        _ => Status::Error,
+    }
+}
+
+fn acct_status(status: AcctStatus) -> Status
+    ensures { result ≡ telling.acct_status status.0 }
+{
+    match status {
+        AcctStatus::SUCCESS => Status::Success,
+        _ => Status::Error,
+    }
+}
+
+// A last reply.
+fn last(alloc: Global, status: Status, text: &[u8]) -> Result<Answered, AllocError>
+    ensures { IfOk result (λ answered. answered ≡ telling.last status text.now) }
+{
+    let text = Bytes::from_slice(alloc, text)?;
+    Ok(Answered::Last(Said { status, text }))
+}
+
+// What a reply of authentication says.
+fn authenticated(alloc: Global, reply: &AuthenReply) -> Result<Answered, AllocError>
+    ensures { IfOk result
+        (λ answered. answered ≡ telling.answered_by (Some (bodies.Authentication reply.now))) }
+{
+    match authen_status(reply.status) {
+        Some(status) => last(alloc, status, reply.msg.as_slice()),
+        None => Ok(Answered::Question),
+    }
+}
+
+/// What this reply answers, or that there is none. The error means that memory ran out.
+pub fn answered_of(alloc: Global, reply: Option<&Reply>) -> Result<Answered, AllocError>
+    ensures { IfOk result
+        (λ answered. answered ≡ telling.answered_with (option_copied reply.entry)) }
+{
+    let Some(reply) = reply else {
+        return Ok(Answered::Nothing);
+    };
+    match &reply.body {
+        ReplyBody::Empty => Ok(Answered::Empty),
+        ReplyBody::Authentication(reply) => authenticated(alloc, reply),
+        ReplyBody::Authorisation(reply) => last(
+            alloc,
+            author_status(reply.status),
+            reply.msg.as_slice(),
+        ),
+        ReplyBody::Accounting(reply) => last(
+            alloc,
+            acct_status(reply.status),
+            reply.msg.as_slice(),
+        ),
     }
 }
 
