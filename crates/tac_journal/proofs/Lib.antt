@@ -1,2 +1,3 @@
 mod DiskFacts
 mod TailFacts
+mod DeviceFacts

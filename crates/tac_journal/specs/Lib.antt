@@ -2,5 +2,5 @@ pub mod Appended
 pub mod Disk
 pub mod Logged
 pub mod Lines
-pub mod Typing
-pub mod Told
+pub mod Device
+pub mod Console

@@ -1,11 +1,11 @@
--- The lines that are written of what is told of packets.
-use Rattle.std.specs.Prelude.{ℕ, List}
-use Rattle.std.specs.List.{flat_map}
+-- The lines that are written of what is noted of a connection.
+use Rattle.std.specs.Prelude.{◌≡◌, ℕ, List, [], ◌∷◌, ◌++◌, Option}
+use Rattle.std.specs.Option.{option_map_or}
 use Rattle.tac_audit.specs.declared.event.Event.{Event}
+use Rattle.tac_audit.specs.declared.logins.Noted.{Noted}
 use Rattle.tac_audit.specs.Event.{line_of}
-use Rattle.tac_trail.specs.declared.trail.Noted.{Noted}
 
--- what is told of a packet, at this time, of this device
+-- what is noted of a device at this time
 abbrev pub event_of : List ℕ → List ℕ → Noted → Event
 event_of time device noted = record {
   time = time;
@@ -14,6 +14,13 @@ event_of time device noted = record {
   told = noted.told;
 }
 
--- the lines of several, one after another
-abbrev pub lines_of : List ℕ → List ℕ → List Noted → List ℕ
-lines_of time device noted = flat_map (λ one. line_of (event_of time device one)) noted
+-- its line; nothing where nothing is noted
+abbrev pub line_noted : List ℕ → List ℕ → Option Noted → List ℕ
+line_noted time device noted = option_map_or (λ one. line_of (event_of time device one)) noted []
+
+-- these are the lines of all that, in its order, each at some time
+abbrev pub AreLines : List ℕ → List Noted → List ℕ → Type 0
+AreLines device [] lines = lines ≡ []
+AreLines device (one ∷ more) lines =
+    (time : List ℕ) × (rest : List ℕ) × (lines ≡ line_of (event_of time device one) ++ rest)
+    × AreLines device more rest

@@ -1,13 +1,13 @@
 //! A file as it is open now, and what takes lines into it.
 
 use crate::disk::{Disk, Fate};
-use crate::log::Refused;
 use crate::opening::{LogFiles, open};
 use crate::tail::{Tail, Untaken};
 use std::fs::File;
 use std::io;
 use std::sync::{Mutex, Wait};
 use std::time::{Clock, Duration, Instant};
+use tac_audit::Refused;
 
 /// After how many milliseconds a file is opened again by its path.
 const FRESH: u64 = 500;

@@ -4,8 +4,8 @@ ghost use Rattle.std.specs.Prelude.{◌≡◌, ◌<◌, ◌↔◌, ◌||◌, ℕ
 ghost use Rattle.tac_journal.specs.Disk as turns;
 ghost use Rattle.tac_journal.specs.declared.disk.Fate.TheVariants.{Kept};
 
-use crate::log::Refused;
 use std::sync::{Mutex, Wait};
+use tac_audit::Refused;
 
 /// What became of an append.
 #[derive(Clone, Copy, PartialEq, Eq)]

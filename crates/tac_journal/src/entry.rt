@@ -3,20 +3,31 @@
 ghost use Rattle.std.specs.Prelude.{◌≡◌, ℕ, List, IfOk};
 ghost use Rattle.tac_journal.specs.Logged.{IsLogged};
 
-use crate::log::{Log, Refused};
+use crate::log::Log;
 use crate::opening::LogFiles;
 use crate::tail::write_once;
 use std::alloc::AllocError;
 use std::io::{self, ErrorKind, Write};
 use std::sync::Wait;
 use std::time::Clock;
+use tac_audit::Refused;
 
 /// A log as a writer. A write that it doesn't take whole is a fault, though the file may have a
 /// part of it.
 #[derive(Drop)]
-pub(crate) struct Entry<'a, H, L> {
-    pub(crate) host: &'a H,
-    pub(crate) log: &'a L,
+pub struct Entry<'a, H, L> {
+    host: &'a H,
+    log: &'a L,
+}
+
+impl<'a, H, L: Log> Entry<'a, H, L>
+where
+    H: Wait + Clock + Eprint + LogFiles,
+{
+    /// This log, whose file, clock and standard error are the host's.
+    pub fn new(host: &'a H, log: &'a L) -> Entry<'a, H, L> {
+        Entry { host, log }
+    }
 }
 
 impl<H, L: Log> Write for Entry<'_, H, L>
@@ -35,40 +46,19 @@ where
     }
 }
 
-/// Why lines aren't in a log, or not whole.
-#[derive(Clone, Copy, PartialEq, Eq)]
-pub(crate) enum Unlogged {
-    /// There was no memory for them. Nothing was written.
-    Memory,
-    /// The log took only so many bytes of them.
-    Cut(usize),
-}
-
-impl From<AllocError> for Unlogged {
-    fn from(_error: AllocError) -> Unlogged {
-        Unlogged::Memory
-    }
-}
-
-impl From<Unlogged> for Refused {
-    fn from(_why: Unlogged) -> Refused {
-        Refused
-    }
-}
-
 /// Appends lines, which were made if there was memory for them, to a log by one write.
 pub(crate) fn log_lines<F: Write>(
     log: &mut F,
     lines: Result<Vec<u8>, AllocError>,
-) -> Result<(), Unlogged>
+) -> Result<(), Refused>
     ensures { (wanted : List ℕ) → IfOk lines (λ lines. lines.items ≡ wanted) →
         IsLogged result wanted (F.contents log.old) (F.contents log.new) }
 {
     let Ok(lines) = lines else {
-        return Err(Unlogged::Memory);
+        return Err(Refused);
     };
     match write_once(log, lines.as_slice()) {
         (_, Ok(())) => Ok(()),
-        (taken, Err(_)) => Err(Unlogged::Cut(taken)),
+        (_, Err(_)) => Err(Refused),
     }
 }

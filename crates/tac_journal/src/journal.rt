@@ -2,11 +2,12 @@
 
 use crate::book::{Book, Place};
 use crate::disk::Disk;
-use crate::log::{Log, Refused};
+use crate::log::Log;
 use crate::opening::LogFiles;
 use std::io;
 use std::sync::{Mutex, Wait};
 use std::time::Clock;
+use tac_audit::Refused;
 
 /// A file that several threads append lines to, one after another.
 ///

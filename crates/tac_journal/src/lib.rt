@@ -1,10 +1,10 @@
-//! The log of an auditor: a file that takes whole lines, and the stream of a device on which a
-//! reply is written only after its line is in the file.
+//! The log of an auditor: a file that takes whole lines, and who appends them as a connection or a
+//! console tells what happens there.
 #![tactic(auto)]
 
-mod audited;
 mod book;
 mod console;
+mod device;
 mod disk;
 mod entry;
 mod journal;
@@ -13,10 +13,12 @@ mod log;
 mod moment;
 mod opening;
 mod tail;
-mod telling;
 
-pub use audited::Audited;
-pub use console::{AuditedConsole, AuditedInput, AuditedOutput};
+pub use console::ConsoleLog;
+pub use device::DeviceLog;
+pub use entry::Entry;
 pub use journal::Journal;
-pub use log::{Log, Nowhere, Refused};
+pub use log::{Log, Nowhere};
+pub use moment::Moments;
 pub use opening::LogFiles;
+pub use tac_audit::Refused;

@@ -1,46 +1,29 @@
-//! The lines of what is told of packets.
+//! The line of what is noted of a connection.
 
-ghost use Rattle.std.specs.Prelude.{◌≡◌, ◌++◌, IfOk, OnOk};
+ghost use Rattle.std.specs.Prelude.{◌≡◌, IfOk};
 ghost use Rattle.tac_audit.specs.Event.{line_of};
-ghost use Rattle.tac_journal.specs.Lines.{event_of, lines_of};
+ghost use Rattle.tac_journal.specs.Lines.{event_of};
 
-use basics::{Bytes, Sequence};
+use basics::Bytes;
 use std::alloc::{AllocError, Global};
-use tac_audit::{Event, push_event};
-use tac_trail::Noted;
+use tac_audit::{Event, Noted, push_event};
 
-// Adds the line of one.
-fn push_line(
+/// The line of what is noted of this device at this time. The error means that memory ran out.
+pub(crate) fn line_of(
     alloc: Global,
-    lines: &mut Vec<u8>,
-    time: &Bytes,
+    time: Bytes,
     device: &Bytes,
     noted: Noted,
-) -> Result<(), AllocError>
-    ensures { OnOk result (lines.new.items
-        ≡ lines.old.items ++ line_of (event_of time.now device.now noted)) }
+) -> Result<Vec<u8>, AllocError>
+    ensures { IfOk result (λ line. line.items ≡ line_of (event_of time device.now noted)) }
 {
     let event = Event {
-        time: time.copy(alloc)?,
+        time,
         device: device.copy(alloc)?,
         session: noted.session,
         told: noted.told,
     };
-    push_event(lines, &event)
-}
-
-/// The lines of what is told of packets of this device at this time, one after another.
-pub(crate) fn lines_of(
-    alloc: Global,
-    time: &Bytes,
-    device: &Bytes,
-    noted: Sequence<Noted>,
-) -> Result<Vec<u8>, AllocError>
-    ensures { IfOk result (λ lines. lines.items ≡ lines_of time.now device.now noted) }
-{
-    let mut lines = Vec::new(alloc);
-    'noted: for one in noted.into_vec() {
-        push_line(alloc, &mut lines, time, device, one)?;
-    }
-    Ok(lines)
+    let mut line = Vec::new(alloc);
+    push_event(&mut line, &event)?;
+    Ok(line)
 }

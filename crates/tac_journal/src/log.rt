@@ -1,26 +1,9 @@
 //! What takes the lines of an auditor.
 
 use crate::opening::LogFiles;
-use std::alloc::{AllocError, AllocFailed};
 use std::sync::Wait;
 use std::time::Clock;
-
-/// The lines don't count: the log didn't take them whole, or the disk may have lost them, or there
-/// was no memory or no time for them. The device that they tell of is to be sent nothing.
-#[derive(Clone, Copy, Debug, PartialEq, Eq)]
-pub struct Refused;
-
-impl From<AllocError> for Refused {
-    fn from(_error: AllocError) -> Refused {
-        Refused
-    }
-}
-
-impl<T: Drop> From<AllocFailed<T>> for Refused {
-    fn from(_error: AllocFailed<T>) -> Refused {
-        Refused
-    }
-}
+use tac_audit::Refused;
 
 /// A log that several threads append to, or none.
 pub trait Log {
@@ -30,6 +13,9 @@ pub trait Log {
     /// Appends these lines, each with its LF, at once: no line of another stands between them. It
     /// may wait for those who append meanwhile. The file, the clock and standard error are the
     /// host's.
+    ///
+    /// Refused, they don't count: the log didn't take them whole, or the disk may have lost them.
+    /// The device that they tell of is to be sent nothing.
     fn append<H>(&self, host: &H, lines: &[u8]) -> Result<(), Refused>
     where
         H: Wait + Clock + Eprint + LogFiles;

@@ -1,11 +1,11 @@
 //! The time that a line tells.
 
-use crate::log::Refused;
 use basics::Bytes;
 use jiff::Timestamp;
 use std::alloc::Global;
 use std::cell::RefCell;
 use std::time::Clock;
+use tac_audit::Refused;
 
 /// A moment by RFC 3339, in UTC and to the millisecond.
 const FORM: &str = "%Y-%m-%dT%H:%M:%S.%3fZ";
@@ -34,16 +34,16 @@ struct Told {
     text: Bytes,
 }
 
-/// The last moment that was told. A device that asks much has many lines in one millisecond, and
-/// the text takes longer than all else of a line's head.
+/// The last moment that was told by one thread. A device that asks much has many lines in one
+/// millisecond, and the text takes longer than all else of a line's head.
 #[derive(Drop)]
-pub(crate) struct Moments {
+pub struct Moments {
     last: RefCell<Option<Told>>,
 }
 
 impl Moments {
-    /// None was told.
-    pub(crate) fn new() -> Moments {
+    /// None was told. Takes no memory.
+    pub fn new() -> Moments {
         Moments {
             last: RefCell::new(None),
         }

@@ -1,0 +1,98 @@
+//! The log of a connection of a device.
+
+ghost use Rattle.std.specs.Prelude.{◌≡◌, List, ℕ, []};
+ghost use Rattle.tac_audit.specs.Logins.{Knows};
+ghost use Rattle.tac_audit.specs.Noted.{AreAnswered, noted_of, noted_of_each, packets_after_each};
+ghost use Rattle.tac_audit.specs.Witness.{AreTold};
+ghost use Rattle.tac_audit.specs.declared.notice.Notice.{Notice as NoticeValue};
+ghost use Rattle.tac_journal.specs.Device.{HasLines, HasLinesAndPart, IsNoted};
+
+use crate::entry::log_lines;
+use crate::lines::line_of;
+use crate::moment::Moments;
+use basics::Bytes;
+use std::alloc::Global;
+use std::io::Write;
+use std::time::Clock;
+use tac_audit::{Logins, Noted, Notice, Refused, Witness};
+
+/// A witness of one connection that writes a line to a log for each notice of which anything is
+/// noted, by one write. A login is noted at its last reply, so its questions write nothing.
+///
+/// Once it has refused a notice, the connection is to be closed.
+#[derive(Drop)]
+pub struct DeviceLog<'a, C, F> {
+    alloc: Global,
+    clock: &'a C,
+    moments: &'a Moments,
+    log: F,
+    device: Bytes,
+    logins: Logins,
+}
+
+impl<'a, C: Clock, F: Write + Drop> DeviceLog<'a, C, F> {
+    /// That of a connection of this device, by its address and port, from its beginning. The
+    /// moments are those of the thread that serves it. Takes no memory.
+    pub fn new(
+        alloc: Global,
+        clock: &'a C,
+        moments: &'a Moments,
+        log: F,
+        device: Bytes,
+    ) -> DeviceLog<'a, C, F>
+        // Once it took these notices, one after another, the log grew by exactly the lines of what
+        // is noted of them, in their order, each at some time.
+        ensures lines { (notices : List NoticeValue) (now : _) →
+            AreTold ⟦<DeviceLog<'a, C, F> as Witness<Notice>>⟧.takes result notices now →
+            AreAnswered [] notices →
+            HasLines device (noted_of_each [] notices) (F.contents log) (F.contents now.log) }
+        // Once it then refused another, the log also has a part of the line of that, or nothing.
+        ensures refused { (notices : List NoticeValue) (notice : NoticeValue) (between now : _) →
+            AreTold ⟦<DeviceLog<'a, C, F> as Witness<Notice>>⟧.takes result notices between →
+            ⟦<DeviceLog<'a, C, F> as Witness<Notice>>⟧.refuses between notice now →
+            AreAnswered [] notices →
+            HasLinesAndPart device (noted_of_each [] notices)
+            (noted_of (packets_after_each [] notices) notice)
+            (F.contents log) (F.contents now.log) }
+    {
+        DeviceLog {
+            alloc,
+            clock,
+            moments,
+            log,
+            device,
+            logins: Logins::new(alloc),
+        }
+    }
+
+    // Appends the line of what is noted, at the present time.
+    fn append(&mut self, noted: Noted) -> Result<(), Refused>
+        ensures line { IsNoted result self.old.device noted
+            (F.contents self.old.log) (F.contents self.new.log) }
+        ensures device { self.new.device ≡ self.old.device }
+        ensures logins { self.new.logins ≡ self.old.logins }
+    {
+        let time = self.moments.now(self.alloc, self.clock)?;
+        let line = line_of(self.alloc, time, &self.device, noted);
+        log_lines(&mut self.log, line)
+    }
+}
+
+impl<C: Clock, F: Write + Drop> Witness<Notice> for DeviceLog<'_, C, F> {
+    ghost use Rattle.tac_journal.specs.Device as device;
+
+    ghost takes = { λ was notice now. device.Takes
+        (record { device = was.device; logins = was.logins; log = F.contents was.log }) notice
+        (record { device = now.device; logins = now.logins; log = F.contents now.log }) };
+
+    ghost refuses = { λ was notice now. device.Refuses
+        (record { device = was.device; logins = was.logins; log = F.contents was.log }) notice
+        (record { device = now.device; logins = now.logins; log = F.contents now.log }) };
+
+    fn tell(&mut self, notice: &Notice) -> Result<(), Refused> {
+        match self.logins.note(self.alloc, notice)? {
+            Some(noted) => self.append(noted),
+            None => Ok(()),
+        }
+    }
+}
