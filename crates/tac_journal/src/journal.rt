@@ -1,5 +1,7 @@
 //! A file that several threads append lines to.
 
+ghost use Rattle.std.specs.Prelude.{true};
+
 use crate::book::{Book, Place};
 use crate::disk::Disk;
 use crate::log::Log;
@@ -38,6 +40,8 @@ impl<'a> Journal<'a> {
 }
 
 impl Log for Journal<'_> {
+    ghost keeps = { λ _. true };
+
     fn is_kept(&self) -> bool {
         true
     }

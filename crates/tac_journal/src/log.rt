@@ -1,5 +1,8 @@
 //! What takes the lines of an auditor.
 
+ghost use Rattle.std.specs.Prelude.{◌≡◌, Bool, true, false};
+ghost use Rattle.std.specs.Option.{option_map_or};
+
 use crate::opening::LogFiles;
 use std::sync::Wait;
 use std::time::Clock;
@@ -7,8 +10,12 @@ use tac_audit::Refused;
 
 /// A log that several threads append to, or none.
 pub trait Log {
+    /// Whether it keeps lines.
+    ghost keeps: { Self → Bool };
+
     /// Whether lines are kept. Where they aren't, none need be made.
-    fn is_kept(&self) -> bool;
+    fn is_kept(&self) -> bool
+        ensures { result ≡ keeps self.now };
 
     /// Appends these lines, each with its LF, at once: no line of another stands between them. It
     /// may wait for those who append meanwhile. The file, the clock and standard error are the
@@ -26,6 +33,8 @@ pub trait Log {
 pub struct Nowhere;
 
 impl Log for Nowhere {
+    ghost keeps = { λ _. false };
+
     fn is_kept(&self) -> bool {
         false
     }
@@ -39,6 +48,8 @@ impl Log for Nowhere {
 }
 
 impl<L: Log> Log for Option<L> {
+    ghost keeps = { λ log. option_map_or L.keeps log false };
+
     fn is_kept(&self) -> bool {
         match self {
             Some(log) => log.is_kept(),
