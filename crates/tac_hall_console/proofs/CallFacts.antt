@@ -12,8 +12,9 @@ use Rattle.tac_hall.specs.declared.entry.Receipt.{Receipt}
 use Rattle.tac_hall.specs.declared.fault.HallFault.{HallFault}
 use Rattle.tac_hall.specs.Seat.{made_of}
 use Rattle.tac_hall_console.specs.declared.fault.OperatorFault.{OperatorFault}
+use Rattle.tac_hall_console.specs.declared.fault.OperatorFault.TheVariants as faults
 use Rattle.tac_hall_console.specs.Commands.{is_rotate}
-use Rattle.tac_hall_console.specs.Operated.{Outcome, ComesTo, IsRotation, StopComesTo, LineComesTo, made, refused, told, refusal_line}
+use Rattle.tac_hall_console.specs.Operated.{Outcome, ComesTo, IsRotation, StopComesTo, LineComesTo, StopEnds, made, refused, told, refusal_line}
 use Rattle.tac_hall_console.specs.Operating.{Tells, Adds, IsUntold, SendsUnlessMemory, Stops}
 
 -- ---- what is told of it
@@ -46,18 +47,23 @@ module _ (opening : Opening) where
   comes_of (Err fault) was now is caught so = (refused fault, (so, caught))
 
   -- the console has failed, and nothing is told
-  pub stops_untold : (heard end : Result (Unit {0}) OperatorFault) (fault : OperatorFault) (was now : Seated) (old : Option (List ℕ)) → heard ≡ Err fault → IsErrAnd end (λ e. e ≡ fault)
-      → (outcome : Outcome) × StopComesTo opening was outcome now → Stops opening heard end was now old old
-  stops_untold heard (Ok u) fault was now old e is c = absurd is
-  stops_untold heard (Err same) fault was now old e is c = rw e (record { stop = c.0; came = c.1; ends = (ap Err is, refl) })
+  pub stops_untold : (listened end : Result (Unit {0}) OperatorFault) (fault : OperatorFault) (was now : Seated) (old : Option (List ℕ)) → listened ≡ Err fault → IsErrAnd end (λ e. e ≡ fault)
+      → (outcome : Outcome) × StopComesTo opening was outcome now → Stops opening listened end was now old old
+  stops_untold listened (Ok u) fault was now old e is c = absurd is
+  stops_untold listened (Err same) fault was now old e is c = rw e (record { stop = c.0; came = c.1; ends = (ap Err is, refl) })
 
   -- it was made
-  pub stops_made : (heard : Result (Unit {0}) OperatorFault) (u : Unit {0}) (receipt : Receipt) (was now : Seated) (old : Option (List ℕ)) → heard ≡ Ok u → IsMade opening was calls.Stop receipt now
-      → Stops opening heard (Ok tt) was now old old
-  stops_made heard u receipt was now old e is =
-      rw e (record { stop = made (made_of calls.Stop receipt); came = (receipt, refl, is); ends = (Appends-nil old, (λ no. absurd cc)) })
+  pub stops_made : (listened : Result (Unit {0}) OperatorFault) (u : Unit {0}) (receipt : Receipt) (was now : Seated) (old : Option (List ℕ)) → listened ≡ Ok u → IsMade opening was calls.Stop receipt now
+      → Stops opening listened (Ok tt) was now old old
+  stops_made listened u receipt was now old e is = rw e (record { stop = made (made_of calls.Stop receipt); came = (receipt, refl, is); ends = Appends-nil old })
 
   -- it was refused
-  pub stops_refused : (heard end : Result (Unit {0}) OperatorFault) (u : Unit {0}) (fault : HallFault) (was now : Seated) (old new : Option (List ℕ)) → heard ≡ Ok u → CatchesUp was now → IsRefused opening now calls.Stop fault
-      → SendsUnlessMemory end (refusal_line fault) old new → Stops opening heard end was now old new
-  stops_refused heard end u fault was now old new e caught so sent = rw e (record { stop = refused fault; came = (so, caught); ends = (sent, (λ is. tt)) })
+  refusal_ends : (end : Result (Unit {0}) OperatorFault) (fault : HallFault) (old new : Option (List ℕ)) → SendsUnlessMemory end (refusal_line fault) old new → StopEnds (Ok tt) end (refused fault) old new
+  refusal_ends (Ok u) fault old new sent = sent
+  refusal_ends (Err faults.ReadFault) fault old new sent = absurd sent
+  refusal_ends (Err faults.WriteFault) fault old new sent = sent
+  refusal_ends (Err faults.Memory) fault old new sent = (sent, tt)
+
+  pub stops_refused : (listened end : Result (Unit {0}) OperatorFault) (u : Unit {0}) (fault : HallFault) (was now : Seated) (old new : Option (List ℕ)) → listened ≡ Ok u → CatchesUp was now → IsRefused opening now calls.Stop fault
+      → SendsUnlessMemory end (refusal_line fault) old new → Stops opening listened end was now old new
+  stops_refused listened end u fault was now old new e caught so sent = rw e (record { stop = refused fault; came = (so, caught); ends = refusal_ends end fault old new sent })

@@ -1,19 +1,23 @@
 -- Lines that are answered, one after another.
-use Rattle.std.proofs.Common.{◌≡◌, ℕ, false, List, [], ◌∷◌, ◌++◌, Option, Some, Result, Ok, Err, refl, sym, ap, subst, ◌∙◌, append-nil, append_assoc, length-append, arith}
+use Rattle.std.proofs.Common.{◌≡◌, ℕ, true, false, List, [], ◌∷◌, ◌++◌, Option, Some, Result, Ok, Err, inl, refl, sym, ap, subst, ◌∙◌, append-nil, append_assoc, length-append, arith}
+use Rattle.std.specs.Prelude.{codes}
 use Rattle.std.specs.Io.KnownBytes.{Appends}
 use Rattle.std.proofs.KnownBytes.{Appends-nil, Appends-trans}
 use Rattle.std.proofs.lemmas.Grind.{flat_map-append}
 use Rattle.basics.specs.Lines.{split_at_first, lines_of}
 use Rattle.pol_edit.specs.declared.edit.Edit.{Edit}
+use Rattle.tac_audit.specs.Witness.{AreTold}
+use Rattle.tac_audit.specs.declared.notice.Typing.{Typing}
 use Rattle.tac_forum.specs.History.{Opening}
 use Rattle.tac_forum.specs.Seat.{Seated}
 use Rattle.tac_hall_console.specs.declared.answering.Console.{Console}
 use Rattle.tac_hall_console.specs.declared.fault.OperatorFault.{OperatorFault}
 use Rattle.tac_hall_console.specs.declared.fault.OperatorFault.TheVariants as faults
 use Rattle.tac_hall_console.specs.Commands.{ended_lines, is_quit, commands, quits}
-use Rattle.tac_hall_console.specs.Operated.{Outcome, batch_by, CameTo, told, text_of, WritesBeginning}
-use Rattle.tac_hall_console.specs.Operating.{batch_left, GoesOn, WritesTo, EndsAt, IsRead, LeavesBatch}
+use Rattle.tac_hall_console.specs.Operated.{Outcome, batch_by, CameTo, told, text_of, WritesBeginning, WritesTo, typings_of, unanswered, quit_of}
+use Rattle.tac_hall_console.specs.Operating.{batch_left, Scene, scene, GoesOn, EndsAt, IsRead, LeavesBatch}
 use Rattle.tac_hall_console.proofs.LineFacts.{split_more, split_shorter, lines_split, ended_split, command_first, quits_later}
+use Rattle.tac_hall_console.proofs.HeardFacts.{heard_then, typings_append, tells_after, tells_before, quit_is}
 
 pub batch_append : (batch : Option (List Edit)) (lines later : List (List ℕ)) → batch_left batch (lines ++ later) ≡ batch_left (batch_left batch lines) later
 batch_append batch [] later = refl
@@ -56,64 +60,75 @@ beginning_then outcomes text old mid new a b = record {
 
 -- ---- going on
 
-pub goes_none : {J : Type 0} {opening : Opening} (bytes : List ℕ) (was : Console J) (old : Option (List ℕ)) → GoesOn opening bytes bytes was was old old
-goes_none bytes was old = record {
+pub goes_none : {J V : Type 0} {hears : V → Typing → V → Type 0} {opening : Opening} (bytes : List ℕ) (was : Scene J V) → GoesOn hears opening bytes bytes was was
+goes_none bytes was = record {
   answered = [];
   lines = λ more. refl;
   ended = λ more. refl;
   quitting = λ more. refl;
+  quitting_ended = λ more. refl;
   within = omega arith;
   outcomes = [];
   came = refl;
   batch = refl;
-  written = Appends-nil old;
+  heard = refl;
+  written = Appends-nil was.written;
 }
 
-module _ {J : Type 0} {opening : Opening} (bytes left : List ℕ) (was mid : Console J) (old between : Option (List ℕ)) (g : GoesOn opening bytes left was mid old between) where
+module _ {J V : Type 0} {hears : V → Typing → V → Type 0} {opening : Opening} (bytes left : List ℕ) (was mid : Scene J V) (g : GoesOn hears opening bytes left was mid) where
   -- and further
-  pub goes_then : (rest : List ℕ) (now : Console J) (new : Option (List ℕ)) → GoesOn opening left rest mid now between new → GoesOn opening bytes rest was now old new
-  goes_then rest now new h = record {
+  pub goes_then : (rest : List ℕ) (now : Scene J V) → GoesOn hears opening left rest mid now → GoesOn hears opening bytes rest was now
+  goes_then rest now h = record {
     answered = g.answered ++ h.answered;
     lines = λ more. g.lines more ∙ ap (λ (l : List (List ℕ)). g.answered ++ l) (h.lines more) ∙ sym (append_assoc g.answered h.answered _);
     ended = λ more. g.ended more ∙ ap (λ (l : List (List ℕ)). g.answered ++ l) (h.ended more) ∙ sym (append_assoc g.answered h.answered _);
     quitting = λ more. g.quitting more ∙ h.quitting more;
+    quitting_ended = λ more. g.quitting_ended more ∙ h.quitting_ended more;
     within = (let a = g.within in let b = h.within in omega arith);
     outcomes = g.outcomes ++ h.outcomes;
-    came = came_after opening was.batch mid.batch was.seat mid.seat now.seat g.answered g.outcomes h.answered h.outcomes g.came g.batch h.came;
-    batch = h.batch ∙ ap (λ (b : Option (List Edit)). batch_left b h.answered) g.batch ∙ sym (batch_append was.batch g.answered h.answered);
-    written = written_then g.outcomes h.outcomes old between new g.written h.written;
+    came = came_after opening was.console.batch mid.console.batch was.console.seat mid.console.seat now.console.seat g.answered g.outcomes h.answered h.outcomes g.came g.batch h.came;
+    batch = h.batch ∙ ap (λ (b : Option (List Edit)). batch_left b h.answered) g.batch ∙ sym (batch_append was.console.batch g.answered h.answered);
+    heard = subst (λ (t : List Typing). AreTold hears was.witness t now.witness)
+        (sym (typings_append opening was.console.batch was.console.seat mid.console.seat g.answered g.outcomes h.answered h.outcomes g.came))
+        (heard_then hears was.witness mid.witness now.witness (typings_of g.answered g.outcomes) (typings_of h.answered h.outcomes) g.heard h.heard);
+    written = written_then g.outcomes h.outcomes was.written mid.written now.written g.written h.written;
   }
 
   -- more bytes come
-  pub goes_more : (piece : List ℕ) → GoesOn opening (bytes ++ piece) (left ++ piece) was mid old between
+  pub goes_more : (piece : List ℕ) → GoesOn hears opening (bytes ++ piece) (left ++ piece) was mid
   goes_more piece = record {
     answered = g.answered;
     lines = λ more. rw (append_assoc bytes piece more, append_assoc left piece more) (g.lines (piece ++ more));
     ended = λ more. rw (append_assoc bytes piece more, append_assoc left piece more) (g.ended (piece ++ more));
     quitting = λ more. rw (append_assoc bytes piece more, append_assoc left piece more) (g.quitting (piece ++ more));
+    quitting_ended = λ more. rw (append_assoc bytes piece more, append_assoc left piece more) (g.quitting_ended (piece ++ more));
     within = (let a = g.within in omega (arith, length-append bytes piece, length-append left piece));
     outcomes = g.outcomes;
     came = g.came;
     batch = g.batch;
+    heard = g.heard;
     written = g.written;
   }
 
   -- the commands so far
-  pub commands_now : commands (lines_of bytes) ≡ g.answered ++ commands (lines_of left)
+  commands_now : commands (lines_of bytes) ≡ g.answered ++ commands (lines_of left)
   commands_now = rw (append-nil bytes, append-nil left) at (g.lines [])
 
-  pub ended_now : commands (ended_lines bytes) ≡ g.answered ++ commands (ended_lines left)
+  ended_now : commands (ended_lines bytes) ≡ g.answered ++ commands (ended_lines left)
   ended_now = rw (append-nil bytes, append-nil left) at (g.ended [])
 
-  pub quits_now : quits (ended_lines bytes) ≡ quits (ended_lines left)
+  quits_now : quits (lines_of bytes) ≡ quits (lines_of left)
   quits_now = rw (append-nil bytes, append-nil left) at (g.quitting [])
+
+  pub quits_ended_now : quits (ended_lines bytes) ≡ quits (ended_lines left)
+  quits_ended_now = rw (append-nil bytes, append-nil left) at (g.quitting_ended [])
 
 -- ---- one line
 
 -- a line was answered whole
-pub goes_line : {J : Type 0} {opening : Opening} (bytes line rest : List ℕ) (was now : Console J) (old new : Option (List ℕ)) → split_at_first 10 bytes ≡ Some (line, rest) → is_quit line ≡ false
-    → LeavesBatch (Ok tt) line was now → EndsAt opening (Ok tt) (line ∷ []) was now old new → GoesOn opening bytes rest was now old new
-goes_line bytes line rest was now old new parts other leaves e =
+pub goes_line : {J V : Type 0} {hears : V → Typing → V → Type 0} {opening : Opening} (bytes line rest : List ℕ) (was now : Scene J V) → split_at_first 10 bytes ≡ Some (line, rest) → is_quit line ≡ false
+    → LeavesBatch hears (Ok tt) line was now → EndsAt hears opening (Ok tt) (line ∷ []) [] was now → GoesOn hears opening bytes rest was now
+goes_line {hears = hears} bytes line rest was now parts other leaves e =
     let all : line ∷ [] ≡ e.answered = e.parts ∙ ap (λ (l : List (List ℕ)). e.answered ++ l) e.leaves ∙ append-nil e.answered in
     record {
       answered = e.answered;
@@ -123,71 +138,104 @@ goes_line bytes line rest was now old new parts other leaves e =
       ended = λ more.
           ap commands (ended_split (bytes ++ more) line (rest ++ more) (split_more bytes more line rest parts)) ∙ command_first line (ended_lines (rest ++ more)) other
           ∙ ap (λ (l : List (List ℕ)). l ++ commands (ended_lines (rest ++ more))) all;
-      quitting = λ more. ap quits (ended_split (bytes ++ more) line (rest ++ more) (split_more bytes more line rest parts)) ∙ quits_later line (ended_lines (rest ++ more)) other;
+      quitting = λ more. ap quits (lines_split (bytes ++ more) line (rest ++ more) (split_more bytes more line rest parts)) ∙ quits_later line (lines_of (rest ++ more)) other;
+      quitting_ended = λ more. ap quits (ended_split (bytes ++ more) line (rest ++ more) (split_more bytes more line rest parts)) ∙ quits_later line (ended_lines (rest ++ more)) other;
       within = (let a = split_shorter bytes line rest parts in omega arith);
       outcomes = e.outcomes;
       came = e.came;
-      batch = leaves ∙ ap (batch_left was.batch) all;
+      batch = leaves ∙ ap (batch_left was.console.batch) all;
+      heard = subst (λ (t : List Typing). AreTold hears was.witness t now.witness) (e.tells ∙ append-nil (typings_of e.answered e.outcomes)) e.heard;
       written = e.writes;
     }
 
 -- ---- the end
 
 -- there is nothing more to answer
-pub ends_none : {J : Type 0} {opening : Opening} (was : Console J) (old : Option (List ℕ)) → EndsAt opening (Ok tt) [] was was old old
-ends_none was old = record {
+pub ends_none : {J V : Type 0} {hears : V → Typing → V → Type 0} {opening : Opening} (was : Scene J V) → EndsAt hears opening (Ok tt) [] [] was was
+ends_none was = record {
   answered = [];
   left = [];
   parts = refl;
   leaves = refl;
   outcomes = [];
   came = refl;
-  writes = Appends-nil old;
+  typings = [];
+  tells = refl;
+  heard = refl;
+  writes = Appends-nil was.written;
 }
 
-pub ends_unread : {J : Type 0} {opening : Opening} (was : Console J) (old : Option (List ℕ)) → EndsAt opening (Err faults.ReadFault) [] was was old old
-ends_unread was old = record {
+-- a line is `quit`, of which the witness is told
+pub ends_quit : {J V : Type 0} {hears : V → Typing → V → Type 0} {opening : Opening} (line : List ℕ) (was : Scene J V) (console : Console J) (witness : V) → is_quit line ≡ true → console ≡ was.console → hears was.witness (unanswered line) witness
+    → EndsAt hears opening (Ok tt) [] (unanswered (codes "quit") ∷ []) was (scene console witness was.written)
+ends_quit {J = J} {hears = hears} line was console witness quit same heard = record {
+  answered = [];
+  left = [];
+  parts = refl;
+  leaves = refl;
+  outcomes = [];
+  came = ap (λ (c : Console J). c.seat) same;
+  typings = unanswered (codes "quit") ∷ [];
+  tells = refl;
+  heard = (witness, subst (λ (l : List ℕ). hears was.witness (unanswered l) witness) (quit_is line quit) heard, refl);
+  writes = Appends-nil was.written;
+}
+
+pub ends_unread : {J V : Type 0} {hears : V → Typing → V → Type 0} {opening : Opening} (last : List Typing) (was : Scene J V) → EndsAt hears opening (Err faults.ReadFault) [] last was was
+ends_unread last was = record {
   answered = [];
   left = [];
   parts = refl;
   leaves = refl;
   outcomes = [];
   came = refl;
-  writes = Appends-nil old;
+  typings = [];
+  tells = refl;
+  heard = refl;
+  writes = Appends-nil was.written;
 }
 
 -- there is no memory for more
-pub ends_memory : {J : Type 0} {opening : Opening} (lines : List (List ℕ)) (was : Console J) (old : Option (List ℕ)) → EndsAt opening (Err faults.Memory) lines was was old old
-ends_memory lines was old = record {
+pub ends_memory : {J V : Type 0} {hears : V → Typing → V → Type 0} {opening : Opening} (lines : List (List ℕ)) (was : Scene J V) → EndsAt hears opening (Err faults.Memory) lines [] was was
+ends_memory lines was = record {
   answered = [];
   left = lines;
   parts = refl;
   leaves = tt;
   outcomes = [];
   came = refl;
-  writes = record { first = []; untold = []; parts = refl; few = omega arith; written = Appends-nil old };
+  typings = [];
+  tells = inl refl;
+  heard = refl;
+  writes = record { first = []; untold = []; parts = refl; few = omega arith; written = Appends-nil was.written };
 }
 
 -- a fault leaves later lines too
-pub ends_before : {J : Type 0} {opening : Opening} (fault : OperatorFault) (lines later : List (List ℕ)) (was now : Console J) (old new : Option (List ℕ)) → IsRead (Err fault)
-    → EndsAt opening (Err fault) lines was now old new → EndsAt opening (Err fault) (lines ++ later) was now old new
-ends_before faults.ReadFault lines later was now old new read e = absurd read
-ends_before faults.WriteFault lines later was now old new read e = record {
+pub ends_before : {J V : Type 0} {hears : V → Typing → V → Type 0} {opening : Opening} (fault : OperatorFault) (lines later : List (List ℕ)) (was now : Scene J V) → IsRead (Err fault)
+    → EndsAt hears opening (Err fault) lines [] was now → EndsAt hears opening (Err fault) (lines ++ later) [] was now
+ends_before faults.ReadFault lines later was now read e = absurd read
+ends_before faults.WriteFault lines later was now read e = record {
   answered = e.answered;
   left = e.left ++ later;
   parts = ap (λ (l : List (List ℕ)). l ++ later) e.parts ∙ append_assoc e.answered e.left later;
   leaves = tt;
   outcomes = e.outcomes;
   came = e.came;
+  typings = e.typings;
+  tells = e.tells;
+  heard = e.heard;
   writes = e.writes;
 }
-ends_before faults.Memory lines later was now old new read e = record {
+ends_before faults.Memory lines later was now read e = record {
   answered = e.answered;
   left = e.left ++ later;
   parts = ap (λ (l : List (List ℕ)). l ++ later) e.parts ∙ append_assoc e.answered e.left later;
   leaves = tt;
   outcomes = e.outcomes;
   came = e.came;
+  typings = e.typings;
+  tells = tells_before faults.Memory e.answered e.left later e.outcomes [] [] e.typings e.tells;
+  heard = e.heard;
   writes = e.writes;
 }
 
@@ -206,29 +254,28 @@ writes_after (Err faults.Memory) outcomes others old mid new a b = record {
   written = written_then outcomes b.first old mid new a b.written;
 }
 
-ends_after : {J : Type 0} {opening : Opening} (end : Result (Unit {0}) OperatorFault) (answered lines : List (List ℕ)) (outcomes : List Outcome) (was mid now : Console J) (old between new : Option (List ℕ))
-    → CameTo opening was.batch was.seat answered outcomes mid.seat → mid.batch ≡ batch_left was.batch answered → Appends old between (text_of outcomes)
-    → EndsAt opening end lines mid now between new → EndsAt opening end (answered ++ lines) was now old new
-ends_after {opening = opening} end answered lines outcomes was mid now old between new came batch written e = record {
-  answered = answered ++ e.answered;
-  left = e.left;
-  parts = ap (λ (l : List (List ℕ)). answered ++ l) e.parts ∙ sym (append_assoc answered e.answered e.left);
-  leaves = e.leaves;
-  outcomes = outcomes ++ e.outcomes;
-  came = came_after opening was.batch mid.batch was.seat mid.seat now.seat answered outcomes e.answered e.outcomes came batch e.came;
-  writes = writes_after end outcomes e.outcomes old between new written e.writes;
-}
+module _ {J V : Type 0} {hears : V → Typing → V → Type 0} {opening : Opening} (bytes left : List ℕ) (was mid : Scene J V) (g : GoesOn hears opening bytes left was mid) where
+  ends_after : (end : Result (Unit {0}) OperatorFault) (lines : List (List ℕ)) (last : List Typing) (now : Scene J V) → EndsAt hears opening end lines last mid now → EndsAt hears opening end (g.answered ++ lines) last was now
+  ends_after end lines last now e = record {
+    answered = g.answered ++ e.answered;
+    left = e.left;
+    parts = ap (λ (l : List (List ℕ)). g.answered ++ l) e.parts ∙ sym (append_assoc g.answered e.answered e.left);
+    leaves = e.leaves;
+    outcomes = g.outcomes ++ e.outcomes;
+    came = came_after opening was.console.batch mid.console.batch was.console.seat mid.console.seat now.console.seat g.answered g.outcomes e.answered e.outcomes g.came g.batch e.came;
+    typings = typings_of g.answered g.outcomes ++ e.typings;
+    tells = tells_after opening was.console.batch was.console.seat mid.console.seat g.answered g.outcomes g.came end e.answered e.left e.outcomes last e.typings e.tells;
+    heard = heard_then hears was.witness mid.witness now.witness (typings_of g.answered g.outcomes) e.typings g.heard e.heard;
+    writes = writes_after end g.outcomes e.outcomes was.written mid.written now.written g.written e.writes;
+  }
 
-module _ {J : Type 0} {opening : Opening} (bytes left : List ℕ) (was mid : Console J) (old between : Option (List ℕ)) (g : GoesOn opening bytes left was mid old between) where
   -- it ends at what was left
-  pub ends_after_lines : (end : Result (Unit {0}) OperatorFault) (now : Console J) (new : Option (List ℕ)) → EndsAt opening end (commands (lines_of left)) mid now between new
-      → EndsAt opening end (commands (lines_of bytes)) was now old new
-  ends_after_lines end now new e =
-      subst (λ (l : List (List ℕ)). EndsAt opening end l was now old new) (sym (commands_now bytes left was mid old between g))
-      (ends_after end g.answered (commands (lines_of left)) g.outcomes was mid now old between new g.came g.batch g.written e)
+  pub ends_after_lines : (end : Result (Unit {0}) OperatorFault) (now : Scene J V) → EndsAt hears opening end (commands (lines_of left)) (quit_of (lines_of left)) mid now
+      → EndsAt hears opening end (commands (lines_of bytes)) (quit_of (lines_of bytes)) was now
+  ends_after_lines end now e =
+      rw (commands_now bytes left was mid g, quits_now bytes left was mid g) (ends_after end (commands (lines_of left)) (quit_of (lines_of left)) now e)
 
-  pub ends_after_ended : (end : Result (Unit {0}) OperatorFault) (now : Console J) (new : Option (List ℕ)) → EndsAt opening end (commands (ended_lines left)) mid now between new
-      → EndsAt opening end (commands (ended_lines bytes)) was now old new
-  ends_after_ended end now new e =
-      subst (λ (l : List (List ℕ)). EndsAt opening end l was now old new) (sym (ended_now bytes left was mid old between g))
-      (ends_after end g.answered (commands (ended_lines left)) g.outcomes was mid now old between new g.came g.batch g.written e)
+  pub ends_after_ended : (end : Result (Unit {0}) OperatorFault) (last : List Typing) (now : Scene J V) → EndsAt hears opening end (commands (ended_lines left)) last mid now
+      → EndsAt hears opening end (commands (ended_lines bytes)) last was now
+  ends_after_ended end last now e =
+      subst (λ (l : List (List ℕ)). EndsAt hears opening end l last was now) (sym (ended_now bytes left was mid g)) (ends_after end (commands (ended_lines left)) last now e)

@@ -1,8 +1,9 @@
 mod LineFacts
+mod HeardFacts
 mod MakesFacts
 mod GoingFacts
 mod CallFacts
 mod AnswerFacts
 mod TakeFacts
-mod HearFacts
+mod ListenFacts
 mod StopFacts

@@ -167,6 +167,10 @@ quit_case : (quit : Bool) (line : List ℕ) (all some : List (List ℕ)) (later 
 quit_case true line all some later below h = refl
 quit_case false line all some later below h = ap (λ (l : List (List ℕ)). line ∷ l) (below h)
 
+quits_case : (quit all some : Bool) → (some ≡ true → all ≡ true) → (quit || some) ≡ true → (quit || all) ≡ true
+quits_case true all some below h = refl
+quits_case false all some below h = below h
+
 quit_first : (lines last : List (List ℕ)) → quits lines ≡ true → commands (lines ++ last) ≡ commands lines
 quit_first [] last h = absurd cc
 quit_first (line ∷ lines) last h = quit_case (is_quit line) line (commands (lines ++ last)) (commands lines) (quits lines) (quit_first lines last) h
@@ -180,3 +184,11 @@ commands_last bytes =
 -- after a `quit` it is no command
 pub commands_quit : (bytes : List ℕ) → quits (ended_lines bytes) ≡ true → commands (lines_of bytes) ≡ commands (ended_lines bytes)
 commands_quit bytes quit = let all = lines_last bytes in ap commands all.1 ∙ quit_first (ended_lines bytes) all.0 quit
+
+still_quits : (lines last : List (List ℕ)) → quits lines ≡ true → quits (lines ++ last) ≡ true
+still_quits [] last h = absurd cc
+still_quits (line ∷ lines) last h = quits_case (is_quit line) (quits (lines ++ last)) (quits lines) (still_quits lines last) h
+
+-- and whatever follows it, the lines still have it
+pub quits_ended : (bytes : List ℕ) → quits (ended_lines bytes) ≡ true → quits (lines_of bytes) ≡ true
+quits_ended bytes quit = let all = lines_last bytes in ap quits all.1 ∙ still_quits (ended_lines bytes) all.0 quit

@@ -12,6 +12,8 @@ use Rattle.tac_console.specs.ConsoleText.{asked_by}
 use Rattle.tac_console.specs.declared.batching.Action.{Action}
 use Rattle.tac_console.specs.declared.batching.Action.TheVariants as actions
 use Rattle.tac_console.specs.declared.batching.Notice.{Notice}
+use Rattle.tac_audit.specs.Witness.{AreTold}
+use Rattle.tac_audit.specs.declared.notice.Typing.{Typing}
 use Rattle.tac_forum.specs.History.{Opening}
 use Rattle.tac_forum.specs.History as history
 use Rattle.tac_forum.specs.Seat.{Seated, IsMade, IsRefused, IsRotated, IsUnrotated, CatchesUp}
@@ -165,14 +167,78 @@ pub record WritesMost (outcomes : List Outcome) (old new : Option (List ℕ)) : 
   pub few : length untold ≤ 1
   pub written : Appends old new (text_of first)
 
--- what came of all lines and of the Stop after them, unless the console failed
-abbrev pub Writes : Result (Unit {0}) OperatorFault → List Outcome → Outcome → Option (List ℕ)
+-- what came of the lines was written, as far as a fault allows
+abbrev pub WritesTo : Result (Unit {0}) OperatorFault → List Outcome → Option (List ℕ)
     → Option (List ℕ) → Type 0
-Writes (Ok _) outcomes stop old new = Appends old new (text_of (outcomes ++ stop ∷ []))
-Writes (Err faults.ReadFault) outcomes stop old new = Appends old new (text_of outcomes)
-Writes (Err faults.WriteFault) outcomes stop old new =
-    WritesBeginning (text_of (outcomes ++ stop ∷ [])) old new
-Writes (Err faults.Memory) outcomes stop old new = WritesMost outcomes old new
+WritesTo (Ok _) outcomes old new = Appends old new (text_of outcomes)
+WritesTo (Err faults.ReadFault) outcomes old new = Appends old new (text_of outcomes)
+WritesTo (Err faults.WriteFault) outcomes old new = WritesBeginning (text_of outcomes) old new
+WritesTo (Err faults.Memory) outcomes old new = WritesMost outcomes old new
+
+abbrev pub IsRefusal : Outcome → Type 0
+IsRefusal (noticed notice) = ⊥
+IsRefusal (made entry) = ⊥
+IsRefusal (rotated rotation) = ⊥
+IsRefusal (refused fault) = Unit {0}
+
+-- after lines that went so the Stop was made, and it ends so: what came of it is told, unless the
+-- lines ended in a fault. Memory runs out only where a refusal is told
+abbrev pub StopEnds : Result (Unit {0}) OperatorFault → Result (Unit {0}) OperatorFault → Outcome
+    → Option (List ℕ) → Option (List ℕ) → Type 0
+StopEnds (Ok _) (Ok _) stop old new = Appends old new (told stop)
+StopEnds (Ok _) (Err faults.ReadFault) stop old new = ⊥
+StopEnds (Ok _) (Err faults.WriteFault) stop old new = WritesBeginning (told stop) old new
+StopEnds (Ok _) (Err faults.Memory) stop old new = Appends old new [] × IsRefusal stop
+StopEnds (Err fault) end stop old new = (end ≡ Err fault) × (new ≡ old)
+
+-- ---- what the witness was told
+
+-- it was told of a line, and took or refused that
+abbrev pub Hears : {V : Type 0} → (V → Typing → V → Type 0) → (V → Typing → V → Type 0)
+    → V → Typing → V → Type 0
+Hears takes refuses was typing now = takes was typing now ⊎ refuses was typing now
+
+-- it was told of these lines, one after another, and of nothing else
+abbrev pub AreHeard : {V : Type 0} → (V → Typing → V → Type 0) → (V → Typing → V → Type 0)
+    → V → V → List Typing → Type 0
+AreHeard takes refuses was now typings = AreTold (Hears takes refuses) was typings now
+
+-- of lines of which this came: of each with the text that tells it
+abbrev pub typings_of : List (List ℕ) → List Outcome → List Typing
+typings_of [] outcomes = []
+typings_of (line ∷ lines) [] = []
+typings_of (line ∷ lines) (outcome ∷ outcomes) =
+    record { line = line; answer = told outcome } ∷ typings_of lines outcomes
+
+-- of a line that has no answer
+abbrev pub unanswered : List ℕ → Typing
+unanswered line = record { line = line; answer = [] }
+
+-- of `quit`, if it is one of these lines
+abbrev pub quit_of : List (List ℕ) → List Typing
+quit_of lines = if quits lines then unanswered (codes "quit") ∷ [] else []
+
+-- memory ran out: before a line was whole, of which nothing is told; or at one that is told without
+-- an answer, whether nothing came of it or something did
+abbrev pub AreCutShort : List (List ℕ) → List (List ℕ) → List Outcome → List Typing → Type 0
+AreCutShort answered left outcomes typings =
+    (typings ≡ typings_of answered outcomes)
+    ⊎ ((line : List ℕ) × (later : List (List ℕ)) × (left ≡ line ∷ later)
+    × (typings ≡ typings_of answered outcomes ++ unanswered line ∷ []))
+    ⊎ ((first : List (List ℕ)) × (line : List ℕ) × (answered ≡ first ++ line ∷ [])
+    × (typings ≡ typings_of first outcomes ++ unanswered line ∷ []))
+
+-- what is told of lines that went so, of which these were answered and these are left, and then this
+abbrev pub AreTypingsOf : Result (Unit {0}) OperatorFault → List (List ℕ) → List (List ℕ)
+    → List Outcome → List Typing → List Typing → Type 0
+AreTypingsOf (Ok _) answered left outcomes last typings =
+    typings ≡ typings_of answered outcomes ++ last
+AreTypingsOf (Err faults.ReadFault) answered left outcomes last typings =
+    typings ≡ typings_of answered outcomes
+AreTypingsOf (Err faults.WriteFault) answered left outcomes last typings =
+    typings ≡ typings_of answered outcomes
+AreTypingsOf (Err faults.Memory) answered left outcomes last typings =
+    AreCutShort answered left outcomes typings
 
 -- ---- how it ended
 
@@ -203,30 +269,35 @@ Finishes (Err faults.ReadFault) input after = quits (ended_lines input) ≡ fals
 Finishes (Err faults.WriteFault) input after = Unit {0}
 Finishes (Err faults.Memory) input after = Unit {0}
 
--- memory runs out at a line that began, or where a refused Stop is told
-abbrev pub Wants : Result (Unit {0}) OperatorFault → List ℕ → Outcome → Type 0
-Wants (Err faults.Memory) input (made entry) = 0 < length input
-Wants end input stop = Unit {0}
-
 -- the lines of what was read up to the first `quit` were answered, one after another, by calls of
--- this seat, and then it made the Stop; at first no batch is open. A line without its LF is
--- answered only where nothing is left of the input
+-- this seat, and of each, of `quit` too, a witness was told; at first no batch is open. A line
+-- without its LF is answered only where nothing is left of the input. However that went, the seat
+-- made the Stop then. `are_heard` says which lines the witness was told
 pub record IsOperated (opening : Opening) (end : Result (Unit {0}) OperatorFault)
-    (was now : Seated) (before after old new : Option (List ℕ)) : Type 0 where
+    (are_heard : List Typing → Type 0) (was now : Seated)
+    (before after old new : Option (List ℕ)) : Type 0 where
+  pub listened : Result (Unit {0}) OperatorFault
   pub input : List ℕ
   pub read : Consumes before after input
-  pub finishes : Finishes end input after
+  pub finishes : Finishes listened input after
+  -- memory runs out at a line that began
+  pub wants : listened ≡ Err faults.Memory → 0 < length input
   pub answered : List (List ℕ)
   pub left : List (List ℕ)
-  pub lines : commands (lines_at end input) ≡ answered ++ left
-  pub leaves : Leaves end left
+  pub lines : commands (lines_at listened input) ≡ answered ++ left
+  pub leaves : Leaves listened left
   pub whole : HaveEnded input answered ⊎ IsAtEnd after
   pub outcomes : List Outcome
   pub mid : Seated
   pub came : CameTo opening None was answered outcomes mid
+  pub typings : List Typing
+  pub tells :
+      AreTypingsOf listened answered left outcomes (quit_of (lines_at listened input)) typings
+  pub heard : are_heard typings
+  pub between : Option (List ℕ)
+  pub writes : WritesTo listened outcomes old between
   pub stop : Outcome
   pub stops : StopComesTo opening mid stop now
-  pub wants : Wants end input stop
+  pub ends : StopEnds listened end stop between new
   pub makes : Makes was now
       (entries_of (outcomes ++ stop ∷ [])) (rotations_of (outcomes ++ stop ∷ []))
-  pub writes : Writes end outcomes stop old new

@@ -4,6 +4,8 @@ use Rattle.std.specs.Prelude.{Option, None, Result, Ok, Err}
 use Rattle.std.specs.Io.KnownBytes.{Appends, Consumes, IsAtEnd}
 use Rattle.basics.specs.Lines.{split_at_first, lines_of}
 use Rattle.pol_edit.specs.declared.edit.Edit.{Edit}
+use Rattle.tac_audit.specs.Witness.{AreTold}
+use Rattle.tac_audit.specs.declared.notice.Typing.{Typing}
 use Rattle.tac_forum.specs.History.{Opening}
 use Rattle.tac_forum.specs.Seat.{Seated}
 use Rattle.tac_hall_console.specs.declared.answering.Console.{Console}
@@ -12,9 +14,10 @@ use Rattle.tac_hall_console.specs.declared.fault.OperatorFault.TheVariants as fa
 use Rattle.tac_hall_console.specs.declared.operator.Went.{Went}
 use Rattle.tac_hall_console.specs.declared.operator.Went.TheVariants.{On, Quits}
 use Rattle.tac_hall_console.specs.Commands.{ended_lines, commands, quits}
-use Rattle.tac_hall_console.specs.Operated.{Outcome, noticed, made, rotated, refused, StopComesTo}
+use Rattle.tac_hall_console.specs.Operated.{Outcome, StopComesTo, StopEnds}
 use Rattle.tac_hall_console.specs.Operated.{batch_by, CameTo, told, text_of}
-use Rattle.tac_hall_console.specs.Operated.{WritesBeginning, WritesMost}
+use Rattle.tac_hall_console.specs.Operated.{WritesBeginning, WritesTo}
+use Rattle.tac_hall_console.specs.Operated.{typings_of, quit_of, AreTypingsOf}
 use Rattle.tac_hall_console.specs.Operated.{lines_at, HaveEnded, Leaves, Finishes}
 
 -- ---- one line
@@ -57,118 +60,113 @@ batch_left batch (line ∷ lines) = batch_left (batch_by batch line) lines
 abbrev pub IsOpen : List ℕ → Type 0
 IsOpen bytes = split_at_first 10 bytes ≡ None
 
--- what came of the lines so far was written, or as much of it as a fault allows
-abbrev pub WritesTo : Result (Unit {0}) OperatorFault → List Outcome → Option (List ℕ)
-    → Option (List ℕ) → Type 0
-WritesTo (Ok _) outcomes old new = Appends old new (text_of outcomes)
-WritesTo (Err faults.ReadFault) outcomes old new = Appends old new (text_of outcomes)
-WritesTo (Err faults.WriteFault) outcomes old new = WritesBeginning (text_of outcomes) old new
-WritesTo (Err faults.Memory) outcomes old new = WritesMost outcomes old new
-
 -- reading isn't what failed
 abbrev pub IsRead : Result (Unit {0}) OperatorFault → Type 0
 IsRead (Err faults.ReadFault) = ⊥
 IsRead end = Unit {0}
 
-module _ {J : Type 0} where
+-- what a console has at some time: its seat and batch, its witness, and what was written
+pub record Scene (J V : Type 0) : Type 0 where
+  pub console : Console J
+  pub witness : V
+  pub written : Option (List ℕ)
+
+abbrev pub scene : {J V : Type 0} → Console J → V → Option (List ℕ) → Scene J V
+scene console witness written =
+    record { console = console; witness = witness; written = written }
+
+-- `hears` says how the witness is told of a line
+module _ {J V : Type 0} (hears : V → Typing → V → Type 0) where
   -- these bytes were gone through up to what is left of them: whatever comes later, the lines that
   -- ended before that were answered, and the later ones are the lines of what is left
-  pub record GoesOn (opening : Opening) (bytes left : List ℕ) (was now : Console J)
-      (old new : Option (List ℕ)) : Type 0 where
+  pub record GoesOn (opening : Opening) (bytes left : List ℕ) (was now : Scene J V) : Type 0 where
     pub answered : List (List ℕ)
     pub lines : (more : List ℕ)
         → commands (lines_of (bytes ++ more)) ≡ answered ++ commands (lines_of (left ++ more))
     pub ended : (more : List ℕ)
         → commands (ended_lines (bytes ++ more)) ≡ answered ++ commands (ended_lines (left ++ more))
     pub quitting : (more : List ℕ)
+        → quits (lines_of (bytes ++ more)) ≡ quits (lines_of (left ++ more))
+    pub quitting_ended : (more : List ℕ)
         → quits (ended_lines (bytes ++ more)) ≡ quits (ended_lines (left ++ more))
     pub within : length left ≤ length bytes
     pub outcomes : List Outcome
-    pub came : CameTo opening was.batch was.seat answered outcomes now.seat
-    pub batch : now.batch ≡ batch_left was.batch answered
-    pub written : Appends old new (text_of outcomes)
+    pub came : CameTo opening was.console.batch was.console.seat answered outcomes now.console.seat
+    pub batch : now.console.batch ≡ batch_left was.console.batch answered
+    pub heard : AreTold hears was.witness (typings_of answered outcomes) now.witness
+    pub written : Appends was.written now.written (text_of outcomes)
 
-  -- of these commands the first were answered, and it ends
+  -- of these commands the first were answered, and it ends, where this is told after all of them
   pub record EndsAt (opening : Opening) (end : Result (Unit {0}) OperatorFault)
-      (lines : List (List ℕ)) (was now : Console J) (old new : Option (List ℕ)) : Type 0 where
+      (lines : List (List ℕ)) (last : List Typing) (was now : Scene J V) : Type 0 where
     pub answered : List (List ℕ)
     pub left : List (List ℕ)
     pub parts : lines ≡ answered ++ left
     pub leaves : Leaves end left
     pub outcomes : List Outcome
-    pub came : CameTo opening was.batch was.seat answered outcomes now.seat
-    pub writes : WritesTo end outcomes old new
+    pub came : CameTo opening was.console.batch was.console.seat answered outcomes now.console.seat
+    pub typings : List Typing
+    pub tells : AreTypingsOf end answered left outcomes last typings
+    pub heard : AreTold hears was.witness typings now.witness
+    pub writes : WritesTo end outcomes was.written now.written
 
   -- the batch is as the line leaves it, unless it ends there
-  abbrev pub LeavesBatch : Result (Unit {0}) OperatorFault → List ℕ → Console J → Console J
-      → Type 0
-  LeavesBatch (Ok _) line was now = now.batch ≡ batch_by was.batch line
+  abbrev pub LeavesBatch : Result (Unit {0}) OperatorFault → List ℕ → Scene J V → Scene J V → Type 0
+  LeavesBatch (Ok _) line was now = now.console.batch ≡ batch_by was.console.batch line
   LeavesBatch (Err fault) line was now = Unit {0}
 
   -- a line was answered, or it ends there
-  abbrev pub Answers : Opening → Result (Unit {0}) OperatorFault → List ℕ → Console J → Console J
-      → Option (List ℕ) → Option (List ℕ) → Type 0
-  Answers opening end line was now old new =
-      IsRead end × LeavesBatch end line was now
-      × EndsAt opening end (line ∷ []) was now old new
+  abbrev pub Answers : Opening → Result (Unit {0}) OperatorFault → List ℕ → Scene J V → Scene J V
+      → Type 0
+  Answers opening end line was now =
+      IsRead end × LeavesBatch end line was now × EndsAt opening end (line ∷ []) [] was now
 
   -- the lines of a piece were answered, or it ends at one of them
-  abbrev pub Took : Opening → Result Went OperatorFault → List ℕ → List ℕ → List ℕ → Console J
-      → Console J → Option (List ℕ) → Option (List ℕ) → Type 0
-  Took opening (Ok On) begun piece next was now old new =
-      IsOpen next × GoesOn opening (begun ++ piece) next was now old new
-  Took opening (Ok Quits) begun piece next was now old new =
+  abbrev pub Took : Opening → Result Went OperatorFault → List ℕ → List ℕ → List ℕ → Scene J V
+      → Scene J V → Type 0
+  Took opening (Ok On) begun piece next was now =
+      IsOpen next × GoesOn opening (begun ++ piece) next was now
+  Took opening (Ok Quits) begun piece next was now =
       (quits (ended_lines (begun ++ piece)) ≡ true)
-      × EndsAt opening (Ok tt) (commands (ended_lines (begun ++ piece))) was now old new
-  Took opening (Err fault) begun piece next was now old new =
+      × EndsAt opening (Ok tt) (commands (ended_lines (begun ++ piece)))
+      (quit_of (ended_lines (begun ++ piece))) was now
+  Took opening (Err fault) begun piece next was now =
       IsRead (Err fault)
-      × EndsAt opening (Err fault) (commands (ended_lines (begun ++ piece))) was now old new
+      × EndsAt opening (Err fault) (commands (ended_lines (begun ++ piece))) [] was now
 
   -- ---- the whole input
 
   -- all that was read is answered, up to what has begun of a line
-  pub record Listens (opening : Opening) (begun : List ℕ) (was now : Console J)
-      (before after old new : Option (List ℕ)) : Type 0 where
+  pub record Listens (opening : Opening) (begun : List ℕ) (was now : Scene J V)
+      (before after : Option (List ℕ)) : Type 0 where
     pub input : List ℕ
     pub read : Consumes before after input
-    pub goes : GoesOn opening input begun was now old new
+    pub goes : GoesOn opening input begun was now
     pub opens : IsOpen begun
 
-  -- `quit`, the end of the input or a fault ended it
-  pub record IsHeard (opening : Opening) (end : Result (Unit {0}) OperatorFault)
-      (was now : Console J) (before after old new : Option (List ℕ)) : Type 0 where
+  -- the input was listened to, until `quit`, its end or a fault ended that
+  pub record HasListened (opening : Opening) (listened : Result (Unit {0}) OperatorFault)
+      (was now : Scene J V) (before after : Option (List ℕ)) : Type 0 where
     pub input : List ℕ
     pub read : Consumes before after input
-    pub finishes : Finishes end input after
-    pub wants : end ≡ Err faults.Memory → 0 < length input
-    pub ends : EndsAt opening end (commands (lines_at end input)) was now old new
+    pub finishes : Finishes listened input after
+    pub wants : listened ≡ Err faults.Memory → 0 < length input
+    pub ends : EndsAt opening listened (commands (lines_at listened input))
+        (quit_of (lines_at listened input)) was now
     pub whole : HaveEnded input ends.answered ⊎ IsAtEnd after
 
   -- it ends at commands that ended in LF
-  abbrev pub EndsWhole : Opening → Result (Unit {0}) OperatorFault → List ℕ → Console J
-      → Console J → Option (List ℕ) → Option (List ℕ) → Type 0
-  EndsWhole opening end input was now old new =
-      (ends : EndsAt opening end (commands (lines_of input)) was now old new)
+  abbrev pub EndsWhole : Opening → Result (Unit {0}) OperatorFault → List ℕ → Scene J V → Scene J V
+      → Type 0
+  EndsWhole opening end input was now =
+      (ends : EndsAt opening end (commands (lines_of input)) (quit_of (lines_of input)) was now)
       × HaveEnded input ends.answered
 
 -- ---- the Stop
 
-abbrev pub IsRefusal : Outcome → Type 0
-IsRefusal (noticed notice) = ⊥
-IsRefusal (made entry) = ⊥
-IsRefusal (rotated rotation) = ⊥
-IsRefusal (refused fault) = Unit {0}
-
--- after lines that went so the Stop was made, and it ends so: what came of it is told, unless the
--- lines ended in a fault
-abbrev pub StopEnds : Result (Unit {0}) OperatorFault → Result (Unit {0}) OperatorFault → Outcome
-    → Option (List ℕ) → Option (List ℕ) → Type 0
-StopEnds (Ok _) end stop old new =
-    SendsUnlessMemory end (told stop) old new × (end ≡ Err faults.Memory → IsRefusal stop)
-StopEnds (Err fault) end stop old new = (end ≡ Err fault) × (new ≡ old)
-
-pub record Stops (opening : Opening) (heard end : Result (Unit {0}) OperatorFault)
+-- after lines that went so the Stop was made, and it ends so
+pub record Stops (opening : Opening) (listened end : Result (Unit {0}) OperatorFault)
     (was now : Seated) (old new : Option (List ℕ)) : Type 0 where
   pub stop : Outcome
   pub came : StopComesTo opening was stop now
-  pub ends : StopEnds heard end stop old new
+  pub ends : StopEnds listened end stop old new

@@ -1,7 +1,7 @@
 //! The console of a shared desk, from its first line to the Stop.
 
 ghost use Rattle.std.specs.Prelude.{◌≡◌};
-ghost use Rattle.tac_hall_console.specs.Operated.{IsOperated};
+ghost use Rattle.tac_hall_console.specs.Operated.{IsOperated, AreHeard};
 ghost use Rattle.tac_hall_console.specs.Operating as operating;
 
 use crate::answering::{Console, write_refused};
@@ -10,6 +10,7 @@ use crate::operator::Operator;
 use std::alloc::Global;
 use std::io::{Read, Write};
 use std::sync::Wait;
+use tac_audit::{Typing, Witness};
 use tac_console::Batch;
 use tac_desk::Desk;
 use tac_forum::{Run, Seat, SharedDesk};
@@ -23,13 +24,13 @@ fn stop<H: Wait, J: Run, D: Desk, W: Write>(
     desk: &SharedDesk<J, D>,
     seat: &mut Seat<J>,
     writer: &mut W,
-    heard: Result<(), OperatorFault>,
+    listened: Result<(), OperatorFault>,
 ) -> Result<(), OperatorFault>
-    ensures { operating.Stops J.opening heard result seat.old seat.new
+    ensures { operating.Stops J.opening listened result seat.old seat.new
         (W.contents writer.old) (W.contents writer.new) }
 {
     let stopped = desk.call(rt, seat, &Call::Stop);
-    heard?;
+    listened?;
     if let Err(fault) = stopped {
         return write_refused(alloc, writer, fault);
     }
@@ -47,22 +48,29 @@ fn stop<H: Wait, J: Run, D: Desk, W: Write>(
 /// is refused only as Closed, or as LogFull where the log is full. Edits that are kept then are
 /// never made. A line ends in LF, which the last may lack. The seat comes back.
 ///
+/// The witness is told of each line with its whole answer before that is written, also of an empty
+/// line, and of `quit`, which has no answer, before the Stop. The answer is written even where the
+/// witness refuses the line. Where memory runs out while a line is answered, the witness is told
+/// that it has no answer. Of the Stop and of a line that isn't whole it isn't told.
+///
 /// At ReadFault the lines that had ended are answered whole. At WriteFault a beginning of the
 /// answers was written. At Memory the answers so far were written whole; the last call may have
 /// been made even so, without its answer; or it was a Stop that was refused, and isn't told.
 /// Where the Stop was refused, whoever started the console has to stop the desk's callers
 /// otherwise. A read or a write that is interrupted is tried again; a write that takes nothing is
-/// a fault. It may wait for the desk's lock, the reader and the writer. Linear in what is read and
-/// written, but for what the desk takes.
-pub fn operate<H: Wait, J: Run, D: Desk, R: Read, W: Write>(
+/// a fault. It may wait for the desk's lock, the witness, the reader and the writer. Linear in what
+/// is read and written, but for what the desk and the witness take.
+pub fn operate<H: Wait, J: Run, D: Desk, V: Witness<Typing>, R: Read, W: Write>(
     rt: &H,
     alloc: Global,
     desk: &SharedDesk<J, D>,
     seat: Seat<J>,
+    witness: &mut V,
     reader: &mut R,
     writer: &mut W,
 ) -> (Seat<J>, Result<(), OperatorFault>)
-    ensures { IsOperated J.opening result.1 seat result.0
+    ensures { IsOperated J.opening result.1
+        (AreHeard V.takes V.refuses witness.old witness.new) seat result.0
         (R.remaining reader.old) (R.remaining reader.new)
         (W.contents writer.old) (W.contents writer.new) }
 {
@@ -75,8 +83,8 @@ pub fn operate<H: Wait, J: Run, D: Desk, R: Read, W: Write>(
         console,
         begun: Vec::new(alloc),
     };
-    let heard = operator.listen(rt, desk, reader, writer);
+    let listened = operator.listen(rt, desk, witness, reader, writer);
     let mut seat = operator.console.seat;
-    let end = stop(rt, alloc, desk, &mut seat, writer, heard);
+    let end = stop(rt, alloc, desk, &mut seat, writer, listened);
     (seat, end)
 }

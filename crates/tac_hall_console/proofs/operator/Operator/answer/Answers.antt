@@ -1,12 +1,14 @@
+use Rattle.std.proofs.Common.{Err, ap}
 use Rattle.tac_hall_console.proofs.AnswerFacts.{answers_sent, answers_untold}
 use Rattle.tac_hall_console.proofs.operator.Operator.answer.Goals as goal
 
-pub returns-in_err-text : goal.returns-in_err-text
-returns-in_err-text g c =
-    answers_untold g.J.Run.opening c.from_residual.result c.args.self.now.begun.items c.args.self.now.console c.answer_line.new.console _ c.from_residual.ensures.1
-    (rw c.as_slice-line.ensures.value at c.in_err-text.ensures.err)
+pub returns-in-Ok-clause-answers : goal.returns-in-Ok-clause-answers
+returns-in-Ok-clause-answers g c =
+    answers_sent g.J.Run.opening c.args.self.now.begun.items _ _ c.write_text.result c.in-Ok.text.items
+    (rw (c.tell-answer.ensures.console, ← c.as_slice-line.ensures.value) c.in-Ok.ensures.ok) (rw (c.tell-answer.ensures.console, ← c.as_slice-line.ensures.value) c.in-Ok.ensures.batch)
+    c.tell-answer.ensures.heard (rw (c.as_slice.ensures, c.tell-answer.ensures.answer) at c.write_text.ensures)
 
-pub returns : goal.returns
-returns g c =
-    answers_sent g.J.Run.opening c.write_text.result c.args.self.now.begun.items c.in_ok-text.text.items c.args.self.now.console c.answer_line.new.console _ _
-    (rw c.as_slice-line.ensures.value at c.in_ok-text.ensures.ok) (rw c.as_slice-line.ensures.value at c.in_ok-text.ensures.batch) (rw c.as_slice.ensures.value at c.write_text.ensures)
+pub returns-in-Err-clause-answers : goal.returns-in-Err-clause-answers
+returns-in-Err-clause-answers g c =
+    answers_untold g.J.Run.opening (Err c.from.result) c.args.self.now.begun.items _ c.tell.new.self.console c.tell.new.witness (ap Err c.from.ensures)
+    (rw c.new.ensures.items at c.tell.ensures.heard) (rw (c.tell.ensures.console, ← c.as_slice-line.ensures.value) c.in-Err.ensures.err)
