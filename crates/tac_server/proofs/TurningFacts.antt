@@ -1,11 +1,10 @@
 -- One packet after another of what came on a connection.
-use Rattle.std.proofs.Common.{◌≡◌, ℕ, suc, ◌+◌, ◌<◌, List, [], ◌∷◌, ◌++◌, length, take, drop, length-drop, Bool, true, false, not, None, Result, Ok, Err, IsErr, refl, sym, ap, subst, ◌∙◌, ◌⊎◌, inl, inr, append-nil, arith}
+use Rattle.std.proofs.Common.{◌≡◌, ℕ, suc, ◌+◌, ◌<◌, List, [], ◌∷◌, ◌++◌, length, take, drop, length-drop, Bool, true, false, not, None, Result, Ok, Err, IsErr, refl, sym, ap, subst, ◌∙◌, append-nil, arith}
 use Rattle.std.proofs.Math.Seq.{take-add}
 use Rattle.std.proofs.lemmas.List.{drop-drop, drop_all, take-append-drop}
 use Rattle.std.specs.declared.ops.ControlFlow.TheVariants.{Continue, Break}
 use Rattle.std.specs.declared.alloc.AllocError.{AllocError}
 use Rattle.tac_wire.specs.declared.frame.Frame.{Frame}
-use Rattle.tac_wire.specs.declared.header.Header.{Header}
 use Rattle.tac_wire.specs.Stream.{Tail, open_end, fault, cut}
 use Rattle.tac_conn.specs.declared.ask.Ask.{Ask}
 use Rattle.tac_conn.specs.declared.ask.Slot.{Slot}
@@ -63,10 +62,6 @@ Shuts (turns.Packet packet it) = it ≡ Close
 Shuts turns.Need = ⊥
 Shuts (turns.Refused header) = Unit {0}
 Shuts turns.Close = Unit {0}
-
-pub shuts : (turn : Turn) → ((header : Header) × (turn ≡ turns.Refused header)) ⊎ (turn ≡ turns.Close) → Shuts turn
-shuts turn (inl (header, e)) = subst Shuts (sym e) tt
-shuts turn (inr e) = subst Shuts (sym e) tt
 
 -- ---- one packet of a stream
 

@@ -9,12 +9,14 @@ ghost use Rattle.tac_server.specs.Running.{Steps};
 ghost use Rattle.tac_server.specs.declared.event.Event.TheVariants.{Open, Hand, Console};
 
 use crate::event::{Event, read_event};
+use crate::noticed::Noticed;
 use crate::script_fault::{Located, ScriptFault, Stop};
 use crate::server::{Server, ServerFault};
 use crate::shown::show;
 use basics::Lines;
 use std::alloc::Global;
 use std::num::NonZeroUsize;
+use tac_audit::Witness;
 use tac_desk::Desk;
 
 // A server as a script drives it.
@@ -52,12 +54,13 @@ fn stop_at(line: usize, fault: ServerFault) -> Stop
 }
 
 // Hands bytes in piece by piece, until the connection closes.
-fn hand_pieces<D: Desk>(
+fn hand_pieces<D: Desk, W: Witness<Noticed>>(
     server: &mut Server<D>,
     size: NonZeroUsize,
     conn: u32,
     bytes: &[u8],
     out: &mut Vec<u8>,
+    witness: &mut W,
 ) -> Result<bool, ServerFault>
     ensures { (state : State) → kept.HasState D.meaning server.old state →
         kept.IsHeardUnlessMemory D.meaning out.old.items out.new.items server.new conn bytes.now
@@ -66,7 +69,7 @@ fn hand_pieces<D: Desk>(
     let mut rest = bytes;
     'pieces: loop {
         let (piece, next) = rest.split_at(size.get().min(rest.len()));
-        let closes = server.feed(conn, piece, out)?;
+        let closes = server.feed_told(conn, piece, out, witness)?;
         if closes {
             return Ok(true);
         }
@@ -79,32 +82,39 @@ fn hand_pieces<D: Desk>(
 
 impl<D: Desk> Driver<D> {
     // Hands bytes in, in pieces or whole.
-    fn hand_in(&mut self, conn: u32, bytes: &[u8], out: &mut Vec<u8>) -> Result<bool, ServerFault>
+    fn hand_in<W: Witness<Noticed>>(
+        &mut self,
+        conn: u32,
+        bytes: &[u8],
+        out: &mut Vec<u8>,
+        witness: &mut W,
+    ) -> Result<bool, ServerFault>
         ensures { (state : State) → kept.HasState D.meaning self.old.server state →
             kept.IsHeardUnlessMemory D.meaning out.old.items out.new.items self.new.server conn
             bytes.now state result }
     {
         match self.piece_size {
-            Some(size) => hand_pieces(&mut self.server, size, conn, bytes, out),
-            None => self.server.feed(conn, bytes, out),
+            Some(size) => hand_pieces(&mut self.server, size, conn, bytes, out, witness),
+            None => self.server.feed_told(conn, bytes, out, witness),
         }
     }
 
     // Hands bytes in at a line, and shows what is sent.
-    fn hand_and_show(
+    fn hand_and_show<W: Witness<Noticed>>(
         &mut self,
         alloc: Global,
         line: usize,
         number: u16,
         bytes: &[u8],
         out: &mut Vec<u8>,
+        witness: &mut W,
     ) -> Result<(), Stop>
         ensures { (state : State) → kept.HasState D.meaning self.old.server state →
             kept.IsDoneUnless D.meaning line out.old.items out.new.items
             self.new.server state (Hand number bytes.now) result }
     {
         let mut sent = Vec::new(alloc);
-        match self.hand_in(u32::from(number), bytes, &mut sent) {
+        match self.hand_in(u32::from(number), bytes, &mut sent, witness) {
             Ok(closes) => {
                 match show(
                     alloc,
@@ -122,14 +132,23 @@ impl<D: Desk> Driver<D> {
         }
     }
 
-    // Opens a connection at a line.
-    fn open(&mut self, line: usize, number: u16) -> Result<(), Stop>
+    // Opens a connection at a line. The witness then knows that what it was told of the number is
+    // of another connection; where it refuses that, nothing is different here.
+    fn open<W: Witness<Noticed>>(
+        &mut self,
+        line: usize,
+        number: u16,
+        witness: &mut W,
+    ) -> Result<(), Stop>
         ensures { (state : State) (text : List ℕ) →
             kept.HasState D.meaning self.old.server state →
             kept.IsDoneUnless D.meaning line text text self.new.server state (Open number) result }
     {
         match self.server.open(u32::from(number)) {
-            Ok(()) => Ok(()),
+            Ok(()) => {
+                let _ = witness.tell(&Noticed::Opened(u32::from(number)));
+                Ok(())
+            }
             Err(fault) => Err(stop_at(line, fault)),
         }
     }
@@ -147,21 +166,22 @@ impl<D: Desk> Driver<D> {
     }
 
     // Does what a line asks for.
-    fn do_event(
+    fn do_event<W: Witness<Noticed>>(
         &mut self,
         alloc: Global,
         line: usize,
         event: Event,
         out: &mut Vec<u8>,
+        witness: &mut W,
     ) -> Result<(), Stop>
         ensures { (state : State) → kept.HasState D.meaning self.old.server state →
             kept.IsDoneUnless D.meaning line out.old.items out.new.items
             self.new.server state event result }
     {
         match event {
-            Event::Open(number) => self.open(line, number),
+            Event::Open(number) => self.open(line, number, witness),
             Event::Hand(number, bytes) => {
-                self.hand_and_show(alloc, line, number, bytes.as_slice(), out)
+                self.hand_and_show(alloc, line, number, bytes.as_slice(), out, witness)
             }
             Event::Pieces(size) => {
                 self.piece_size = NonZeroUsize::new(size);
@@ -176,12 +196,14 @@ impl<D: Desk> Driver<D> {
     }
 }
 
-/// Runs the lines after `run` on a server, and adds what that prints.
-pub(crate) fn run_events<D: Desk>(
+/// Runs the lines after `run` on a server, and adds what that prints. The witness is told which
+/// connections are opened, and of the packets on them.
+pub(crate) fn run_events<D: Desk, W: Witness<Noticed>>(
     alloc: Global,
     server: Server<D>,
     lines: &mut Lines<'_>,
     out: &mut Vec<u8>,
+    witness: &mut W,
 ) -> Result<(), Stop>
     ensures { (state : State) → kept.HasState D.meaning server state →
         Prints out.old.items out.new.items result
@@ -198,7 +220,7 @@ pub(crate) fn run_events<D: Desk>(
                 fault: ScriptFault::BadCommand,
             }));
         };
-        driver.do_event(alloc, number, event, out)?;
+        driver.do_event(alloc, number, event, out, witness)?;
     }
     Ok(())
 }

@@ -3,6 +3,7 @@
 
 mod event;
 mod events;
+mod noticed;
 mod number;
 mod replaying;
 mod script;
@@ -11,7 +12,8 @@ mod server;
 mod shown;
 mod turning;
 
-pub use replaying::{ReplayEnd, ReplayFault, replay};
+pub use noticed::Noticed;
+pub use replaying::{ReplayEnd, ReplayFault, replay, replay_told};
 pub use server::{Server, ServerFault};
 pub use tac_console::{
     Asked, read_console, write_edit_answer, write_policy_fault, write_query_answer,

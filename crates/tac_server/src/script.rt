@@ -9,12 +9,14 @@ ghost use Rattle.tac_server.specs.Script.{is_run as run_test, before_run, after_
 ghost use Rattle.tac_server.specs.Script.{key_line as key_of_line};
 
 use crate::events::run_events;
+use crate::noticed::Noticed;
 use crate::script_fault::{Located, ScriptFault, Stop};
 use crate::server::Server;
 use basics::{Lines, split_once};
 use pol_names::SubjectId;
 use pol_text::{Policy, PolicyFault};
 use std::alloc::Global;
+use tac_audit::Witness;
 use tac_desks::{BuildFault, LiveDesk, MAX_RECORDS};
 use tac_wire::Key;
 
@@ -85,18 +87,19 @@ fn too_large(subject: SubjectId) -> Stop
 }
 
 // Runs the events with this policy, if it isn't too large.
-fn run_policy(
+fn run_policy<W: Witness<Noticed>>(
     alloc: Global,
     key: Key,
     policy: Policy,
     lines: &mut Lines<'_>,
     out: &mut Vec<u8>,
+    witness: &mut W,
 ) -> Result<(), Stop>
     ensures { Prints out.old.items out.new.items result
         (DeskRuns key policy lines.old.number lines.old.lines) }
 {
     match LiveDesk::new(alloc, policy, MAX_RECORDS) {
-        Ok(desk) => run_events(alloc, Server::new(alloc, desk, key), lines, out),
+        Ok(desk) => run_events(alloc, Server::new(alloc, desk, key), lines, out, witness),
         Err(BuildFault::TooManyStates(subject)) => Err(too_large(subject)),
         Err(BuildFault::Memory) => Err(Stop::Memory),
     }
@@ -104,7 +107,13 @@ fn run_policy(
 
 // Runs what follows the key.
 #[tactic(auto, unfolding(crate::specs::Script::BodyRuns))]
-fn run_body(alloc: Global, key: Key, lines: &mut Lines<'_>, out: &mut Vec<u8>) -> Result<(), Stop>
+fn run_body<W: Witness<Noticed>>(
+    alloc: Global,
+    key: Key,
+    lines: &mut Lines<'_>,
+    out: &mut Vec<u8>,
+    witness: &mut W,
+) -> Result<(), Stop>
     requires { lines.old.number ≡ 2 }
     ensures { Prints out.old.items out.new.items result (BodyRuns key lines.old.lines) }
 {
@@ -115,7 +124,7 @@ fn run_body(alloc: Global, key: Key, lines: &mut Lines<'_>, out: &mut Vec<u8>) -
         }));
     };
     let policy = read_policy(alloc, text)?;
-    run_policy(alloc, key, policy, lines, out)
+    run_policy(alloc, key, policy, lines, out, witness)
 }
 
 // The key is judged before anything else.
@@ -128,9 +137,15 @@ fn bad_key() -> Stop
     })
 }
 
-/// Runs a script, and adds what that prints; a fault is left for the caller to print.
+/// Runs a script, and adds what that prints; a fault is left for the caller to print. The witness is
+/// told which connections are opened, and of the packets on them.
 #[tactic(auto, unfolding(crate::specs::Script::LinesRun))]
-pub(crate) fn run_script(alloc: Global, script: &[u8], out: &mut Vec<u8>) -> Result<(), Stop>
+pub(crate) fn run_script<W: Witness<Noticed>>(
+    alloc: Global,
+    script: &[u8],
+    out: &mut Vec<u8>,
+    witness: &mut W,
+) -> Result<(), Stop>
     ensures { Prints out.old.items out.new.items result (LinesRun (lines_of script.now)) }
 {
     let mut lines = Lines::new(script);
@@ -140,5 +155,5 @@ pub(crate) fn run_script(alloc: Global, script: &[u8], out: &mut Vec<u8>) -> Res
     let Some(key) = read_key(line) else {
         return Err(bad_key());
     };
-    run_body(alloc, key, &mut lines, out)
+    run_body(alloc, key, &mut lines, out, witness)
 }

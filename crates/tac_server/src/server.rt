@@ -13,10 +13,12 @@ ghost use Rattle.tac_server.specs.Happening.{Happening, Opens, Brings, Loses, Ty
 ghost use Rattle.tac_server.specs.Happening.{Given, Nothing};
 ghost use Rattle.tac_server.specs.declared.server.ServerFault.TheVariants.{Memory};
 
+use crate::noticed::Noticed;
 use crate::turning::serve_piece;
 use pol_edit::{Edit, EditFault};
 use std::alloc::{AllocError, AllocFailed, Global};
 use std::collections::BTreeMap;
+use tac_audit::{Nobody, Witness};
 use tac_console::{
     Action, Batch, read_console, write_batch_answer, write_edit_answer, write_notice,
     write_query_answer,
@@ -150,10 +152,46 @@ impl<D: Desk> Server<D> {
             ≡ unless_closed (said_on self.old.key meaning before first)
             (λ next. said_on self.old.key next (before ++ first) second) }
     {
+        self.feed_told(conn, piece, out, &mut Nobody)
+    }
+
+    /// The same as [`feed`](Server::feed), with a witness, who is told of each packet just before
+    /// its reply is added: as [`Noticed::On`], with the number of the connection and the reply, if
+    /// there is one. It is told too of a header that is refused. What it refuses makes no
+    /// difference.
+    pub fn feed_told<W: Witness<Noticed>>(
+        &mut self,
+        conn: u32,
+        piece: &[u8],
+        out: &mut Vec<u8>,
+        witness: &mut W,
+    ) -> Result<bool, ServerFault>
+        ensures heard { (state : servers.State) → kept.HasState D.meaning self.old state →
+            kept.IsHeard D.meaning out.old.items out.new.items self.new conn piece.now state
+            result }
+
+        // After all that happened before.
+        ensures course { (start : servers.State) (events : List Happening) (outs : List Given)
+            → course.HasRun D.meaning self.old start events outs → OnOk result (course.RunsOn
+            D.meaning out.old.items out.new.items self.new start
+            (Brings conn piece.now) events outs) }
+
+        // Where memory ran out, a beginning of the piece came, and then the connection was lost.
+        ensures after_fault { (start : servers.State) (events : List Happening)
+            (outs : List Given) → course.HasRun D.meaning self.old start events outs
+            → course.RunsAfterFault D.meaning out.old.items out.new.items self.new start
+            conn piece.now events outs result }
+
+        // However bytes are cut into pieces, the same is said.
+        ensures pieces { (meaning : MeaningValue) (before first second : List ℕ) →
+            said_on self.old.key meaning before (first ++ second)
+            ≡ unless_closed (said_on self.old.key meaning before first)
+            (λ next. said_on self.old.key next (before ++ first) second) }
+    {
         let Some(stream) = self.connections.get_mut(&conn) else {
             return Err(ServerFault::NoConnection);
         };
-        match serve_piece(&self.key, &mut self.desk, stream, piece, out) {
+        match serve_piece(&self.key, &mut self.desk, stream, conn, piece, out, witness) {
             Ok(false) => Ok(false),
             Ok(true) => {
                 self.connections.remove(&conn);

@@ -13,9 +13,11 @@ ghost use Rattle.tac_desk.specs.Serving.{said_on, unless_closed};
 ghost use Rattle.tac_server.specs.Kept.{Serves};
 ghost use Rattle.tac_server.specs.Turning as turning;
 
+use crate::noticed::Noticed;
 use std::alloc::AllocError;
 use std::ops::ControlFlow;
-use tac_conn::{Ask, Reply, Slot, Step};
+use tac_audit::{Notice, Witness};
+use tac_conn::{Ask, Packet, Reply, Slot, Step};
 use tac_desk::Desk;
 use tac_stream::{Stream, Turn};
 use tac_wire::Key;
@@ -34,13 +36,29 @@ fn after_reply(closes: bool) -> ControlFlow<bool>
     }
 }
 
-// Adds a reply as it is sent, for which there is room.
-fn add(key: &Key, out: &mut Vec<u8>, reply: &Reply)
+// Tells the witness what is noticed on a connection. Whether it takes that makes no difference to
+// what is said there: a replay prints what its script makes happen, and who listens knows what it
+// refused.
+fn tell<W: Witness<Noticed>>(witness: &mut W, conn: u32, notice: Notice) {
+    let _ = witness.tell(&Noticed::On(conn, notice));
+}
+
+// Adds the reply to a packet as it is sent, for which there is room, once the witness was told.
+fn add<W: Witness<Noticed>>(
+    key: &Key,
+    conn: u32,
+    packet: Packet,
+    reply: Reply,
+    out: &mut Vec<u8>,
+    witness: &mut W,
+)
     requires { vec_len out.old + SENT_MAX ≤ vec_capacity out.old }
-    ensures bytes { out.new.items ≡ out.old.items ++ sent key.now (packet_of reply.now) }
-    ensures whole { IsWhole (sent key.now (packet_of reply.now)) }
+    ensures bytes { out.new.items ≡ out.old.items ++ sent key.now (packet_of reply) }
+    ensures whole { IsWhole (sent key.now (packet_of reply)) }
 {
-    out.extend_from_slice(reply.sent(key).as_slice()).unwrap();
+    let sent = reply.sent(key);
+    tell(witness, conn, Notice::Packet(packet, Some(reply)));
+    out.extend_from_slice(sent.as_slice()).unwrap();
 }
 
 // The reply that carries the desk's answer, and whether the connection closes.
@@ -71,12 +89,15 @@ fn answer_to<D: Desk>(
 
 // Serves what stands first. It breaks where nothing more is to be done, and tells whether the
 // connection closes then. The place of its reply is taken before its packet is, so that memory
-// runs out only where nothing was done for the packet.
-fn take_turn<D: Desk>(
+// runs out only where nothing was done for the packet. The witness is told of the packet just
+// before its reply is added, if it has one.
+fn take_turn<D: Desk, W: Witness<Noticed>>(
     key: &Key,
     desk: &mut D,
     stream: &mut Stream,
+    conn: u32,
     out: &mut Vec<u8>,
+    witness: &mut W,
 ) -> Result<ControlFlow<bool>, AllocError>
     ensures goes { (bytes : List ℕ) (taken : ℕ) → IsReady stream.old →
         Stands key.now stream.old bytes taken → IfOk result (λ flow. turning.Goes flow key.now
@@ -88,35 +109,48 @@ fn take_turn<D: Desk>(
 {
     out.reserve(SENT_MAX)?;
     match stream.next(key)? {
-        Turn::Packet(_packet, step) => match step {
+        Turn::Packet(packet, step) => match step {
             Step::Reply(reply, closes) => {
-                add(key, out, &reply);
+                add(key, conn, packet, reply, out, witness);
                 Ok(after_reply(closes))
             }
             Step::Asks(ask, slot) => {
                 let (reply, closes) = answer_to(desk, stream, &ask, slot)?;
-                add(key, out, &reply);
+                add(key, conn, packet, reply, out, witness);
                 Ok(after_reply(closes))
             }
-            Step::Silent => Ok(ControlFlow::Continue(())),
-            Step::Close => Ok(ControlFlow::Break(true)),
+            Step::Silent => {
+                tell(witness, conn, Notice::Packet(packet, None));
+                Ok(ControlFlow::Continue(()))
+            }
+            Step::Close => {
+                tell(witness, conn, Notice::Packet(packet, None));
+                Ok(ControlFlow::Break(true))
+            }
         },
         Turn::Need => Ok(ControlFlow::Break(false)),
-        Turn::Refused(_) | Turn::Close => Ok(ControlFlow::Break(true)),
+        Turn::Refused(header) => {
+            tell(witness, conn, Notice::BadHeader(header));
+            Ok(ControlFlow::Break(true))
+        }
+        Turn::Close => Ok(ControlFlow::Break(true)),
     }
 }
 
 /// Takes the next piece of what came on a connection, adds what is sent for the packets that it
-/// completes, and answers whether the connection closes.
+/// completes, and answers whether the connection closes. The witness is told of each packet, with
+/// its reply, and of a header that is refused.
 ///
 /// The error means that memory ran out: the packets before some packet were served, and their
 /// replies are added; the others had no effect, and the connection is to be closed.
-pub(crate) fn serve_piece<D: Desk>(
+pub(crate) fn serve_piece<D: Desk, W: Witness<Noticed>>(
     key: &Key,
     desk: &mut D,
     stream: &mut Stream,
+    conn: u32,
     piece: &[u8],
     out: &mut Vec<u8>,
+    witness: &mut W,
 ) -> Result<bool, AllocError>
     ensures said { (before : List ℕ) → Serves key.now stream.old before →
         turning.SaysPiece result key.now (D.meaning desk.old) (D.meaning desk.new)
@@ -130,7 +164,7 @@ pub(crate) fn serve_piece<D: Desk>(
 {
     stream.feed(piece)?;
     'turns: loop {
-        if let ControlFlow::Break(closes) = take_turn(key, desk, stream, out)? {
+        if let ControlFlow::Break(closes) = take_turn(key, desk, stream, conn, out, witness)? {
             return Ok(closes);
         }
     }

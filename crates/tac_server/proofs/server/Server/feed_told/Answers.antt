@@ -4,7 +4,7 @@ use Rattle.tac_desk.proofs.ServingFacts.{said_on-pieces}
 use Rattle.tac_server.proofs.ServerFacts.{heard_open, heard_closing, heard_short, removed, some_found}
 use Rattle.tac_server.proofs.CourseFacts.{run_heard, run_after_fault}
 use Rattle.tac_server.specs.declared.server.ServerFault.TheVariants.{Memory}
-use Rattle.tac_server.proofs.server.Server.feed.Goals as goal
+use Rattle.tac_server.proofs.server.Server.feed_told.Goals as goal
 
 pub returns-in_default-clause-pieces : goal.returns-in_default-clause-pieces
 returns-in_default-clause-pieces g c = said_on-pieces c.args.self.now.key cut-append

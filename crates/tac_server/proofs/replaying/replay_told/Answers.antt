@@ -4,7 +4,7 @@ use Rattle.pol_meaning.proofs.DecidingFacts.{decision_law}
 use Rattle.tac_io.proofs.Answered.{answered, at_end}
 use Rattle.tac_server.specs.Script.{IsWorkedOut}
 use Rattle.tac_server.proofs.SpellingFacts.{event_law}
-use Rattle.tac_server.proofs.replaying.replay.Goals as goal
+use Rattle.tac_server.proofs.replaying.replay_told.Goals as goal
 
 pub returns-in-Ok-clause-read : goal.returns-in-Ok-clause-read
 returns-in-Ok-clause-read g c = rw c.in-Ok.is at (at_end IsWorkedOut (g.R.Read.remaining c.args.reader.now) _ _ _ _ _ c.answer.ensures.end c.write_answer.ensures)
