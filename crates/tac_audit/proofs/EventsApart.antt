@@ -373,13 +373,13 @@ small_session n h = grind (arith, nat_tests)
 
 -- ---- lines
 
-begun_apart : (a b x y : List ℕ) → are_bytes a ≡ true → are_bytes b ≡ true → begun a ++ x ≡ begun b ++ y → (a ≡ b) × (x ≡ y)
+begun_apart : (a b : Option (List ℕ)) (x y : List ℕ) → option_map_or are_bytes a true ≡ true → option_map_or are_bytes b true ≡ true → begun a ++ x ≡ begun b ++ y → (a ≡ b) × (x ≡ y)
 unfolding begun
-begun_apart a b x y h k same = text_apart a b x y h k (ap (drop 8) same)
+begun_apart a b x y h k same = optional_apart a b x y h k (ap (drop 8) same)
 
 event_parts : (a b : Event) → a.time ≡ b.time → a.device ≡ b.device → a.session ≡ b.session → a.told ≡ b.told → a ≡ b
 event_parts a b time device session told =
-    ap (λ (x : List ℕ). record a { time = x }) time
+    ap (λ (x : Option (List ℕ)). record a { time = x }) time
     ∙ ap (λ (x : List ℕ). record { time = b.time; device = x; session = a.session; told = a.told }) device
     ∙ ap (λ (x : ℕ). record { time = b.time; device = b.device; session = x; told = a.told }) session
     ∙ ap (λ (x : Told). record b { told = x }) told
@@ -389,12 +389,12 @@ line_is e = nest4 (begun e.time) (member (codes "device") (text_json e.device)) 
 
 pub events_apart : (a b : Event) → AreApart a b
 events_apart a b h k same =
-    let h1 = and_parts (are_bytes a.time && are_bytes a.device && nat_lt a.session (2 ^ 32)) (is_told a.told) h in
-    let k1 = and_parts (are_bytes b.time && are_bytes b.device && nat_lt b.session (2 ^ 32)) (is_told b.told) k in
-    let h2 = and_parts (are_bytes a.time && are_bytes a.device) (nat_lt a.session (2 ^ 32)) h1.0 in
-    let k2 = and_parts (are_bytes b.time && are_bytes b.device) (nat_lt b.session (2 ^ 32)) k1.0 in
-    let h3 = and_parts (are_bytes a.time) (are_bytes a.device) h2.0 in
-    let k3 = and_parts (are_bytes b.time) (are_bytes b.device) k2.0 in
+    let h1 = and_parts (option_map_or are_bytes a.time true && are_bytes a.device && nat_lt a.session (2 ^ 32)) (is_told a.told) h in
+    let k1 = and_parts (option_map_or are_bytes b.time true && are_bytes b.device && nat_lt b.session (2 ^ 32)) (is_told b.told) k in
+    let h2 = and_parts (option_map_or are_bytes a.time true && are_bytes a.device) (nat_lt a.session (2 ^ 32)) h1.0 in
+    let k2 = and_parts (option_map_or are_bytes b.time true && are_bytes b.device) (nat_lt b.session (2 ^ 32)) k1.0 in
+    let h3 = and_parts (option_map_or are_bytes a.time true) (are_bytes a.device) h2.0 in
+    let k3 = and_parts (option_map_or are_bytes b.time true) (are_bytes b.device) k2.0 in
     let times = begun_apart a.time b.time _ _ h3.0 k3.0 (sym (line_is a) ∙ same ∙ line_is b) in
     let devices = text_member (codes "device") a.device b.device _ _ h3.1 k3.1 times.1 in
     let sessions = text_member (codes "session") (session_digits a.session) (session_digits b.session) _ _ (digits_are_bytes a.session) (digits_are_bytes b.session) devices.1 in
@@ -425,8 +425,8 @@ typed_parts a b time console size answer =
     ∙ ap (λ (x : Option ℕ). record { time = b.time; console = b.console; answer_bytes = x; answer = a.answer }) size
     ∙ ap (λ (x : List (List ℕ)). record b { answer = x }) answer
 
-typed_is : (t : Typed) → typed_line t ≡ begun t.time ++ (member (codes "console") (text_json t.console) ++ (size_json t.answer_bytes ++ (member (codes "answer") (texts_json t.answer) ++ ended)))
-typed_is t = nest4 (begun t.time) (member (codes "console") (text_json t.console)) (size_json t.answer_bytes) (member (codes "answer") (texts_json t.answer)) ended
+typed_is : (t : Typed) → typed_line t ≡ begun (Some t.time) ++ (member (codes "console") (text_json t.console) ++ (size_json t.answer_bytes ++ (member (codes "answer") (texts_json t.answer) ++ ended)))
+typed_is t = nest4 (begun (Some t.time)) (member (codes "console") (text_json t.console)) (size_json t.answer_bytes) (member (codes "answer") (texts_json t.answer)) ended
 
 pub typed_apart : (a b : Typed) → AreTypedApart a b
 typed_apart a b h k same =
@@ -436,8 +436,9 @@ typed_apart a b h k same =
     let k2 = and_parts (are_bytes b.time && are_bytes b.console) (is_size b.answer_bytes) k1.0 in
     let h3 = and_parts (are_bytes a.time) (are_bytes a.console) h2.0 in
     let k3 = and_parts (are_bytes b.time) (are_bytes b.console) k2.0 in
-    let times = begun_apart a.time b.time _ _ h3.0 k3.0 (sym (typed_is a) ∙ same ∙ typed_is b) in
+    let times = begun_apart (Some a.time) (Some b.time) _ _ h3.0 k3.0 (sym (typed_is a) ∙ same ∙ typed_is b) in
+    let time : a.time ≡ b.time = (let both = times.0 in cc) in
     let consoles = text_member (codes "console") a.console b.console _ _ h3.1 k3.1 times.1 in
     let sizes = sizes_apart a.answer_bytes b.answer_bytes (texts_json a.answer) (texts_json b.answer) ended ended h2.1 k2.1 consoles.1 in
     let answers = texts_member (codes "answer") a.answer b.answer ended ended h1.1 k1.1 sizes.1 in
-    typed_parts a b times.0 consoles.0 sizes.0 answers.0
+    typed_parts a b time consoles.0 sizes.0 answers.0

@@ -36,8 +36,8 @@ is_told (Refused why) = true
 -- an event as there can be one: bytes, and 32 bits of session
 abbrev pub is_event : Event → Bool
 is_event event =
-    are_bytes event.time && are_bytes event.device && nat_lt event.session (2 ^ 32)
-    && is_told event.told
+    option_map_or are_bytes event.time true && are_bytes event.device
+    && nat_lt event.session (2 ^ 32) && is_told event.told
 
 -- a size below 2^64
 abbrev pub is_size : Option ℕ → Bool

@@ -82,9 +82,9 @@ told_json (Refused why) =
 
 -- ---- lines
 
--- an object begins with the time
-unfoldable pub begun : List ℕ → List ℕ
-begun time = codes "{\"time\":" ++ text_json time
+-- an object begins with the time, or null where none is told
+unfoldable pub begun : Option (List ℕ) → List ℕ
+begun time = codes "{\"time\":" ++ optional_json time
 
 -- an object's end, and the line's
 unfoldable pub ended : List ℕ
@@ -105,6 +105,6 @@ size_json (Some size) = member (codes "answer_bytes") (decimal size)
 -- the line of what was typed at the console
 abbrev pub typed_line : Typed → List ℕ
 typed_line typed =
-    begun typed.time ++ member (codes "console") (text_json typed.console)
+    begun (Some typed.time) ++ member (codes "console") (text_json typed.console)
     ++ size_json typed.answer_bytes
     ++ member (codes "answer") (texts_json typed.answer) ++ ended

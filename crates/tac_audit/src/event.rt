@@ -104,8 +104,8 @@ impl Drop for Told {
 /// What is told of a packet, when its line was made, and on which session of which device.
 #[derive(Debug, Drop)]
 pub struct Event {
-    /// By RFC 3339.
-    pub time: Bytes,
+    /// By RFC 3339, where it is told.
+    pub time: Option<Bytes>,
     /// The address and the port.
     pub device: Bytes,
     pub session: u32,

@@ -1,7 +1,7 @@
 //! The lines that are written of events.
 
 ghost use Rattle.std.specs.Prelude.{◌≡◌, ◌++◌, IfOk, OnOk};
-ghost use Rattle.std.specs.Option.{option_map};
+ghost use Rattle.std.specs.Option.{option_copied, option_map};
 ghost use Rattle.tac_audit.specs.Json as json;
 ghost use Rattle.tac_audit.specs.Event as lines;
 ghost use Rattle.tac_audit.specs.Apart.{AreApart, AreTypedApart};
@@ -202,12 +202,16 @@ fn write_told(out: &mut Vec<u8>, told: &Told) -> io::Result<()>
 
 // ---- lines
 
-#[tactic(auto, unfolding(crate::specs::Event::begun))]
-fn write_begun(out: &mut Vec<u8>, time: &[u8]) -> Result<(), AllocError>
-    ensures { OnOk result (out.new.items ≡ out.old.items ++ lines.begun time.now) }
+#[tactic(auto, unfolding(crate::specs::Event::begun, crate::specs::Json::optional_json))]
+fn write_begun(out: &mut Vec<u8>, time: Option<&Bytes>) -> Result<(), AllocError>
+    ensures { OnOk result
+        (out.new.items ≡ out.old.items ++ lines.begun (option_copied time.entry)) }
 {
     out.extend_from_slice(b"{\"time\":")?;
-    write_text(out, time)
+    match time {
+        Some(time) => write_text(out, time.as_slice()),
+        None => out.extend_from_slice(b"null"),
+    }
 }
 
 #[tactic(auto, unfolding(crate::specs::Event::ended))]
@@ -223,7 +227,7 @@ fn write_head(out: &mut Vec<u8>, event: &Event) -> Result<(), AllocError>
         ++ json.member DEVICE.now (json.text_json event.now.device)
         ++ json.member SESSION.now (json.text_json (lines.session_digits event.now.session)))) }
 {
-    write_begun(out, event.time.as_slice())?;
+    write_begun(out, event.time.as_ref())?;
     write_member(out, DEVICE, event.device.as_slice())?;
     write_member(out, SESSION, &session_digits(event.session))
 }
@@ -272,7 +276,7 @@ fn write_size(out: &mut Vec<u8>, size: Option<u64>) -> io::Result<()>
 fn write_typed(out: &mut Vec<u8>, typed: &Typed) -> io::Result<()>
     ensures { OnOk result (out.new.items ≡ out.old.items ++ lines.typed_line typed.now) }
 {
-    write_begun(out, typed.time.as_slice())?;
+    write_begun(out, Some(&typed.time))?;
     write_member(out, b"console", typed.console.as_slice())?;
     write_size(out, typed.answer_bytes)?;
     write_list(out, b"answer", typed.answer.as_slice())?;
