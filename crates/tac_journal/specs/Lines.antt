@@ -1,5 +1,5 @@
 -- The lines that are written of what is noted of a connection.
-use Rattle.std.specs.Prelude.{◌≡◌, ℕ, List, [], ◌∷◌, ◌++◌, Option}
+use Rattle.std.specs.Prelude.{◌≡◌, ℕ, List, [], ◌∷◌, ◌++◌, Option, Some}
 use Rattle.std.specs.Option.{option_map_or}
 use Rattle.tac_audit.specs.declared.event.Event.{Event}
 use Rattle.tac_audit.specs.declared.logins.Noted.{Noted}
@@ -8,7 +8,7 @@ use Rattle.tac_audit.specs.Event.{line_of}
 -- what is noted of a device at this time
 abbrev pub event_of : List ℕ → List ℕ → Noted → Event
 event_of time device noted = record {
-  time = time;
+  time = Some time;
   device = device;
   session = noted.session;
   told = noted.told;

@@ -18,7 +18,7 @@ pub(crate) fn line_of(
     ensures { IfOk result (λ line. line.items ≡ line_of (event_of time device.now noted)) }
 {
     let event = Event {
-        time,
+        time: Some(time),
         device: device.copy(alloc)?,
         session: noted.session,
         told: noted.told,
