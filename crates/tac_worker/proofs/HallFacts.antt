@@ -1,12 +1,15 @@
 -- Calls that a seat of a hall makes for a connection.
-use Rattle.std.proofs.Common.{◌≡◌, ℕ, List, [], ◌∷◌, ◌++◌, map, Option, refl, sym, ap, subst, ◌∙◌, append_assoc, append-nil}
+use Rattle.std.proofs.Common.{◌≡◌, ℕ, List, [], ◌∷◌, ◌++◌, map, Option, Some, None, refl, sym, ap, subst, ◌∙◌, append_assoc, append-nil, arith}
 use Rattle.tac_conn.specs.declared.ask.Ask.{Ask}
+use Rattle.tac_audit.specs.declared.notice.Notice.{Notice}
 use Rattle.tac_hall.specs.declared.entry.Made.{Made}
 use Rattle.tac_hall.specs.declared.entry.Receipt.{Receipt}
 use Rattle.tac_hall.specs.declared.fault.HallFault.{HallFault}
 use Rattle.tac_hall.specs.Seat.{Sitting}
 use Rattle.tac_worker.specs.declared.worked.End.{End}
-use Rattle.tac_worker.specs.Worked.{Exchange, in_view, receipt_for, Calling, Makes, AreMade, AreAllMade, IsServed, IsServedBy}
+use Rattle.tac_worker.specs.declared.worked.End.TheVariants.{Unwitnessed}
+use Rattle.tac_worker.specs.Told.{TakesUntil, LeavesUntold, refused_of}
+use Rattle.tac_worker.specs.Worked.{Exchange, in_view, receipt_for, Calling, Makes, AreMade, AreAllMade, Traffic, IsServed, IsServedBy}
 use Rattle.tac_worker.specs.AtHall.{MakesOne, MakesWithReceipt, Rests, Refuses, IsServedAt}
 
 -- ---- one call after another
@@ -44,39 +47,62 @@ number_after was made now m = number_made was made now (made_at_rest MakesOne wa
 pub view_after : (was : Sitting) (made : List Exchange) (now : Sitting) → AreAllMade MakesOne Rests was made now → now.view ≡ was.view ++ map in_view made
 view_after was made now m = view_made was made now (made_at_rest MakesOne was made now m)
 
+-- ---- a witness that takes all
+
+-- it refused nothing
+pub none_refused : {V : Type 0} (takes refuses : V → Notice → V → Type 0) → ((was now : V) (notice : Notice) → refuses was notice now → ⊥) → (was : V) (told : List Notice) (refused : Option Notice) (now : V)
+    → TakesUntil takes refuses was told refused now → refused ≡ None
+none_refused takes refuses never was told None now t = refl
+none_refused takes refuses never was told (Some notice) now t = absurd (never t.0 now notice t.2)
+
+-- where nothing was refused, a connection doesn't end because of that
+unrefused_end : (left : List Notice) → LeavesUntold Unwitnessed left → refused_of Unwitnessed left ≡ None → ⊥
+unrefused_end [] some none = absurd (omega (arith, some))
+unrefused_end (notice ∷ left) some none = cc
+
+pub never_unwitnessed : (end : End) (key : List ℕ) (was now : Calling) (before after old new : Option (List ℕ)) → IsServed end key was now before after old new → end ≡ Unwitnessed → ⊥
+never_unwitnessed end key was now before after old new work e =
+    unrefused_end work.told.left (subst (λ (x : End). LeavesUntold x work.told.left) e work.told.leaves) (subst (λ (x : End). refused_of x work.told.left ≡ None) e work.told.takes)
+
 -- ---- a connection
 
-module _ (end : End) (key : List ℕ) (before after old new : Option (List ℕ)) where
-  -- of whoever made these exchanges more may be known
-  served_as : (makes others : List Exchange → Type 0) (refuses : Ask → HallFault → Type 0) (work : IsServedBy end key makes refuses before after old new) → others work.ends.made
-      → IsServedBy end key others refuses before after old new
-  served_as makes others refuses work m = record {
+module _ (end : End) (key : List ℕ) (traffic : Traffic) where
+  -- of whoever made these exchanges and was told these notices more may be known
+  served_as : (makes others : List Exchange → Type 0) (refuses : Ask → HallFault → Type 0) (tells told : List Notice → Option Notice → Type 0) (work : IsServedBy end key makes refuses tells traffic) → others work.ends.made
+      → ((notices : List Notice) (refused : Option Notice) → tells notices refused → told notices refused)
+      → IsServedBy end key others refuses told traffic
+  served_as makes others refuses tells told work m t = record {
     input = work.input;
     read = work.read;
     finished = work.finished;
     memory = work.memory;
     closing = work.closing;
     ends = record { made = work.ends.made; makes = m; left = work.ends.left; asks = work.ends.asks; leaves = work.ends.leaves; writes = work.ends.writes };
+    told = record { told = work.told.told; left = work.told.left; parts = work.told.parts; takes = t _ _ work.told.takes; leaves = work.told.leaves; writes = work.told.writes };
   }
 
-  pub served_keeping : (was now : Calling) → IsServedBy end key (λ made. AreAllMade MakesWithReceipt (λ mid end. end ≡ mid) was made now) (λ ask fault. Refuses now.seat ask fault) before after old new
-      → IsServed end key was now before after old new
-  served_keeping was now work =
-      let all = made_at_rest MakesWithReceipt was work.ends.made now work.ends.makes in
-      let seats = of_seat was work.ends.made now all in
-      served_as (λ made. AreAllMade MakesWithReceipt (λ mid end. end ≡ mid) was made now) (Makes was now) (λ ask fault. Refuses now.seat ask fault) work (record {
-        number = number_made was.seat work.ends.made now.seat seats;
-        view = view_made was.seat work.ends.made now.seat seats;
-        receipts = receipts_made was work.ends.made now all;
-      })
-
   -- with the receipts that the seat got, though it kept none
-  pub served_with_receipts : (was now : Sitting) (work : IsServedAt end key was now before after old new)
-      → IsServed end key (record { seat = was; receipts = [] }) (record { seat = now; receipts = map (receipt_for was.number) work.ends.made }) before after old new
-  served_with_receipts was now work =
+  pub served_with_receipts : (was now : Sitting) (are_told : List Notice → Option Notice → Type 0) (work : IsServedAt end key was now are_told traffic)
+      → IsServedBy end key (Makes (record { seat = was; receipts = [] }) (record { seat = now; receipts = map (receipt_for was.number) work.ends.made })) (Refuses now) are_told traffic
+  served_with_receipts was now are_told work =
       let all = work.ends.makes in
-      served_as (λ made. AreAllMade MakesOne Rests was made now) (Makes (record { seat = was; receipts = [] }) (record { seat = now; receipts = map (receipt_for was.number) work.ends.made })) (Refuses now) work (record {
+      served_as (λ made. AreAllMade MakesOne Rests was made now) (Makes (record { seat = was; receipts = [] }) (record { seat = now; receipts = map (receipt_for was.number) work.ends.made })) (Refuses now) are_told are_told work (record {
         number = number_after was work.ends.made now all;
         view = view_after was work.ends.made now all;
         receipts = refl;
-      })
+      }) (λ notices refused t. t)
+
+pub served_keeping : {V : Type 0} (takes refuses : V → Notice → V → Type 0) (end : End) (key : List ℕ) (before after old new : Option (List ℕ)) (was now : Calling) (seen sees : V)
+    → ((witness then : V) (notice : Notice) → refuses witness notice then → ⊥)
+    → IsServedBy end key (λ made. AreAllMade MakesWithReceipt (λ mid end. end ≡ mid) was made now) (λ ask fault. Refuses now.seat ask fault) (λ told refused. TakesUntil takes refuses seen told refused sees)
+    (record { before = before; after = after; old = old; new = new })
+    → IsServed end key was now before after old new
+served_keeping takes refuses end key before after old new was now seen sees never work =
+    let all = made_at_rest MakesWithReceipt was work.ends.made now work.ends.makes in
+    let seats = of_seat was work.ends.made now all in
+    served_as end key (record { before = before; after = after; old = old; new = new }) (λ made. AreAllMade MakesWithReceipt (λ mid end. end ≡ mid) was made now) (Makes was now) (λ ask fault. Refuses now.seat ask fault)
+    (λ told refused. TakesUntil takes refuses seen told refused sees) (λ told refused. refused ≡ None) work (record {
+      number = number_made was.seat work.ends.made now.seat seats;
+      view = view_made was.seat work.ends.made now.seat seats;
+      receipts = receipts_made was work.ends.made now all;
+    }) (λ told refused t. none_refused takes refuses never seen told refused sees t)

@@ -1,3 +1,4 @@
+pub mod ToldFacts
 pub mod ServedFacts
 pub mod HallFacts
 pub mod DeskFacts

@@ -1,21 +1,28 @@
--- What is sent for packets, in parts that join.
-use Rattle.std.proofs.Common.{◌≡◌, ℕ, List, [], ◌∷◌, ◌++◌, map, reverse, Option, Some, None, refl, sym, ap, subst, ◌∙◌, append_assoc, append-nil}
+-- What is sent and told for packets, in parts that join.
+use Rattle.std.proofs.Common.{◌≡◌, ℕ, List, [], ◌∷◌, ◌++◌, map, flat_map, reverse, Option, Some, None, refl, sym, ap, subst, ◌∙◌, append_assoc, append-nil}
 use Rattle.std.specs.List.{cons_option}
 use Rattle.std.proofs.lemmas.List.{map-append, reverse-append}
 use Rattle.std.proofs.lemmas.List.Concat.{flat_map-append}
 use Rattle.std.specs.Io.KnownBytes.{Appends}
 use Rattle.std.proofs.KnownBytes.{Appends-nil, Appends-trans}
 use Rattle.tac_wire.specs.declared.frame.Frame.{Frame}
+use Rattle.tac_wire.specs.Stream.{Tail}
 use Rattle.tac_conn.specs.declared.ask.Answer.{Answer}
 use Rattle.tac_conn.specs.declared.ask.Ask.{Ask}
 use Rattle.tac_conn.specs.declared.packet.Packet.{Packet}
+use Rattle.tac_conn.specs.declared.reply.Reply.{Reply as ReplyValue}
 use Rattle.tac_conn.specs.Packet.{clear, sent}
+use Rattle.tac_conn.specs.Reply.{packet_of}
+use Rattle.tac_audit.specs.declared.notice.Notice.{Notice}
+use Rattle.tac_audit.specs.Notices.{notices_to, reply_told, replies_told}
+use Rattle.tac_audit.specs.Witness.{AreTold}
 use Rattle.tac_stream.specs.Turns.{packets_of}
 use Rattle.tac_worker.specs.declared.worked.End.{End}
-use Rattle.tac_worker.specs.declared.worked.End.TheVariants.{Finished, ByProtocol, Stopped, LogFull, Memory, ReadFault, WriteFault, Held, NoSeat}
+use Rattle.tac_worker.specs.declared.worked.End.TheVariants.{Finished, ByProtocol, Stopped, LogFull, Memory, ReadFault, WriteFault, Unwitnessed, Held, NoSeat}
 use Rattle.tac_worker.specs.Served.{Sending, served_to, asks_in, bytes_sent, carried}
 use Rattle.tac_hall.specs.declared.fault.HallFault.{HallFault}
-use Rattle.tac_worker.specs.Worked.{Exchange, asks_of, answers_of, AreMade, AreAllMade, WritesSome, WritesBeginning, Writes, Ends}
+use Rattle.tac_worker.specs.Told.{bytes_told, TakesUntil, WritesAllButLast, WritesTold, Tells}
+use Rattle.tac_worker.specs.Worked.{Exchange, asks_of, answers_of, AreMade, AreAllMade, Worker, WritesSome, WritesFirst, WritesBeginning, Writes, Ends}
 use Rattle.tac_worker.specs.Working.{Handled, GoesOn}
 
 -- ---- lists
@@ -32,14 +39,24 @@ history key first second earlier =
 pub bytes_sent-append : (key : List ℕ) (first second : List Sending) → bytes_sent key (first ++ second) ≡ bytes_sent key first ++ bytes_sent key second
 bytes_sent-append key first second = flat_map-append (λ (sending : Sending). sent key sending.packet) first second
 
-cons_option-append : (answer : Option Answer) (first second whole : List Answer) → whole ≡ first ++ second → cons_option answer whole ≡ cons_option answer first ++ second
+cons_option-append : {A : Type 0} (one : Option A) (first second whole : List A) → whole ≡ first ++ second → cons_option one whole ≡ cons_option one first ++ second
 cons_option-append None first second whole e = e
-cons_option-append (Some answer) first second whole e = ap (λ (l : List Answer). answer ∷ l) e
+cons_option-append {A} (Some one) first second whole e = ap (λ (l : List A). one ∷ l) e
 
 pub carried-append : (first second : List Sending) → carried (first ++ second) ≡ carried first ++ carried second
 carried-append [] second = refl
 carried-append (sending ∷ first) second =
     cons_option-append sending.carries (carried first) (carried second) (carried (first ++ second)) (carried-append first second)
+
+replies_told-append : (first second : List Notice) → replies_told (first ++ second) ≡ replies_told first ++ replies_told second
+replies_told-append [] second = refl
+replies_told-append (notice ∷ first) second =
+    cons_option-append (reply_told notice) (replies_told first) (replies_told second) (replies_told (first ++ second)) (replies_told-append first second)
+
+pub bytes_told-append : (key : List ℕ) (first second : List Notice) → bytes_told key (first ++ second) ≡ bytes_told key first ++ bytes_told key second
+bytes_told-append key first second =
+    ap (λ (l : List ReplyValue). flat_map (λ (reply : ReplyValue). sent key (packet_of reply)) l) (replies_told-append first second)
+    ∙ flat_map-append (λ (reply : ReplyValue). sent key (packet_of reply)) (replies_told first) (replies_told second)
 
 answers_of-append : (first second : List Exchange) → answers_of (first ++ second) ≡ answers_of first ++ answers_of second
 answers_of-append first second = map-append (λ (exchange : Exchange). exchange.answer) first second
@@ -53,12 +70,18 @@ pub are_made-then : {S : Type 0} (step : S → Exchange → S → Type 0) (first
 are_made-then {S} step [] second was mid now f s = subst (λ (x : S). AreMade step x second now) f s
 are_made-then step (exchange ∷ first) second was mid now f s = (f.0, f.1, are_made-then step first second f.0 mid now f.2 s)
 
+-- ---- notices
+
+are_told-then : {V : Type 0} (takes : V → Notice → V → Type 0) (first second : List Notice) (was mid now : V) → AreTold takes was first mid → AreTold takes mid second now → AreTold takes was (first ++ second) now
+are_told-then {V} takes [] second was mid now f s = subst (λ (x : V). AreTold takes x second now) f s
+are_told-then takes (notice ∷ first) second was mid now f s = (f.0, f.1, are_told-then takes first second f.0 mid now f.2 s)
+
 -- ---- packets that were served
 
-handled_none : (key : List ℕ) (earlier : List Packet) → Handled key earlier [] [] []
-handled_none key earlier = record { served = λ more later. refl; asks = λ more. refl; carries = refl }
+handled_none : (key : List ℕ) (earlier : List Packet) → Handled key earlier [] [] [] []
+handled_none key earlier = record { served = λ more later. refl; asks = λ more. refl; carries = refl; tells = λ more tail later. refl; bytes = refl }
 
-module _ (key : List ℕ) (earlier : List Packet) (first : List Frame) (made : List Exchange) (sendings : List Sending) (f : Handled key earlier first made sendings) where
+module _ (key : List ℕ) (earlier : List Packet) (first : List Frame) (made : List Exchange) (sendings : List Sending) (notices : List Notice) (f : Handled key earlier first made sendings notices) where
   -- what is sent for more packets, by more answers
   served_more : (second : List Frame) (others : List Exchange) (later : List Answer)
       → served_to key earlier (first ++ second) (answers_of (made ++ others) ++ later) ≡ sendings ++ served_to key (packets_of key first ++ earlier) second (answers_of others ++ later)
@@ -74,6 +97,24 @@ module _ (key : List ℕ) (earlier : List Packet) (first : List Frame) (made : L
       ∙ served_more second others []
       ∙ ap (λ (l : List Answer). sendings ++ served_to key (packets_of key first ++ earlier) second l) (append-nil (answers_of others))
 
+  -- what is told of more packets, by more answers
+  tells_more : (second : List Frame) (tail : Tail) (others : List Exchange) (later : List Answer)
+      → notices_to key earlier (first ++ second) tail (answers_of (made ++ others) ++ later) ≡ notices ++ notices_to key (packets_of key first ++ earlier) second tail (answers_of others ++ later)
+  tells_more second tail others later =
+      ap (λ (l : List Answer). notices_to key earlier (first ++ second) tail (l ++ later)) (answers_of-append made others)
+      ∙ ap (λ (l : List Answer). notices_to key earlier (first ++ second) tail l) (append_assoc (answers_of made) (answers_of others) later)
+      ∙ f.tells second tail (answers_of others ++ later)
+
+  pub tells_after : (second : List Frame) (tail : Tail) (others : List Exchange)
+      → notices_to key earlier (first ++ second) tail (answers_of (made ++ others)) ≡ notices ++ notices_to key (packets_of key first ++ earlier) second tail (answers_of others)
+  tells_after second tail others =
+      ap (λ (l : List Answer). notices_to key earlier (first ++ second) tail l) (sym (append-nil (answers_of (made ++ others))))
+      ∙ tells_more second tail others []
+      ∙ ap (λ (l : List Answer). notices ++ notices_to key (packets_of key first ++ earlier) second tail l) (append-nil (answers_of others))
+
+  pub bytes_after : (told : List Notice) → bytes_told key (notices ++ told) ≡ bytes_sent key sendings ++ bytes_told key told
+  bytes_after told = bytes_told-append key notices told ∙ ap (λ (l : List ℕ). l ++ bytes_told key told) f.bytes
+
   pub carries_after : (others : List Exchange) (after : List Sending) → carried after ≡ answers_of others → carried (sendings ++ after) ≡ answers_of (made ++ others)
   carries_after others after e =
       carried-append sendings after ∙ ap (λ (l : List Answer). l ++ carried after) f.carries ∙ ap (λ (l : List Answer). answers_of made ++ l) e ∙ sym (answers_of-append made others)
@@ -84,9 +125,9 @@ module _ (key : List ℕ) (earlier : List Packet) (first : List Frame) (made : L
       f.asks second ∙ ap (λ (l : List Ask). asks_of made ++ l) e ∙ sym (append_assoc (asks_of made) (asks_of others) left)
       ∙ ap (λ (l : List Ask). l ++ left) (sym (asks_of-append made others))
 
-  handled-then : (second : List Frame) (others : List Exchange) (after : List Sending) → Handled key (packets_of key first ++ earlier) second others after
-      → Handled key earlier (first ++ second) (made ++ others) (sendings ++ after)
-  handled-then second others after s = record {
+  handled-then : (second : List Frame) (others : List Exchange) (after : List Sending) (told : List Notice) → Handled key (packets_of key first ++ earlier) second others after told
+      → Handled key earlier (first ++ second) (made ++ others) (sendings ++ after) (notices ++ told)
+  handled-then second others after told s = record {
     served = λ more later.
         ap (λ (l : List Frame). served_to key earlier l (answers_of (made ++ others) ++ later)) (append_assoc first second more)
         ∙ served_more (second ++ more) others later
@@ -98,21 +139,36 @@ module _ (key : List ℕ) (earlier : List Packet) (first : List Frame) (made : L
         ∙ asks_after (second ++ more) others (asks_in key (packets_of key second ++ (packets_of key first ++ earlier)) more) (s.asks more)
         ∙ ap (λ (h : List Packet). asks_of (made ++ others) ++ asks_in key h more) (history key first second earlier);
     carries = carries_after others after s.carries;
+    tells = λ more tail later.
+        ap (λ (l : List Frame). notices_to key earlier l tail (answers_of (made ++ others) ++ later)) (append_assoc first second more)
+        ∙ tells_more (second ++ more) tail others later
+        ∙ ap (λ (l : List Notice). notices ++ l) (s.tells more tail later)
+        ∙ sym (append_assoc notices told (notices_to key (packets_of key second ++ (packets_of key first ++ earlier)) more tail later))
+        ∙ ap (λ (h : List Packet). (notices ++ told) ++ notices_to key h more tail later) (history key first second earlier);
+    bytes = bytes_after told ∙ ap (λ (l : List ℕ). bytes_sent key sendings ++ l) s.bytes ∙ sym (bytes_sent-append key sendings after);
   }
 
--- ---- and written
+-- ---- and told and written
 
-pub goes_none : {S : Type 0} (step : S → Exchange → S → Type 0) (key : List ℕ) (earlier : List Packet) (was : S) (old : Option (List ℕ)) → GoesOn step key earlier [] was was old old
-goes_none step key earlier was old = record { made = []; sendings = []; handled = handled_none key earlier; makes = refl; written = Appends-nil old }
+module _ {S V : Type 0} (step : S → Exchange → S → Type 0) (rests : S → S → Type 0) (refuses : S → Ask → HallFault → Type 0) (takes refuses_notice : V → Notice → V → Type 0) (key : List ℕ) where
+  -- these packets, and what follows them, were served and told, and so it ended
+  pub record Done (end : End) (earlier : List Packet) (frames : List Frame) (tail : Tail) (was now : Worker S V) (old new : Option (List ℕ)) : Type 0 where
+    pub ends : Ends end key (asks_in key earlier frames) (served_to key earlier frames) (λ made. AreAllMade step rests was.caller made now.caller) (refuses now.caller) old new
+    pub told : Tells end key (notices_to key earlier frames tail (answers_of ends.made)) (λ told refused. TakesUntil takes refuses_notice was.witness told refused now.witness) old new
 
-module _ {S : Type 0} (step : S → Exchange → S → Type 0) (key : List ℕ) (earlier : List Packet) (first : List Frame) (was mid : S) (old between : Option (List ℕ)) (g : GoesOn step key earlier first was mid old between) where
-  pub goes-then : (second : List Frame) (now : S) (new : Option (List ℕ)) → GoesOn step key (packets_of key first ++ earlier) second mid now between new
-      → GoesOn step key earlier (first ++ second) was now old new
+pub goes_none : {S V : Type 0} (step : S → Exchange → S → Type 0) (takes : V → Notice → V → Type 0) (key : List ℕ) (earlier : List Packet) (was : Worker S V) (old : Option (List ℕ)) → GoesOn step takes key earlier [] was was old old
+goes_none step takes key earlier was old = record { made = []; sendings = []; notices = []; handled = handled_none key earlier; makes = refl; told = refl; written = Appends-nil old }
+
+module _ {S V : Type 0} (step : S → Exchange → S → Type 0) (takes : V → Notice → V → Type 0) (key : List ℕ) (earlier : List Packet) (first : List Frame) (was mid : Worker S V) (old between : Option (List ℕ)) (g : GoesOn step takes key earlier first was mid old between) where
+  pub goes-then : (second : List Frame) (now : Worker S V) (new : Option (List ℕ)) → GoesOn step takes key (packets_of key first ++ earlier) second mid now between new
+      → GoesOn step takes key earlier (first ++ second) was now old new
   goes-then second now new s = record {
     made = g.made ++ s.made;
     sendings = g.sendings ++ s.sendings;
-    handled = handled-then key earlier first g.made g.sendings g.handled second s.made s.sendings s.handled;
-    makes = are_made-then step g.made s.made was mid now g.makes s.makes;
+    notices = g.notices ++ s.notices;
+    handled = handled-then key earlier first g.made g.sendings g.notices g.handled second s.made s.sendings s.notices s.handled;
+    makes = are_made-then step g.made s.made was.caller mid.caller now.caller g.makes s.makes;
+    told = are_told-then takes g.notices s.notices was.witness mid.witness now.witness g.told s.told;
     written = rw (bytes_sent-append key g.sendings s.sendings) (Appends-trans old between new (bytes_sent key g.sendings) (bytes_sent key s.sendings) g.written s.written);
   }
 
@@ -127,7 +183,15 @@ module _ {S : Type 0} (step : S → Exchange → S → Type 0) (key : List ℕ) 
       first = g.sendings ++ w.first;
       others = w.others;
       parts = whole ∙ ap (λ (l : List Sending). g.sendings ++ l) w.parts ∙ sym (append_assoc g.sendings w.first w.others);
-      carries = carries_after key earlier first g.made g.sendings g.handled others w.first w.carries;
+      carries = carries_after key earlier first g.made g.sendings g.notices g.handled others w.first w.carries;
+      written = rw (bytes_sent-append key g.sendings w.first) (Appends-trans old between new (bytes_sent key g.sendings) (bytes_sent key w.first) g.written w.written);
+    }
+
+    first_after : WritesFirst key after between new → WritesFirst key all old new
+    first_after w = record {
+      first = g.sendings ++ w.first;
+      others = w.others;
+      parts = whole ∙ ap (λ (l : List Sending). g.sendings ++ l) w.parts ∙ sym (append_assoc g.sendings w.first w.others);
       written = rw (bytes_sent-append key g.sendings w.first) (Appends-trans old between new (bytes_sent key g.sendings) (bytes_sent key w.first) g.written w.written);
     }
 
@@ -149,20 +213,73 @@ module _ {S : Type 0} (step : S → Exchange → S → Type 0) (key : List ℕ) 
     writes_after Memory w = some_after w
     writes_after ReadFault w = all_after w
     writes_after WriteFault w = beginning_after w
+    writes_after Unwitnessed w = first_after w
     writes_after Held w = all_after w
     writes_after NoSeat w = all_after w
 
-  -- the others end the connection
-  pub ends-after : (rests : S → S → Type 0) (refuses : Ask → HallFault → Type 0) (end : End) (second : List Frame) (now : S) (new : Option (List ℕ))
-      → Ends end key (asks_in key (packets_of key first ++ earlier) second) (served_to key (packets_of key first ++ earlier) second) (λ made. AreAllMade step rests mid made now) refuses between new
-      → Ends end key (asks_in key earlier (first ++ second)) (served_to key earlier (first ++ second)) (λ made. AreAllMade step rests was made now) refuses old new
-  ends-after rests refuses end second now new e = record {
-    made = g.made ++ e.made;
-    makes = (e.makes.0, are_made-then step g.made e.made was mid e.makes.0 g.makes e.makes.1, e.makes.2);
-    left = e.left;
-    asks = asks_after key earlier first g.made g.sendings g.handled second e.made e.left e.asks;
-    leaves = e.leaves;
-    writes = writes_after new e.made (served_to key (packets_of key first ++ earlier) second (answers_of e.made))
-        (served_to key earlier (first ++ second) (answers_of (g.made ++ e.made)))
-        (served_after key earlier first g.made g.sendings g.handled second e.made) end e.writes;
-  }
+  module _ (new : Option (List ℕ)) (told : List Notice) where
+    -- all replies that are told were written
+    all_told : Appends between new (bytes_told key told) → Appends old new (bytes_told key (g.notices ++ told))
+    all_told w =
+        rw (bytes_after key earlier first g.made g.sendings g.notices g.handled told) (Appends-trans old between new (bytes_sent key g.sendings) (bytes_told key told) g.written w)
+
+    -- a beginning of the last one was
+    cut_told : WritesAllButLast key told between new → WritesAllButLast key (g.notices ++ told) old new
+    cut_told w = record {
+      before = g.notices ++ w.before;
+      last = w.last;
+      parts = ap (λ (l : List Notice). g.notices ++ l) w.parts ∙ sym (append_assoc g.notices w.before (w.last ∷ []));
+      first = w.first;
+      others = w.others;
+      cuts = w.cuts;
+      some_left = w.some_left;
+      written = rw (bytes_after key earlier first g.made g.sendings g.notices g.handled w.before, append_assoc (bytes_sent key g.sendings) (bytes_told key w.before) w.first)
+          (Appends-trans old between new (bytes_sent key g.sendings) (bytes_told key w.before ++ w.first) g.written w.written);
+    }
+
+    told_after : (end : End) → WritesTold end key told between new → WritesTold end key (g.notices ++ told) old new
+    told_after Finished w = all_told w
+    told_after ByProtocol w = all_told w
+    told_after Stopped w = all_told w
+    told_after LogFull w = all_told w
+    told_after Memory w = all_told w
+    told_after ReadFault w = all_told w
+    told_after WriteFault w = cut_told w
+    told_after Unwitnessed w = all_told w
+    told_after Held w = all_told w
+    told_after NoSeat w = all_told w
+
+  module _ (rests : S → S → Type 0) (refuses : S → Ask → HallFault → Type 0) (refuses_notice : V → Notice → V → Type 0) (end : End) (second : List Frame) (now : Worker S V) (new : Option (List ℕ)) where
+    -- the others end the connection
+    pub ends-after :
+        Ends end key (asks_in key (packets_of key first ++ earlier) second) (served_to key (packets_of key first ++ earlier) second) (λ made. AreAllMade step rests mid.caller made now.caller) (refuses now.caller) between new
+        → Ends end key (asks_in key earlier (first ++ second)) (served_to key earlier (first ++ second)) (λ made. AreAllMade step rests was.caller made now.caller) (refuses now.caller) old new
+    ends-after e = record {
+      made = g.made ++ e.made;
+      makes = (e.makes.0, are_made-then step g.made e.made was.caller mid.caller e.makes.0 g.makes e.makes.1, e.makes.2);
+      left = e.left;
+      asks = asks_after key earlier first g.made g.sendings g.notices g.handled second e.made e.left e.asks;
+      leaves = e.leaves;
+      writes = writes_after new e.made (served_to key (packets_of key first ++ earlier) second (answers_of e.made))
+          (served_to key earlier (first ++ second) (answers_of (g.made ++ e.made)))
+          (served_after key earlier first g.made g.sendings g.notices g.handled second e.made) end e.writes;
+    }
+
+    -- and the witness was told of them
+    pub tells-after : (tail : Tail) (others : List Exchange)
+        → Tells end key (notices_to key (packets_of key first ++ earlier) second tail (answers_of others)) (λ told refused. TakesUntil takes refuses_notice mid.witness told refused now.witness) between new
+        → Tells end key (notices_to key earlier (first ++ second) tail (answers_of (g.made ++ others))) (λ told refused. TakesUntil takes refuses_notice was.witness told refused now.witness) old new
+    tells-after tail others t = record {
+      told = g.notices ++ t.told;
+      left = t.left;
+      parts = tells_after key earlier first g.made g.sendings g.notices g.handled second tail others ∙ ap (λ (l : List Notice). g.notices ++ l) t.parts
+          ∙ sym (append_assoc g.notices t.told t.left);
+      takes = (t.takes.0, are_told-then takes g.notices t.told was.witness mid.witness t.takes.0 g.told t.takes.1, t.takes.2);
+      leaves = t.leaves;
+      writes = told_after new t.told end t.writes;
+    }
+
+    pub done-after : (tail : Tail) → Done step rests refuses takes refuses_notice key end (packets_of key first ++ earlier) second tail mid now between new
+        → Done step rests refuses takes refuses_notice key end earlier (first ++ second) tail was now old new
+    unfolding ends-after
+    done-after tail d = record { ends = ends-after d.ends; told = tells-after tail d.ends.made d.told }

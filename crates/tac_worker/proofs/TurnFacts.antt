@@ -1,5 +1,5 @@
 -- What one turn of a worker does.
-use Rattle.std.proofs.Common.{◌≡◌, ℕ, suc, List, [], ◌∷◌, ◌++◌, length, ◌<◌, take, drop, Bool, true, false, not, ◌||◌, Option, None, Result, Ok, Err, IsErrAnd, if◌then◌else◌, ◌⊎◌, inl, inr, refl, sym, ap, subst, ◌∙◌, append_assoc, append-nil, length-append, length-drop, arith}
+use Rattle.std.proofs.Common.{◌≡◌, ℕ, suc, List, [], ◌∷◌, ◌++◌, length, ◌<◌, take, drop, Bool, true, false, not, ◌||◌, Option, Some, None, Result, Ok, Err, IsErrAnd, if◌then◌else◌, inl, inr, refl, sym, ap, subst, ◌∙◌, append_assoc, append-nil, length-append, length-drop, arith}
 use Rattle.std.proofs.lemmas.List.{take-append-drop}
 use Rattle.std.specs.Io.KnownBytes.{Appends}
 use Rattle.std.proofs.KnownBytes.{Appends-nil}
@@ -21,19 +21,23 @@ use Rattle.tac_conn.specs.Standing.{step_of}
 use Rattle.tac_conn.specs.declared.step.Step.{Step}
 use Rattle.tac_conn.specs.declared.step.Step.TheVariants.{Reply, Asks, Silent, Close}
 use Rattle.tac_hall.specs.declared.fault.HallFault.{HallFault}
+use Rattle.tac_audit.specs.declared.notice.Notice.{Notice}
+use Rattle.tac_audit.specs.declared.notice.Notice.TheVariants as notices
+use Rattle.tac_audit.specs.Notices.{replied, unreplied, notices_for, notices_at, notices_to}
+use Rattle.tac_audit.specs.Witness.{AreTold}
 use Rattle.tac_stream.specs.declared.stream.Stream.{Stream}
-use Rattle.tac_stream.specs.declared.turn.Turn.{Turn}
 use Rattle.tac_stream.specs.declared.turn.Turn.TheVariants as turns
 use Rattle.tac_stream.specs.Turns.{packets_of, closed_by, tail_turn, IsTurn}
 use Rattle.tac_stream.specs.Kept.{Stands, closed_of, pending_of}
 use Rattle.tac_worker.specs.declared.worked.End.{End}
-use Rattle.tac_worker.specs.declared.worked.End.TheVariants.{Finished, ByProtocol, Stopped, LogFull, Memory, ReadFault, WriteFault, Held, NoSeat}
+use Rattle.tac_worker.specs.declared.worked.End.TheVariants.{Finished, ByProtocol, Stopped, LogFull, Memory, ReadFault, WriteFault, Unwitnessed, Held, NoSeat}
 use Rattle.tac_worker.specs.declared.turning.Went.{Went}
 use Rattle.tac_worker.specs.declared.turning.Went.TheVariants.{On, Rests}
 use Rattle.tac_worker.specs.Served.{Sending, plain, carrying, served_for, asked_by, served_to, asks_in, closes, bytes_sent, carried}
-use Rattle.tac_worker.specs.Worked.{Exchange, asks_of, answers_of, AreMade, AreAllMade, Leaves, Closes, Writes, Ends}
-use Rattle.tac_worker.specs.Working.{Handled, GoesOn, IsUncalled, Replies, taken_of, left_of, Turned}
-use Rattle.tac_worker.proofs.ServedFacts.{packets_of-append}
+use Rattle.tac_worker.specs.Told.{bytes_told, LeavesUntold, refused_of, WritesTold}
+use Rattle.tac_worker.specs.Worked.{Exchange, asks_of, answers_of, AreMade, AreAllMade, Worker, Leaves, Closes, Writes}
+use Rattle.tac_worker.specs.Working.{Handled, GoesOn, IsUncalled, Replies, Answers, Notes, taken_of, left_of, Turned}
+use Rattle.tac_worker.proofs.ServedFacts.{packets_of-append, Done}
 
 -- ---- the outcome of a packet, by its step
 
@@ -42,13 +46,14 @@ ServesBy (Reply reply ends) came =
     ((answers : List Answer) (later : List Answer → List Sending) → served_for came answers later ≡ plain reply ∷ (if ends then [] else later answers))
     × ((later : List Ask) → asked_by came later ≡ (if ends then [] else later))
     × (outcome_closes came ≡ ends)
+    × ((packet : Packet) (answers : List Answer) (later : List Answer → List Notice) → notices_for packet came answers later ≡ replied packet reply ∷ (if ends then [] else later answers))
 ServesBy (Asks ask slot) came = came ≡ comes_to.Asks ask slot
 ServesBy Silent came = came ≡ comes_to.Silent
 ServesBy Close came = came ≡ comes_to.Close
 
 serves_by : (came : Outcome) → ServesBy (step_of came) came
-serves_by (comes_to.Question reply session) = (λ answers later. refl, λ later. refl, refl)
-serves_by (comes_to.Reply reply ends) = (λ answers later. refl, λ later. refl, refl)
+serves_by (comes_to.Question reply session) = (λ answers later. refl, λ later. refl, refl, λ packet answers later. refl)
+serves_by (comes_to.Reply reply ends) = (λ answers later. refl, λ later. refl, refl, λ packet answers later. refl)
 serves_by (comes_to.Asks ask slot) = refl
 serves_by comes_to.Silent = refl
 serves_by comes_to.Close = refl
@@ -56,39 +61,33 @@ serves_by comes_to.Close = refl
 same_step : (packet other : Packet) (it said : Step) → turns.Packet packet it ≡ turns.Packet other said → it ≡ said
 same_step packet other it said e = cc
 
+same_packet : (packet other : Packet) (it said : Step) → turns.Packet packet it ≡ turns.Packet other said → packet ≡ other
+same_packet packet other it said e = cc
+
 -- after the last packet nothing is done for a packet
 no_packet : (packet : Packet) (it : Step) (tail : Tail) → turns.Packet packet it ≡ tail_turn tail → ⊥
 no_packet packet it (open_end rest) e = cc
 no_packet packet it (fault refused) e = cc
 
 -- the next packet, for which this is done
-pub record IsNext (key bytes : List ℕ) (taken : ℕ) (it : Step) : Type 0 where
+pub record IsNext (key bytes : List ℕ) (taken : ℕ) (packet : Packet) (it : Step) : Type 0 where
   pub frame : Frame
   pub more : List Frame
   pub left : drop taken (cut bytes).packets ≡ frame ∷ more
+  pub same : packet ≡ clear key frame
   pub serves : ServesBy it (outcome (packets_of key (take taken (cut bytes).packets)) (clear key frame))
 
-next_is : (key bytes : List ℕ) (taken : ℕ) (packet : Packet) (it : Step) → IsTurn key bytes taken (turns.Packet packet it) → IsNext key bytes taken it
+next_is : (key bytes : List ℕ) (taken : ℕ) (packet : Packet) (it : Step) → IsTurn key bytes taken (turns.Packet packet it) → IsNext key bytes taken packet it
 next_is key bytes taken packet it (inl f) =
     let came = outcome (packets_of key (take taken (cut bytes).packets)) (clear key f.frame) in
     record {
       frame = f.frame;
       more = f.more;
       left = f.left;
+      same = same_packet packet (clear key f.frame) it (step_of came) f.is;
       serves = subst (λ (s : Step). ServesBy s came) (sym (same_step packet (clear key f.frame) it (step_of came) f.is)) (serves_by came);
     }
 next_is key bytes taken packet it (inr n) = absurd (no_packet packet it (cut bytes).tail n.is)
-
--- the turns by which nothing is sent and the connection closes
-abbrev pub Shuts : Turn → Type 0
-Shuts (turns.Packet packet it) = it ≡ Close
-Shuts turns.Need = ⊥
-Shuts (turns.Refused header) = Unit {0}
-Shuts turns.Close = Unit {0}
-
-pub shuts : (turn : Turn) → ((header : Header) × (turn ≡ turns.Refused header)) ⊎ (turn ≡ turns.Close) → Shuts turn
-shuts turn (inl (header, e)) = subst Shuts (sym e) tt
-shuts turn (inr e) = subst Shuts (sym e) tt
 
 -- ---- what closes a connection
 
@@ -150,97 +149,65 @@ module _ (key : List ℕ) (earlier : List Packet) (frame : Frame) where
   unfolding asks_in
   asks_first more = refl
 
-  -- a packet is sent for it, after which the connection closes or not
-  pub record IsSaid (made : List Exchange) (sending : Sending) (ends : Bool) : Type 0 where
+  notices_first : (more : List Frame) (tail : Tail) (answers : List Answer)
+      → notices_to key earlier (frame ∷ more) tail answers
+      ≡ notices_for (clear key frame) (outcome earlier (clear key frame)) answers (λ left. notices_to key (clear key frame ∷ earlier) more tail left)
+  unfolding notices_to
+  notices_first more tail answers = refl
+
+  -- a packet is sent for it and told, after which the connection closes or not
+  pub record IsSaid (made : List Exchange) (sending : Sending) (notice : Notice) (ends : Bool) : Type 0 where
     pub served : (more : List Frame) (later : List Answer)
         → served_to key earlier (frame ∷ more) (answers_of made ++ later) ≡ sending ∷ (if ends then [] else served_to key (clear key frame ∷ earlier) more later)
     pub asks : (more : List Frame) → asks_in key earlier (frame ∷ more) ≡ asks_of made ++ (if ends then [] else asks_in key (clear key frame ∷ earlier) more)
     pub carries : carried (sending ∷ []) ≡ answers_of made
     pub closing : outcome_closes (outcome earlier (clear key frame)) ≡ ends
+    pub tells : (more : List Frame) (tail : Tail) (later : List Answer)
+        → notices_to key earlier (frame ∷ more) tail (answers_of made ++ later) ≡ notice ∷ (if ends then [] else notices_to key (clear key frame ∷ earlier) more tail later)
+    pub bytes : bytes_told key (notice ∷ []) ≡ bytes_sent key (sending ∷ [])
 
-  said_plain : (reply : ReplyValue) (ends : Bool)
-      → ((answers : List Answer) (later : List Answer → List Sending) → served_for (outcome earlier (clear key frame)) answers later ≡ plain reply ∷ (if ends then [] else later answers))
-      → ((later : List Ask) → asked_by (outcome earlier (clear key frame)) later ≡ (if ends then [] else later))
-      → outcome_closes (outcome earlier (clear key frame)) ≡ ends → IsSaid [] (plain reply) ends
-  said_plain reply ends s a closing = record {
-    served = λ more later. served_first more later ∙ s later (λ left. served_to key (clear key frame ∷ earlier) more left);
-    asks = λ more. asks_first more ∙ a (asks_in key (clear key frame ∷ earlier) more);
+  said_plain : (reply : ReplyValue) (ends : Bool) → ServesBy (Reply reply ends) (outcome earlier (clear key frame)) → IsSaid [] (plain reply) (replied (clear key frame) reply) ends
+  said_plain reply ends s = record {
+    served = λ more later. served_first more later ∙ s.0 later (λ left. served_to key (clear key frame ∷ earlier) more left);
+    asks = λ more. asks_first more ∙ s.1 (asks_in key (clear key frame ∷ earlier) more);
     carries = refl;
-    closing = closing;
+    closing = s.2;
+    tells = λ more tail later. notices_first more tail later ∙ s.3 (clear key frame) later (λ left. notices_to key (clear key frame ∷ earlier) more tail left);
+    bytes = refl;
   }
 
-  said_answer : (exchange : Exchange) (slot : Slot) → outcome earlier (clear key frame) ≡ comes_to.Asks exchange.ask slot → IsSaid (exchange ∷ []) (carrying slot exchange.answer) (not slot.single)
+  said_answer : (exchange : Exchange) (slot : Slot) → outcome earlier (clear key frame) ≡ comes_to.Asks exchange.ask slot
+      → IsSaid (exchange ∷ []) (carrying slot exchange.answer) (replied (clear key frame) (reply_in slot (answer_body exchange.answer))) (not slot.single)
   said_answer exchange slot came = by_single slot.single refl
     where
-      by_single : (single : Bool) → slot.single ≡ single → IsSaid (exchange ∷ []) (carrying slot exchange.answer) (not slot.single)
+      by_single : (single : Bool) → slot.single ≡ single
+          → IsSaid (exchange ∷ []) (carrying slot exchange.answer) (replied (clear key frame) (reply_in slot (answer_body exchange.answer))) (not slot.single)
       by_single true e = record {
         served = λ more later. served_first more (exchange.answer ∷ later) ∙ rw (came, e) refl;
         asks = λ more. asks_first more ∙ rw (came, e) refl;
         carries = refl;
         closing = rw came refl;
+        tells = λ more tail later. notices_first more tail (exchange.answer ∷ later) ∙ rw (came, e) refl;
+        bytes = refl;
       }
       by_single false e = record {
         served = λ more later. served_first more (exchange.answer ∷ later) ∙ rw (came, e) refl;
         asks = λ more. asks_first more ∙ rw (came, e) refl;
         carries = refl;
         closing = rw came refl;
+        tells = λ more tail later. notices_first more tail (exchange.answer ∷ later) ∙ rw (came, e) refl;
+        bytes = refl;
       }
 
   -- nothing is sent for it
-  handled_silent : outcome earlier (clear key frame) ≡ comes_to.Silent → Handled key earlier (frame ∷ []) [] []
+  handled_silent : outcome earlier (clear key frame) ≡ comes_to.Silent → Handled key earlier (frame ∷ []) [] [] (unreplied (clear key frame) ∷ [])
   handled_silent came = record {
     served = λ more later. served_first more later ∙ rw came refl;
     asks = λ more. asks_first more ∙ rw came refl;
     carries = refl;
+    tells = λ more tail later. notices_first more tail later ∙ rw came refl;
+    bytes = refl;
   }
-
-  module _ {S : Type 0} (step : S → Exchange → S → Type 0) (rests : S → S → Type 0) (rests_so : (x : S) → rests x x) (refuses : Ask → HallFault → Type 0) (made : List Exchange) (sending : Sending) (was now : S) (old new : Option (List ℕ)) (had : AreMade step was made now) where
-    -- the packet was written, and the connection stays open
-    goes_said : IsSaid made sending false → Appends old new (sent key sending.packet) → GoesOn step key earlier (frame ∷ []) was now old new
-    goes_said s written = record {
-      made = made;
-      sendings = sending ∷ [];
-      handled = record { served = s.served; asks = s.asks; carries = s.carries };
-      makes = had;
-      written = rw (append-nil (sent key sending.packet)) written;
-    }
-
-    -- it was, and the connection closes
-    ends_said : (more : List Frame) → IsSaid made sending true → Appends old new (sent key sending.packet)
-        → Ends ByProtocol key (asks_in key earlier (frame ∷ more)) (served_to key earlier (frame ∷ more)) (λ l. AreAllMade step rests was l now) refuses old new
-    ends_said more s written =
-        let whole : served_to key earlier (frame ∷ more) (answers_of made) ≡ sending ∷ [] =
-        ap (λ (l : List Answer). served_to key earlier (frame ∷ more) l) (sym (append-nil (answers_of made))) ∙ s.served more [] in
-        record {
-          made = made;
-          makes = (now, had, rests_so now);
-          left = [];
-          asks = s.asks more;
-          leaves = refl;
-          writes = rw (whole, append-nil (sent key sending.packet)) written;
-        }
-
-    -- a beginning of it was
-    ends_cut : (more : List Frame) (ends : Bool) → IsSaid made sending ends → (first others : List ℕ) → sent key sending.packet ≡ first ++ others → 0 < length others → Appends old new first
-        → Ends WriteFault key (asks_in key earlier (frame ∷ more)) (served_to key earlier (frame ∷ more)) (λ l. AreAllMade step rests was l now) refuses old new
-    ends_cut more ends s first others parts some written =
-        let later = if ends then [] else served_to key (clear key frame ∷ earlier) more [] in
-        let whole : served_to key earlier (frame ∷ more) (answers_of made) ≡ sending ∷ later =
-        ap (λ (l : List Answer). served_to key earlier (frame ∷ more) l) (sym (append-nil (answers_of made))) ∙ s.served more [] in
-        record {
-          made = made;
-          makes = (now, had, rests_so now);
-          left = if ends then [] else asks_in key (clear key frame ∷ earlier) more;
-          asks = s.asks more;
-          leaves = tt;
-          writes = record {
-            first = first;
-            others = others ++ bytes_sent key later;
-            some_left = omega (arith, some, length-append others (bytes_sent key later));
-            parts = ap (bytes_sent key) whole ∙ ap (λ (l : List ℕ). l ++ bytes_sent key later) parts ∙ append_assoc first others (bytes_sent key later);
-            written = written;
-          };
-        }
 
 -- ---- no packet
 
@@ -252,47 +219,99 @@ pub asks_at_end : (key : List ℕ) (earlier : List Packet) → asks_in key earli
 unfolding asks_in
 asks_at_end key earlier = refl
 
+pub notices_at_end : (key : List ℕ) (earlier : List Packet) (tail : Tail) (answers : List Answer) → notices_to key earlier [] tail answers ≡ notices_at tail
+unfolding notices_to
+notices_at_end key earlier tail answers = refl
+
+pub none_at_end : (key : List ℕ) (earlier : List Packet) (tail : Tail) (answers : List Answer) → closed_by tail ≡ false → notices_to key earlier [] tail answers ≡ []
+none_at_end key earlier (open_end rest) answers e = notices_at_end key earlier (open_end rest) answers
+none_at_end key earlier (fault refused) answers e = absurd cc
+
 -- ---- ends
 
-module _ (are_made : List Exchange → Type 0) (refuses : Ask → HallFault → Type 0) (none_made : are_made []) (key : List ℕ) (asked : List Ask) (sent_by : List Answer → List Sending) where
+abbrev pub worker : {S V : Type 0} → S → V → Worker S V
+worker caller witness = record { caller = caller; witness = witness }
+
+module _ {S V : Type 0} (step : S → Exchange → S → Type 0) (rests : S → S → Type 0) (refuses : S → Ask → HallFault → Type 0) (takes refuses_notice : V → Notice → V → Type 0) (key : List ℕ) (earlier : List Packet) (frames : List Frame) (tail : Tail) where
+  abbrev IsDone : End → S → V → S → V → Option (List ℕ) → Option (List ℕ) → Type 0
+  IsDone end was seen now sees old new = Done step rests refuses takes refuses_notice key end earlier frames tail (worker was seen) (worker now sees) old new
+
   -- nothing was done for what is left, because memory ran out
-  pub ends_memory : (old : Option (List ℕ)) → Ends Memory key asked sent_by are_made refuses old old
-  ends_memory old = record {
-    made = [];
-    makes = none_made;
-    left = asked;
-    asks = refl;
-    leaves = tt;
-    writes = record { first = []; others = sent_by []; parts = refl; carries = refl; written = Appends-nil old };
+  pub done_memory : (was now : S) (seen : V) (old : Option (List ℕ)) → rests was now → IsDone Memory was seen now seen old old
+  done_memory was now seen old rested = record {
+    ends = record {
+      made = [];
+      makes = (was, refl, rested);
+      left = asks_in key earlier frames;
+      asks = refl;
+      leaves = tt;
+      writes = record { first = []; others = served_to key earlier frames []; parts = refl; carries = refl; written = Appends-nil old };
+    };
+    told = record { told = []; left = notices_to key earlier frames tail []; parts = refl; takes = (seen, refl, refl); leaves = tt; writes = Appends-nil old };
   }
 
-  -- nothing is sent for what is left, and nothing is asked
-  pub ends_none : (end : End) (old new : Option (List ℕ)) → asked ≡ [] → sent_by [] ≡ [] → Appends old new [] → Leaves end refuses [] → (Appends old new [] → Writes end key [] [] old new)
-      → Ends end key asked sent_by are_made refuses old new
-  ends_none end old new none nothing written leaves writes = record {
-    made = [];
-    makes = none_made;
-    left = [];
-    asks = none;
-    leaves = leaves;
-    writes = rw nothing (writes written);
+  -- nothing is sent for what is left, and nothing is asked, though this may be told
+  pub done_none : (end : End) (was now : S) (seen sees : V) (told : List Notice) (old new : Option (List ℕ)) → rests was now → asks_in key earlier frames ≡ [] → served_to key earlier frames [] ≡ []
+      → notices_to key earlier frames tail [] ≡ told → AreTold takes seen told sees → bytes_told key told ≡ [] → Appends old new []
+      → Leaves end (refuses now) [] → (Appends old new [] → Writes end key [] [] old new)
+      → refused_of end [] ≡ None → LeavesUntold end [] → (Appends old new (bytes_told key told) → WritesTold end key told old new)
+      → IsDone end was seen now sees old new
+  done_none end was now seen sees told old new rested none nothing these took silent written leaves writes unrefused untold writes_told = record {
+    ends = record {
+      made = [];
+      makes = (was, refl, rested);
+      left = [];
+      asks = none;
+      leaves = leaves;
+      writes = rw nothing (writes written);
+    };
+    told = record {
+      told = told;
+      left = [];
+      parts = these ∙ sym (append-nil told);
+      takes = rw unrefused (sees, took, refl);
+      leaves = untold;
+      writes = writes_told (rw silent written);
+    };
   }
 
   -- the next ask wasn't called
-  module _ (ask : Ask) (later : List Ask) (old : Option (List ℕ)) (first : asked ≡ ask ∷ later) (nothing : sent_by [] ≡ []) where
-    uncalled : (end : End) → Leaves end refuses (ask ∷ later) → (Appends old old [] → Writes end key [] [] old old) → Ends end key asked sent_by are_made refuses old old
-    uncalled end leaves writes = record { made = []; makes = none_made; left = ask ∷ later; asks = first; leaves = leaves; writes = rw nothing (writes (Appends-nil old)) }
+  module _ (ask : Ask) (later : List Ask) (was now : S) (seen : V) (old : Option (List ℕ)) (rested : rests was now) (first : asks_in key earlier frames ≡ ask ∷ later)
+      (nothing : served_to key earlier frames [] ≡ []) (none : notices_to key earlier frames tail [] ≡ []) where
+    uncalled : (end : End) → Leaves end (refuses now) (ask ∷ later) → (Appends old old [] → Writes end key [] [] old old)
+        → refused_of end [] ≡ None → LeavesUntold end [] → (Appends old old [] → WritesTold end key [] old old) → IsDone end was seen now seen old old
+    uncalled end leaves writes unrefused untold writes_told = record {
+      ends = record { made = []; makes = (was, refl, rested); left = ask ∷ later; asks = first; leaves = leaves; writes = rw nothing (writes (Appends-nil old)) };
+      told = record { told = []; left = []; parts = none; takes = rw unrefused (seen, refl, refl); leaves = untold; writes = writes_told (Appends-nil old) };
+    }
 
-    pub ends_uncalled : (end : End) → IsUncalled refuses ask end → Ends end key asked sent_by are_made refuses old old
-    ends_uncalled Finished u = absurd u
-    ends_uncalled ByProtocol u = absurd u
-    ends_uncalled Stopped u = uncalled Stopped u (λ w. w)
-    ends_uncalled LogFull u = uncalled LogFull u (λ w. w)
-    ends_uncalled Memory u = ends_memory old
-    ends_uncalled ReadFault u = absurd u
-    ends_uncalled WriteFault u = absurd u
-    ends_uncalled Held u = uncalled Held (omega arith) (λ w. w)
-    ends_uncalled NoSeat u = uncalled NoSeat u (λ w. w)
+    pub done_uncalled : (end : End) → IsUncalled (refuses now) ask end → IsDone end was seen now seen old old
+    done_uncalled Finished u = absurd u
+    done_uncalled ByProtocol u = absurd u
+    done_uncalled Stopped u = uncalled Stopped u (λ w. w) refl refl (λ w. w)
+    done_uncalled LogFull u = uncalled LogFull u (λ w. w) refl refl (λ w. w)
+    done_uncalled Memory u = done_memory was now seen old rested
+    done_uncalled ReadFault u = absurd u
+    done_uncalled WriteFault u = absurd u
+    done_uncalled Unwitnessed u = absurd u
+    done_uncalled Held u = uncalled Held (omega arith) (λ w. w) refl refl (λ w. w)
+    done_uncalled NoSeat u = uncalled NoSeat u (λ w. w) refl refl (λ w. w)
+
+  -- the witness refused the next notice
+  pub done_unwitnessed : (made : List Exchange) (left : List Ask) (notice : Notice) (later : List Notice) (was now : S) (seen sees : V) (old new : Option (List ℕ)) → AreAllMade step rests was made now
+      → asks_in key earlier frames ≡ asks_of made ++ left → notices_to key earlier frames tail (answers_of made) ≡ notice ∷ later → refuses_notice seen notice sees → Appends old new []
+      → IsDone Unwitnessed was seen now sees old new
+  done_unwitnessed made left notice later was now seen sees old new had asks tells refused written = record {
+    ends = record {
+      made = made;
+      makes = had;
+      left = left;
+      asks = asks;
+      leaves = tt;
+      writes = record { first = []; others = served_to key earlier frames (answers_of made); parts = refl; written = written };
+    };
+    told = record { told = []; left = notice ∷ later; parts = tells; takes = (seen, refl, refused); leaves = omega arith; writes = written };
+  }
 
 module _ (refuses : Ask → HallFault → Type 0) (ask : Ask) where
   uncalled_unfinished : (end : End) → IsUncalled refuses ask end → end ≡ Finished → ⊥
@@ -303,6 +322,7 @@ module _ (refuses : Ask → HallFault → Type 0) (ask : Ask) where
   uncalled_unfinished Memory u e = cc
   uncalled_unfinished ReadFault u e = u
   uncalled_unfinished WriteFault u e = u
+  uncalled_unfinished Unwitnessed u e = u
   uncalled_unfinished Held u e = cc
   uncalled_unfinished NoSeat u e = cc
 
@@ -314,171 +334,383 @@ module _ (refuses : Ask → HallFault → Type 0) (ask : Ask) where
   uncalled_closing Memory closing u = tt
   uncalled_closing ReadFault closing u = absurd u
   uncalled_closing WriteFault closing u = tt
+  uncalled_closing Unwitnessed closing u = tt
   uncalled_closing Held closing u = tt
   uncalled_closing NoSeat closing u = tt
 
+-- ---- one packet that is told, and written
+
+-- the reply that is written is the one that was told
+pub same_reply : (said reply : ReplyValue) → ◌≡◌ {A = Option ReplyValue} (Some said) (Some reply) → reply ≡ said
+same_reply said reply e = cc
+
+-- what is so where the notice was taken and the connection stays open, where it was and the connection closes, and where it was refused, is so
+noted : (P : Result Went End → Type 0) (result : Result Went End) (takes refuses : Type 0) (closing : Bool) → Notes result takes refuses closing
+    → (closing ≡ false → takes → P (Ok On)) → (closing ≡ true → takes → P (Err ByProtocol)) → (refuses → P (Err Unwitnessed)) → P result
+noted P (Ok On) takes refuses closing n on shut untold = on n.1 n.0
+noted P (Ok Rests) takes refuses closing n on shut untold = absurd n
+noted P (Err Finished) takes refuses closing n on shut untold = absurd n
+noted P (Err ByProtocol) takes refuses closing n on shut untold = shut n.1 n.0
+noted P (Err Stopped) takes refuses closing n on shut untold = absurd n
+noted P (Err LogFull) takes refuses closing n on shut untold = absurd n
+noted P (Err Memory) takes refuses closing n on shut untold = absurd n
+noted P (Err ReadFault) takes refuses closing n on shut untold = absurd n
+noted P (Err WriteFault) takes refuses closing n on shut untold = absurd n
+noted P (Err Unwitnessed) takes refuses closing n on shut untold = untold n
+noted P (Err Held) takes refuses closing n on shut untold = absurd n
+noted P (Err NoSeat) takes refuses closing n on shut untold = absurd n
+
+-- the notice was taken, and then the reply was written
+pub answered : (result : Result Went End) (takes refuses : Type 0) (reply : List ℕ) (closing : Bool) (old new : Option (List ℕ)) → takes → Replies result reply closing old new → Answers result takes refuses reply closing old new
+answered (Ok went) takes refuses reply closing old new t r = (t, r)
+answered (Err Finished) takes refuses reply closing old new t r = absurd r
+answered (Err ByProtocol) takes refuses reply closing old new t r = (t, r)
+answered (Err Stopped) takes refuses reply closing old new t r = absurd r
+answered (Err LogFull) takes refuses reply closing old new t r = absurd r
+answered (Err Memory) takes refuses reply closing old new t r = absurd r
+answered (Err ReadFault) takes refuses reply closing old new t r = absurd r
+answered (Err WriteFault) takes refuses reply closing old new t r = (t, r)
+answered (Err Unwitnessed) takes refuses reply closing old new t r = absurd r
+answered (Err Held) takes refuses reply closing old new t r = absurd r
+answered (Err NoSeat) takes refuses reply closing old new t r = absurd r
+
+module _ {S V : Type 0} (step : S → Exchange → S → Type 0) (rests : S → S → Type 0) (rests_so : (x : S) → rests x x) (refuses : S → Ask → HallFault → Type 0) (takes refuses_notice : V → Notice → V → Type 0)
+    (key : List ℕ) (earlier : List Packet) (frame : Frame) (made : List Exchange) (sending : Sending) (notice : Notice)
+    (was now : S) (seen sees : V) (old new : Option (List ℕ)) (had : AreMade step was made now) where
+  -- the packet was told and written, and the connection stays open
+  goes_said : IsSaid key earlier frame made sending notice false → takes seen notice sees → Appends old new (sent key sending.packet) → GoesOn step takes key earlier (frame ∷ []) (worker was seen) (worker now sees) old new
+  goes_said s took written = record {
+    made = made;
+    sendings = sending ∷ [];
+    notices = notice ∷ [];
+    handled = record { served = s.served; asks = s.asks; carries = s.carries; tells = s.tells; bytes = s.bytes };
+    makes = had;
+    told = (sees, took, refl);
+    written = rw (append-nil (sent key sending.packet)) written;
+  }
+
+  module _ (more : List Frame) (tail : Tail) (ends : Bool) (s : IsSaid key earlier frame made sending notice ends) where
+    later : List Sending
+    later = if ends then [] else served_to key (clear key frame ∷ earlier) more []
+
+    to_tell : List Notice
+    to_tell = if ends then [] else notices_to key (clear key frame ∷ earlier) more tail []
+
+    to_ask : List Ask
+    to_ask = if ends then [] else asks_in key (clear key frame ∷ earlier) more
+
+    whole : served_to key earlier (frame ∷ more) (answers_of made) ≡ sending ∷ later
+    unfolding later
+    whole = ap (λ (l : List Answer). served_to key earlier (frame ∷ more) l) (sym (append-nil (answers_of made))) ∙ s.served more []
+
+    tells_whole : notices_to key earlier (frame ∷ more) tail (answers_of made) ≡ notice ∷ to_tell
+    unfolding to_tell
+    tells_whole = ap (λ (l : List Answer). notices_to key earlier (frame ∷ more) tail l) (sym (append-nil (answers_of made))) ∙ s.tells more tail []
+
+    asks_whole : asks_in key earlier (frame ∷ more) ≡ asks_of made ++ to_ask
+    unfolding to_ask
+    asks_whole = s.asks more
+
+    bytes_whole : bytes_told key (notice ∷ []) ≡ sent key sending.packet
+    bytes_whole = s.bytes ∙ append-nil (sent key sending.packet)
+
+    -- a beginning of it was written
+    done_cut : takes seen notice sees → (first others : List ℕ) → sent key sending.packet ≡ first ++ others → 0 < length others → Appends old new first
+        → IsDone step rests refuses takes refuses_notice key earlier (frame ∷ more) tail WriteFault was seen now sees old new
+    done_cut took first others parts some written = record {
+      ends = record {
+        made = made;
+        makes = (now, had, rests_so now);
+        left = to_ask;
+        asks = asks_whole;
+        leaves = tt;
+        writes = record {
+          first = first;
+          others = others ++ bytes_sent key later;
+          some_left = omega (arith, some, length-append others (bytes_sent key later));
+          parts = ap (bytes_sent key) whole ∙ ap (λ (l : List ℕ). l ++ bytes_sent key later) parts ∙ append_assoc first others (bytes_sent key later);
+          written = written;
+        };
+      };
+      told = record {
+        told = notice ∷ [];
+        left = to_tell;
+        parts = tells_whole;
+        takes = (sees, (sees, took, refl), refl);
+        leaves = tt;
+        writes = record { before = []; last = notice; parts = refl; first = first; others = others; cuts = bytes_whole ∙ parts; some_left = some; written = written };
+      };
+    }
+
+    -- the witness refused it
+    done_refused : refuses_notice seen notice sees → Appends old new [] → IsDone step rests refuses takes refuses_notice key earlier (frame ∷ more) tail Unwitnessed was seen now sees old new
+    done_refused refused written =
+        done_unwitnessed step rests refuses takes refuses_notice key earlier (frame ∷ more) tail made to_ask notice to_tell was now seen sees old new (now, had, rests_so now) asks_whole tells_whole refused written
+
+  -- it was told and written, and the connection closes
+  done_said : (more : List Frame) (tail : Tail) → IsSaid key earlier frame made sending notice true → takes seen notice sees → Appends old new (sent key sending.packet)
+      → IsDone step rests refuses takes refuses_notice key earlier (frame ∷ more) tail ByProtocol was seen now sees old new
+  unfolding later to_tell to_ask
+  done_said more tail s took written = record {
+    ends = record {
+      made = made;
+      makes = (now, had, rests_so now);
+      left = [];
+      asks = asks_whole more tail true s;
+      leaves = refl;
+      writes = rw (whole more tail true s, append-nil (sent key sending.packet)) written;
+    };
+    told = record {
+      told = notice ∷ [];
+      left = [];
+      parts = tells_whole more tail true s;
+      takes = (sees, (sees, took, refl), refl);
+      leaves = refl;
+      writes = rw (bytes_whole more tail true s) written;
+    };
+  }
+
 -- ---- a turn
 
-module _ {S : Type 0} (step : S → Exchange → S → Type 0) (rests : S → S → Type 0) (rests_so : (x : S) → rests x x) (refuses : S → Ask → HallFault → Type 0) (key bytes : List ℕ) (taken : ℕ) where
+module _ {S V : Type 0} (step : S → Exchange → S → Type 0) (rests : S → S → Type 0) (rests_so : (x : S) → rests x x) (refuses : S → Ask → HallFault → Type 0) (takes refuses_notice : V → Notice → V → Type 0) (key bytes : List ℕ) (taken : ℕ) where
+  abbrev Turns : Result Went End → S → V → S → V → Option (List ℕ) → Option (List ℕ) → Stream → Type 0
+  Turns result was seen now sees old new stream = Turned step rests refuses takes refuses_notice result key bytes taken (worker was seen) (worker now sees) old new stream
+
+  abbrev EndsNow : End → S → V → S → V → Option (List ℕ) → Option (List ℕ) → Type 0
+  EndsNow end was seen now sees old new =
+      Done step rests refuses takes refuses_notice key end (packets_of key (take taken (cut bytes).packets)) (drop taken (cut bytes).packets) (cut bytes).tail (worker was seen) (worker now sees) old new
+
+  abbrev EndsFrom : List Frame → End → S → V → S → V → Option (List ℕ) → Option (List ℕ) → Type 0
+  EndsFrom frames end was seen now sees old new =
+      Done step rests refuses takes refuses_notice key end (packets_of key (take taken (cut bytes).packets)) frames (cut bytes).tail (worker was seen) (worker now sees) old new
+
+  -- what is done for the packets that are left
+  ends_now : (frames : List Frame) (end : End) (was now : S) (seen sees : V) (old new : Option (List ℕ)) → drop taken (cut bytes).packets ≡ frames → EndsFrom frames end was seen now sees old new → EndsNow end was seen now sees old new
+  ends_now frames end was now seen sees old new left d = subst (λ (fs : List Frame). EndsFrom fs end was seen now sees old new) (sym left) d
+
   -- the turn's packet is answered by this
-  module _ (frame : Frame) (more : List Frame) (left : drop taken (cut bytes).packets ≡ frame ∷ more) (made : List Exchange) (sending : Sending) (was now : S) (old new : Option (List ℕ))
-      (stream : Stream) (had : AreMade step was made now) where
-    replied : (result : Result Went End) (ends : Bool) → IsSaid key (packets_of key (take taken (cut bytes).packets)) frame made sending ends → Replies result (sent key sending.packet) ends old new
-        → closed_of stream ≡ ends → pending_of stream ≡ None → Stands key stream bytes (suc taken) → Turned step rests refuses result key bytes taken was now old new stream
-    replied (Ok On) ends s r closed free stands =
-        record {
-          frame = frame;
-          more = more;
-          left = left;
-          goes = goes_said key _ frame step rests rests_so (refuses now) made sending was now old new had (rw r.0 at s) r.1;
-          stays = stays_open _ _ (s.closing ∙ r.0);
-          ready = (closed ∙ r.0, free);
-          stands = stands;
-        }
-    replied (Ok Rests) ends s r closed free stands = absurd r
-    replied (Err Finished) ends s r closed free stands = absurd r
-    replied (Err ByProtocol) ends s r closed free stands =
+  module _ (frame : Frame) (more : List Frame) (left : drop taken (cut bytes).packets ≡ frame ∷ more) (made : List Exchange) (sending : Sending) (notice : Notice) (was now : S) (seen sees : V)
+      (old new : Option (List ℕ)) (stream : Stream) (had : AreMade step was made now) where
+    said_on : (ends : Bool) → IsSaid key (packets_of key (take taken (cut bytes).packets)) frame made sending notice ends → takes seen notice sees → ends ≡ false → Appends old new (sent key sending.packet)
+        → closed_of stream ≡ ends → pending_of stream ≡ None → Stands key stream bytes (suc taken) → Turns (Ok On) was seen now sees old new stream
+    said_on ends s took goes written closed free stands = record {
+      frame = frame;
+      more = more;
+      left = left;
+      goes = goes_said step rests rests_so refuses takes refuses_notice key _ frame made sending notice was now seen sees old new had (rw goes at s) took written;
+      stays = stays_open _ _ (s.closing ∙ goes);
+      ready = (closed ∙ goes, free);
+      stands = stands;
+    }
+
+    said_last : (ends : Bool) → IsSaid key (packets_of key (take taken (cut bytes).packets)) frame made sending notice ends → takes seen notice sees → ends ≡ true → Appends old new (sent key sending.packet)
+        → Turns (Err ByProtocol) was seen now sees old new stream
+    said_last ends s took shuts written =
+        let d = ends_now (frame ∷ more) ByProtocol was now seen sees old new left
+        (done_said step rests rests_so refuses takes refuses_notice key _ frame made sending notice was now seen sees old new had more (cut bytes).tail (rw shuts at s) took written) in
         record {
           unfinished = λ e. cc;
           memory = λ e. absurd cc;
-          closing = closes_at key bytes taken frame more left (closed_next _ _ (s.closing ∙ r.0));
-          ends = rw left (ends_said key _ frame step rests rests_so (refuses now) made sending was now old new had more (rw r.0 at s) r.1);
+          closing = closes_at key bytes taken frame more left (closed_next _ _ (s.closing ∙ shuts));
+          ends = d.ends;
+          told = d.told;
         }
-    replied (Err Stopped) ends s r closed free stands = absurd r
-    replied (Err LogFull) ends s r closed free stands = absurd r
-    replied (Err Memory) ends s r closed free stands = absurd r
-    replied (Err ReadFault) ends s r closed free stands = absurd r
-    replied (Err WriteFault) ends s r closed free stands =
-        record { unfinished = λ e. cc; memory = λ e. absurd cc; closing = tt; ends = rw left (ends_cut key _ frame step rests rests_so (refuses now) made sending was now old new had more ends s r.0 r.1 r.2 r.3 r.4) }
-    replied (Err Held) ends s r closed free stands = absurd r
-    replied (Err NoSeat) ends s r closed free stands = absurd r
+
+    said_cut : (ends : Bool) → IsSaid key (packets_of key (take taken (cut bytes).packets)) frame made sending notice ends → takes seen notice sees → (first others : List ℕ) → sent key sending.packet ≡ first ++ others → 0 < length others
+        → Appends old new first → Turns (Err WriteFault) was seen now sees old new stream
+    said_cut ends s took first others parts some written =
+        let d = ends_now (frame ∷ more) WriteFault was now seen sees old new left
+        (done_cut step rests rests_so refuses takes refuses_notice key _ frame made sending notice was now seen sees old new had more (cut bytes).tail ends s took first others parts some written) in
+        record { unfinished = λ e. cc; memory = λ e. absurd cc; closing = tt; ends = d.ends; told = d.told }
+
+    unsaid : (ends : Bool) → IsSaid key (packets_of key (take taken (cut bytes).packets)) frame made sending notice ends → refuses_notice seen notice sees → Appends old new []
+        → Turns (Err Unwitnessed) was seen now sees old new stream
+    unsaid ends s refused written =
+        let d = ends_now (frame ∷ more) Unwitnessed was now seen sees old new left
+        (done_refused step rests rests_so refuses takes refuses_notice key _ frame made sending notice was now seen sees old new had more (cut bytes).tail ends s refused written) in
+        record { unfinished = λ e. cc; memory = λ e. absurd cc; closing = tt; ends = d.ends; told = d.told }
+
+    replied_to : (result : Result Went End) (ends : Bool) → IsSaid key (packets_of key (take taken (cut bytes).packets)) frame made sending notice ends
+        → Answers result (takes seen notice sees) (refuses_notice seen notice sees) (sent key sending.packet) ends old new
+        → closed_of stream ≡ ends → pending_of stream ≡ None → Stands key stream bytes (suc taken) → Turns result was seen now sees old new stream
+    replied_to (Ok On) ends s r closed free stands = said_on ends s r.0 r.1.0 r.1.1 closed free stands
+    replied_to (Ok Rests) ends s r closed free stands = absurd r.1
+    replied_to (Err Finished) ends s r closed free stands = absurd r.1
+    replied_to (Err ByProtocol) ends s r closed free stands = said_last ends s r.0 r.1.0 r.1.1
+    replied_to (Err Stopped) ends s r closed free stands = absurd r.1
+    replied_to (Err LogFull) ends s r closed free stands = absurd r.1
+    replied_to (Err Memory) ends s r closed free stands = absurd r.1
+    replied_to (Err ReadFault) ends s r closed free stands = absurd r.1
+    replied_to (Err WriteFault) ends s r closed free stands = said_cut ends s r.0 r.1.0 r.1.1 r.1.2 r.1.3 r.1.4
+    replied_to (Err Unwitnessed) ends s r closed free stands = unsaid ends s r.0 r.1
+    replied_to (Err Held) ends s r closed free stands = absurd r.1
+    replied_to (Err NoSeat) ends s r closed free stands = absurd r.1
 
   -- a reply is sent
-  pub turned_reply : (was : S) (old new : Option (List ℕ)) (stream : Stream) (packet : Packet) (reply : ReplyValue) (ends : Bool) (result : Result Went End)
-      → IsTurn key bytes taken (turns.Packet packet (Reply reply ends)) → Replies result (sent key (packet_of reply)) ends old new → closed_of stream ≡ ends → pending_of stream ≡ None → Stands key stream bytes (suc taken)
-      → Turned step rests refuses result key bytes taken was was old new stream
-  turned_reply was old new stream packet reply ends result turn r closed free stands =
+  pub turned_reply : (was : S) (seen sees : V) (old new : Option (List ℕ)) (stream : Stream) (packet : Packet) (reply : ReplyValue) (ends : Bool) (result : Result Went End)
+      → IsTurn key bytes taken (turns.Packet packet (Reply reply ends))
+      → Answers result (takes seen (replied packet reply) sees) (refuses_notice seen (replied packet reply) sees) (sent key (packet_of reply)) ends old new
+      → closed_of stream ≡ ends → pending_of stream ≡ None → Stands key stream bytes (suc taken) → Turns result was seen was sees old new stream
+  turned_reply was seen sees old new stream packet reply ends result turn r closed free stands =
       let f = next_is key bytes taken packet (Reply reply ends) turn in
-      replied f.frame f.more f.left [] (plain reply) was was old new stream refl result ends (said_plain key _ f.frame reply ends f.serves.0 f.serves.1 f.serves.2) r closed free stands
+      replied_to f.frame f.more f.left [] (plain reply) (replied (clear key f.frame) reply) was was seen sees old new stream refl result ends (said_plain key _ f.frame reply ends f.serves)
+      (subst (λ (p : Packet). Answers result (takes seen (replied p reply) sees) (refuses_notice seen (replied p reply) sees) (sent key (packet_of reply)) ends old new) f.same r) closed free stands
 
   -- the desk has answered
-  pub turned_answer : (was now : S) (old new : Option (List ℕ)) (stream : Stream) (packet : Packet) (ask : Ask) (slot : Slot) (segment place : ℕ) (answer : Answer) (given : ReplyValue × Bool) (result : Result Went End)
+  pub turned_answer : (was now : S) (seen sees : V) (old new : Option (List ℕ)) (stream : Stream) (packet : Packet) (ask : Ask) (slot : Slot) (segment place : ℕ) (answer : Answer) (given : ReplyValue × Bool) (result : Result Went End)
       → IsTurn key bytes taken (turns.Packet packet (Asks ask slot)) → step was (record { ask = ask; segment = segment; place = place; answer = answer }) now → given ≡ (reply_in slot (answer_body answer), not slot.single)
-      → Replies result (sent key (packet_of given.0)) given.1 old new → closed_of stream ≡ given.1 → pending_of stream ≡ None → Stands key stream bytes (suc taken)
-      → Turned step rests refuses result key bytes taken was now old new stream
-  turned_answer was now old new stream packet ask slot segment place answer given result turn had told r closed free stands =
+      → Answers result (takes seen (replied packet given.0) sees) (refuses_notice seen (replied packet given.0) sees) (sent key (packet_of given.0)) given.1 old new
+      → closed_of stream ≡ given.1 → pending_of stream ≡ None → Stands key stream bytes (suc taken) → Turns result was seen now sees old new stream
+  turned_answer was now seen sees old new stream packet ask slot segment place answer given result turn had gave r closed free stands =
       let exchange : Exchange = record { ask = ask; segment = segment; place = place; answer = answer } in
       let f = next_is key bytes taken packet (Asks ask slot) turn in
-      replied f.frame f.more f.left (exchange ∷ []) (carrying slot answer) was now old new stream (now, had, refl) result (not slot.single)
+      let reply = reply_in slot (answer_body answer) in
+      replied_to f.frame f.more f.left (exchange ∷ []) (carrying slot answer) (replied (clear key f.frame) reply) was now seen sees old new stream (now, had, refl) result (not slot.single)
       (said_answer key _ f.frame exchange slot f.serves)
-      (subst (λ (p : ReplyValue × Bool). Replies result (sent key (packet_of p.0)) p.1 old new) told r) (closed ∙ ap (λ (p : ReplyValue × Bool). p.1) told) free stands
+      (subst (λ (p : Packet). Answers result (takes seen (replied p reply) sees) (refuses_notice seen (replied p reply) sees) (sent key (packet_of reply)) (not slot.single) old new) f.same
+      (subst (λ (p : ReplyValue × Bool). Answers result (takes seen (replied packet p.0) sees) (refuses_notice seen (replied packet p.0) sees) (sent key (packet_of p.0)) p.1 old new) gave r))
+      (closed ∙ ap (λ (p : ReplyValue × Bool). p.1) gave) free stands
 
   -- it wasn't asked
-  turned_uncalled : (was now : S) (old : Option (List ℕ)) (stream : Stream) (ask : Ask) (slot : Slot) (end : End) → IsNext key bytes taken (Asks ask slot) → rests was now → IsUncalled (refuses now) ask end
-      → Turned step rests refuses (Err end) key bytes taken was now old old stream
-  turned_uncalled was now old stream ask slot end f rested u =
+  turned_uncalled : (was now : S) (seen : V) (old : Option (List ℕ)) (stream : Stream) (packet : Packet) (ask : Ask) (slot : Slot) (end : End) → IsNext key bytes taken packet (Asks ask slot) → rests was now
+      → IsUncalled (refuses now) ask end → Turns (Err end) was seen now seen old old stream
+  turned_uncalled was now seen old stream packet ask slot end f rested u =
       let came = f.serves in
+      let d = ends_now (f.frame ∷ f.more) end was now seen seen old old f.left
+      (done_uncalled step rests refuses takes refuses_notice key _ (f.frame ∷ f.more) (cut bytes).tail ask (if slot.single then asks_in key (clear key f.frame ∷ taken_of key bytes taken) f.more else []) was now seen old rested
+      (asks_first key (packets_of key (take taken (cut bytes).packets)) f.frame f.more ∙ rw came refl)
+      (served_first key _ f.frame f.more [] ∙ rw came refl)
+      (notices_first key _ f.frame f.more (cut bytes).tail [] ∙ rw came refl) end u) in
       record {
         unfinished = uncalled_unfinished (refuses now) ask end u;
         memory = λ e. some_left bytes taken f.frame f.more f.left;
         closing = uncalled_closing (refuses now) ask end (closes key bytes) u;
-        ends = ends_uncalled (λ l. AreAllMade step rests was l now) (refuses now) (was, refl, rested) key _ _ ask (if slot.single then asks_in key (clear key f.frame ∷ taken_of key bytes taken) f.more else []) old
-            (rw f.left (asks_first key (packets_of key (take taken (cut bytes).packets)) f.frame f.more ∙ rw came refl))
-            (rw f.left (served_first key _ f.frame f.more [] ∙ rw came refl)) end u;
+        ends = d.ends;
+        told = d.told;
       }
 
-  pub turned_refusal : (was now : S) (old : Option (List ℕ)) (stream : Stream) (packet : Packet) (ask : Ask) (slot : Slot) (result : Result Went End) (end : End) → IsTurn key bytes taken (turns.Packet packet (Asks ask slot))
-      → rests was now → IsUncalled (refuses now) ask end → IsErrAnd result (λ told. told ≡ end) → Turned step rests refuses result key bytes taken was now old old stream
-  turned_refusal was now old stream packet ask slot (Ok went) end turn rested u told = absurd told
-  turned_refusal was now old stream packet ask slot (Err other) end turn rested u told = rw told (turned_uncalled was now old stream ask slot end (next_is key bytes taken packet (Asks ask slot) turn) rested u)
+  pub turned_refusal : (was now : S) (seen : V) (old : Option (List ℕ)) (stream : Stream) (packet : Packet) (ask : Ask) (slot : Slot) (result : Result Went End) (end : End) → IsTurn key bytes taken (turns.Packet packet (Asks ask slot))
+      → rests was now → IsUncalled (refuses now) ask end → IsErrAnd result (λ told. told ≡ end) → Turns result was seen now seen old old stream
+  turned_refusal was now seen old stream packet ask slot (Ok went) end turn rested u told = absurd told
+  turned_refusal was now seen old stream packet ask slot (Err other) end turn rested u told =
+      rw told (turned_uncalled was now seen old stream packet ask slot end (next_is key bytes taken packet (Asks ask slot) turn) rested u)
 
   -- nothing is sent
-  pub turned_silent : (was : S) (old : Option (List ℕ)) (stream : Stream) (packet : Packet) → IsTurn key bytes taken (turns.Packet packet Silent) → closed_of stream ≡ false → pending_of stream ≡ None → Stands key stream bytes (suc taken)
-      → Turned step rests refuses (Ok On) key bytes taken was was old old stream
-  turned_silent was old stream packet turn closed free stands =
-      let f = next_is key bytes taken packet Silent turn in
-      record {
-        frame = f.frame;
-        more = f.more;
-        left = f.left;
-        goes = record {
-          made = [];
-          sendings = [];
-          handled = handled_silent key _ f.frame f.serves;
-          makes = refl;
-          written = Appends-nil old;
-        };
-        stays = stays_open _ _ (rw f.serves refl);
-        ready = (closed, free);
-        stands = stands;
-      }
-
-  -- no packet is left
-  pub turned_need : (was : S) (old : Option (List ℕ)) (stream : Stream) → IsTurn key bytes taken turns.Need → closed_of stream ≡ false → pending_of stream ≡ None → Stands key stream bytes taken
-      → Turned step rests refuses (Ok Rests) key bytes taken was was old old stream
-  turned_need was old stream (inl f) closed free stands = absurd (by_packet f.is)
-    where
-      by_packet : {packet : Packet} {it : Step} → turns.Need ≡ turns.Packet packet it → ⊥
-      by_packet e = cc
-  turned_need was old stream (inr n) closed free stands = record {
-    left = n.left;
-    tail = by_tail (cut bytes).tail n.is;
-    same = refl;
-    nothing = Appends-nil old;
+  goes_silent : (was : S) (seen sees : V) (old : Option (List ℕ)) (stream : Stream) (packet : Packet) → IsNext key bytes taken packet Silent → takes seen (unreplied packet) sees
+      → closed_of stream ≡ false → pending_of stream ≡ None → Stands key stream bytes (suc taken) → Turns (Ok On) was seen was sees old old stream
+  goes_silent was seen sees old stream packet f took closed free stands = record {
+    frame = f.frame;
+    more = f.more;
+    left = f.left;
+    goes = record {
+      made = [];
+      sendings = [];
+      notices = unreplied (clear key f.frame) ∷ [];
+      handled = handled_silent key _ f.frame f.serves;
+      makes = refl;
+      told = (sees, rw f.same at took, refl);
+      written = Appends-nil old;
+    };
+    stays = stays_open _ _ (rw f.serves refl);
     ready = (closed, free);
     stands = stands;
   }
-    where
-      by_tail : (tail : Tail) → turns.Need ≡ tail_turn tail → closed_by tail ≡ false
-      by_tail (open_end rest) e = refl
-      by_tail (fault refused) e = cc
 
   -- a packet closes the connection without a reply
-  closes_packet : (was : S) (old : Option (List ℕ)) (stream : Stream) → IsNext key bytes taken Close → Turned step rests refuses (Err ByProtocol) key bytes taken was was old old stream
-  closes_packet was old stream f =
+  closes_packet : (was : S) (seen sees : V) (old : Option (List ℕ)) (stream : Stream) (packet : Packet) → IsNext key bytes taken packet Close → takes seen (unreplied packet) sees
+      → Turns (Err ByProtocol) was seen was sees old old stream
+  closes_packet was seen sees old stream packet f took =
+      let d = ends_now (f.frame ∷ f.more) ByProtocol was was seen sees old old f.left
+      (done_none step rests refuses takes refuses_notice key _ (f.frame ∷ f.more) (cut bytes).tail ByProtocol was was seen sees (unreplied (clear key f.frame) ∷ []) old old (rests_so was)
+      (asks_first key _ f.frame f.more ∙ rw f.serves refl) (served_first key _ f.frame f.more [] ∙ rw f.serves refl) (notices_first key _ f.frame f.more (cut bytes).tail [] ∙ rw f.serves refl)
+      (sees, rw f.same at took, refl) refl (Appends-nil old) refl (λ w. w) refl refl (λ w. w)) in
       record {
         unfinished = λ e. cc;
         memory = λ e. absurd cc;
         closing = closes_at key bytes taken f.frame f.more f.left (closed_next _ _ (rw f.serves refl));
-        ends = ends_none (λ l. AreAllMade step rests was l was) (refuses was) (was, refl, rests_so was) key _ _ ByProtocol old old (rw f.left (asks_first key _ f.frame f.more ∙ rw f.serves refl)) (rw f.left (served_first key _ f.frame f.more [] ∙ rw f.serves refl))
-            (Appends-nil old) refl (λ w. w);
+        ends = d.ends;
+        told = d.told;
       }
 
-  -- so does a header that is refused
-  closes_tail : (was : S) (old : Option (List ℕ)) (stream : Stream) → drop taken (cut bytes).packets ≡ [] → closed_by (cut bytes).tail ≡ true → Turned step rests refuses (Err ByProtocol) key bytes taken was was old old stream
-  closes_tail was old stream left shut = record {
-    unfinished = λ e. cc;
-    memory = λ e. absurd cc;
-    closing = ap (λ (b : Bool). is_closed (packets_of key (cut bytes).packets) || b) shut ∙ or_true (is_closed (packets_of key (cut bytes).packets));
-    ends = ends_none (λ l. AreAllMade step rests was l was) (refuses was) (was, refl, rests_so was) key _ _ ByProtocol old old (rw left (asks_at_end key _)) (rw left (served_at_end key _ [])) (Appends-nil old) refl (λ w. w);
-  }
+  -- the witness refused the notice of a packet that has no reply
+  unwitnessed : (was : S) (seen sees : V) (old : Option (List ℕ)) (stream : Stream) (frames : List Frame) (notice : Notice) (later : List Notice) → drop taken (cut bytes).packets ≡ frames
+      → notices_to key (packets_of key (take taken (cut bytes).packets)) frames (cut bytes).tail [] ≡ notice ∷ later → refuses_notice seen notice sees → Turns (Err Unwitnessed) was seen was sees old old stream
+  unwitnessed was seen sees old stream frames notice later left tells refused =
+      let d = ends_now frames Unwitnessed was was seen sees old old left
+      (done_unwitnessed step rests refuses takes refuses_notice key _ frames (cut bytes).tail [] (asks_in key (packets_of key (take taken (cut bytes).packets)) frames) notice later was was seen sees old old
+      (was, refl, rests_so was) refl tells refused (Appends-nil old)) in
+      record { unfinished = λ e. cc; memory = λ e. absurd cc; closing = tt; ends = d.ends; told = d.told }
 
-  -- the connection closes without a reply
-  pub turned_close : (was : S) (old : Option (List ℕ)) (stream : Stream) (turn : Turn) → IsTurn key bytes taken turn → Shuts turn → Turned step rests refuses (Err ByProtocol) key bytes taken was was old old stream
-  turned_close was old stream (turns.Packet packet it) turn shuts = closes_packet was old stream (subst (IsNext key bytes taken) shuts (next_is key bytes taken packet it turn))
-  turned_close was old stream turns.Need turn shuts = absurd shuts
-  turned_close was old stream (turns.Refused header) (inl f) shuts = absurd (by_packet f.is)
+  refuses_silent : (was : S) (seen sees : V) (old : Option (List ℕ)) (stream : Stream) (packet : Packet) → IsNext key bytes taken packet Silent → refuses_notice seen (unreplied packet) sees → Turns (Err Unwitnessed) was seen was sees old old stream
+  refuses_silent was seen sees old stream packet f refused =
+      unwitnessed was seen sees old stream (f.frame ∷ f.more) (unreplied packet) (notices_to key (clear key f.frame ∷ packets_of key (take taken (cut bytes).packets)) f.more (cut bytes).tail []) f.left
+      (notices_first key _ f.frame f.more (cut bytes).tail [] ∙ rw (f.serves, f.same) refl) refused
+
+  refuses_close : (was : S) (seen sees : V) (old : Option (List ℕ)) (stream : Stream) (packet : Packet) → IsNext key bytes taken packet Close → refuses_notice seen (unreplied packet) sees → Turns (Err Unwitnessed) was seen was sees old old stream
+  refuses_close was seen sees old stream packet f refused =
+      unwitnessed was seen sees old stream (f.frame ∷ f.more) (unreplied packet) [] f.left (notices_first key _ f.frame f.more (cut bytes).tail [] ∙ rw (f.serves, f.same) refl) refused
+
+  -- a packet has no reply
+  pub turned_silent : (was : S) (seen sees : V) (old : Option (List ℕ)) (stream : Stream) (packet : Packet) (result : Result Went End) → IsTurn key bytes taken (turns.Packet packet Silent)
+      → Notes result (takes seen (unreplied packet) sees) (refuses_notice seen (unreplied packet) sees) false
+      → closed_of stream ≡ false → pending_of stream ≡ None → Stands key stream bytes (suc taken) → Turns result was seen was sees old old stream
+  turned_silent was seen sees old stream packet result turn n closed free stands =
+      let f = next_is key bytes taken packet Silent turn in
+      noted (λ r. Turns r was seen was sees old old stream) result _ _ false n (λ e took. goes_silent was seen sees old stream packet f took closed free stands) (λ e took. absurd cc)
+      (λ refused. refuses_silent was seen sees old stream packet f refused)
+
+  pub turned_close : (was : S) (seen sees : V) (old : Option (List ℕ)) (stream : Stream) (packet : Packet) (result : Result Went End) → IsTurn key bytes taken (turns.Packet packet Close)
+      → Notes result (takes seen (unreplied packet) sees) (refuses_notice seen (unreplied packet) sees) true → Turns result was seen was sees old old stream
+  turned_close was seen sees old stream packet result turn n =
+      let f = next_is key bytes taken packet Close turn in
+      noted (λ r. Turns r was seen was sees old old stream) result _ _ true n (λ e took. absurd cc) (λ e took. closes_packet was seen sees old stream packet f took)
+      (λ refused. refuses_close was seen sees old stream packet f refused)
+
+  -- a header is refused
+  pub record IsBadTail (header : Header) : Type 0 where
+    pub left : drop taken (cut bytes).packets ≡ []
+    pub shut : closed_by (cut bytes).tail ≡ true
+    pub notice : notices_at (cut bytes).tail ≡ notices.BadHeader header ∷ []
+
+  bad_tail : (header : Header) → IsTurn key bytes taken (turns.Refused header) → IsBadTail header
+  bad_tail header (inl f) = absurd (by_packet f.is)
     where
       by_packet : {packet : Packet} {it : Step} → turns.Refused header ≡ turns.Packet packet it → ⊥
       by_packet e = cc
-  turned_close was old stream (turns.Refused header) (inr n) shuts = closes_tail was old stream n.left (by_tail (cut bytes).tail n.is)
+  bad_tail header (inr n) = record { left = n.left; shut = shut_by (cut bytes).tail n.is; notice = notice_by (cut bytes).tail n.is }
     where
-      by_tail : (tail : Tail) → turns.Refused header ≡ tail_turn tail → closed_by tail ≡ true
-      by_tail (open_end rest) e = cc
-      by_tail (fault refused) e = refl
-  turned_close was old stream turns.Close (inl f) shuts = absurd (by_packet f.is)
-    where
-      by_packet : {packet : Packet} {it : Step} → turns.Close ≡ turns.Packet packet it → ⊥
-      by_packet e = cc
-  turned_close was old stream turns.Close (inr n) shuts = absurd (by_tail (cut bytes).tail n.is)
-    where
-      by_tail : (tail : Tail) → turns.Close ≡ tail_turn tail → ⊥
-      by_tail (open_end rest) e = cc
-      by_tail (fault refused) e = cc
+      shut_by : (tail : Tail) → turns.Refused header ≡ tail_turn tail → closed_by tail ≡ true
+      shut_by (open_end rest) e = cc
+      shut_by (fault refused) e = refl
+
+      notice_by : (tail : Tail) → turns.Refused header ≡ tail_turn tail → notices_at tail ≡ notices.BadHeader header ∷ []
+      notice_by (open_end rest) e = absurd cc
+      notice_by (fault refused) e = let same : header ≡ refused.header = cc in rw same refl
+
+  closes_tail : (was : S) (seen sees : V) (old : Option (List ℕ)) (stream : Stream) (header : Header) → IsBadTail header → takes seen (notices.BadHeader header) sees → Turns (Err ByProtocol) was seen was sees old old stream
+  closes_tail was seen sees old stream header b took =
+      let d = ends_now [] ByProtocol was was seen sees old old b.left
+      (done_none step rests refuses takes refuses_notice key _ [] (cut bytes).tail ByProtocol was was seen sees (notices.BadHeader header ∷ []) old old (rests_so was)
+      (asks_at_end key _) (served_at_end key _ []) (notices_at_end key _ (cut bytes).tail [] ∙ b.notice) (sees, took, refl) refl (Appends-nil old) refl (λ w. w) refl refl (λ w. w)) in
+      record {
+        unfinished = λ e. cc;
+        memory = λ e. absurd cc;
+        closing = ap (λ (c : Bool). is_closed (packets_of key (cut bytes).packets) || c) b.shut ∙ or_true (is_closed (packets_of key (cut bytes).packets));
+        ends = d.ends;
+        told = d.told;
+      }
+
+  pub turned_bad_header : (was : S) (seen sees : V) (old : Option (List ℕ)) (stream : Stream) (header : Header) (result : Result Went End) → IsTurn key bytes taken (turns.Refused header)
+      → Notes result (takes seen (notices.BadHeader header) sees) (refuses_notice seen (notices.BadHeader header) sees) true → Turns result was seen was sees old old stream
+  turned_bad_header was seen sees old stream header result turn n =
+      let b = bad_tail header turn in
+      noted (λ r. Turns r was seen was sees old old stream) result _ _ true n (λ e took. absurd cc) (λ e took. closes_tail was seen sees old stream header b took)
+      (λ refused. unwitnessed was seen sees old stream [] (notices.BadHeader header) [] b.left (notices_at_end key _ (cut bytes).tail [] ∙ b.notice) refused)
 
   -- memory ran out for a packet
-  pub turned_memory : (was : S) (old : Option (List ℕ)) (stream : Stream) (result : Result Went End) → IsErrAnd result (λ told. told ≡ Memory) → taken < length (cut bytes).packets
-      → Turned step rests refuses result key bytes taken was was old old stream
-  turned_memory was old stream (Ok went) told some = absurd told
-  turned_memory was old stream (Err end) told some =
-      rw told (record { unfinished = λ e. cc; memory = λ e. some_bytes bytes taken some; closing = tt; ends = ends_memory (λ l. AreAllMade step rests was l was) (refuses was) (was, refl, rests_so was) key _ _ old })
+  pub turned_memory : (was : S) (seen : V) (old : Option (List ℕ)) (stream : Stream) (result : Result Went End) → IsErrAnd result (λ told. told ≡ Memory) → taken < length (cut bytes).packets
+      → Turns result was seen was seen old old stream
+  turned_memory was seen old stream (Ok went) told some = absurd told
+  turned_memory was seen old stream (Err end) told some =
+      let d = done_memory step rests refuses takes refuses_notice key (packets_of key (take taken (cut bytes).packets)) (drop taken (cut bytes).packets) (cut bytes).tail was was seen old (rests_so was) in
+      rw told (record { unfinished = λ e. cc; memory = λ e. some_bytes bytes taken some; closing = tt; ends = d.ends; told = d.told })

@@ -1,12 +1,13 @@
 -- What a seat of a hall has done for a connection.
 use Rattle.std.specs.Prelude.{◌≡◌, ℕ, List, [], ◌∷◌, ◌++◌, Option}
 use Rattle.tac_conn.specs.declared.ask.Ask.{Ask}
+use Rattle.tac_audit.specs.declared.notice.Notice.{Notice}
 use Rattle.tac_hall.specs.declared.call.Call.TheVariants as calls
 use Rattle.tac_hall.specs.declared.fault.HallFault.{HallFault}
 use Rattle.tac_hall.specs.Seat.{Sitting, IsMade, IsRefused}
 use Rattle.tac_worker.specs.declared.worked.End.{End}
 use Rattle.tac_worker.specs.Worked.{Exchange, receipt_for, Calling, AreAllMade}
-use Rattle.tac_worker.specs.Worked.{IsServedBy}
+use Rattle.tac_worker.specs.Worked.{Traffic, IsServedBy}
 
 -- it made this exchange, and nothing else
 abbrev pub MakesOne : Sitting → Exchange → Sitting → Type 0
@@ -27,9 +28,9 @@ Rests was now = now ≡ was
 abbrev pub Refuses : Sitting → Ask → HallFault → Type 0
 Refuses seat ask fault = IsRefused seat (calls.Ask ask) fault
 
--- a connection was served by calls of this seat
-abbrev pub IsServedAt : End → List ℕ → Sitting → Sitting → Option (List ℕ) → Option (List ℕ)
-    → Option (List ℕ) → Option (List ℕ) → Type 0
-IsServedAt end key was now before after old new =
+-- a connection was served by calls of this seat, and its witness was told so
+abbrev pub IsServedAt : End → List ℕ → Sitting → Sitting
+    → (List Notice → Option Notice → Type 0) → Traffic → Type 0
+IsServedAt end key was now are_told traffic =
     IsServedBy end key (λ made. AreAllMade MakesOne Rests was made now) (Refuses now)
-    before after old new
+    are_told traffic

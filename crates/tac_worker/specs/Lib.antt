@@ -1,4 +1,5 @@
 pub mod Served
+pub mod Told
 pub mod Worked
 pub mod AtHall
 pub mod AtDesk

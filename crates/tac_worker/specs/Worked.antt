@@ -1,10 +1,11 @@
 -- What a worker has done that served one connection by calls, at a hall or at a desk that many
 -- share.
 use Rattle.std.specs.Prelude.{◌≡◌, ◌<◌, ℕ, List, [], ◌∷◌, ◌++◌, map, length}
-use Rattle.std.specs.Prelude.{Bool, true, false, Option}
+use Rattle.std.specs.Prelude.{Bool, true, false, Option, None}
 use Rattle.std.specs.Io.KnownBytes.{Appends, Consumes, IsAtEnd}
 use Rattle.tac_conn.specs.declared.ask.Answer.{Answer}
 use Rattle.tac_conn.specs.declared.ask.Ask.{Ask}
+use Rattle.tac_audit.specs.declared.notice.Notice.{Notice}
 use Rattle.tac_hall.specs.declared.call.Call.TheVariants as calls
 use Rattle.tac_hall.specs.declared.call.CallAnswer.TheVariants as answers
 use Rattle.tac_hall.specs.declared.entry.Made.{Made}
@@ -14,9 +15,10 @@ use Rattle.tac_hall.specs.declared.fault.HallFault.TheVariants as refusals
 use Rattle.tac_worker.specs.declared.worked.End.{End}
 use Rattle.tac_worker.specs.declared.worked.End.TheVariants.{Finished, ByProtocol, Stopped, LogFull}
 use Rattle.tac_worker.specs.declared.worked.End.TheVariants.{Memory, ReadFault, WriteFault}
-use Rattle.tac_worker.specs.declared.worked.End.TheVariants.{Held, NoSeat}
+use Rattle.tac_worker.specs.declared.worked.End.TheVariants.{Unwitnessed, Held, NoSeat}
 use Rattle.tac_hall.specs.Seat.{Sitting, IsRefused}
 use Rattle.tac_worker.specs.Served.{Sending, served, asks, closes, bytes_sent, carried}
+use Rattle.tac_worker.specs.Told.{notices, Tells}
 
 -- ---- its calls
 
@@ -64,6 +66,13 @@ abbrev pub AreAllMade : {S : Type 0} → (S → Exchange → S → Type 0) → (
 AreAllMade {S} step rests was made now =
     (mid : S) × AreMade step was made mid × rests mid now
 
+-- ---- who serves
+
+-- who makes the calls, and who is told
+pub record Worker (S V : Type 0) : Type 0 where
+  pub caller : S
+  pub witness : V
+
 -- ---- at a hall, with receipts
 
 -- a seat that calls, and the receipts that it got
@@ -78,7 +87,15 @@ pub record Makes (was now : Calling) (made : List Exchange) : Type 0 where
   pub view : now.seat.view ≡ was.seat.view ++ map in_view made
   pub receipts : now.receipts ≡ was.receipts ++ map (receipt_for was.seat.number) made
 
--- ---- what it wrote
+-- ---- what it read and wrote
+
+-- what was left to read before and after, and what stood written before and after, where it is
+-- known
+pub record Traffic : Type 0 where
+  pub before : Option (List ℕ)
+  pub after : Option (List ℕ)
+  pub old : Option (List ℕ)
+  pub new : Option (List ℕ)
 
 -- whole packets of these, from the first on, and all answers are among them
 pub record WritesSome (key : List ℕ) (sendings : List Sending) (answers : List Answer)
@@ -87,6 +104,14 @@ pub record WritesSome (key : List ℕ) (sendings : List Sending) (answers : List
   pub others : List Sending
   pub parts : sendings ≡ first ++ others
   pub carries : carried first ≡ answers
+  pub written : Appends old new (bytes_sent key first)
+
+-- whole packets of these, from the first on
+pub record WritesFirst (key : List ℕ) (sendings : List Sending) (old new : Option (List ℕ))
+    : Type 0 where
+  pub first : List Sending
+  pub others : List Sending
+  pub parts : sendings ≡ first ++ others
   pub written : Appends old new (bytes_sent key first)
 
 -- a beginning of the bytes of these, and not all
@@ -98,11 +123,12 @@ pub record WritesBeginning (key : List ℕ) (sendings : List Sending) (old new :
   pub some_left : 0 < length others
   pub written : Appends old new first
 
--- all bytes of these, unless memory ran out or the writer failed
+-- all bytes of these, unless memory ran out, the writer failed, or the witness refused a notice
 abbrev pub Writes : End → List ℕ → List Sending → List Answer → Option (List ℕ) → Option (List ℕ)
     → Type 0
 Writes Memory key sendings answers old new = WritesSome key sendings answers old new
 Writes WriteFault key sendings answers old new = WritesBeginning key sendings old new
+Writes Unwitnessed key sendings answers old new = WritesFirst key sendings old new
 Writes end key sendings answers old new = Appends old new (bytes_sent key sendings)
 
 -- ---- how it ended
@@ -127,6 +153,7 @@ Leaves ByProtocol refuses left = left ≡ []
 Leaves ReadFault refuses left = left ≡ []
 Leaves Memory refuses left = Unit {0}
 Leaves WriteFault refuses left = Unit {0}
+Leaves Unwitnessed refuses left = Unit {0}
 Leaves Held refuses left = 0 < length left
 Leaves Stopped refuses left = IsFirstRefused refusals.Closed refuses left
 Leaves LogFull refuses left = IsFirstRefused refusals.LogFull refuses left
@@ -151,19 +178,26 @@ pub record Ends (end : End) (key : List ℕ) (asked : List Ask) (sent_by : List 
   pub leaves : Leaves end refuses left
   pub writes : Writes end key (sent_by (answers_of made)) (answers_of made) old new
 
--- a connection was served, on which these bytes were read; it ended so
+-- a connection was served, on which these bytes were read; it ended so, and what it did was told.
+-- `are_told` says which notices its witness took, and which one it refused then
 pub record IsServedBy (end : End) (key : List ℕ) (are_made : List Exchange → Type 0)
-    (refuses : Ask → HallFault → Type 0) (before after old new : Option (List ℕ)) : Type 0 where
+    (refuses : Ask → HallFault → Type 0) (are_told : List Notice → Option Notice → Type 0)
+    (traffic : Traffic) : Type 0 where
   pub input : List ℕ
-  pub read : Consumes before after input
-  pub finished : end ≡ Finished → IsAtEnd after
+  pub read : Consumes traffic.before traffic.after input
+  pub finished : end ≡ Finished → IsAtEnd traffic.after
   pub memory : end ≡ Memory → 0 < length input
   pub closing : Closes end (closes key input)
-  pub ends : Ends end key (asks key input) (served key input) are_made refuses old new
+  pub ends : Ends end key (asks key input) (served key input) are_made refuses
+      traffic.old traffic.new
+  pub told : Tells end key (notices key input (answers_of ends.made)) are_told
+      traffic.old traffic.new
 
--- by calls of this seat at a hall, with their receipts
+-- by calls of this seat at a hall, with their receipts. No notice was refused, so it doesn't end as
+-- Unwitnessed
 abbrev pub IsServed : End → List ℕ → Calling → Calling → Option (List ℕ) → Option (List ℕ)
     → Option (List ℕ) → Option (List ℕ) → Type 0
 IsServed end key was now before after old new =
     IsServedBy end key (Makes was now)
-    (λ ask fault. IsRefused now.seat (calls.Ask ask) fault) before after old new
+    (λ ask fault. IsRefused now.seat (calls.Ask ask) fault) (λ told refused. refused ≡ None)
+    (record { before = before; after = after; old = old; new = new })

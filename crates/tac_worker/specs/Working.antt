@@ -3,7 +3,7 @@ use Rattle.std.specs.Prelude.{◌≡◌, ◌<◌, ℕ, suc, List, [], ◌∷◌,
 use Rattle.std.specs.Prelude.{Bool, true, false, Option, Result, Ok, Err}
 use Rattle.std.specs.Io.KnownBytes.{Appends, Consumes, IsAtEnd}
 use Rattle.tac_wire.specs.declared.frame.Frame.{Frame}
-use Rattle.tac_wire.specs.Stream.{cut}
+use Rattle.tac_wire.specs.Stream.{Tail, cut}
 use Rattle.tac_conn.specs.Packet.{clear}
 use Rattle.tac_conn.specs.History.{is_closed}
 use Rattle.tac_conn.specs.declared.ask.Answer.{Answer}
@@ -12,41 +12,52 @@ use Rattle.tac_conn.specs.declared.packet.Packet.{Packet}
 use Rattle.tac_stream.specs.declared.stream.Stream.{Stream}
 use Rattle.tac_stream.specs.Turns.{packets_of, closed_by}
 use Rattle.tac_stream.specs.Kept.{IsReady, Stands, closed_of, pending_of}
+use Rattle.tac_audit.specs.declared.notice.Notice.{Notice}
+use Rattle.tac_audit.specs.Notices.{notices_to}
+use Rattle.tac_audit.specs.Witness.{AreTold}
 use Rattle.tac_hall.specs.declared.fault.HallFault.{HallFault}
 use Rattle.tac_hall.specs.declared.fault.HallFault.TheVariants as refusals
 use Rattle.tac_worker.specs.declared.worked.End.{End}
 use Rattle.tac_worker.specs.declared.worked.End.TheVariants.{Finished, ByProtocol, Stopped, LogFull}
 use Rattle.tac_worker.specs.declared.worked.End.TheVariants.{Memory, ReadFault, WriteFault, Held}
-use Rattle.tac_worker.specs.declared.worked.End.TheVariants.{NoSeat}
+use Rattle.tac_worker.specs.declared.worked.End.TheVariants.{Unwitnessed, NoSeat}
 use Rattle.tac_worker.specs.declared.turning.Went.{Went}
 use Rattle.tac_worker.specs.declared.turning.Went.TheVariants.{On, Rests}
 use Rattle.tac_worker.specs.Served.{Sending, served_to, asks_in, closes}
 use Rattle.tac_worker.specs.Served.{bytes_sent, carried}
+use Rattle.tac_worker.specs.Told.{bytes_told, TakesUntil, Tells}
 use Rattle.tac_worker.specs.Worked.{Exchange, asks_of, answers_of, AreMade, AreAllMade}
-use Rattle.tac_worker.specs.Worked.{Closes, Ends}
+use Rattle.tac_worker.specs.Worked.{Worker, Traffic, Closes, Ends}
 
 -- ---- packets that were served
 
 -- these packets were served, after earlier ones: whatever comes later, what is sent for all of
--- them is this, and then what is sent for the later ones
+-- them is this, and then what is sent for the later ones, and so it is with what is told
 pub record Handled (key : List ℕ) (earlier : List Packet) (frames : List Frame)
-    (made : List Exchange) (sendings : List Sending) : Type 0 where
+    (made : List Exchange) (sendings : List Sending) (notices : List Notice) : Type 0 where
   pub served : (more : List Frame) (later : List Answer)
       → served_to key earlier (frames ++ more) (answers_of made ++ later)
       ≡ sendings ++ served_to key (packets_of key frames ++ earlier) more later
   pub asks : (more : List Frame) → asks_in key earlier (frames ++ more)
       ≡ asks_of made ++ asks_in key (packets_of key frames ++ earlier) more
   pub carries : carried sendings ≡ answers_of made
+  pub tells : (more : List Frame) (tail : Tail) (later : List Answer)
+      → notices_to key earlier (frames ++ more) tail (answers_of made ++ later)
+      ≡ notices ++ notices_to key (packets_of key frames ++ earlier) more tail later
+  pub bytes : bytes_told key notices ≡ bytes_sent key sendings
 
--- and it was written, by exchanges that such steps made
-pub record GoesOn {S : Type 0} (step : S → Exchange → S → Type 0) (key : List ℕ)
-    (earlier : List Packet) (frames : List Frame) (was now : S) (old new : Option (List ℕ))
-    : Type 0 where
-  pub made : List Exchange
-  pub sendings : List Sending
-  pub handled : Handled key earlier frames made sendings
-  pub makes : AreMade step was made now
-  pub written : Appends old new (bytes_sent key sendings)
+-- by a worker whose caller makes exchanges by such steps, and whose witness takes notices so
+module _ {S V : Type 0} (step : S → Exchange → S → Type 0) (takes : V → Notice → V → Type 0) where
+  -- and it was told and written
+  pub record GoesOn (key : List ℕ) (earlier : List Packet) (frames : List Frame)
+      (was now : Worker S V) (old new : Option (List ℕ)) : Type 0 where
+    pub made : List Exchange
+    pub sendings : List Sending
+    pub notices : List Notice
+    pub handled : Handled key earlier frames made sendings notices
+    pub makes : AreMade step was.caller made now.caller
+    pub told : AreTold takes was.witness notices now.witness
+    pub written : Appends old new (bytes_sent key sendings)
 
 -- ---- a reply
 
@@ -61,6 +72,7 @@ IsUncalled refuses ask Finished = ⊥
 IsUncalled refuses ask ByProtocol = ⊥
 IsUncalled refuses ask ReadFault = ⊥
 IsUncalled refuses ask WriteFault = ⊥
+IsUncalled refuses ask Unwitnessed = ⊥
 IsUncalled refuses ask Memory = Unit {0}
 IsUncalled refuses ask Held = Unit {0}
 IsUncalled refuses ask Stopped = refuses ask refusals.Closed
@@ -77,6 +89,22 @@ Replies (Err WriteFault) reply closing old new =
     × Appends old new first
 Replies (Err end) reply closing old new = ⊥
 
+-- the witness took the notice of a packet, and then that packet's reply was written; or it refused
+-- the notice, and nothing was written
+abbrev pub Answers : Result Went End → Type 0 → Type 0 → List ℕ → Bool → Option (List ℕ)
+    → Option (List ℕ) → Type 0
+Answers (Err Unwitnessed) takes refuses reply closing old new = refuses × Appends old new []
+Answers result takes refuses reply closing old new = takes × Replies result reply closing old new
+
+-- the witness took the notice of what has no reply, after which the connection closes or not; or it
+-- refused the notice
+abbrev pub Notes : Result Went End → Type 0 → Type 0 → Bool → Type 0
+Notes (Ok On) takes refuses closing = takes × (closing ≡ false)
+Notes (Ok Rests) takes refuses closing = ⊥
+Notes (Err ByProtocol) takes refuses closing = takes × (closing ≡ true)
+Notes (Err Unwitnessed) takes refuses closing = refuses
+Notes (Err end) takes refuses closing = ⊥
+
 -- ---- one turn
 
 -- the packets of these bytes of which so many were taken, the latest first, and the others
@@ -86,23 +114,24 @@ taken_of key bytes taken = packets_of key (take taken (cut bytes).packets)
 abbrev pub left_of : List ℕ → ℕ → List Frame
 left_of bytes taken = drop taken (cut bytes).packets
 
--- by a caller that makes exchanges by such steps, rests so, and is refused asks so
-module _ {S : Type 0} (step : S → Exchange → S → Type 0) (rests : S → S → Type 0)
-    (refuses : S → Ask → HallFault → Type 0) where
+-- by a worker whose caller makes exchanges by such steps, rests so, and is refused asks so, and
+-- whose witness takes notices so, and refuses them so
+module _ {S V : Type 0} (step : S → Exchange → S → Type 0) (rests : S → S → Type 0)
+    (refuses : S → Ask → HallFault → Type 0) (takes refuses_notice : V → Notice → V → Type 0) where
   -- the next packet was served, and the connection stays open
-  pub record TakesOne (key : List ℕ) (bytes : List ℕ) (taken : ℕ) (was now : S)
+  pub record TakesOne (key : List ℕ) (bytes : List ℕ) (taken : ℕ) (was now : Worker S V)
       (old new : Option (List ℕ)) (stream : Stream) : Type 0 where
     pub frame : Frame
     pub more : List Frame
     pub left : left_of bytes taken ≡ frame ∷ more
-    pub goes : GoesOn step key (taken_of key bytes taken) (frame ∷ []) was now old new
+    pub goes : GoesOn step takes key (taken_of key bytes taken) (frame ∷ []) was now old new
     pub stays : is_closed (taken_of key bytes taken) ≡ false
         → is_closed (clear key frame ∷ taken_of key bytes taken) ≡ false
     pub ready : IsReady stream
     pub stands : Stands key stream bytes (suc taken)
 
   -- no packet is left, and nothing was done
-  pub record IsAtRest (key : List ℕ) (bytes : List ℕ) (taken : ℕ) (was now : S)
+  pub record IsAtRest (key : List ℕ) (bytes : List ℕ) (taken : ℕ) (was now : Worker S V)
       (old new : Option (List ℕ)) (stream : Stream) : Type 0 where
     pub left : left_of bytes taken ≡ []
     pub tail : closed_by (cut bytes).tail ≡ false
@@ -112,16 +141,21 @@ module _ {S : Type 0} (step : S → Exchange → S → Type 0) (rests : S → S 
     pub stands : Stands key stream bytes taken
 
   -- the connection ends
-  pub record EndsAt (end : End) (key : List ℕ) (bytes : List ℕ) (taken : ℕ) (was now : S)
-      (old new : Option (List ℕ)) : Type 0 where
+  pub record EndsAt (end : End) (key : List ℕ) (bytes : List ℕ) (taken : ℕ)
+      (was now : Worker S V) (old new : Option (List ℕ)) : Type 0 where
     pub unfinished : end ≡ Finished → ⊥
     pub memory : end ≡ Memory → 0 < length bytes
     pub closing : Closes end (closes key bytes)
     pub ends : Ends end key (asks_in key (taken_of key bytes taken) (left_of bytes taken))
         (served_to key (taken_of key bytes taken) (left_of bytes taken))
-        (λ made. AreAllMade step rests was made now) (refuses now) old new
+        (λ made. AreAllMade step rests was.caller made now.caller) (refuses now.caller) old new
+    pub told : Tells end key
+        (notices_to key (taken_of key bytes taken) (left_of bytes taken) (cut bytes).tail
+        (answers_of ends.made))
+        (λ told refused. TakesUntil takes refuses_notice was.witness told refused now.witness)
+        old new
 
-  abbrev pub Turned : Result Went End → List ℕ → List ℕ → ℕ → S → S
+  abbrev pub Turned : Result Went End → List ℕ → List ℕ → ℕ → Worker S V → Worker S V
       → Option (List ℕ) → Option (List ℕ) → Stream → Type 0
   Turned (Ok On) key bytes taken was now old new stream =
       TakesOne key bytes taken was now old new stream
@@ -161,12 +195,14 @@ Heard (Err end) before after was now = ⊥
 -- ---- the whole connection
 
 -- so many packets were taken of what was read, and what they are served was done
-pub record Serving {S : Type 0} (step : S → Exchange → S → Type 0) (key : List ℕ) (was now : S)
-    (before after old new : Option (List ℕ)) (stream : Stream) : Type 0 where
+pub record Serving {S V : Type 0} (step : S → Exchange → S → Type 0)
+    (takes : V → Notice → V → Type 0) (key : List ℕ) (was now : Worker S V) (traffic : Traffic)
+    (stream : Stream) : Type 0 where
   pub input : List ℕ
   pub taken : ℕ
-  pub read : Consumes before after input
-  pub goes : GoesOn step key [] (take taken (cut input).packets) was now old new
+  pub read : Consumes traffic.before traffic.after input
+  pub goes : GoesOn step takes key [] (take taken (cut input).packets) was now
+      traffic.old traffic.new
   pub stays : is_closed (taken_of key input taken) ≡ false
   pub ready : IsReady stream
   pub stands : Stands key stream input taken

@@ -4,19 +4,22 @@ ghost use Rattle.std.specs.Prelude.{◌≡◌, ℕ, List, IfOk, IfErr, OnErr};
 ghost use Rattle.tac_conn.specs.Ask.{kind_of_ask, kind_of_answer};
 ghost use Rattle.tac_conn.specs.Packet.{sent};
 ghost use Rattle.tac_conn.specs.Reply.{packet_of};
+ghost use Rattle.tac_audit.specs.Notices.{replied};
 ghost use Rattle.tac_stream.specs.Kept.{IsReady, Stands};
+ghost use Rattle.tac_worker.specs.Told.{TakesUntil};
 ghost use Rattle.tac_worker.specs.Worked.{AreAllMade, IsServedBy};
 ghost use Rattle.tac_worker.specs.Working as working;
 
 use crate::caller::Caller;
 use crate::gate::{Gate, lets_call};
 use crate::hearing::hear;
+use crate::terms::Terms;
 use crate::worked::End;
 use basics::send;
-use std::alloc::Global;
 use std::io::{Read, Write};
 use std::sync::Wait;
-use tac_conn::{Answer, Ask, Reply, Step};
+use tac_audit::{Notice, Witness};
+use tac_conn::{Answer, Ask, Packet, Reply, Step};
 use tac_stream::{Stream, Turn};
 use tac_wire::Key;
 
@@ -71,62 +74,110 @@ fn ask_by<C: Caller, G: Gate>(caller: &mut C, gate: &G, ask: Ask) -> Result<Answ
     Ok(answer)
 }
 
+// Tells the witness of a packet and its reply, and writes that once it took the notice.
+fn answer<H, G: Gate, V: Witness<Notice>, W: Write>(
+    terms: &Terms<H, G>,
+    witness: &mut V,
+    writer: &mut W,
+    seat: u32,
+    packet: Packet,
+    reply: Reply,
+    closes: bool,
+) -> Result<Went, End>
+    ensures { let notice = replied packet reply in
+        working.Answers result (V.takes witness.old notice witness.new)
+        (V.refuses witness.old notice witness.new) (sent terms.now.key.now (packet_of reply)) closes
+        (W.contents writer.old) (W.contents writer.new) }
+{
+    let notice = Notice::Packet(packet, Some(reply));
+    witness.tell(&notice)?;
+    let Notice::Packet(_, Some(reply)) = &notice else {
+        unreachable!()
+    };
+    write_reply(terms.key, writer, terms.gate, seat, reply, closes)
+}
+
+// Tells the witness of what has no reply, after which the connection closes or not.
+fn note<V: Witness<Notice>>(witness: &mut V, notice: Notice, closes: bool) -> Result<Went, End>
+    ensures { working.Notes result (V.takes witness.old notice witness.new)
+        (V.refuses witness.old notice witness.new) closes }
+{
+    witness.tell(&notice)?;
+    if closes {
+        return Err(End::ByProtocol);
+    }
+    Ok(Went::On)
+}
+
 // Serves what stands first.
-fn take_turn<C: Caller, W: Write, G: Gate>(
-    key: &Key,
-    gate: &G,
+fn take_turn<H, G: Gate, C: Caller, V: Witness<Notice>, W: Write>(
+    terms: &Terms<H, G>,
     caller: &mut C,
+    witness: &mut V,
     stream: &mut Stream,
     writer: &mut W,
 ) -> Result<Went, End>
     ensures { (bytes : List ℕ) (taken : ℕ) → IsReady stream.old →
-        Stands key.now stream.old bytes taken →
-        working.Turned C.makes C.rests C.refuses result key.now bytes taken
-        caller.old caller.new (W.contents writer.old) (W.contents writer.new) stream.new }
+        Stands terms.now.key.now stream.old bytes taken →
+        working.Turned C.makes C.rests C.refuses V.takes V.refuses
+        result terms.now.key.now bytes taken
+        (record { caller = caller.old; witness = witness.old })
+        (record { caller = caller.new; witness = witness.new })
+        (W.contents writer.old) (W.contents writer.new) stream.new }
 {
-    match stream.next(key)? {
-        Turn::Packet(_packet, step) => match step {
+    match stream.next(terms.key)? {
+        Turn::Packet(packet, step) => match step {
             Step::Reply(reply, closes) => {
-                write_reply(key, writer, gate, caller.number(), &reply, closes)
+                let seat = caller.number();
+                answer(terms, witness, writer, seat, packet, reply, closes)
             }
             Step::Asks(ask, slot) => {
-                let answer = ask_by(caller, gate, ask)?;
-                let (reply, closes) = stream.give(slot, answer);
-                write_reply(key, writer, gate, caller.number(), &reply, closes)
+                let given = ask_by(caller, terms.gate, ask)?;
+                let (reply, closes) = stream.give(slot, given);
+                let seat = caller.number();
+                answer(terms, witness, writer, seat, packet, reply, closes)
             }
-            Step::Silent => Ok(Went::On),
-            Step::Close => Err(End::ByProtocol),
+            Step::Silent => note(witness, Notice::Packet(packet, None), false),
+            Step::Close => note(witness, Notice::Packet(packet, None), true),
         },
         Turn::Need => Ok(Went::Rests),
-        Turn::Refused(_) | Turn::Close => Err(End::ByProtocol),
+        Turn::Refused(header) => note(witness, Notice::BadHeader(header), true),
+        Turn::Close => Err(End::ByProtocol),
     }
 }
 
-/// Serves one connection to its end, which it answers: reads what comes, has the caller ask, and
-/// writes the replies. The calls are the first asks of what it read; what it wrote is what is sent
-/// by their answers, whole, or as much of it as the end allows.
+/// Serves one connection to its end, which it answers: reads what comes, has the caller ask, tells
+/// the witness, and writes the replies. The calls are the first asks of what it read; what it wrote
+/// is what is sent by their answers, whole, or as much of it as the end allows.
+///
+/// The witness is told of each packet in its order, with its reply if it has one, and at last of a
+/// header that is refused. A reply is written only once the witness took the notice of it; where it
+/// refuses one, nothing of its reply is written, and the connection ends.
 ///
 /// Before each call the gate is asked. A read or a write that is interrupted is tried again; a
-/// write that takes nothing is a fault. It may wait for the caller, the reader, the writer and the
-/// gate. Linear in what is read, but for what the caller takes.
-pub fn serve<H: Wait, C: Caller, R: Read, W: Write, G: Gate>(
-    rt: &H,
-    alloc: Global,
-    key: &Key,
-    gate: &G,
+/// write that takes nothing is a fault. It may wait for the caller, the witness, the reader, the
+/// writer and the gate. Linear in what is read, but for what the caller and the witness take.
+pub fn serve<H: Wait, G: Gate, C: Caller, V: Witness<Notice>, R: Read, W: Write>(
+    terms: &Terms<H, G>,
     caller: &mut C,
+    witness: &mut V,
     reader: &mut R,
     writer: &mut W,
 ) -> End
-    ensures { IsServedBy result key.now
+    ensures { IsServedBy result terms.now.key.now
         (λ made. AreAllMade C.makes C.rests caller.old made caller.new) (C.refuses caller.new)
-        (R.remaining reader.old) (R.remaining reader.new)
-        (W.contents writer.old) (W.contents writer.new) }
+        (λ told refused. TakesUntil V.takes V.refuses witness.old told refused witness.new)
+        (record {
+          before = R.remaining reader.old;
+          after = R.remaining reader.new;
+          old = W.contents writer.old;
+          new = W.contents writer.new;
+        }) }
 {
-    let mut stream = Stream::new(alloc);
+    let mut stream = Stream::new(terms.alloc);
     let mut chunk = [0; CHUNK];
-    'turns: for _ in rt.forever() {
-        match take_turn(key, gate, caller, &mut stream, writer) {
+    'turns: for _ in terms.rt.forever() {
+        match take_turn(terms, caller, witness, &mut stream, writer) {
             Ok(Went::On) => {}
             Ok(Went::Rests) => {
                 if let Err(end) = hear(reader, &mut chunk, &mut stream) {

@@ -2,9 +2,10 @@
 
 ghost use Rattle.std.specs.Prelude.{◌≡◌};
 ghost use Rattle.tac_worker.specs.Worked.{end_by};
-ghost use Rattle.tac_worker.specs.declared.worked.End.TheVariants.{Memory};
+ghost use Rattle.tac_worker.specs.declared.worked.End.TheVariants.{Memory, Unwitnessed};
 
 use std::alloc::{AllocError, AllocFailed};
+use tac_audit::Refused;
 use tac_hall::{HallFault, Receipt, Seat};
 
 /// How the serving of a connection ended.
@@ -24,6 +25,8 @@ pub enum End {
     ReadFault,
     /// The writer failed.
     WriteFault,
+    /// The witness refused what it was told; nothing of its reply was written.
+    Unwitnessed,
     /// The gate held the next call back.
     Held,
     /// The hall doesn't know the seat.
@@ -43,6 +46,14 @@ impl<T: Drop> From<AllocFailed<T>> for End {
 
     fn from(_error: AllocFailed<T>) -> End {
         End::Memory
+    }
+}
+
+impl From<Refused> for End {
+    ghost from_gives = { λ _ end. end ≡ Unwitnessed };
+
+    fn from(_error: Refused) -> End {
+        End::Unwitnessed
     }
 }
 

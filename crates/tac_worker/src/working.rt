@@ -6,16 +6,18 @@ ghost use Rattle.tac_worker.specs.Worked.{IsServed};
 use crate::gate::Gate;
 use crate::hall_caller::HallCaller;
 use crate::receipt_caller::ReceiptCaller;
+use crate::terms::Terms;
 use crate::turning::serve;
 use crate::worked::Worked;
 use std::io::{Read, Write};
 use std::sync::Wait;
+use tac_audit::Nobody;
 use tac_desk::Desk;
 use tac_hall::{Hall, Seat};
 use tac_wire::Key;
 
 /// Serves one connection as [`serve`] does, by calls of this seat at the hall, and keeps their
-/// receipts. The place of a receipt is taken before its call.
+/// receipts. The place of a receipt is taken before its call. No witness is told.
 pub fn work<H: Wait, D: Desk, R: Read, W: Write, G: Gate>(
     rt: &H,
     hall: &Hall<D>,
@@ -31,7 +33,13 @@ pub fn work<H: Wait, D: Desk, R: Read, W: Write, G: Gate>(
         (W.contents writer.old) (W.contents writer.new) }
 {
     let alloc = seat.alloc();
+    let terms = Terms {
+        rt,
+        alloc,
+        key,
+        gate,
+    };
     let mut caller = ReceiptCaller::new(HallCaller::new(rt, hall, seat));
-    let end = serve(rt, alloc, key, gate, &mut caller, reader, writer);
+    let end = serve(&terms, &mut caller, &mut Nobody, reader, writer);
     caller.worked(end)
 }

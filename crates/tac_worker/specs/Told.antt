@@ -1,0 +1,93 @@
+-- What the witness of a connection was told, each notice before its reply was written
+-- (docs/AUDIT.md).
+use Rattle.std.specs.Prelude.{◌≡◌, ◌<◌, ℕ, List, [], ◌∷◌, ◌++◌, length, map, flat_map}
+use Rattle.std.specs.Prelude.{Option, Some, None}
+use Rattle.std.specs.Io.KnownBytes.{Appends}
+use Rattle.tac_wire.specs.declared.frame.Frame.{Frame}
+use Rattle.tac_wire.specs.Stream.{Tail, cut}
+use Rattle.tac_conn.specs.declared.ask.Answer.{Answer}
+use Rattle.tac_conn.specs.declared.packet.Packet.{Packet}
+use Rattle.tac_conn.specs.Packet.{sent}
+use Rattle.tac_conn.specs.Reply.{packet_of}
+use Rattle.tac_audit.specs.declared.notice.Notice.{Notice}
+use Rattle.tac_audit.specs.Notices.{notices_to, replies_told}
+use Rattle.tac_audit.specs.Witness.{AreTold}
+use Rattle.tac_worker.specs.declared.worked.End.{End}
+use Rattle.tac_worker.specs.declared.worked.End.TheVariants.{Memory, WriteFault, Unwitnessed}
+use Rattle.tac_worker.specs.Served.{served_to}
+
+-- ---- of a stream
+
+-- what there is to tell of these bytes: each ask takes the next answer
+abbrev pub notices : List ℕ → List ℕ → List Answer → List Notice
+notices key bytes answers =
+    let parts = cut bytes in notices_to key [] parts.packets parts.tail answers
+
+-- the bytes of the replies that are told, under this key
+abbrev pub bytes_told : List ℕ → List Notice → List ℕ
+bytes_told key told = flat_map (λ reply. sent key (packet_of reply)) (replies_told told)
+
+-- the replies that are told are those that are sent
+abbrev pub ToldLaw : Type 0
+ToldLaw =
+    (key : List ℕ) (earlier : List Packet) (frames : List Frame) (tail : Tail)
+    (answers : List Answer)
+    → map packet_of (replies_told (notices_to key earlier frames tail answers))
+    ≡ map (λ sending. sending.packet) (served_to key earlier frames answers)
+
+-- ---- to a witness
+
+-- it refused this notice, if there is one, and did nothing else
+abbrev pub RefusesOne : {V T : Type 0} → (V → T → V → Type 0) → V → Option T → V → Type 0
+RefusesOne refuses was None now = now ≡ was
+RefusesOne refuses was (Some notice) now = refuses was notice now
+
+-- it took these notices, one after another, and then refused this one, if there is one
+abbrev pub TakesUntil : {V T : Type 0} → (V → T → V → Type 0) → (V → T → V → Type 0)
+    → V → List T → Option T → V → Type 0
+TakesUntil {V} takes refuses was told refused now =
+    (mid : V) × AreTold takes was told mid × RefusesOne refuses mid refused now
+
+-- the notices that are left where a connection ends so: none, unless memory ran out, the writer
+-- failed, or the first of them was refused
+abbrev pub LeavesUntold : End → List Notice → Type 0
+LeavesUntold Memory left = Unit {0}
+LeavesUntold WriteFault left = Unit {0}
+LeavesUntold Unwitnessed left = 0 < length left
+LeavesUntold end left = left ≡ []
+
+-- the one of them that was refused, if one was
+abbrev pub refused_of : End → List Notice → Option Notice
+refused_of Unwitnessed (notice ∷ left) = Some notice
+refused_of end left = None
+
+-- ---- before its replies were written
+
+-- the bytes of the replies in these notices were written, but of the last reply a beginning, not
+-- all
+pub record WritesAllButLast (key : List ℕ) (told : List Notice) (old new : Option (List ℕ))
+    : Type 0 where
+  pub before : List Notice
+  pub last : Notice
+  pub parts : told ≡ before ++ last ∷ []
+  pub first : List ℕ
+  pub others : List ℕ
+  pub cuts : bytes_told key (last ∷ []) ≡ first ++ others
+  pub some_left : 0 < length others
+  pub written : Appends old new (bytes_told key before ++ first)
+
+-- exactly the bytes of the replies in these notices, unless the writer failed
+abbrev pub WritesTold : End → List ℕ → List Notice → Option (List ℕ) → Option (List ℕ) → Type 0
+WritesTold WriteFault key told old new = WritesAllButLast key told old new
+WritesTold end key told old new = Appends old new (bytes_told key told)
+
+-- of what there is to tell the first notices were told, and the replies in them were written.
+-- `are_told` says which notices the witness took, and which one it refused then
+pub record Tells (end : End) (key : List ℕ) (to_tell : List Notice)
+    (are_told : List Notice → Option Notice → Type 0) (old new : Option (List ℕ)) : Type 0 where
+  pub told : List Notice
+  pub left : List Notice
+  pub parts : to_tell ≡ told ++ left
+  pub takes : are_told told (refused_of end left)
+  pub leaves : LeavesUntold end left
+  pub writes : WritesTold end key told old new
