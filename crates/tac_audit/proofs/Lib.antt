@@ -4,4 +4,4 @@ pub mod MaskingFacts
 pub mod AnswerFacts
 mod LoginFacts
 mod ReplyFacts
-mod NoticeFacts
+pub mod NoticeFacts
