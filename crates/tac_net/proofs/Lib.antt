@@ -1,3 +1,4 @@
+pub mod LogFacts
 pub mod Crossing
 pub mod ServingFacts
 pub mod SendFacts

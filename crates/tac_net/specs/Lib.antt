@@ -1,3 +1,4 @@
+pub mod Logs
 pub mod Serving
 pub mod Opening
 pub mod Ending

@@ -1,5 +1,5 @@
 -- What a worker sends, by the places that its calls have in the history of its desk.
-use Rattle.std.specs.Prelude.{◌≡◌, ℕ, zero, suc, List, [], ◌∷◌, ◌++◌, take, Option}
+use Rattle.std.specs.Prelude.{◌≡◌, ℕ, zero, suc, List, [], ◌∷◌, ◌++◌, take, Bool, Option}
 use Rattle.tac_desk.specs.Meaning.{Meaning}
 use Rattle.tac_hall.specs.declared.entry.Entry.{Entry}
 use Rattle.tac_hall.specs.declared.entry.Made.{Made}
@@ -11,10 +11,11 @@ use Rattle.tac_forum.specs.declared.event.Event.{Event}
 use Rattle.tac_forum.specs.History.{Opening, calls_in, logs_of, joined, view_of}
 use Rattle.tac_forum.specs.Seat.{Seated}
 use Rattle.tac_worker.specs.Served.{served, bytes_sent}
-use Rattle.tac_worker.specs.Worked.{Exchange, answers_of, Calling, IsServed}
+use Rattle.tac_worker.specs.Worked.{Exchange, answers_of, Calling, Traffic, IsServed}
 use Rattle.tac_worker.specs.AtDesk.{IsServedAt}
 use Rattle.tac_worker.specs.AtHall as at_hall
 use Rattle.tac_desk.specs.Serving.{sent_bytes}
+use Rattle.tac_net.specs.Logs.{Logs}
 use Rattle.tac_net.specs.Shared.{said_shared_on, packets_in}
 
 -- the calls before this place of this segment, in the logs of one segment after another: all of
@@ -52,8 +53,8 @@ pub record IsSaid (key bytes : List ℕ) (base : Meaning) (logs : List (List Ent
 abbrev pub PlacesLaw : Type 0
 PlacesLaw =
     (opening : Opening) (end : End) (key : List ℕ) (was now : Seated)
-    (before after old new : Option (List ℕ))
-    (work : IsServedAt opening end key was now before after old new)
+    (is_logged : Bool) (traffic : Traffic)
+    (work : IsServedAt opening end key was now (Logs is_logged) traffic)
     (last : Meaning) (history : List (ℕ × Event)) (later : List Made)
     → Legal opening.meaning (calls_in history) last
     → view_of now.number history ≡ view_of now.number now.seen ++ later
@@ -63,8 +64,9 @@ PlacesLaw =
 -- together a legal history, and have exactly the view of the seat, with what that called later
 abbrev pub HallPlacesLaw : Type 0
 HallPlacesLaw =
-    (end : End) (key : List ℕ) (was now : Sitting) (before after old new : Option (List ℕ))
-    (work : at_hall.IsServedAt end key was now before after old new)
+    (end : End) (key : List ℕ) (was now : Sitting)
+    (is_logged : Bool) (traffic : Traffic)
+    (work : at_hall.IsServedAt end key was now (Logs is_logged) traffic)
     (base last : Meaning) (logs : List (List Entry)) (later : List Made)
     → Legal base (joined logs) last
     → view_along 0 now.number logs ≡ now.view ++ later

@@ -1,6 +1,6 @@
 -- What a worker has done that served connections one after another, and what several have: at a
 -- hall, or at a shared desk.
-use Rattle.std.specs.Prelude.{◌≡◌, ◌≤◌, ◌+◌, ◌⊎◌, ℕ, List, [], ◌∷◌, Bool, true, false, Option}
+use Rattle.std.specs.Prelude.{◌≡◌, ◌≤◌, ◌+◌, ◌⊎◌, ℕ, List, [], ◌∷◌, Bool, true, false}
 use Rattle.tac_conn.specs.declared.ask.Ask.{Ask}
 use Rattle.tac_forum.specs.History.{Opening}
 use Rattle.tac_forum.specs.Seat.{Seated, CatchesUp}
@@ -9,32 +9,31 @@ use Rattle.tac_hall.specs.Seat.{Sitting}
 use Rattle.tac_worker.specs.declared.worked.End.{End}
 use Rattle.tac_worker.specs.declared.worked.End.TheVariants.{Finished, Stopped, ReadFault}
 use Rattle.tac_worker.specs.declared.worked.End.TheVariants.{Held, NoSeat}
-use Rattle.tac_worker.specs.Worked.{Exchange, AreAllMade, IsServedBy}
+use Rattle.tac_worker.specs.Worked.{Exchange, AreAllMade, Traffic, IsServedBy}
 use Rattle.tac_worker.specs.AtDesk as at_desk
 use Rattle.tac_worker.specs.AtHall as at_hall
+use Rattle.tac_net.specs.Logs.{Logs}
 
 -- ---- one connection
 
 -- whoever makes the calls, each by such a step, and then rests, served it, and it ended so; a call
--- is refused so. That its bytes are the device's is in no contract
+-- is refused so. The log, if one is kept, was told of each packet before its reply was written. That
+-- the bytes are the device's is in no contract
 pub record IsConnection {S : Type 0} (step : S → Exchange → S → Type 0) (rests : S → S → Type 0)
-    (refuses : S → Ask → HallFault → Type 0) (key : List ℕ) (was : S) (end : End) (now : S)
-    : Type 0 where
-  pub before : Option (List ℕ)
-  pub after : Option (List ℕ)
-  pub old : Option (List ℕ)
-  pub new : Option (List ℕ)
+    (refuses : S → Ask → HallFault → Type 0) (key : List ℕ) (is_logged : Bool)
+    (was : S) (end : End) (now : S) : Type 0 where
+  pub traffic : Traffic
   pub served : IsServedBy end key (λ made. AreAllMade step rests was made now) (refuses now)
-      before after old new
+      (Logs is_logged) traffic
 
--- a seat of a hall served it
+-- a seat of a hall served it, without a log
 abbrev pub IsHallConnection : List ℕ → Sitting → End → Sitting → Type 0
-IsHallConnection key = IsConnection at_hall.MakesOne at_hall.Rests at_hall.Refuses key
+IsHallConnection key = IsConnection at_hall.MakesOne at_hall.Rests at_hall.Refuses key false
 
 -- a seat of a shared desk did
-abbrev pub IsDeskConnection : Opening → List ℕ → Seated → End → Seated → Type 0
-IsDeskConnection opening key =
-    IsConnection (at_desk.MakesOne opening) CatchesUp (at_desk.Refuses opening) key
+abbrev pub IsDeskConnection : Opening → List ℕ → Bool → Seated → End → Seated → Type 0
+IsDeskConnection opening key is_logged =
+    IsConnection (at_desk.MakesOne opening) CatchesUp (at_desk.Refuses opening) key is_logged
 
 -- how it ends where no connection was accepted: as one that couldn't be read, or as Stopped, since
 -- the server was stopping

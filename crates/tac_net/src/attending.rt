@@ -1,58 +1,117 @@
 //! The console's part of a server: its first line, the operator's lines, and the end.
 
+ghost use Rattle.std.specs.Prelude.{true};
+ghost use Rattle.tac_hall_console.specs.Operated.{IsOperated};
+ghost use Rattle.tac_net.specs.Logs.{LogsTyped};
 ghost use Rattle.tac_net.specs.Program as program;
 
 use crate::fault::ServeFault;
 use crate::opening::announce;
-use crate::port::Port;
-use crate::settings::Settings;
-use crate::vigil::Vigil;
+use crate::service::Premises;
 use std::io::{Read, Write};
 use std::sync::Wait;
 use std::time::Clock;
+use tac_audit::Nobody;
 use tac_desk::Desk;
-use tac_forum::{Run, Seat, SharedDesk};
+use tac_forum::{Run, Seat};
 use tac_hall_console::{OperatorFault, operate};
+use tac_journal::{ConsoleLog, Entry, Log, LogFiles};
+
+// Operates the console, and tells this log of each line before it is answered.
+fn operate_with<R, J: Run, D: Desk, L, F: Write + Drop, I: Read, O: Write>(
+    premises: &Premises<'_, R, J, D, L>,
+    log: F,
+    console: Seat<J>,
+    input: &mut I,
+    output: &mut O,
+) -> (Seat<J>, Result<(), OperatorFault>)
+where
+    R: Wait + Clock + AllocGlobal,
+    ensures { IsOperated J.opening result.1 (LogsTyped true) console result.0
+        (I.remaining input.old) (I.remaining input.new)
+        (O.contents output.old) (O.contents output.new) }
+{
+    let rt = premises.rt;
+    let mut witness = ConsoleLog::new(rt.alloc(), rt, log);
+    operate(
+        rt,
+        rt.alloc(),
+        premises.desk,
+        console,
+        &mut witness,
+        input,
+        output,
+    )
+}
+
+// The same with the log of the server, if one is kept.
+fn operate_logged<R, J: Run, D: Desk, L: Log, I: Read, O: Write>(
+    premises: &Premises<'_, R, J, D, L>,
+    console: Seat<J>,
+    input: &mut I,
+    output: &mut O,
+) -> (Seat<J>, Result<(), OperatorFault>)
+where
+    R: Wait + Clock + AllocGlobal + Eprint + LogFiles,
+    ensures { IsOperated J.opening result.1 (LogsTyped (L.keeps premises.now.log.now))
+        console result.0 (I.remaining input.old) (I.remaining input.new)
+        (O.contents output.old) (O.contents output.new) }
+{
+    let rt = premises.rt;
+    if premises.log.is_kept() {
+        let entry = Entry::new(rt, premises.log);
+        return operate_with(premises, entry, console, input, output);
+    }
+    operate(
+        rt,
+        rt.alloc(),
+        premises.desk,
+        console,
+        &mut Nobody,
+        input,
+        output,
+    )
+}
 
 // Once each worker has a thread, the first line is printed, and then the console is operated.
-fn open_console<R: Wait + Clock + AllocGlobal, J: Run, D: Desk, I: Read, O: Write>(
-    rt: &R,
-    desk: &SharedDesk<J, D>,
-    settings: &Settings,
-    vigil: &Vigil,
+fn open_console<R, J: Run, D: Desk, L: Log, I: Read, O: Write>(
+    premises: &Premises<'_, R, J, D, L>,
     console: Seat<J>,
     input: &mut I,
     output: &mut O,
 ) -> Result<(Seat<J>, Result<(), OperatorFault>), ServeFault>
-    ensures { program.Attends result settings.now.port J.opening console
+where
+    R: Wait + Clock + AllocGlobal + Eprint + LogFiles,
+    ensures { program.Attends result premises.now.settings.now.port
+        (L.keeps premises.now.log.now) J.opening console
         (I.remaining input.old) (I.remaining input.new)
         (O.contents output.old) (O.contents output.new) }
 {
-    if !vigil.have_begun(rt, settings.workers) {
+    let rt = premises.rt;
+    if !premises.vigil.have_begun(rt, premises.settings.workers) {
         return Err(ServeFault::Threads);
     }
-    announce(rt.alloc(), output, settings.port)?;
-    Ok(operate(rt, rt.alloc(), desk, console, input, output))
+    announce(rt.alloc(), output, premises.settings.port)?;
+    Ok(operate_logged(premises, console, input, output))
 }
 
 /// The console's part, from its first line to its last. Then all workers are told to end, whatever
 /// they wait for. Nothing is read and no line printed where a worker has no thread.
-pub(crate) fn attend<R: Wait + Clock + AllocGlobal, J: Run, D: Desk, I: Read, O: Write>(
-    rt: &R,
-    port: &Port,
-    desk: &SharedDesk<J, D>,
-    settings: &Settings,
-    vigil: &Vigil,
+pub(crate) fn attend<R, J: Run, D: Desk, L: Log, I: Read, O: Write>(
+    premises: &Premises<'_, R, J, D, L>,
     console: Seat<J>,
     input: &mut I,
     output: &mut O,
 ) -> Result<(Seat<J>, Result<(), OperatorFault>), ServeFault>
-    ensures { program.Attends result settings.now.port J.opening console
+where
+    R: Wait + Clock + AllocGlobal + Eprint + LogFiles,
+    ensures { program.Attends result premises.now.settings.now.port
+        (L.keeps premises.now.log.now) J.opening console
         (I.remaining input.old) (I.remaining input.new)
         (O.contents output.old) (O.contents output.new) }
 {
-    let attended = open_console(rt, desk, settings, vigil, console, input, output);
-    vigil.stop();
-    port.close();
+    let attended = open_console(premises, console, input, output);
+    premises.vigil.stop();
+    premises.port.close();
     attended
 }

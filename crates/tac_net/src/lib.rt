@@ -13,6 +13,7 @@ mod patience;
 mod pause;
 mod port;
 mod program;
+mod service;
 mod serving;
 mod settings;
 mod sharing;

@@ -11,6 +11,7 @@ use crate::fault::ServeFault;
 use crate::lent::Lent;
 use crate::opening::seats_of;
 use crate::port::Port;
+use crate::service::Premises;
 use crate::serving::serve_seats;
 use crate::settings::Settings;
 use crate::vigil::Vigil;
@@ -30,12 +31,7 @@ use tac_worker::End;
 // Workers serve in threads of their own, while this one serves the console. Once that has ended,
 // they end.
 fn serve_both<R, J: Run + Send + Sync, D: Desk + Send, L: Log + Sync, S, C, I: Read, O: Write>(
-    rt: &R,
-    port: &Port,
-    desk: &SharedDesk<J, D>,
-    settings: &Settings,
-    vigil: &Vigil,
-    log: &L,
+    premises: &Premises<'_, R, J, D, L>,
     seats: &mut S,
     console: &mut C,
     input: &mut I,
@@ -50,24 +46,40 @@ where
     C: Lent<Item = Seat<J>>,
     requires seats { IsSome (S.item seats.now) }
     requires console { IsSome (C.item console.now) }
-    ensures served { IfOk result.0 (λ served. IfSome (S.item seats.old) (λ waiting.
-        HaveServed (IsDeskConnection J.opening settings.now.key) settings.now.connections
-        waiting.items served.items)) }
+    ensures served { IfOk result.0 (λ served. IfSome (S.item seats.old) (λ waiting. HaveServed
+        (IsDeskConnection J.opening premises.now.settings.now.key (L.keeps premises.now.log.now))
+        premises.now.settings.now.connections waiting.items served.items)) }
     ensures attended { IfSome (C.item console.old) (λ seat.
-        program.Attends result.1 settings.now.port J.opening seat
+        program.Attends result.1 premises.now.settings.now.port
+        (L.keeps premises.now.log.now) J.opening seat
         (I.remaining input.old) (I.remaining input.new)
         (O.contents output.old) (O.contents output.new)) }
 {
-    let listener = port.listener();
+    let Premises {
+        rt,
+        port,
+        desk,
+        settings,
+        vigil,
+        log,
+    } = *premises;
     let mut serving = || -> Result<Vec<(Seat<J>, End)>, AllocError>
         requires { IsSome (S.item seats.now) }
-        ensures { IfOk result (λ served. IfSome (S.item seats.entry.now) (λ waiting.
-            HaveServed (IsDeskConnection J.opening settings.entry.now.key)
+        ensures { IfOk result (λ served. IfSome (S.item seats.entry.now) (λ waiting. HaveServed
+            (IsDeskConnection J.opening settings.entry.now.key (L.keeps log.entry.now))
             settings.entry.now.connections waiting.items served.items)) }
     {
         match seats.take_item() {
             Some(seats) => {
-                let served = serve_seats(rt, listener, desk, settings, seats, vigil, log);
+                let premises = Premises {
+                    rt,
+                    port,
+                    desk,
+                    settings,
+                    vigil,
+                    log,
+                };
+                let served = serve_seats(&premises, seats);
                 port.leave();
                 served
             }
@@ -77,12 +89,13 @@ where
     let mut attending = || -> Result<(Seat<J>, Result<(), OperatorFault>), ServeFault>
         requires { IsSome (C.item console.now) }
         ensures { IfSome (C.item console.entry.now) (λ seat.
-            program.Attends result settings.entry.now.port J.opening seat
+            program.Attends result premises.entry.now.settings.now.port
+            (L.keeps premises.entry.now.log.now) J.opening seat
             (I.remaining input.entry.now) (I.remaining input.exit.now)
             (O.contents output.entry.now) (O.contents output.exit.now)) }
     {
         match console.take_item() {
-            Some(seat) => attend(rt, port, desk, settings, vigil, seat, input, output),
+            Some(seat) => attend(premises, seat, input, output),
             None => unreachable!(),
         }
     };
@@ -105,7 +118,7 @@ where
     requires roll { history ≡ J.roll }
     requires opening { record { meaning = D.meaning desk; limits = settings.now.limits }
         ≡ J.opening }
-    ensures { program.Runs result settings.now J.opening
+    ensures { program.Runs result settings.now (L.keeps log.now) J.opening
         (I.remaining input.old) (I.remaining input.new)
         (O.contents output.old) (O.contents output.new) }
 {
@@ -122,18 +135,15 @@ where
     };
     let mut seats = Some(seats);
     let mut console = Some(console);
-    let (served, attended) = serve_both(
+    let premises = Premises {
         rt,
         port,
-        &desk,
+        desk: &desk,
         settings,
-        &vigil,
+        vigil: &vigil,
         log,
-        &mut seats,
-        &mut console,
-        input,
-        output,
-    );
+    };
+    let (served, attended) = serve_both(&premises, &mut seats, &mut console, input, output);
     let (console, operated) = match attended {
         Ok(ended) => ended,
         Err(fault) => return Err(fault),
@@ -160,8 +170,9 @@ where
 /// A connection is given up, as one that can't be read or written, where so many seconds as the
 /// settings say have passed since it was accepted or since its last reply was written, whatever
 /// comes meanwhile; before its first reply after ten seconds; and where a reply isn't taken for so
-/// long. Where there is a log, each reply is written only once that has its line
-/// ([`Audited`](tac_journal::Audited)). Of several faults the console's comes first. There may be
+/// long. Where there is a log, each reply is written only once that was told of it
+/// ([`DeviceLog`](tac_journal::DeviceLog)), and each line of the console is told before its answer
+/// is printed. Of several faults the console's comes first. There may be
 /// 63 workers: a desk has 64 seats, and the console takes one.
 pub fn serve<R, D: Desk + Send, L: Log + Sync, I: Read, O: Write>(
     rt: &R,
@@ -174,7 +185,7 @@ pub fn serve<R, D: Desk + Send, L: Log + Sync, I: Read, O: Write>(
 ) -> Result<(), ServeFault>
 where
     R: Threads + Wait + Clock + Sync + AllocGlobal + Eprint + LogFiles,
-    ensures runs { program.Runs result settings.now
+    ensures runs { program.Runs result settings.now (L.keeps log.now)
         (record { meaning = D.meaning desk; limits = settings.now.limits })
         (I.remaining input.old) (I.remaining input.new)
         (O.contents output.old) (O.contents output.new) }

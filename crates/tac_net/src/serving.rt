@@ -3,7 +3,7 @@
 ghost use Rattle.std.specs.Prelude.{IfOk};
 ghost use Rattle.tac_net.specs.Serving as serving;
 
-use crate::settings::Settings;
+use crate::service::{Premises, Service};
 use crate::vigil::Vigil;
 use crate::worker::serve_all;
 use std::alloc::AllocError;
@@ -40,16 +40,16 @@ where
             result.1 result.0 }
     {
         let mut caller = HallCaller::new(rt, hall, seat);
-        let end = serve_all(
+        let service = Service {
             rt,
             listener,
             key,
-            &mut caller,
-            connections,
             gate,
             vigil,
-            &Nowhere,
-        );
+            log: &Nowhere,
+            connections,
+        };
+        let end = serve_all(&service, &mut caller);
         (caller.into_seat(), end)
     };
     map_vec(rt, seats, &work)
@@ -58,35 +58,40 @@ where
 /// The same at a shared desk, and each reply is written only once the auditor's log has its line,
 /// where there is one.
 pub(crate) fn serve_seats<R, J: Run + Send + Sync, D: Desk + Send, L: Log + Sync>(
-    rt: &R,
-    listener: &TcpListener,
-    desk: &SharedDesk<J, D>,
-    settings: &Settings,
+    premises: &Premises<'_, R, J, D, L>,
     seats: Vec<DeskSeat<J>>,
-    vigil: &Vigil,
-    log: &L,
 ) -> Result<Vec<(DeskSeat<J>, End)>, AllocError>
 where
     R: Threads + Wait + Clock + Sync + AllocGlobal + Eprint + LogFiles,
     ensures { IfOk result (λ served. serving.HaveServed
-        (serving.IsDeskConnection J.opening settings.now.key) settings.now.connections
+        (serving.IsDeskConnection J.opening premises.now.settings.now.key
+        (L.keeps premises.now.log.now)) premises.now.settings.now.connections
         seats.items served.items) }
 {
+    let Premises {
+        rt,
+        port,
+        desk,
+        settings,
+        vigil,
+        log,
+    } = *premises;
+    let listener = port.listener();
     let work = |seat: DeskSeat<J>| -> (DeskSeat<J>, End)
-        ensures { serving.Serves (serving.IsDeskConnection J.opening settings.entry.now.key)
-            settings.entry.now.connections seat result.1 result.0 }
+        ensures { serving.Serves (serving.IsDeskConnection J.opening settings.entry.now.key
+            (L.keeps log.entry.now)) settings.entry.now.connections seat result.1 result.0 }
     {
         let mut caller = DeskCaller::new(rt, desk, seat);
-        let end = serve_all(
+        let service = Service {
             rt,
             listener,
-            &settings.key,
-            &mut caller,
-            settings.connections,
-            &OpenGate,
+            key: &settings.key,
+            gate: &OpenGate,
             vigil,
             log,
-        );
+            connections: settings.connections,
+        };
+        let end = serve_all(&service, &mut caller);
         (caller.into_seat(), end)
     };
     map_vec(rt, seats, &work)

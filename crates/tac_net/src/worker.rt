@@ -3,18 +3,30 @@
 ghost use Rattle.std.specs.Prelude.{◌≡◌, ◌⊎◌, IfErr, true};
 ghost use Rattle.tac_net.specs.Pause as pauses;
 ghost use Rattle.tac_net.specs.Serving as serving;
+ghost use Rattle.tac_worker.specs.Told.{TakesUntil};
+ghost use Rattle.tac_worker.specs.Worked.{AreAllMade, Traffic, IsServedBy};
 
 use crate::line::{Line, limit_waits};
 use crate::pause::{Pause, accepted};
-use crate::vigil::Vigil;
+use crate::service::Service;
 use basics::Bytes;
 use std::alloc::{AllocError, Global};
-use std::net::{SocketAddr, TcpListener, TcpStream};
+use std::io::Write;
+use std::net::{SocketAddr, TcpStream};
 use std::sync::Wait;
 use std::time::Clock;
-use tac_journal::{Audited, Log, LogFiles};
-use tac_wire::Key;
-use tac_worker::{Caller, End, Gate, serve};
+use tac_audit::{Nobody, Notice, Witness};
+use tac_journal::{DeviceLog, Entry, Log, LogFiles, Moments};
+use tac_worker::{Caller, End, Gate, Terms, serve};
+
+/// What a worker keeps from one connection to the next.
+#[derive(Drop)]
+struct Rounds {
+    // how long it pauses where no connection can be accepted
+    pause: Pause,
+    // the last moment that its lines told
+    moments: Moments,
+}
 
 /// Whether a worker takes another connection after one that ended so.
 fn goes_on(end: End) -> bool
@@ -27,19 +39,17 @@ fn goes_on(end: End) -> bool
 }
 
 // Waits for a connection. Where none can be accepted it pauses.
-fn accept<C: Clock>(
-    clock: &C,
-    listener: &TcpListener,
-    vigil: &Vigil,
+fn accept<R: Clock, G, L>(
+    service: &Service<'_, R, G, L>,
     pause: &mut Pause,
 ) -> Result<(TcpStream, SocketAddr), End>
     ensures fault { IfErr result serving.IsUnaccepted }
     ensures pause { pauses.Goes result pause.old pause.new }
 {
-    if vigil.is_stopping() {
+    if service.vigil.is_stopping() {
         return Err(End::Stopped);
     }
-    accepted(clock, vigil, pause, listener.accept())
+    accepted(service.rt, service.vigil, pause, service.listener.accept())
 }
 
 // How a device is named in a log: by its address and its port.
@@ -48,91 +58,93 @@ fn device_of(alloc: Global, address: SocketAddr) -> Result<Bytes, AllocError> {
     Bytes::from_slice(alloc, text.as_bytes())
 }
 
-// Serves a connection with an end to patience.
-fn serve_line<'a, R: Wait + Clock + AllocGlobal, C: Caller, G: Gate>(
-    rt: &'a R,
-    key: &Key,
+// Serves a connection with an end to patience, and tells this witness of each packet before its
+// reply is written.
+fn serve_line<'a, R, G: Gate, L, C: Caller, V: Witness<Notice>>(
+    service: &Service<'_, R, G, L>,
     caller: &mut C,
-    gate: &G,
+    witness: &mut V,
     line: &'a Line<'a, &'a TcpStream, R>,
 ) -> End
-    ensures { serving.Connects (serving.IsConnection C.makes C.rests C.refuses key.now)
-        caller.old result caller.new }
+where
+    R: Wait + Clock + AllocGlobal,
+    ensures { (traffic : Traffic) × IsServedBy result service.now.key.now
+        (λ made. AreAllMade C.makes C.rests caller.old made caller.new) (C.refuses caller.new)
+        (λ told refused. TakesUntil V.takes V.refuses witness.old told refused witness.new)
+        traffic }
 {
+    let terms = Terms {
+        rt: service.rt,
+        alloc: service.rt.alloc(),
+        key: service.key,
+        gate: service.gate,
+    };
     let mut reader = line;
     let mut writer = line;
-    serve(rt, rt.alloc(), key, gate, caller, &mut reader, &mut writer)
+    serve(&terms, caller, witness, &mut reader, &mut writer)
 }
 
-// The same, and each reply is written only once the log has its line.
-fn serve_audited<'a, R, C: Caller, G: Gate, L: Log>(
-    rt: &R,
-    key: &Key,
+// The same, and this log is told, by lines that name this device.
+fn serve_logged<'a, R, G: Gate, L, C: Caller, F: Write + Drop>(
+    service: &Service<'_, R, G, L>,
+    moments: &Moments,
     caller: &mut C,
-    gate: &G,
-    audited: &Audited<'a, &'a Line<'a, &'a TcpStream, R>, R, L>,
+    line: &'a Line<'a, &'a TcpStream, R>,
+    device: Bytes,
+    log: F,
 ) -> End
 where
-    R: Wait + Clock + AllocGlobal + Eprint + LogFiles,
-    ensures { serving.Connects (serving.IsConnection C.makes C.rests C.refuses key.now)
+    R: Wait + Clock + AllocGlobal,
+    ensures { serving.Connects
+        (serving.IsConnection C.makes C.rests C.refuses service.now.key.now true)
         caller.old result caller.new }
 {
-    let mut reader = audited;
-    let mut writer = audited;
-    let end = serve(rt, rt.alloc(), key, gate, caller, &mut reader, &mut writer);
-    // a log that takes no lines was told; where memory or a clock is missing nothing is said
-    let _ = audited.end();
-    end
+    let mut witness = DeviceLog::new(service.rt.alloc(), service.rt, moments, log, device);
+    serve_line(service, caller, &mut witness, line)
 }
 
 // Serves a connection, with a log or without one.
-fn serve_stream<'a, R, C: Caller, G: Gate, L: Log>(
-    rt: &'a R,
-    key: &'a Key,
+fn serve_stream<R, G: Gate, L: Log, C: Caller>(
+    service: &Service<'_, R, G, L>,
+    moments: &Moments,
     caller: &mut C,
-    gate: &G,
-    vigil: &'a Vigil,
-    log: &'a L,
-    stream: &'a TcpStream,
+    stream: &TcpStream,
     address: SocketAddr,
 ) -> End
 where
     R: Wait + Clock + AllocGlobal + Eprint + LogFiles,
-    ensures { serving.Connects (serving.IsConnection C.makes C.rests C.refuses key.now)
-        caller.old result caller.new }
+    ensures { serving.Connects (serving.IsConnection C.makes C.rests C.refuses
+        service.now.key.now (L.keeps service.now.log.now)) caller.old result caller.new }
 {
     if let Err(_) = limit_waits(stream) {
         return End::ReadFault;
     }
-    let line = Line::new(stream, rt, vigil);
-    if !log.is_kept() {
-        return serve_line(rt, key, caller, gate, &line);
+    let line = Line::new(stream, service.rt, service.vigil);
+    if !service.log.is_kept() {
+        return serve_line(service, caller, &mut Nobody, &line);
     }
-    let Ok(device) = device_of(rt.alloc(), address) else {
+    let Ok(device) = device_of(service.rt.alloc(), address) else {
         return End::ReadFault;
     };
-    let audited = Audited::new(rt, log, key, device, &line);
-    serve_audited(rt, key, caller, gate, &audited)
+    let entry = Entry::new(service.rt, service.log);
+    serve_logged(service, moments, caller, &line, device, entry)
 }
 
 // Waits for a connection and serves it.
-fn serve_one<R, C: Caller, G: Gate, L: Log>(
-    rt: &R,
-    listener: &TcpListener,
-    key: &Key,
+fn serve_one<R, G: Gate, L: Log, C: Caller>(
+    service: &Service<'_, R, G, L>,
+    rounds: &mut Rounds,
     caller: &mut C,
-    gate: &G,
-    vigil: &Vigil,
-    log: &L,
-    pause: &mut Pause,
 ) -> End
 where
     R: Wait + Clock + AllocGlobal + Eprint + LogFiles,
-    ensures { serving.Connects (serving.IsConnection C.makes C.rests C.refuses key.now)
-        caller.old result caller.new }
+    ensures { serving.Connects (serving.IsConnection C.makes C.rests C.refuses
+        service.now.key.now (L.keeps service.now.log.now)) caller.old result caller.new }
 {
-    match accept(rt, listener, vigil, pause) {
-        Ok((stream, address)) => serve_stream(rt, key, caller, gate, vigil, log, &stream, address),
+    match accept(service, &mut rounds.pause) {
+        Ok((stream, address)) => {
+            serve_stream(service, &rounds.moments, caller, &stream, address)
+        }
         Err(end) => end,
     }
 }
@@ -140,29 +152,27 @@ where
 /// Serves so many connections, one after another, unless one ends as Stopped, Held or NoSeat
 /// before. The result is the last end, Finished where there was no connection. With a log, each
 /// reply is written only once that has its line.
-pub(crate) fn serve_all<R, C: Caller, G: Gate, L: Log>(
-    rt: &R,
-    listener: &TcpListener,
-    key: &Key,
+pub(crate) fn serve_all<R, G: Gate, L: Log, C: Caller>(
+    service: &Service<'_, R, G, L>,
     caller: &mut C,
-    connections: u32,
-    gate: &G,
-    vigil: &Vigil,
-    log: &L,
 ) -> End
 where
     R: Wait + Clock + AllocGlobal + Eprint + LogFiles,
-    ensures { serving.Serves (serving.IsConnection C.makes C.rests C.refuses key.now) connections
+    ensures { serving.Serves (serving.IsConnection C.makes C.rests C.refuses
+        service.now.key.now (L.keeps service.now.log.now)) service.now.connections
         caller.old result caller.new }
 {
-    vigil.begin();
-    let mut end = End::Finished;
-    let mut pause = Pause::first();
-    'connections: for _ in 0..connections {
-        end = serve_one(rt, listener, key, caller, gate, vigil, log, &mut pause);
-        if !goes_on(end) {
-            return end;
+    service.vigil.begin();
+    let mut last = End::Finished;
+    let mut rounds = Rounds {
+        pause: Pause::first(),
+        moments: Moments::new(),
+    };
+    'connections: for _ in 0..service.connections {
+        last = serve_one(service, &mut rounds, caller);
+        if !goes_on(last) {
+            return last;
         }
     }
-    end
+    last
 }

@@ -1,4 +1,3 @@
-use mathlib.Core.List.{[]}
 use mir.Syntax.{of_param}
 use denote.Param.{param}
 use base.Fraction.{full_share}
@@ -6,7 +5,7 @@ use denote.Param.Send.{IsSync, sendable, part_keyless, Quiet-if}
 use Rattle.std.proofs.Crossing.{crosses}
 use Rattle.tac_forum.specs.contracts.shared_desk.SharedDesk as SharedDesk
 use Rattle.tac_forum.proofs.shared_desk.SharedDesk.TheSendSync as shared
-use Rattle.tac_net.proofs.Crossing.{Listener-sync, Port-sync, Settings-sync, Vigil-sync}
+use Rattle.tac_net.proofs.Crossing.{Port-sync, Settings-sync, Vigil-sync}
 use Rattle.tac_net.proofs.program.serve_both.Goals as goal
 
 pub join_mut-requires-send-F : goal.join_mut-requires-send-F
@@ -23,7 +22,7 @@ join_mut-requires-send-F g c κs within =
           (
             (tt, runtime.shared d.1.now d.1.ref_ptr.0 d.1.ref_ptr.1 _),
             (
-              (tt, Listener-sync.shared d.2.now d.2.ref_ptr.0 d.2.ref_ptr.1 []),
+              (tt, Port-sync.shared d.2.now d.2.ref_ptr.0 d.2.ref_ptr.1 _),
               (
                 (tt, desk.shared d.3.now d.3.ref_ptr.0 d.3.ref_ptr.1 _),
                 (
@@ -32,10 +31,7 @@ join_mut-requires-send-F g c κs within =
                     (tt, Vigil-sync.shared d.5.now d.5.ref_ptr.0 d.5.ref_ptr.1 _),
                     (
                       (tt, log.shared d.6.now d.6.ref_ptr.0 d.6.ref_ptr.1 _),
-                      (
-                        (tt, Port-sync.shared d.7.now d.7.ref_ptr.0 d.7.ref_ptr.1 _),
-                        tt,
-                      ),
+                      tt,
                     ),
                   ),
                 ),

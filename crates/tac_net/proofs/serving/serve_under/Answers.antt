@@ -32,11 +32,11 @@ map_vec-requires-sync-F g c κs within =
               (
                 (λ q. tt, Key-sync.shared d.3.now d.3.ref_ptr.0 d.3.ref_ptr.1 _),
                 (
-                  (λ q. tt, Number-sync.shared d.4.now d.4.ref_ptr.0 d.4.ref_ptr.1 κ),
+                  (λ q. tt, gate.shared d.4.now d.4.ref_ptr.0 d.4.ref_ptr.1 _),
                   (
-                    (λ q. tt, gate.shared d.5.now d.5.ref_ptr.0 d.5.ref_ptr.1 _),
+                    (λ q. tt, Vigil-sync.shared d.5.now d.5.ref_ptr.0 d.5.ref_ptr.1 _),
                     (
-                      (λ q. tt, Vigil-sync.shared d.6.now d.6.ref_ptr.0 d.6.ref_ptr.1 _),
+                      (λ q. tt, Number-sync.shared d.6.now d.6.ref_ptr.0 d.6.ref_ptr.1 κ),
                       tt,
                     ),
                   ),

@@ -9,8 +9,8 @@ connections-init g c = (at_first, refl)
 pub returns-then-not-goes_on : goal.returns-then-not-goes_on
 returns-then-not-goes_on g c =
     let stops = sym c.goes_on.ensures ∙ c.if-not-goes_on.true in
-    came_stops (IsConnection g.C.Caller.makes g.C.Caller.rests g.C.Caller.refuses c.args.key.now) c.args.connections c.args.caller.now c.connections.caller c.serve_one-end.new.caller c.connections.counter c.connections.end c.serve_one-end.result
-    c.connections.invariant.0 c.connections.invariant.1 c.serve_one-end.ensures stops (omega (arith, c.connections-test.true))
+    came_stops (IsConnection g.C.Caller.makes g.C.Caller.rests g.C.Caller.refuses c.args.service.now.key.now (g.L.Log.keeps c.args.service.now.log.now)) c.args.service.now.connections c.args.caller.now c.connections.caller c.serve_one-last.new.caller c.connections.counter c.connections.last c.serve_one-last.result
+    c.connections.invariant.0 c.connections.invariant.1 c.serve_one-last.ensures stops (omega (arith, c.connections-test.true))
 
 pub connections-preserved : goal.connections-preserved
-connections-preserved g c = (and_then c.connections.invariant.0 c.connections.invariant.1 c.serve_one-end.ensures, sym c.goes_on.ensures ∙ c.if-not-goes_on.false)
+connections-preserved g c = (and_then c.connections.invariant.0 c.connections.invariant.1 c.serve_one-last.ensures, sym c.goes_on.ensures ∙ c.if-not-goes_on.false)
