@@ -4,7 +4,8 @@
 
 mod consoles;
 mod cuts;
+mod devices;
 mod files;
 mod host;
+mod notices;
 mod secrets;
-mod streams;

@@ -7,6 +7,8 @@ mod conn;
 mod io;
 #[cfg(test)]
 mod journal;
+#[cfg(test)]
+mod talk;
 pub mod tally;
 #[cfg(test)]
 mod trail;

@@ -1,14 +1,15 @@
 //! Conversations at a console, in the order in which the log and the output have them.
 
-use basics::send;
+use basics::{Bytes, send};
 use std::alloc::{AllocError, Global};
-use std::cell::RefCell;
-use std::io::{self, ErrorKind, Read, Write};
+use std::cell::{Cell, RefCell};
+use std::io::{self, ErrorKind, Write};
 use std::process::Abort;
 use std::sync::Wait;
 use std::test::Fail;
 use std::time::Clock;
-use tac_journal::{AuditedConsole, AuditedInput, AuditedOutput, Log, LogFiles, Nowhere, Refused};
+use tac_audit::{Typing, Witness};
+use tac_journal::{ConsoleLog, Entry, Log, LogFiles, Refused};
 
 // What a log and an output took, one after another.
 #[derive(Drop)]
@@ -46,6 +47,18 @@ const HEAD: usize = 35;
 struct Book<'a> {
     course: &'a Course,
     is_full: bool,
+    // how often it was written to
+    writes: Cell<u64>,
+}
+
+impl<'a> Book<'a> {
+    fn new(course: &'a Course, is_full: bool) -> Book<'a> {
+        Book {
+            course,
+            is_full,
+            writes: Cell::new(0),
+        }
+    }
 }
 
 impl Log for Book<'_> {
@@ -57,6 +70,7 @@ impl Log for Book<'_> {
     where
         H: Wait + Clock + Eprint + LogFiles,
     {
+        self.writes.set(self.writes.get().saturating_add(1));
         if self.is_full {
             return Err(Refused);
         }
@@ -85,20 +99,48 @@ impl Write for Screen<'_> {
     }
 }
 
-// Reads up to the end of a line, or of the input.
-fn read_line<I: Read>(input: &mut I) -> io::Result<()> {
-    let mut chunk = [0; 16];
-    for _ in 0..99 {
-        let n = input.read(&mut chunk)?;
-        if n == 0 || chunk[..n].last() == Some(&b'\n') {
-            return Ok(());
+// A line that was typed, and its answer.
+fn typing(alloc: Global, line: &str, answer: &str) -> Result<Typing, AllocError> {
+    Ok(Typing {
+        line: Bytes::from_slice(alloc, line.as_bytes())?,
+        answer: Bytes::from_slice(alloc, answer.as_bytes())?,
+    })
+}
+
+// Whether a console's log takes this line with this answer.
+fn is_taken<W: Witness<Typing>>(
+    alloc: Global,
+    log: &mut W,
+    line: &str,
+    answer: &str,
+) -> Result<bool, AllocError> {
+    let typing = typing(alloc, line, answer)?;
+    Ok(log.tell(&typing).is_ok())
+}
+
+// Tells each of these lines with the next of these answers, where it has one, and prints that then.
+// An answer to no line is printed alone.
+fn answers_each<R: Abort, W: Witness<Typing>>(
+    rt: &R,
+    alloc: Global,
+    log: &mut W,
+    screen: &mut Screen<'_>,
+    typed: &str,
+    answers: &[&str],
+    is_full: bool,
+) -> Result<(), Fail> {
+    let mut lines = typed.lines();
+    for answer in answers {
+        if let Some(line) = lines.next() {
+            assert!(rt; is_taken(alloc, log, line, answer)? != is_full, "{line:?}");
         }
+        let (_, sent) = send(screen, answer.as_bytes());
+        sent?;
     }
     Ok(())
 }
 
-// Reads these lines at a console, and answers each by the next of these answers, where it has one.
-// What the log and the output took then.
+// What the log and the output took once these lines were typed at a console and answered so.
 fn converses<R: Abort + Wait + Clock + AllocGlobal + Eprint + LogFiles>(
     rt: &R,
     is_full: bool,
@@ -107,25 +149,18 @@ fn converses<R: Abort + Wait + Clock + AllocGlobal + Eprint + LogFiles>(
     wanted: &str,
 ) -> Result<(), Fail> {
     let course = Course::new(rt.alloc());
-    let book = Book {
-        course: &course,
+    let book = Book::new(&course, is_full);
+    let mut log = ConsoleLog::new(rt.alloc(), rt, Entry::new(rt, &book));
+    let mut screen = Screen { course: &course };
+    answers_each(
+        rt,
+        rt.alloc(),
+        &mut log,
+        &mut screen,
+        typed,
+        answers,
         is_full,
-    };
-    let console = AuditedConsole::new(rt, &book);
-    let mut input = AuditedInput {
-        console: &console,
-        input: typed.as_bytes(),
-    };
-    let mut output = AuditedOutput {
-        console: &console,
-        output: Screen { course: &course },
-    };
-    for answer in answers {
-        read_line(&mut input)?;
-        let (_, sent) = send(&mut output, answer.as_bytes());
-        sent?;
-    }
-    console.end();
+    )?;
     assert!(rt; course.is(wanted), "{typed:?}");
     Ok(())
 }
@@ -193,14 +228,15 @@ fn answered_though_the_log_is_full(rt: HostRuntime) -> Result<(), Fail> {
 }
 
 #[test]
-fn as_it_comes_without_a_log(rt: HostRuntime) -> Result<(), Fail> {
-    let console = AuditedConsole::new(&rt, &Nowhere);
-    let mut input = AuditedInput {
-        console: &console,
-        input: b"policy\nquit\n".as_slice(),
-    };
-    let mut chunk = [0; 16];
-    let n = input.read(&mut chunk)?;
-    assert!(&rt; &chunk[..n] == b"policy\nquit\n".as_slice());
+fn each_line_by_one_write(rt: HostRuntime) -> Result<(), Fail> {
+    let alloc = rt.alloc();
+    let course = Course::new(alloc);
+    let book = Book::new(&course, false);
+    let mut log = ConsoleLog::new(alloc, &rt, Entry::new(&rt, &book));
+    let long = repeated(alloc, "user 1234567890\n", 257)?;
+    for (line, answer) in [("policy", POLICY), ("records", long.as_str()), ("quit", "")] {
+        assert!(&rt; is_taken(alloc, &mut log, line, answer)?, "{line:?}");
+    }
+    assert_eq!(&rt; book.writes.get(), 3);
     Ok(())
 }

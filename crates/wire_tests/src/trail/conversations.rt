@@ -1,22 +1,12 @@
 //! What is told of a connection, packet by packet and reply by reply.
 
-use basics::{Bytes, Sequence};
-use packet_notation::packet;
+use crate::talk::{Talk, Turned, Wanted};
+use basics::Bytes;
 use std::alloc::{AllocError, Global};
 use std::fmt::Write;
 use std::process::Abort;
 use std::test::Fail;
-use tac_audit::{Event, push_event};
-use tac_trail::{Noted, Trail, TrailFault};
-use tac_wire::Key;
-
-/// The key of all conversations.
-fn key() -> Result<Key, Fail> {
-    match Key::read(b"k") {
-        Some(key) => Ok(key),
-        None => Err(Fail::from("no key")),
-    }
-}
+use tac_audit::{Event, Logins, Noted, Notice, push_event};
 
 // A time and a device that are made up.
 fn made_up(alloc: Global) -> Result<(Bytes, Bytes), AllocError> {
@@ -64,64 +54,105 @@ fn push_line(text: &mut String, alloc: Global, noted: Noted) -> Result<(), Fail>
     push_event_line(text, alloc, &event_of(time, device, noted))
 }
 
-// The lines of what is told.
-fn push_lines(text: &mut String, alloc: Global, notes: Vec<Noted>) -> Result<(), Fail> {
-    for noted in notes {
-        push_line(text, alloc, noted)?;
-    }
-    Ok(())
+// A connection, and what is noted of it.
+#[derive(Drop)]
+struct Trail {
+    talk: Talk,
+    logins: Logins,
+    // there was a fault
+    over: bool,
 }
 
-// Bytes come whole, or one by one.
-fn came(trail: &mut Trail, bytes: &[u8], one_by_one: bool) -> Result<(), AllocError> {
-    if !one_by_one {
-        return trail.came(bytes);
-    }
-    for byte in bytes {
-        trail.came(&[*byte])?;
-    }
-    Ok(())
+// Why nothing is told of a reply.
+#[derive(Clone, Copy, Debug)]
+enum TrailFault {
+    // No packet that came has this reply next.
+    OtherReply,
+    // The connection is closed, or there was a fault before.
+    Over,
 }
 
-// The trail takes a packet that is written so.
-fn takes<R: AllocGlobal>(
-    rt: &R,
-    trail: &mut Trail,
-    text: &str,
-    one_by_one: bool,
-) -> Result<(), Fail> {
-    let packet = packet(rt.alloc(), &key()?, text)?;
-    came(trail, packet.as_slice(), one_by_one)?;
-    Ok(())
-}
-
-// Adds what is told, or the fault.
-fn push_notes(
-    heard: &mut String,
-    alloc: Global,
-    notes: Result<Sequence<Noted>, TrailFault>,
-) -> Result<(), Fail> {
-    match notes {
-        Ok(notes) => push_lines(heard, alloc, notes.into_vec()),
-        Err(fault) => Ok(writeln!(heard, "{fault:?}")?),
+impl Trail {
+    fn new(alloc: Global) -> Trail {
+        Trail {
+            talk: Talk::new(alloc),
+            logins: Logins::new(alloc),
+            over: false,
+        }
     }
-}
 
-// Adds what is told where a packet that is written so is sent.
-fn sends<R: AllocGlobal>(
-    rt: &R,
-    trail: &mut Trail,
-    heard: &mut String,
-    text: &str,
-) -> Result<(), Fail> {
-    let key = key()?;
-    let packet = packet(rt.alloc(), &key, text)?;
-    push_notes(heard, rt.alloc(), trail.replies(&key, packet.as_slice()))
+    // Adds the line of what is noted, if anything is.
+    fn note(&mut self, heard: &mut String, alloc: Global, notice: &Notice) -> Result<(), Fail> {
+        match self.logins.note(alloc, notice)? {
+            Some(noted) => push_line(heard, alloc, noted),
+            None => Ok(()),
+        }
+    }
+
+    // Nothing is told after a fault.
+    fn fails(&mut self, heard: &mut String, fault: TrailFault) -> Result<(), Fail> {
+        self.over = true;
+        Ok(writeln!(heard, "{fault:?}")?)
+    }
+
+    // Adds what is told at the next turn before this reply is sent, and whether that is all.
+    fn turns_to(
+        &mut self,
+        heard: &mut String,
+        alloc: Global,
+        wanted: &Wanted,
+    ) -> Result<bool, Fail> {
+        match self.talk.next(Some(wanted))? {
+            Turned::Replied(notice) => {
+                self.note(heard, alloc, &notice)?;
+                Ok(true)
+            }
+            Turned::Unreplied(notice) => {
+                self.note(heard, alloc, &notice)?;
+                Ok(false)
+            }
+            Turned::Other | Turned::Need => {
+                self.fails(heard, TrailFault::OtherReply)?;
+                Ok(true)
+            }
+            Turned::Closed => {
+                self.fails(heard, TrailFault::Over)?;
+                Ok(true)
+            }
+        }
+    }
+
+    // Adds what is told before this reply is sent, or the fault.
+    fn replies(&mut self, heard: &mut String, alloc: Global, wanted: &Wanted) -> Result<(), Fail> {
+        if self.over {
+            return self.fails(heard, TrailFault::Over);
+        }
+        for _ in 0..99 {
+            if self.turns_to(heard, alloc, wanted)? {
+                return Ok(());
+            }
+        }
+        Ok(())
+    }
+
+    // Adds what is told of what has no reply.
+    fn ends(&mut self, heard: &mut String, alloc: Global) -> Result<(), Fail> {
+        if self.over {
+            return Ok(());
+        }
+        for _ in 0..99 {
+            match self.talk.next(None)? {
+                Turned::Unreplied(notice) => self.note(heard, alloc, &notice)?,
+                _ => return Ok(()),
+            }
+        }
+        Ok(())
+    }
 }
 
 // Adds what is told at an event: `> PACKET` comes, `< PACKET` is sent, or the connection ends.
-fn hears<R: AllocGlobal>(
-    rt: &R,
+fn hears(
+    alloc: Global,
     trail: &mut Trail,
     heard: &mut String,
     event: &str,
@@ -129,11 +160,11 @@ fn hears<R: AllocGlobal>(
 ) -> Result<(), Fail> {
     writeln!(heard, "{event}")?;
     if let Some(digits) = event.strip_prefix("> ") {
-        return takes(rt, trail, digits, one_by_one);
+        return trail.talk.takes(alloc, digits, one_by_one);
     }
     match event.strip_prefix("< ") {
-        Some(digits) => sends(rt, trail, heard, digits),
-        None => push_notes(heard, rt.alloc(), trail.ended(&key()?)),
+        Some(digits) => trail.replies(heard, alloc, &Wanted::read(alloc, digits)?),
+        None => trail.ends(heard, alloc),
     }
 }
 
@@ -142,8 +173,8 @@ fn is_event(line: &str) -> bool {
 }
 
 // Adds what is heard at the events among these lines.
-fn hears_each<R: AllocGlobal>(
-    rt: &R,
+fn hears_each(
+    alloc: Global,
     trail: &mut Trail,
     heard: &mut String,
     paragraph: &str,
@@ -152,21 +183,21 @@ fn hears_each<R: AllocGlobal>(
     for line in paragraph.lines() {
         let line = line.trim_start();
         if is_event(line) {
-            hears(rt, trail, heard, line, one_by_one)?;
+            hears(alloc, trail, heard, line, one_by_one)?;
         }
     }
     Ok(())
 }
 
 // A connection, of whose paragraph these are the lines; what is heard is added.
-fn connects<R: AllocGlobal>(
-    rt: &R,
+fn connects(
+    alloc: Global,
     heard: &mut String,
     paragraph: &str,
     one_by_one: bool,
 ) -> Result<(), Fail> {
-    let mut trail = Trail::new(rt.alloc());
-    hears_each(rt, &mut trail, heard, paragraph, one_by_one)
+    let mut trail = Trail::new(alloc);
+    hears_each(alloc, &mut trail, heard, paragraph, one_by_one)
 }
 
 // The lines of a paragraph that are no comments. One that begins with a comma continues the one
@@ -187,22 +218,22 @@ fn push_wanted(wanted: &mut String, paragraph: &str) -> Result<(), Fail> {
 }
 
 // What is wanted of a connection, and what is heard.
-fn hears_wanted<R: AllocGlobal>(
-    rt: &R,
+fn hears_wanted(
+    alloc: Global,
     wanted: &mut String,
     heard: &mut String,
     paragraph: &str,
     one_by_one: bool,
 ) -> Result<(), Fail> {
     push_wanted(wanted, paragraph)?;
-    connects(rt, heard, paragraph, one_by_one)
+    connects(alloc, heard, paragraph, one_by_one)
 }
 
 // A connection is heard as is wanted of it.
 fn is_heard<R: Abort + AllocGlobal>(rt: &R, paragraph: &str, one_by_one: bool) -> Result<(), Fail> {
     let mut wanted = String::new(rt.alloc());
     let mut heard = String::new(rt.alloc());
-    let outcome = hears_wanted(rt, &mut wanted, &mut heard, paragraph, one_by_one);
+    let outcome = hears_wanted(rt.alloc(), &mut wanted, &mut heard, paragraph, one_by_one);
     assert_eq!(rt; heard.as_str(), wanted.as_str());
     outcome
 }

@@ -1,22 +1,22 @@
-//! The stream of a device: what time its lines have, and when it is answered where they count only
-//! once they are on the disk.
+//! The log of a device: what time its lines have, and when it is answered where they count only once
+//! they are on the disk.
 
 use crate::journal::files::free_path;
 use crate::journal::host::Host;
+use crate::talk::{Talk, Turned, Wanted};
 use basics::Bytes;
 use std::alloc::Global;
 use std::cell::{Cell, RefCell};
 use std::fmt::Write as _;
 use std::fs;
-use std::io::{self, ErrorKind, Read, Write};
 use std::process::{self, Abort};
 use std::sync::Wait;
 use std::sync::atomic::{AtomicU64, Ordering};
 use std::test::Fail;
 use std::thread::{Threads, join, yield_now};
 use std::time::Clock;
-use tac_journal::{Audited, Journal, Log, LogFiles, Refused};
-use tac_wire::{Header, Key, PacketType, pad_in_place};
+use tac_audit::{Notice, Witness};
+use tac_journal::{DeviceLog, Entry, Journal, Log, LogFiles, Moments, Refused};
 
 // A log of which a test reads the lines.
 #[derive(Drop)]
@@ -63,75 +63,31 @@ impl<'a> Answers<'a> {
     }
 }
 
-// A device that sends this again and again, and notes how it is answered.
-#[derive(Clone, Copy)]
-struct Device<'a> {
-    sends: &'a [u8],
-    answers: &'a Answers<'a>,
-}
+// Bob asks for `show version` on a connection of many sessions, and is permitted it.
+const ASKED: &str = "c0020104.00000001.00000036.\
+    06010101030400030d080f'bobtty0service=shellcmd=showcmd-arg=version'";
 
-impl Read for Device<'_> {
-    fn read(&mut self, buf: &mut [u8]) -> io::Result<usize> {
-        self.sends.read(buf)
+const PERMITTED: &str = "c0020204.00000001.00000006.010000000000";
+
+// What is told of that.
+fn permitted(alloc: Global) -> Result<Notice, Fail> {
+    let mut talk = Talk::new(alloc);
+    talk.takes(alloc, ASKED, false)?;
+    match talk.next(Some(&Wanted::read(alloc, PERMITTED)?))? {
+        Turned::Replied(notice) => Ok(notice),
+        _ => Err(Fail::from("another reply")),
     }
 }
 
-impl Write for Device<'_> {
-    fn write(&mut self, buf: &[u8]) -> io::Result<usize> {
-        self.answers.note();
-        Ok(buf.len())
-    }
-
-    fn flush(&mut self) -> io::Result<()> {
-        Ok(())
-    }
-}
-
-// Bob asks for `show version`, and is permitted it.
-const ASKED: &[u8; 54] =
-    b"\x06\x01\x01\x01\x03\x04\x00\x03\x0d\x08\x0fbobtty0service=shellcmd=showcmd-arg=version";
-
-const PERMITTED: &[u8; 6] = b"\x01\0\0\0\0\0";
-
-fn key() -> Result<Key, Fail> {
-    match Key::read(b"k") {
-        Some(key) => Ok(key),
-        None => Err(Fail::from("no key")),
-    }
-}
-
-// A packet of authorisation with this body, as it is sent on a connection of many sessions.
-fn packet(alloc: Global, key: &Key, seq: u8, body: &[u8]) -> Result<Vec<u8>, Fail> {
-    let header = Header {
-        version: 0xc0,
-        kind: PacketType::AUTHORISATION,
-        seq,
-        flags: Header::SINGLE_CONNECTION,
-        session: 1,
-        length: u32::try_from(body.len())?,
-    };
-    let mut padded = Vec::from_slice(alloc, body)?;
-    pad_in_place(&header, key, padded.as_mut_slice());
-    let mut packet = Vec::from_slice(alloc, &header.write())?;
-    packet.extend_from_slice(padded.as_slice())?;
-    Ok(packet)
-}
-
-// One request, and its reply.
-fn exchange<'a, R, L: Log>(
-    audited: &Audited<'a, Device<'a>, Host<'a, R>, L>,
-    reply: &[u8],
-) -> io::Result<()>
-where
-    R: Wait + AllocGlobal + LogFiles,
-{
-    let mut stream = audited;
-    let mut chunk = [0; 99];
-    stream.read(&mut chunk)?;
-    if stream.write(reply)? == reply.len() {
-        return Ok(());
-    }
-    Err(io::Error::from(ErrorKind::WriteZero))
+// One request, which is answered once its line counts.
+fn exchange<W: Witness<Notice>>(
+    log: &mut W,
+    notice: &Notice,
+    answers: &Answers<'_>,
+) -> Result<(), Refused> {
+    log.tell(notice)?;
+    answers.note();
+    Ok(())
 }
 
 // The device makes its request once, on a connection of its own, and again after a while where there
@@ -139,20 +95,21 @@ where
 fn asks<'a, R, L: Log>(
     host: &'a Host<'a, R>,
     log: &'a L,
-    key: &'a Key,
-    device: Device<'a>,
-    reply: &[u8],
+    notice: &Notice,
+    answers: &Answers<'_>,
     pause: Option<u64>,
-) -> io::Result<()>
+) -> Result<(), Refused>
 where
     R: Wait + AllocGlobal + LogFiles,
 {
-    let name = Bytes::from_slice(host.alloc(), b"d")?;
-    let audited = Audited::new(host, log, key, name, device);
-    exchange(&audited, reply)?;
+    let alloc = host.alloc();
+    let name = Bytes::from_slice(alloc, b"d")?;
+    let moments = Moments::new();
+    let mut log = DeviceLog::new(alloc, host, &moments, Entry::new(host, log), name);
+    exchange(&mut log, notice, answers)?;
     if let Some(pause) = pause {
         host.pass(pause);
-        exchange(&audited, reply)?;
+        exchange(&mut log, notice, answers)?;
     }
     Ok(())
 }
@@ -175,19 +132,13 @@ const TIMES: &str = "{\"time\":\"2024-02-29T23:59:59.999Z\"
 #[test]
 fn each_line_has_its_time(rt: HostRuntime) -> Result<(), Fail> {
     let alloc = rt.alloc();
-    let key = key()?;
-    let asked = packet(alloc, &key, 1, ASKED)?;
-    let permitted = packet(alloc, &key, 2, PERMITTED)?;
     let lines = Lines {
         taken: RefCell::new(Vec::new(alloc)),
     };
     let host = Host::at(&rt, 1_709_251_199_999);
     let answers = Answers::new(&host.turns);
-    let device = Device {
-        sends: asked.as_slice(),
-        answers: &answers,
-    };
-    asks(&host, &lines, &key, device, permitted.as_slice(), Some(1))?;
+    let notice = permitted(alloc)?;
+    assert!(&rt; asks(&host, &lines, &notice, &answers, Some(1)).is_ok());
     match lines.taken.try_borrow() {
         Ok(taken) if times(alloc, taken.as_slice())?.as_str() == TIMES => Ok(()),
         _ => Err(Fail::from("other times")),
@@ -234,29 +185,22 @@ fn push_state(told: &mut String, event: &str, answers: &Answers<'_>) -> Result<(
     Ok(())
 }
 
-// What is so after each event of these lines, at this log, of a device that asks so and is to be
-// answered so.
+// What is so after each event of these lines, at this log, of a device of which this is told.
 fn told<'a, R>(
     host: &'a Host<'a, R>,
     journal: &'a Journal<'a>,
-    key: &'a Key,
-    answers: &'a Answers<'a>,
-    asked: &'a [u8],
-    reply: &'a [u8],
-    events: &'a str,
+    notice: &Notice,
+    answers: &Answers<'_>,
+    events: &str,
 ) -> Result<String, Fail>
 where
     R: Wait + AllocGlobal + LogFiles,
 {
-    let device = Device {
-        sends: asked,
-        answers,
-    };
     let mut told = String::new(host.alloc());
     for event in events.lines() {
         begins(host, event);
         // whether it is answered is noted
-        let _ = asks(host, journal, key, device, reply, None);
+        let _ = asks(host, journal, notice, answers, None);
         push_state(&mut told, event, answers)?;
     }
     Ok(told)
@@ -267,21 +211,11 @@ fn goes<R>(rt: &R, path: &str, syncs: bool, events: &str) -> Result<(), Fail>
 where
     R: Abort + Wait + AllocGlobal + LogFiles,
 {
-    let key = key()?;
-    let asked = packet(rt.alloc(), &key, 1, ASKED)?;
-    let permitted = packet(rt.alloc(), &key, 2, PERMITTED)?;
+    let notice = permitted(rt.alloc())?;
     let host = Host::at(rt, 0);
     let answers = Answers::new(&host.turns);
     let journal = Journal::open(&host, path, syncs)?;
-    let found = told(
-        &host,
-        &journal,
-        &key,
-        &answers,
-        asked.as_slice(),
-        permitted.as_slice(),
-        events,
-    )?;
+    let found = told(&host, &journal, &notice, &answers, events)?;
     assert_eq!(rt; found.as_str(), events);
     Ok(())
 }
