@@ -1,6 +1,0 @@
-pub mod Said
-pub mod Course
-pub mod Logins
-pub mod Notes
-pub mod Law
-pub mod Kept
