@@ -1,8 +1,9 @@
 //! Tests of the console of a shared desk: conversations with it, the order of its reads and writes,
-//! and inputs and outputs that fail.
+//! what its witness is told, and inputs and outputs that fail.
 
 mod ends;
 mod lines;
 mod streams;
 mod support;
 mod turns;
+mod witness;

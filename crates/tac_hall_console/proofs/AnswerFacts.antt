@@ -1,5 +1,5 @@
 -- One line that is answered.
-use Rattle.std.proofs.Common.{◌≡◌, ℕ, List, [], ◌∷◌, Result, Ok, Err, sym, subst, ◌∙◌, inl, inr, refl, ap, arith}
+use Rattle.std.proofs.Common.{◌≡◌, ℕ, List, [], ◌∷◌, Result, Ok, Err, sym, subst, inl, inr, refl, ap, append-nil}
 use Rattle.std.specs.Io.KnownBytes.{Appends}
 use Rattle.std.proofs.KnownBytes.{Appends-nil}
 use Rattle.tac_audit.specs.declared.notice.Typing.{Typing}
@@ -9,7 +9,6 @@ use Rattle.tac_hall_console.specs.declared.fault.OperatorFault.{OperatorFault}
 use Rattle.tac_hall_console.specs.declared.fault.OperatorFault.TheVariants as faults
 use Rattle.tac_hall_console.specs.Operated.{LineComesTo, WritesBeginning, unanswered}
 use Rattle.tac_hall_console.specs.Operating.{Tells, IsUntold, Sends, Scene, scene, LeavesBatch, EndsAt, Answers}
-use Rattle.tac_hall_console.proofs.GoingFacts.{text_one}
 
 module _ {J V : Type 0} {hears : V → Typing → V → Type 0} (opening : Opening) (line : List ℕ) (was now : Scene J V) where
   -- the witness was told of it with its answer, which was written, or a beginning of that
@@ -28,7 +27,7 @@ module _ {J V : Type 0} {hears : V → Typing → V → Type 0} (opening : Openi
       typings = record { line = line; answer = text } ∷ [];
       tells = ap (λ (s : List ℕ). record { line = line; answer = s } ∷ []) t.is;
       heard = (now.witness, heard, refl);
-      writes = subst (Appends was.written now.written) (t.is ∙ sym (text_one t.outcome)) sent;
+      writes = subst (Appends was.written now.written) (sym (append-nil text)) sent;
     },
   )
   answers_sent (Err faults.ReadFault) text t leaves heard sent = absurd sent
@@ -45,7 +44,7 @@ module _ {J V : Type 0} {hears : V → Typing → V → Type 0} (opening : Openi
       typings = record { line = line; answer = text } ∷ [];
       tells = ap (λ (s : List ℕ). record { line = line; answer = s } ∷ []) t.is;
       heard = (now.witness, heard, refl);
-      writes = subst (λ (s : List ℕ). WritesBeginning s was.written now.written) (t.is ∙ sym (text_one t.outcome)) sent;
+      writes = subst (λ (s : List ℕ). WritesBeginning s was.written now.written) (sym (append-nil text)) sent;
     },
   )
   answers_sent (Err faults.Memory) text t leaves heard sent = absurd sent
@@ -62,7 +61,7 @@ module _ {J V : Type 0} {hears : V → Typing → V → Type 0} (opening : Openi
     typings = unanswered line ∷ [];
     tells = inr (inl (line, [], refl, refl));
     heard = (now.witness, heard, refl);
-    writes = record { first = []; untold = []; parts = refl; few = omega arith; written = nothing };
+    writes = nothing;
   }
   untold heard nothing (inr c) = record {
     answered = line ∷ [];
@@ -74,7 +73,7 @@ module _ {J V : Type 0} {hears : V → Typing → V → Type 0} (opening : Openi
     typings = unanswered line ∷ [];
     tells = inr (inr ([], line, refl, refl));
     heard = (now.witness, heard, refl);
-    writes = record { first = []; untold = c.0 ∷ []; parts = refl; few = omega arith; written = nothing };
+    writes = nothing;
   }
 
 -- memory ran out at it, and the witness was told of it without an answer

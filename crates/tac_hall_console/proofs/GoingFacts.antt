@@ -14,7 +14,7 @@ use Rattle.tac_hall_console.specs.declared.answering.Console.{Console}
 use Rattle.tac_hall_console.specs.declared.fault.OperatorFault.{OperatorFault}
 use Rattle.tac_hall_console.specs.declared.fault.OperatorFault.TheVariants as faults
 use Rattle.tac_hall_console.specs.Commands.{ended_lines, is_quit, commands, quits}
-use Rattle.tac_hall_console.specs.Operated.{Outcome, batch_by, CameTo, told, text_of, WritesBeginning, WritesTo, typings_of, unanswered, quit_of}
+use Rattle.tac_hall_console.specs.Operated.{Outcome, batch_by, CameTo, typings_of, unanswered, quit_of, answers_of, WritesBeginning, WritesTo}
 use Rattle.tac_hall_console.specs.Operating.{batch_left, Scene, scene, GoesOn, EndsAt, IsRead, LeavesBatch}
 use Rattle.tac_hall_console.proofs.LineFacts.{split_more, split_shorter, lines_split, ended_split, command_first, quits_later}
 use Rattle.tac_hall_console.proofs.HeardFacts.{heard_then, typings_append, tells_after, tells_before, quit_is}
@@ -39,21 +39,18 @@ came_after : (opening : Opening) (batch between : Option (List Edit)) (was mid n
     → CameTo opening batch was lines outcomes mid → between ≡ batch_left batch lines → CameTo opening between mid later others now → CameTo opening batch was (lines ++ later) (outcomes ++ others) now
 came_after opening batch between was mid now lines outcomes later others a is b = came_append opening batch was mid now lines outcomes later others a (rw is at b)
 
-pub text_append : (outcomes others : List Outcome) → text_of (outcomes ++ others) ≡ text_of outcomes ++ text_of others
-text_append outcomes others = flat_map-append told outcomes others
+answers_append : (typings others : List Typing) → answers_of (typings ++ others) ≡ answers_of typings ++ answers_of others
+answers_append typings others = flat_map-append (λ (typing : Typing). typing.answer) typings others
 
-pub text_one : (outcome : Outcome) → text_of (outcome ∷ []) ≡ told outcome
-text_one outcome = append-nil (told outcome)
+-- some answers were written, and then others
+written_then : (typings others : List Typing) (old mid new : Option (List ℕ)) → Appends old mid (answers_of typings) → Appends mid new (answers_of others) → Appends old new (answers_of (typings ++ others))
+written_then typings others old mid new a b = subst (Appends old new) (sym (answers_append typings others)) (Appends-trans old mid new _ _ a b)
 
--- the results of some were written, and then those of others
-pub written_then : (outcomes others : List Outcome) (old mid new : Option (List ℕ)) → Appends old mid (text_of outcomes) → Appends mid new (text_of others) → Appends old new (text_of (outcomes ++ others))
-written_then outcomes others old mid new a b = subst (Appends old new) (sym (text_append outcomes others)) (Appends-trans old mid new _ _ a b)
-
-pub beginning_then : (outcomes : List Outcome) (text : List ℕ) (old mid new : Option (List ℕ)) → Appends old mid (text_of outcomes) → WritesBeginning text mid new → WritesBeginning (text_of outcomes ++ text) old new
-beginning_then outcomes text old mid new a b = record {
-  first = text_of outcomes ++ b.first;
+beginning_then : (typings others : List Typing) (old mid new : Option (List ℕ)) → Appends old mid (answers_of typings) → WritesBeginning (answers_of others) mid new → WritesBeginning (answers_of (typings ++ others)) old new
+beginning_then typings others old mid new a b = record {
+  first = answers_of typings ++ b.first;
   others = b.others;
-  parts = ap (λ (t : List ℕ). text_of outcomes ++ t) b.parts ∙ sym (append_assoc (text_of outcomes) b.first b.others);
+  parts = answers_append typings others ∙ ap (λ (t : List ℕ). answers_of typings ++ t) b.parts ∙ sym (append_assoc (answers_of typings) b.first b.others);
   some_left = b.some_left;
   written = Appends-trans old mid new _ _ a b.written;
 }
@@ -78,21 +75,21 @@ goes_none bytes was = record {
 module _ {J V : Type 0} {hears : V → Typing → V → Type 0} {opening : Opening} (bytes left : List ℕ) (was mid : Scene J V) (g : GoesOn hears opening bytes left was mid) where
   -- and further
   pub goes_then : (rest : List ℕ) (now : Scene J V) → GoesOn hears opening left rest mid now → GoesOn hears opening bytes rest was now
-  goes_then rest now h = record {
-    answered = g.answered ++ h.answered;
-    lines = λ more. g.lines more ∙ ap (λ (l : List (List ℕ)). g.answered ++ l) (h.lines more) ∙ sym (append_assoc g.answered h.answered _);
-    ended = λ more. g.ended more ∙ ap (λ (l : List (List ℕ)). g.answered ++ l) (h.ended more) ∙ sym (append_assoc g.answered h.answered _);
-    quitting = λ more. g.quitting more ∙ h.quitting more;
-    quitting_ended = λ more. g.quitting_ended more ∙ h.quitting_ended more;
-    within = (let a = g.within in let b = h.within in omega arith);
-    outcomes = g.outcomes ++ h.outcomes;
-    came = came_after opening was.console.batch mid.console.batch was.console.seat mid.console.seat now.console.seat g.answered g.outcomes h.answered h.outcomes g.came g.batch h.came;
-    batch = h.batch ∙ ap (λ (b : Option (List Edit)). batch_left b h.answered) g.batch ∙ sym (batch_append was.console.batch g.answered h.answered);
-    heard = subst (λ (t : List Typing). AreTold hears was.witness t now.witness)
-        (sym (typings_append opening was.console.batch was.console.seat mid.console.seat g.answered g.outcomes h.answered h.outcomes g.came))
-        (heard_then hears was.witness mid.witness now.witness (typings_of g.answered g.outcomes) (typings_of h.answered h.outcomes) g.heard h.heard);
-    written = written_then g.outcomes h.outcomes was.written mid.written now.written g.written h.written;
-  }
+  goes_then rest now h =
+      let both = typings_append opening was.console.batch was.console.seat mid.console.seat g.answered g.outcomes h.answered h.outcomes g.came in
+      record {
+        answered = g.answered ++ h.answered;
+        lines = λ more. g.lines more ∙ ap (λ (l : List (List ℕ)). g.answered ++ l) (h.lines more) ∙ sym (append_assoc g.answered h.answered _);
+        ended = λ more. g.ended more ∙ ap (λ (l : List (List ℕ)). g.answered ++ l) (h.ended more) ∙ sym (append_assoc g.answered h.answered _);
+        quitting = λ more. g.quitting more ∙ h.quitting more;
+        quitting_ended = λ more. g.quitting_ended more ∙ h.quitting_ended more;
+        within = (let a = g.within in let b = h.within in omega arith);
+        outcomes = g.outcomes ++ h.outcomes;
+        came = came_after opening was.console.batch mid.console.batch was.console.seat mid.console.seat now.console.seat g.answered g.outcomes h.answered h.outcomes g.came g.batch h.came;
+        batch = h.batch ∙ ap (λ (b : Option (List Edit)). batch_left b h.answered) g.batch ∙ sym (batch_append was.console.batch g.answered h.answered);
+        heard = rw both (heard_then hears was.witness mid.witness now.witness (typings_of g.answered g.outcomes) (typings_of h.answered h.outcomes) g.heard h.heard);
+        written = rw both (written_then (typings_of g.answered g.outcomes) (typings_of h.answered h.outcomes) was.written mid.written now.written g.written h.written);
+      }
 
   -- more bytes come
   pub goes_more : (piece : List ℕ) → GoesOn hears opening (bytes ++ piece) (left ++ piece) was mid
@@ -130,6 +127,7 @@ pub goes_line : {J V : Type 0} {hears : V → Typing → V → Type 0} {opening 
     → LeavesBatch hears (Ok tt) line was now → EndsAt hears opening (Ok tt) (line ∷ []) [] was now → GoesOn hears opening bytes rest was now
 goes_line {hears = hears} bytes line rest was now parts other leaves e =
     let all : line ∷ [] ≡ e.answered = e.parts ∙ ap (λ (l : List (List ℕ)). e.answered ++ l) e.leaves ∙ append-nil e.answered in
+    let only = e.tells ∙ append-nil (typings_of e.answered e.outcomes) in
     record {
       answered = e.answered;
       lines = λ more.
@@ -144,8 +142,8 @@ goes_line {hears = hears} bytes line rest was now parts other leaves e =
       outcomes = e.outcomes;
       came = e.came;
       batch = leaves ∙ ap (batch_left was.console.batch) all;
-      heard = subst (λ (t : List Typing). AreTold hears was.witness t now.witness) (e.tells ∙ append-nil (typings_of e.answered e.outcomes)) e.heard;
-      written = e.writes;
+      heard = subst (λ (t : List Typing). AreTold hears was.witness t now.witness) only e.heard;
+      written = subst (λ (t : List Typing). Appends was.written now.written (answers_of t)) only e.writes;
     }
 
 -- ---- the end
@@ -207,7 +205,7 @@ ends_memory lines was = record {
   typings = [];
   tells = inl refl;
   heard = refl;
-  writes = record { first = []; untold = []; parts = refl; few = omega arith; written = Appends-nil was.written };
+  writes = Appends-nil was.written;
 }
 
 -- a fault leaves later lines too
@@ -239,20 +237,12 @@ ends_before faults.Memory lines later was now read e = record {
   writes = e.writes;
 }
 
--- after lines whose answers were written
-writes_after : (end : Result (Unit {0}) OperatorFault) (outcomes others : List Outcome) (old mid new : Option (List ℕ)) → Appends old mid (text_of outcomes)
-    → WritesTo end others mid new → WritesTo end (outcomes ++ others) old new
-writes_after (Ok _) outcomes others old mid new a b = written_then outcomes others old mid new a b
-writes_after (Err faults.ReadFault) outcomes others old mid new a b = written_then outcomes others old mid new a b
-writes_after (Err faults.WriteFault) outcomes others old mid new a b =
-    subst (λ (t : List ℕ). WritesBeginning t old new) (sym (text_append outcomes others)) (beginning_then outcomes (text_of others) old mid new a b)
-writes_after (Err faults.Memory) outcomes others old mid new a b = record {
-  first = outcomes ++ b.first;
-  untold = b.untold;
-  parts = ap (λ (o : List Outcome). outcomes ++ o) b.parts ∙ sym (append_assoc outcomes b.first b.untold);
-  few = b.few;
-  written = written_then outcomes b.first old mid new a b.written;
-}
+-- after answers that were written
+writes_after : (end : Result (Unit {0}) OperatorFault) (typings others : List Typing) (old mid new : Option (List ℕ)) → Appends old mid (answers_of typings) → WritesTo end others mid new → WritesTo end (typings ++ others) old new
+writes_after (Ok _) typings others old mid new a b = written_then typings others old mid new a b
+writes_after (Err faults.ReadFault) typings others old mid new a b = written_then typings others old mid new a b
+writes_after (Err faults.WriteFault) typings others old mid new a b = beginning_then typings others old mid new a b
+writes_after (Err faults.Memory) typings others old mid new a b = written_then typings others old mid new a b
 
 module _ {J V : Type 0} {hears : V → Typing → V → Type 0} {opening : Opening} (bytes left : List ℕ) (was mid : Scene J V) (g : GoesOn hears opening bytes left was mid) where
   ends_after : (end : Result (Unit {0}) OperatorFault) (lines : List (List ℕ)) (last : List Typing) (now : Scene J V) → EndsAt hears opening end lines last mid now → EndsAt hears opening end (g.answered ++ lines) last was now
@@ -266,7 +256,7 @@ module _ {J V : Type 0} {hears : V → Typing → V → Type 0} {opening : Openi
     typings = typings_of g.answered g.outcomes ++ e.typings;
     tells = tells_after opening was.console.batch was.console.seat mid.console.seat g.answered g.outcomes g.came end e.answered e.left e.outcomes last e.typings e.tells;
     heard = heard_then hears was.witness mid.witness now.witness (typings_of g.answered g.outcomes) e.typings g.heard e.heard;
-    writes = writes_after end g.outcomes e.outcomes was.written mid.written now.written g.written e.writes;
+    writes = writes_after end (typings_of g.answered g.outcomes) e.typings was.written mid.written now.written g.written e.writes;
   }
 
   -- it ends at what was left

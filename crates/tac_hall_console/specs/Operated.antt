@@ -1,5 +1,5 @@
 -- What was done at the console of a shared desk (docs/CONSOLE.md, "The console of `tacd serve`").
-use Rattle.std.specs.Prelude.{◌≡◌, ◌<◌, ◌≤◌, ◌⊎◌, ℕ, List, [], ◌∷◌, ◌++◌, length, codes, false}
+use Rattle.std.specs.Prelude.{◌≡◌, ◌<◌, ◌⊎◌, ℕ, List, [], ◌∷◌, ◌++◌, length, codes, false}
 use Rattle.std.specs.Prelude.{Option, Some, None, Result, Ok, Err, flat_map, filter_map, MatchBool}
 use Rattle.std.specs.Prelude.{if◌then◌else◌}
 use Rattle.std.specs.Fmt.{decimal}
@@ -128,9 +128,6 @@ CameTo opening batch was (line ∷ lines) (outcome ∷ outcomes) now =
     (mid : Seated) × LineComesTo opening batch was line outcome mid
     × CameTo opening (batch_by batch line) mid lines outcomes now
 
-abbrev pub text_of : List Outcome → List ℕ
-text_of outcomes = flat_map told outcomes
-
 -- what was rotated
 abbrev pub rotation_of : Outcome → Option Rotated
 rotation_of (noticed notice) = None
@@ -149,49 +146,7 @@ pub record Makes (was now : Seated) (entries : List Made) (kept : List Rotated) 
   pub rotations : history.rotations_of was.number now.seen
       ≡ history.rotations_of was.number was.seen ++ kept
 
--- ---- what was written
-
--- a beginning of a text, and not all of it
-pub record WritesBeginning (text : List ℕ) (old new : Option (List ℕ)) : Type 0 where
-  pub first : List ℕ
-  pub others : List ℕ
-  pub parts : text ≡ first ++ others
-  pub some_left : 0 < length others
-  pub written : Appends old new first
-
--- what came of all lines, but perhaps of the last
-pub record WritesMost (outcomes : List Outcome) (old new : Option (List ℕ)) : Type 0 where
-  pub first : List Outcome
-  pub untold : List Outcome
-  pub parts : outcomes ≡ first ++ untold
-  pub few : length untold ≤ 1
-  pub written : Appends old new (text_of first)
-
--- what came of the lines was written, as far as a fault allows
-abbrev pub WritesTo : Result (Unit {0}) OperatorFault → List Outcome → Option (List ℕ)
-    → Option (List ℕ) → Type 0
-WritesTo (Ok _) outcomes old new = Appends old new (text_of outcomes)
-WritesTo (Err faults.ReadFault) outcomes old new = Appends old new (text_of outcomes)
-WritesTo (Err faults.WriteFault) outcomes old new = WritesBeginning (text_of outcomes) old new
-WritesTo (Err faults.Memory) outcomes old new = WritesMost outcomes old new
-
-abbrev pub IsRefusal : Outcome → Type 0
-IsRefusal (noticed notice) = ⊥
-IsRefusal (made entry) = ⊥
-IsRefusal (rotated rotation) = ⊥
-IsRefusal (refused fault) = Unit {0}
-
--- after lines that went so the Stop was made, and it ends so: what came of it is told, unless the
--- lines ended in a fault. Memory runs out only where a refusal is told
-abbrev pub StopEnds : Result (Unit {0}) OperatorFault → Result (Unit {0}) OperatorFault → Outcome
-    → Option (List ℕ) → Option (List ℕ) → Type 0
-StopEnds (Ok _) (Ok _) stop old new = Appends old new (told stop)
-StopEnds (Ok _) (Err faults.ReadFault) stop old new = ⊥
-StopEnds (Ok _) (Err faults.WriteFault) stop old new = WritesBeginning (told stop) old new
-StopEnds (Ok _) (Err faults.Memory) stop old new = Appends old new [] × IsRefusal stop
-StopEnds (Err fault) end stop old new = (end ≡ Err fault) × (new ≡ old)
-
--- ---- what the witness was told
+-- ---- what a witness was told, and what was written
 
 -- it was told of a line, and took or refused that
 abbrev pub Hears : {V : Type 0} → (V → Typing → V → Type 0) → (V → Typing → V → Type 0)
@@ -228,7 +183,8 @@ AreCutShort answered left outcomes typings =
     ⊎ ((first : List (List ℕ)) × (line : List ℕ) × (answered ≡ first ++ line ∷ [])
     × (typings ≡ typings_of first outcomes ++ unanswered line ∷ []))
 
--- what is told of lines that went so, of which these were answered and these are left, and then this
+-- what is told of lines that went so, of which these were answered and these are left; where all
+-- went well, this comes last
 abbrev pub AreTypingsOf : Result (Unit {0}) OperatorFault → List (List ℕ) → List (List ℕ)
     → List Outcome → List Typing → List Typing → Type 0
 AreTypingsOf (Ok _) answered left outcomes last typings =
@@ -239,6 +195,41 @@ AreTypingsOf (Err faults.WriteFault) answered left outcomes last typings =
     typings ≡ typings_of answered outcomes
 AreTypingsOf (Err faults.Memory) answered left outcomes last typings =
     AreCutShort answered left outcomes typings
+
+abbrev pub answers_of : List Typing → List ℕ
+answers_of typings = flat_map (λ typing. typing.answer) typings
+
+-- a beginning of a text, and not all of it
+pub record WritesBeginning (text : List ℕ) (old new : Option (List ℕ)) : Type 0 where
+  pub first : List ℕ
+  pub others : List ℕ
+  pub parts : text ≡ first ++ others
+  pub some_left : 0 < length others
+  pub written : Appends old new first
+
+-- the answers that were told were written, as far as a fault of writing allows
+abbrev pub WritesTo : Result (Unit {0}) OperatorFault → List Typing → Option (List ℕ)
+    → Option (List ℕ) → Type 0
+WritesTo (Ok _) typings old new = Appends old new (answers_of typings)
+WritesTo (Err faults.ReadFault) typings old new = Appends old new (answers_of typings)
+WritesTo (Err faults.WriteFault) typings old new = WritesBeginning (answers_of typings) old new
+WritesTo (Err faults.Memory) typings old new = Appends old new (answers_of typings)
+
+abbrev pub IsRefusal : Outcome → Type 0
+IsRefusal (noticed notice) = ⊥
+IsRefusal (made entry) = ⊥
+IsRefusal (rotated rotation) = ⊥
+IsRefusal (refused fault) = Unit {0}
+
+-- after lines that went so the Stop was made, and it ends so: what came of it is told, unless the
+-- lines ended in a fault. Memory runs out only where a refusal is told
+abbrev pub StopEnds : Result (Unit {0}) OperatorFault → Result (Unit {0}) OperatorFault → Outcome
+    → Option (List ℕ) → Option (List ℕ) → Type 0
+StopEnds (Ok _) (Ok _) stop old new = Appends old new (told stop)
+StopEnds (Ok _) (Err faults.ReadFault) stop old new = ⊥
+StopEnds (Ok _) (Err faults.WriteFault) stop old new = WritesBeginning (told stop) old new
+StopEnds (Ok _) (Err faults.Memory) stop old new = Appends old new [] × IsRefusal stop
+StopEnds (Err fault) end stop old new = (end ≡ Err fault) × (new ≡ old)
 
 -- ---- how it ended
 
@@ -295,7 +286,7 @@ pub record IsOperated (opening : Opening) (end : Result (Unit {0}) OperatorFault
       AreTypingsOf listened answered left outcomes (quit_of (lines_at listened input)) typings
   pub heard : are_heard typings
   pub between : Option (List ℕ)
-  pub writes : WritesTo listened outcomes old between
+  pub writes : WritesTo listened typings old between
   pub stop : Outcome
   pub stops : StopComesTo opening mid stop now
   pub ends : StopEnds listened end stop between new

@@ -15,9 +15,9 @@ use Rattle.tac_hall_console.specs.declared.operator.Went.{Went}
 use Rattle.tac_hall_console.specs.declared.operator.Went.TheVariants.{On, Quits}
 use Rattle.tac_hall_console.specs.Commands.{ended_lines, commands, quits}
 use Rattle.tac_hall_console.specs.Operated.{Outcome, StopComesTo, StopEnds}
-use Rattle.tac_hall_console.specs.Operated.{batch_by, CameTo, told, text_of}
+use Rattle.tac_hall_console.specs.Operated.{batch_by, CameTo, told}
+use Rattle.tac_hall_console.specs.Operated.{typings_of, quit_of, AreTypingsOf, answers_of}
 use Rattle.tac_hall_console.specs.Operated.{WritesBeginning, WritesTo}
-use Rattle.tac_hall_console.specs.Operated.{typings_of, quit_of, AreTypingsOf}
 use Rattle.tac_hall_console.specs.Operated.{lines_at, HaveEnded, Leaves, Finishes}
 
 -- ---- one line
@@ -94,7 +94,7 @@ module _ {J V : Type 0} (hears : V → Typing → V → Type 0) where
     pub came : CameTo opening was.console.batch was.console.seat answered outcomes now.console.seat
     pub batch : now.console.batch ≡ batch_left was.console.batch answered
     pub heard : AreTold hears was.witness (typings_of answered outcomes) now.witness
-    pub written : Appends was.written now.written (text_of outcomes)
+    pub written : Appends was.written now.written (answers_of (typings_of answered outcomes))
 
   -- of these commands the first were answered, and it ends, where this is told after all of them
   pub record EndsAt (opening : Opening) (end : Result (Unit {0}) OperatorFault)
@@ -108,7 +108,7 @@ module _ {J V : Type 0} (hears : V → Typing → V → Type 0) where
     pub typings : List Typing
     pub tells : AreTypingsOf end answered left outcomes last typings
     pub heard : AreTold hears was.witness typings now.witness
-    pub writes : WritesTo end outcomes was.written now.written
+    pub writes : WritesTo end typings was.written now.written
 
   -- the batch is as the line leaves it, unless it ends there
   abbrev pub LeavesBatch : Result (Unit {0}) OperatorFault → List ℕ → Scene J V → Scene J V → Type 0

@@ -48,10 +48,11 @@ fn stop<H: Wait, J: Run, D: Desk, W: Write>(
 /// is refused only as Closed, or as LogFull where the log is full. Edits that are kept then are
 /// never made. A line ends in LF, which the last may lack. The seat comes back.
 ///
-/// The witness is told of each line with its whole answer before that is written, also of an empty
-/// line, and of `quit`, which has no answer, before the Stop. The answer is written even where the
-/// witness refuses the line. Where memory runs out while a line is answered, the witness is told
-/// that it has no answer. Of the Stop and of a line that isn't whole it isn't told.
+/// The witness is told of each line with its whole answer before any of that is written, and of
+/// `quit`, which has none, before the Stop. The answer is written also where the witness refuses
+/// the line. Where memory runs out while a line is answered the witness is told that it has no
+/// answer, since what it asks for may have been done. It is told neither of a line that isn't whole
+/// nor of the Stop.
 ///
 /// At ReadFault the lines that had ended are answered whole. At WriteFault a beginning of the
 /// answers was written. At Memory the answers so far were written whole; the last call may have

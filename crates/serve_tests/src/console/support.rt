@@ -10,6 +10,7 @@ use std::io::{Read, Write};
 use std::marker::Brand;
 use std::sync::Wait;
 use std::test::Fail;
+use tac_audit::{Nobody, Typing, Witness};
 use tac_desk::Desk;
 use tac_forum::{EmptyHistory, Limits, Run, Seat, SharedDesk};
 use tac_hall::{Call, HallFault};
@@ -38,11 +39,12 @@ pub(crate) struct Ended {
 
 // A console of a shared desk, whose other seat makes a Stop after it, and before it too if it is to
 // be stopped. Its seat comes back beside that.
-fn operates_at<J: Run, D: Desk, I: Read, O: Write, R: Wait + AllocGlobal>(
+fn operates_at<J: Run, D: Desk, V: Witness<Typing>, I: Read, O: Write, R: Wait + AllocGlobal>(
     rt: &R,
     desk: &SharedDesk<J, D>,
     course: Course,
     other: &mut Seat<J>,
+    witness: &mut V,
     input: &mut I,
     output: &mut O,
 ) -> Result<(Seat<J>, Ended), Fail> {
@@ -50,17 +52,18 @@ fn operates_at<J: Run, D: Desk, I: Read, O: Write, R: Wait + AllocGlobal>(
         return Err(Fail::from("no stop"));
     }
     let seat = desk.seat(rt)?;
-    let (seat, end) = operate(rt, rt.alloc(), desk, seat, input, output);
+    let (seat, end) = operate(rt, rt.alloc(), desk, seat, witness, input, output);
     let after = desk.call(rt, other, &Call::Stop).err();
     Ok((seat, Ended { end, after }))
 }
 
 // The same at a new desk of this run, which is closed with both seats.
-fn operates_of<J: Run, D: Desk, I: Read, O: Write, R: Wait + AllocGlobal>(
+fn operates_of<J: Run, D: Desk, V: Witness<Typing>, I: Read, O: Write, R: Wait + AllocGlobal>(
     rt: &R,
     history: EmptyHistory,
     desk: D,
     course: Course,
+    witness: &mut V,
     input: &mut I,
     output: &mut O,
 ) -> Result<Ended, Fail>
@@ -70,7 +73,7 @@ fn operates_of<J: Run, D: Desk, I: Read, O: Write, R: Wait + AllocGlobal>(
     let desk: SharedDesk<J, D> = SharedDesk::new(history, desk, course.limits);
     let mut seats = Vec::with_capacity(rt.alloc(), 2)?;
     let mut other = desk.seat(rt)?;
-    let (seat, ended) = operates_at(rt, &desk, course, &mut other, input, output)?;
+    let (seat, ended) = operates_at(rt, &desk, course, &mut other, witness, input, output)?;
     seats.push(seat)?;
     seats.push(other)?;
     closes(desk, seats)?;
@@ -78,27 +81,29 @@ fn operates_of<J: Run, D: Desk, I: Read, O: Write, R: Wait + AllocGlobal>(
 }
 
 // The same in a run of its own.
-fn operates_new<D: Desk, I: Read, O: Write, R: Wait + AllocGlobal>(
+fn operates_new<D: Desk, V: Witness<Typing>, I: Read, O: Write, R: Wait + AllocGlobal>(
     rt: &R,
     desk: D,
     course: Course,
+    witness: &mut V,
     input: &mut I,
     output: &mut O,
 ) -> Result<Ended, Fail> {
     let history = EmptyHistory::new(rt.alloc())?;
-    operates_of::<Brand, D, I, O, R>(rt, history, desk, course, input, output)
+    operates_of::<Brand, D, V, I, O, R>(rt, history, desk, course, witness, input, output)
 }
 
-/// Operates the console of a new shared desk, at which bob may show things. At the end that is
-/// closed with the console's seat and the other one.
-pub(crate) fn operates<I: Read, O: Write, R: Wait + AllocGlobal>(
+/// Operates the console of a new shared desk, at which bob may show things, before a witness. At
+/// the end the desk is closed with the console's seat and the other one.
+pub(crate) fn operates<V: Witness<Typing>, I: Read, O: Write, R: Wait + AllocGlobal>(
     rt: &R,
     course: Course,
+    witness: &mut V,
     input: &mut I,
     output: &mut O,
 ) -> Result<Ended, Fail> {
     let desk = desk_of(rt.alloc(), OPS)?;
-    operates_new(rt, desk, course, input, output)
+    operates_new(rt, desk, course, witness, input, output)
 }
 
 // What a console wrote, and how it ended.
@@ -126,7 +131,7 @@ fn run<R: Wait + AllocGlobal>(
         left: room,
         taken: Vec::new(rt.alloc()),
     };
-    let ended = operates(rt, course, &mut reader, &mut writer)?;
+    let ended = operates(rt, course, &mut Nobody, &mut reader, &mut writer)?;
     Ok(Seen {
         written: writer.taken,
         ended,

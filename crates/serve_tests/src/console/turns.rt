@@ -7,6 +7,7 @@ use std::cell::RefCell;
 use std::io::{self, ErrorKind, Read, Write};
 use std::sync::Wait;
 use std::test::Fail;
+use tac_audit::Nobody;
 
 /// A line that is typed, and its answer.
 #[derive(Clone, Copy)]
@@ -99,7 +100,7 @@ fn takes_turns<R: Wait + AllocGlobal>(rt: &R, turns: &[Turn]) -> Result<(), Fail
         limits: ROOMY,
         is_stopped: false,
     };
-    let ended = operates(rt, course, &mut typist, &mut screen)?;
+    let ended = operates(rt, course, &mut Nobody, &mut typist, &mut screen)?;
     is_done(&typist, ended.end.is_ok())
 }
 
