@@ -7,16 +7,19 @@ use crate::help::{
     KEEP_RECORDS_HELP, KEY_FILE_HELP, KEY_HELP, LINE_HELP, LINT_ABOUT, LINT_AFTER_HELP,
     LINT_AFTER_LONG_HELP, LINT_LONG_ABOUT, LOG_HELP, LONG_ABOUT, NEW_HELP, NO_CONSOLE_HELP,
     OLD_HELP, PORT_HELP, REPLAY_ABOUT, REPLAY_AFTER_HELP, REPLAY_AFTER_LONG_HELP,
-    REPLAY_LONG_ABOUT, ROTATE_AT_HELP, SERVE_ABOUT, SERVE_AFTER_HELP, SERVE_AFTER_LONG_HELP,
-    SERVE_LONG_ABOUT, SYNC_HELP, TEST_ABOUT, TEST_AFTER_HELP, TEST_AFTER_LONG_HELP,
-    TEST_LONG_ABOUT, USER_HELP, WHY_ABOUT, WHY_AFTER_HELP, WHY_AFTER_LONG_HELP, WHY_LONG_ABOUT,
-    WORKERS_HELP,
+    REPLAY_LOG_HELP, REPLAY_LONG_ABOUT, ROTATE_AT_HELP, SERVE_ABOUT, SERVE_AFTER_HELP,
+    SERVE_AFTER_LONG_HELP, SERVE_LONG_ABOUT, SYNC_HELP, TEST_ABOUT, TEST_AFTER_HELP,
+    TEST_AFTER_LONG_HELP, TEST_LONG_ABOUT, TIME_HELP, USER_HELP, WHY_ABOUT, WHY_AFTER_HELP,
+    WHY_AFTER_LONG_HELP, WHY_LONG_ABOUT, WORKERS_HELP,
 };
 use clap::{Arg, ArgAction, ArgGroup, Command, value_parser};
 use std::alloc::{AllocError, Global};
 
 /// The word that asks for a server.
 pub(crate) const SERVE: &str = "serve";
+
+/// The word that asks for the replay of a script.
+pub(crate) const REPLAY: &str = "replay";
 
 /// The word that asks for a check.
 pub(crate) const CHECK: &str = "check";
@@ -80,6 +83,9 @@ pub(crate) const ROTATE_AT: &str = "rotate-at";
 /// The file that takes the lines of an auditor.
 pub(crate) const LOG: &str = "log";
 
+/// What the lines of a script tell as their time.
+pub(crate) const TIME: &str = "time";
+
 /// Whether such a line counts only once it is on the disk.
 pub(crate) const SYNC: &str = "sync";
 
@@ -111,7 +117,7 @@ fn number<'a>(
         .help(help)
 }
 
-// An option of `serve` that is a text.
+// An option that is a text.
 fn text<'a>(alloc: Global, id: &'a str, shown: &'a str, help: &'a str) -> Arg<'a> {
     Arg::new(alloc, id).long(id).value_name(shown).help(help)
 }
@@ -222,12 +228,14 @@ fn test<'a>(alloc: Global) -> Result<Command<'a>, AllocError> {
         .arg(Arg::new(alloc, CASES).required(true).help(CASES_HELP))
 }
 
-fn replay<'a>(alloc: Global) -> Command<'a> {
-    Command::new(alloc, "replay")
+fn replay<'a>(alloc: Global) -> Result<Command<'a>, AllocError> {
+    Command::new(alloc, REPLAY)
         .about(REPLAY_ABOUT)
         .long_about(REPLAY_LONG_ABOUT)
         .after_help(REPLAY_AFTER_HELP)
         .after_long_help(REPLAY_AFTER_LONG_HELP)
+        .arg(text(alloc, LOG, "PATH", REPLAY_LOG_HELP))?
+        .arg(text(alloc, TIME, "TEXT", TIME_HELP).requires_arg(LOG)?)
 }
 
 // The command with one more below it.
@@ -244,7 +252,7 @@ pub(crate) fn command<'a>(alloc: Global) -> Result<Command<'a>, AllocError> {
         .about(ABOUT)
         .long_about(LONG_ABOUT)
         .after_long_help(AFTER_LONG_HELP)
-        .version("0.5.0")
+        .version("0.6.0")
         .subcommand_required(true);
     let command = with(command, serve(alloc))?;
     let command = with(command, check(alloc))?;
@@ -252,5 +260,5 @@ pub(crate) fn command<'a>(alloc: Global) -> Result<Command<'a>, AllocError> {
     let command = with(command, diff(alloc))?;
     let command = with(command, why(alloc))?;
     let command = with(command, test(alloc))?;
-    command.subcommand(replay(alloc))
+    with(command, replay(alloc))
 }

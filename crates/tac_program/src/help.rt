@@ -451,6 +451,11 @@ connections: packets of TACACS+ authentication, authorisation and accounting (RF
 every session asks for a login or a command line, or tells what was done. The whole script, at most
 268435456 bytes, is read before anything is printed.";
 
+pub(crate) const REPLAY_LOG_HELP: &str =
+    "The file that takes a line of JSON for each request of the script, as of 'serve --log'";
+
+pub(crate) const TIME_HELP: &str = "What each of these lines has as its time, in place of null";
+
 pub(crate) const REPLAY_AFTER_HELP: &str = "Example:
   tacd replay < session.script
 
@@ -501,7 +506,7 @@ Exit status:
   1  the script has a fault, which was printed
   2  the command line is wrong
   3  memory ran out
-  4  the script could not be read, or the output could not be written"
+  4  the script could not be read, the output could not be written, or PATH can't be written"
 );
 
 pub(crate) const AFTER_LONG_HELP: &str = "Examples:

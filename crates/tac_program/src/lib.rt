@@ -9,6 +9,7 @@ mod help;
 mod opening;
 mod options;
 mod program;
+mod replaying;
 mod reviewing;
 mod server;
 mod status;

@@ -3,10 +3,11 @@
 ghost use Rattle.std.specs.Prelude.{◌≡◌, ◌≢◌, ◌⊎◌};
 ghost use Rattle.clap.specs.Values.{kind_of};
 
-use crate::command_line::{CHECK, DIFF, FILE, LINT, SERVE, TEST, WHY, command};
+use crate::command_line::{CHECK, DIFF, FILE, LINT, REPLAY, SERVE, TEST, WHY, command};
 use crate::complaint::{complain, name_lint};
 use crate::opening::open_file;
 use crate::options::Options;
+use crate::replaying::replay_script;
 use crate::reviewing::{diff, test, why};
 use crate::server::serve_by;
 use crate::status::Status;
@@ -23,17 +24,6 @@ use std::{env, io};
 use tac_check::{CheckEnd, check};
 use tac_journal::LogFiles;
 use tac_lint::lint;
-use tac_server::replay;
-
-// The script comes from standard input, and what is replied goes to standard output.
-fn replay_script<R: Input + Print + Eprint + AllocGlobal>(rt: &R) -> Status {
-    let outcome = replay(rt.alloc(), &mut rt.reader(), &mut io::writer(rt));
-    if let Err(fault) = outcome {
-        // The status tells it too, so it doesn't matter whether this could be written.
-        let _ = eprintln!(rt; "tacd: {fault}");
-    }
-    Status::of_replay(outcome)
-}
 
 // The policy comes from a file, and what is found goes to standard output.
 fn check_policy<R: Files + Print + Eprint + AllocGlobal>(rt: &R, path: &str) -> Status {
@@ -124,7 +114,7 @@ where
     Some(test(rt, options))
 }
 
-// A parse that succeeds has met a subcommand: `serve`, one that looks at policies, or `replay`.
+// A parse that succeeds has met a subcommand: `serve`, `replay`, or one that looks at policies.
 fn carry_out<R, H>(rt: &R, host: &H, matches: &ArgMatches<'_>) -> Status
 where
     R: Files + Input + Print + Eprint + AllocGlobal,
@@ -134,10 +124,10 @@ where
     if let Some(options) = matches.subcommand_matches(SERVE) {
         return serve_clients(rt, host, options);
     }
-    match look(rt, matches) {
-        Some(status) => status,
-        None => replay_script(rt),
+    if let Some(options) = matches.subcommand_matches(REPLAY) {
+        return replay_script(rt, host, options);
     }
+    look(rt, matches).unwrap_or(Status::BadCommandLine)
 }
 
 fn obey<R, H>(rt: &R, host: &H, words: &[String]) -> Status

@@ -19,7 +19,7 @@ use std::sync::Wait;
 use std::thread::Threads;
 use std::time::Clock;
 use tac_desks::LiveDesk;
-use tac_journal::{AuditedConsole, AuditedInput, AuditedOutput, Journal, LogFiles};
+use tac_journal::{Journal, LogFiles};
 use tac_net::{FillingDesk, Port, ServeFault, serve};
 use tac_tally::RecordLimit;
 
@@ -113,24 +113,16 @@ where
     H: Threads + Wait + Clock + Sync + AllocGlobal + Eprint + LogFiles,
 {
     let desk = FillingDesk::new(host, desk, options.record_limit);
-    let console = AuditedConsole::new(host, journal);
-    let outcome = serve(
+    let mut input = input;
+    serve(
         host,
         port,
         desk,
         &options.settings,
         journal,
-        &mut AuditedInput {
-            console: &console,
-            input,
-        },
-        &mut AuditedOutput {
-            console: &console,
-            output: io::writer(rt),
-        },
-    );
-    console.end();
-    outcome
+        &mut input,
+        &mut io::writer(rt),
+    )
 }
 
 // Says why a server ended, unless it was stopped. The error is the status to end with.
