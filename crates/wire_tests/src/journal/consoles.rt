@@ -1,5 +1,7 @@
 //! Conversations at a console, in the order in which the log and the output have them.
 
+ghost use Rattle.std.specs.Prelude.{true};
+
 use basics::{Bytes, send};
 use std::alloc::{AllocError, Global};
 use std::cell::{Cell, RefCell};
@@ -62,6 +64,8 @@ impl<'a> Book<'a> {
 }
 
 impl Log for Book<'_> {
+    ghost keeps = { λ _. true };
+
     fn is_kept(&self) -> bool {
         true
     }

@@ -1,6 +1,8 @@
 //! The log of a device: what time its lines have, and when it is answered where they count only once
 //! they are on the disk.
 
+ghost use Rattle.std.specs.Prelude.{true};
+
 use crate::journal::files::free_path;
 use crate::journal::host::Host;
 use crate::talk::{Talk, Turned, Wanted};
@@ -25,6 +27,8 @@ struct Lines {
 }
 
 impl Log for Lines {
+    ghost keeps = { λ _. true };
+
     fn is_kept(&self) -> bool {
         true
     }

@@ -1,6 +1,8 @@
 //! The log of a device whose file takes only so many lines: what of each notice it has, and which
 //! notices are refused.
 
+ghost use Rattle.std.specs.Prelude.{true};
+
 use crate::journal::host::Host;
 use crate::talk::{Talk, Turned, Wanted};
 use basics::Bytes;
@@ -57,6 +59,8 @@ fn without_head(line: &str) -> Result<&str, Fail> {
 }
 
 impl Log for Few {
+    ghost keeps = { λ _. true };
+
     fn is_kept(&self) -> bool {
         true
     }

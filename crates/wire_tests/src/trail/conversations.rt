@@ -19,7 +19,7 @@ fn made_up(alloc: Global) -> Result<(Bytes, Bytes), AllocError> {
 fn event_of(time: Bytes, device: Bytes, noted: Noted) -> Event {
     let Noted { session, told } = noted;
     Event {
-        time,
+        time: Some(time),
         device,
         session,
         told,
