@@ -8,3 +8,4 @@ mod starved;
 mod streams;
 mod support;
 mod transport;
+mod witnessed;

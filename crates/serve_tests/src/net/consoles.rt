@@ -61,6 +61,10 @@ struct Refusing {
 }
 
 impl Log for Refusing {
+    ghost use Rattle.std.specs.Prelude.{is_some};
+
+    ghost keeps = { λ log. is_some log.refused };
+
     fn is_kept(&self) -> bool {
         self.refused.is_some()
     }

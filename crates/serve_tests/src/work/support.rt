@@ -7,11 +7,12 @@ use std::alloc::Global;
 use std::sync::Wait;
 use std::sync::atomic::{AtomicU64, Ordering};
 use std::test::Fail;
+use tac_audit::{Nobody, Notice, Witness};
 use tac_desk::Desk;
 use tac_desks::PlainDesk;
 use tac_hall::{Hall, Seat};
 use tac_wire::Key;
-use tac_worker::{Caller, End, Worked, serve, work};
+use tac_worker::{Caller, End, Terms, Worked, serve, work};
 
 pub(crate) fn key() -> Result<Key, Fail> {
     match Key::read(b"k") {
@@ -114,11 +115,12 @@ fn serves<D: Desk, R: Wait + AllocGlobal>(
     (seat, receipts.len(), seen)
 }
 
-// The same by this caller.
-fn serves_for<C: Caller, R: Wait + AllocGlobal>(
+// The same by this caller, and this witness is told.
+fn serves_for<C: Caller, V: Witness<Notice>, R: Wait + AllocGlobal>(
     rt: &R,
     packets: &Packets,
     caller: &mut C,
+    witness: &mut V,
     asked: Asked<'_>,
 ) -> Seen {
     let mut reader = Scripted {
@@ -131,15 +133,13 @@ fn serves_for<C: Caller, R: Wait + AllocGlobal>(
         calls: AtomicU64::new(asked.calls),
         replies: AtomicU64::new(0),
     };
-    let end = serve(
+    let terms = Terms {
         rt,
-        rt.alloc(),
-        &packets.key,
-        &gate,
-        caller,
-        &mut reader,
-        &mut writer,
-    );
+        alloc: rt.alloc(),
+        key: &packets.key,
+        gate: &gate,
+    };
+    let end = serve(&terms, caller, witness, &mut reader, &mut writer);
     Seen {
         end,
         written: writer.taken,
@@ -147,15 +147,26 @@ fn serves_for<C: Caller, R: Wait + AllocGlobal>(
     }
 }
 
-/// A worker whose calls this caller makes, at what `LETTERS ROOM CALLS` says; `-` means no letters.
+/// A worker whose calls this caller makes, and who tells this witness, at what `LETTERS ROOM CALLS`
+/// says; `-` means no letters.
+pub(crate) fn serves_told<C: Caller, V: Witness<Notice>, R: Wait + AllocGlobal>(
+    rt: &R,
+    caller: &mut C,
+    witness: &mut V,
+    asked: &str,
+) -> Result<Seen, Fail> {
+    let asked = read_asked(asked)?;
+    let packets = read_packets(rt.alloc())?;
+    Ok(serves_for(rt, &packets, caller, witness, asked))
+}
+
+/// The same without a witness.
 pub(crate) fn serves_by<C: Caller, R: Wait + AllocGlobal>(
     rt: &R,
     caller: &mut C,
     asked: &str,
 ) -> Result<Seen, Fail> {
-    let asked = read_asked(asked)?;
-    let packets = read_packets(rt.alloc())?;
-    Ok(serves_for(rt, &packets, caller, asked))
+    serves_told(rt, caller, &mut Nobody, asked)
 }
 
 // Whether these are replies to the question, each but the last whole.
