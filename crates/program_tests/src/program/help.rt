@@ -382,4 +382,4 @@ Exit status:
   1  the script has a fault, which was printed
   2  the command line is wrong
   3  memory ran out
-  4  the script could not be read, or the output could not be written";
+  4  the script could not be read, the output could not be written, or PATH can't be written";

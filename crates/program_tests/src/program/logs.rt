@@ -153,3 +153,52 @@ fn a_log_after_a_run(rt: HostRuntime) -> Result<(), Fail> {
     logs(&rt, path.as_str(), " --sync", 6)?;
     logs(&rt, path.as_str(), "", 0)
 }
+
+// A script in which bob asks for `show version`, and then another connection of the same number is
+// opened, on which a header is refused.
+const SCRIPT: &str = "key k
+user bob
+permit show .*
+run
+open 1
+packet 1 c0020100000000010000003606010101030400030d080f626f6274747930736572766963653d7368656c6c636d643d73686f77636d642d6172673d76657273696f6e
+open 1
+bytes 1 d0010100fedcba9800000000
+";
+
+// The lines of that, without a time and then with one.
+const SCRIPT_LINES: &str =
+    r#"{"time":null,"device":"connection 1","session":"00000001","type":"command","user":"bob","port":"tty0","from":"","privilege":1,"service":1,"arguments":["service=shell","cmd=show","cmd-arg=version"],"line":"show version","status":"PASS_ADD","text":""}
+{"time":null,"device":"connection 1","session":"fedcba98","type":"refused","why":"bad header"}
+{"time":"noon","device":"connection 1","session":"00000001","type":"command","user":"bob","port":"tty0","from":"","privilege":1,"service":1,"arguments":["service=shell","cmd=show","cmd-arg=version"],"line":"show version","status":"PASS_ADD","text":""}
+{"time":"noon","device":"connection 1","session":"fedcba98","type":"refused","why":"bad header"}
+"#;
+
+// The status of the program, by these words and with the script as its input.
+fn played<R>(rt: &R, words: &str) -> ExitCode
+where
+    R: Threads + Wait + Clock + Sync + AllocGlobal + LogFiles + Eprint,
+    R: Net<Listener = TcpListener, Stream = TcpStream>,
+{
+    let (is_over, syncs) = (AtomicBool::new(true), AtomicU64::new(0));
+    let fake = Fake::typing(rt.alloc(), words, POLICY, SCRIPT, &is_over);
+    run(&fake, &Host { rt, syncs: &syncs })
+}
+
+#[test]
+fn a_script_and_its_lines(rt: HostRuntime) -> Result<(), Fail> {
+    let (folder, id) = (temp_dir(&rt)?, process::id(rt.process()));
+    let path = format!(in rt.alloc(); "{}/tacd-script-{id}.log", folder.as_str())?;
+    let _ = fs::remove_file(&rt, path.as_str());
+    let words = format!(in rt.alloc(); "tacd replay --log {path}")?;
+    let timed = format!(in rt.alloc(); "{words} --time noon")?;
+    let statuses = (played(&rt, words.as_str()), played(&rt, timed.as_str()));
+    let text = fs::read_to_string(&rt, path.as_str())?;
+    fs::remove_file(&rt, path.as_str())?;
+    assert_eq!(&rt; text.as_str(), SCRIPT_LINES);
+    assert!(&rt; statuses == (ExitCode::from(0), ExitCode::from(0)));
+    let nowhere = format!(in rt.alloc(); "tacd replay --log {path}/none/log")?;
+    assert!(&rt; played(&rt, nowhere.as_str()) == ExitCode::from(4));
+    assert!(&rt; played(&rt, "tacd replay --time noon") == ExitCode::from(2));
+    Ok(())
+}

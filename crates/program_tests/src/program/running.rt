@@ -385,14 +385,14 @@ For more information, try '--help'.
 
 const OTHER_WORD: &str = "error: unexpected argument 'script' found
 
-Usage: tacd replay
+Usage: tacd replay [OPTIONS]
 
 For more information, try '--help'.
 ";
 
 const OTHER_FLAG: &str = "error: unexpected argument '--fast' found
 
-Usage: tacd replay
+Usage: tacd replay [OPTIONS]
 
 For more information, try '--help'.
 ";
@@ -748,10 +748,12 @@ Options:
 
 const REPLAY_SUMMARY: &str = "Reads a script on standard input and prints the server's replies
 
-Usage: tacd replay
+Usage: tacd replay [OPTIONS]
 
 Options:
-  -h, --help  Print help (see more with '--help')
+      --log <PATH>   The file that takes a line of JSON for each request of the script, as of 'serve --log'
+      --time <TEXT>  What each of these lines has as its time, in place of null
+  -h, --help         Print help (see more with '--help')
 
 Example:
   tacd replay < session.script
@@ -761,9 +763,15 @@ Example:
 
 const REPLAY_OPTIONS: &str = "
 
-Usage: tacd replay
+Usage: tacd replay [OPTIONS]
 
 Options:
+      --log <PATH>
+          The file that takes a line of JSON for each request of the script, as of 'serve --log'
+
+      --time <TEXT>
+          What each of these lines has as its time, in place of null
+
   -h, --help
           Print help (see a summary with '-h')
 
@@ -771,7 +779,7 @@ Options:
 
 #[test]
 fn help(rt: HostRuntime) -> Result<(), Fail> {
-    ends(&rt, "tacd --version", "", true, 0, "tacd 0.5.0\n", "");
+    ends(&rt, "tacd --version", "", true, 0, "tacd 0.6.0\n", "");
     ends(&rt, "tacd -h", "", true, 0, SUMMARY, "");
     ends(&rt, "tacd replay -h", "", true, 0, REPLAY_SUMMARY, "");
     // What the long help says before and after the options stands in help.rt.
