@@ -178,8 +178,8 @@ pub record Ends (end : End) (key : List ℕ) (asked : List Ask) (sent_by : List 
   pub leaves : Leaves end refuses left
   pub writes : Writes end key (sent_by (answers_of made)) (answers_of made) old new
 
--- a connection was served, on which these bytes were read; it ended so, and what it did was told.
--- `are_told` says which notices its witness took, and which one it refused then
+-- a connection was served, on which these bytes were read; it ended so, and its witness was told of
+-- it. `are_told` says which notices the witness took, and which one it refused then
 pub record IsServedBy (end : End) (key : List ℕ) (are_made : List Exchange → Type 0)
     (refuses : Ask → HallFault → Type 0) (are_told : List Notice → Option Notice → Type 0)
     (traffic : Traffic) : Type 0 where
