@@ -112,7 +112,12 @@ where
 }
 
 // Appends the lines to their file. The error is the status to end with.
-fn append<R: Eprint>(rt: &R, path: &str, file: &mut File, log: &ScriptLog<'_>) -> Result<(), Status> {
+fn append<R: Eprint>(
+    rt: &R,
+    path: &str,
+    file: &mut File,
+    log: &ScriptLog<'_>,
+) -> Result<(), Status> {
     if !log.is_whole {
         let _ = eprintln!(rt; "tacd: {path}: memory ran out for its lines");
         return Err(Status::OutOfMemory);
