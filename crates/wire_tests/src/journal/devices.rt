@@ -194,7 +194,7 @@ fn told<'a, R>(
     host: &'a Host<'a, R>,
     journal: &'a Journal<'a>,
     notice: &Notice,
-    answers: &Answers<'_>,
+    answers: &'a Answers<'a>,
     events: &str,
 ) -> Result<String, Fail>
 where
