@@ -1,11 +1,12 @@
-"""Compares what `tacd replay` and `tacd check` print with a reference, on scripts that are drawn.
+"""Compares what `tacd replay` and `tacd check` print, and what `tacd replay --log` writes, with a
+reference, on scripts that are drawn.
 
 The reference (the package `reference`) is written from docs/ alone: it searches a policy from its
 top, counts over all records, looks for least texts among all texts, and keeps nothing. The package
 `generator` draws scripts and policies by what they do: conversations of all kinds, cut anywhere;
 edits, questions and patterns of all kinds; headers, bodies, lines and policies with a thing wrong;
-and what is at a limit. Output and status have to be the same, byte by byte. A script on which they
-aren't is made smaller and printed, with both outputs.
+and what is at a limit. Output, status and the lines of the log have to be the same, byte by byte. A
+script on which they aren't is made smaller and printed, with both of each.
 
     python3 bench/fuzz [--seed N] [--count N] [--first N] [PROGRAM]
     python3 bench/fuzz pairs [--seed N] [--count N] [--first N] [PROGRAM]

@@ -21,20 +21,24 @@ class Program:
         self.path = path.resolve()
         self.folder = tempfile.TemporaryDirectory(prefix="tacd-fuzz-")
         self.policy = pathlib.Path(self.folder.name, "policy")
+        self.log = pathlib.Path(self.folder.name, "log")
 
     def run(self, case):
-        """Output and status; of a run that doesn't end the status is None."""
+        """Output, status and the lines of the log; of a run that doesn't end the status is None."""
+        self.log.write_bytes(b"")
         words = [self.path, case.command]
         given = case.text
         if case.command == "check":
             self.policy.write_bytes(case.text)
             words.append(self.policy)
             given = b""
+        else:
+            words += ["--log", self.log]
         try:
             ran = subprocess.run(words, input=given, capture_output=True, timeout=LONGEST_RUN)
         except subprocess.TimeoutExpired as late:
-            return late.stdout or b"", None
-        return ran.stdout, ran.returncode
+            return late.stdout or b"", None, b""
+        return ran.stdout, ran.returncode, self.log.read_bytes()
 
 
 def compare(program, seed, numbers):

@@ -227,6 +227,31 @@ WRONG_BODIES = [
         'if line == "" and level is not None',
         "if level is not None",
     ),
+    # The lines of the log.
+    WrongBody(
+        "a login is told under the name that its START has",
+        "auditing.py",
+        "login.start._replace(user=login.user or typed.message)",
+        "login.start",
+    ),
+    WrongBody(
+        "a login that was given up is told as out of turn",
+        "auditing.py",
+        "self.refused(header, ABORTED)",
+        "self.refused(header, OUT_OF_TURN)",
+    ),
+    WrongBody(
+        "a packet out of turn is told only where its connection goes on",
+        "conversations.py",
+        "            return self.refuse(header, auditing.OUT_OF_TURN)\n        login =",
+        "            self.closed = True\n            return None\n        login =",
+    ),
+    WrongBody(
+        "a DEL is no control character",
+        "auditing.py",
+        '"\\x7f" <= symbol',
+        '"\\x80" <= symbol',
+    ),
     # Edits that are made together.
     WrongBody(
         "a refused batch keeps its first edits",

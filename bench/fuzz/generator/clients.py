@@ -216,8 +216,8 @@ def fields(fixed, parts):
 
 
 def terminal(choices):
-    """Port and remote address, which nothing is asked of."""
-    port = choices.choice([b"", b"tty0", b"p"])
+    """Port and remote address, which nothing is asked of; the log escapes what they have."""
+    port = choices.choice([b"", b"tty0", b"p", b'"\\\n\x1f\x7f\x80\x9f\xa0\xff'])
     return [port, choices.choice([b"", b"10.0.0.1", b"\x00" * 40])]
 
 
@@ -225,7 +225,7 @@ def request(choices, user, arguments):
     names = [bytes_of(user)[:255], *terminal(choices)]
     arguments = [bytes_of(argument)[:255] for argument in arguments[:255]]
     sizes = [len(name) for name in names] + [len(arguments)] + [len(it) for it in arguments]
-    fixed = [choices.choice([0, 6, 1]), choices.choice([0, 1, 15]), 1, 1]
+    fixed = [choices.choice([0, 6, 1]), choices.choice([0, 1, 15]), 1, choices.choice([1, 1, 2])]
     return bytes(fixed + sizes) + b"".join(names + arguments)
 
 

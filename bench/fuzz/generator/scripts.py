@@ -90,7 +90,7 @@ class Play:
 
     def __init__(self, choices, key, subjects):
         self.choices = choices
-        self.server = Server(bytes_of(key), Desk(subjects))
+        self.server = Server(bytes_of(key), Desk(subjects), log=[])
         self.world = World(choices, self.server)
         self.operator = Operator(choices, self.world)
         numbers = choices.sample(["1", "2", "007", "65535", "0"], choices.count(0, 3))

@@ -3,7 +3,7 @@
 
 from typing import NamedTuple, Optional
 
-from . import wire
+from . import auditing, wire
 from .accounting import kind_of, line_of, pairs_of, record_of
 from .decisions import level_of
 from .texts import text_of
@@ -24,16 +24,17 @@ class Session(NamedTuple):
     """An ASCII login that waits for a name, or for the password of the user."""
 
     next_seq_no: int
-    service: int
+    start: wire.Start
     user: Optional[bytes]
 
 
 class Connection:
     """All replies are pairs of a header and a clear body."""
 
-    def __init__(self, key, desk):
+    def __init__(self, key, desk, log):
         self.key = key
         self.desk = desk
+        self.log = log
         self.unread = b""
         self.single = None
         self.sessions = {}
@@ -46,7 +47,7 @@ class Connection:
         while not self.closed and len(self.unread) >= HEADER_SIZE:
             header = wire.header_of(self.unread[:HEADER_SIZE])
             if header.is_refused():
-                self.closed = True
+                self.refuse(header, auditing.BAD_HEADER)
                 break
             end = HEADER_SIZE + header.length
             if len(self.unread) < end:
@@ -62,19 +63,23 @@ class Connection:
         if self.single is None:
             self.single = header.flags & SINGLE_CONNECTION != 0
         if header.seq_no == LAST_SEQ_NO:
-            self.closed = True
-            return None
+            return self.refuse(header, auditing.OUT_OF_TURN)
         if header.kind not in (AUTHENTICATION, AUTHORISATION, ACCOUNTING):
-            self.closed = True
+            self.refuse(header, auditing.UNSERVED)
             return header._replace(seq_no=header.seq_no + 1, length=0), b""
         if not self.comes_in_turn(header):
-            self.closed = True
-            return None
+            return self.refuse(header, auditing.OUT_OF_TURN)
+        login = self.sessions.get(header.session_id)
         clear = self.judge(header, body)
+        self.log.in_turn(header, body, login, clear)
         if clear is None:
             return None
         flags = SINGLE_CONNECTION if self.single else 0
         return header._replace(seq_no=header.seq_no + 1, flags=flags, length=len(clear)), clear
+
+    def refuse(self, header, why):
+        self.log.refused(header, why)
+        self.closed = True
 
     def comes_in_turn(self, header):
         session = self.sessions.get(header.session_id)
@@ -129,7 +134,7 @@ class Connection:
                 wire.authentication_reply(AUTHENTICATION_ERROR, "too many sessions")
             )
         user = start.user or None
-        self.sessions[header.session_id] = Session(header.seq_no + 2, start.service, user)
+        self.sessions[header.session_id] = Session(header.seq_no + 2, start, user)
         if user is None:
             return wire.authentication_reply(GETUSER, "Username: ")
         return wire.authentication_reply(GETPASS, "Password: ", hidden=True)
@@ -142,7 +147,7 @@ class Connection:
             return self.ends(None, header.session_id)
         if session.user is not None:
             passes = self.desk.passes_by_password(
-                text_of(session.user), session.service, typed.message
+                text_of(session.user), session.start.service, typed.message
             )
             return self.ends(login_reply(passes), header.session_id)
         if typed.message == b"":

@@ -1,6 +1,7 @@
-"""What `tacd replay` prints of a script, and how it ends (docs/SCRIPT.md)."""
+"""What `tacd replay` prints of a script, how it ends (docs/SCRIPT.md), and what `--log` writes."""
 
 from . import console, wire
+from .auditing import Log
 from .conversations import Connection
 from .decisions import first_too_large
 from .desk import Desk
@@ -17,16 +18,19 @@ class Fault(Exception):
 
 
 def replay(script):
-    """The output and the status."""
+    """The output, the status, and the lines of the log."""
     output = []
+    log = []
+    status = DONE
     try:
-        play(lines_of(text_of(script)), output)
+        play(lines_of(text_of(script)), output, log)
     except Fault as fault:
-        return bytes_of("".join(output) + f"fault {fault}\n"), FAULT
-    return bytes_of("".join(output)), DONE
+        output.append(f"fault {fault}\n")
+        status = FAULT
+    return bytes_of("".join(output)), status, "".join(log).encode()
 
 
-def play(lines, output):
+def play(lines, output, log):
     if not lines or not lines[0].startswith("key ") or not is_secret(lines[0][4:]):
         raise Fault("line 1 BadKey")
     if "run" not in lines[1:]:
@@ -39,7 +43,7 @@ def play(lines, output):
     large = first_too_large(policy)
     if large is not None:
         raise Fault(f"TooManyStates {large.label()}")
-    server = Server(bytes_of(lines[0][4:]), Desk(policy))
+    server = Server(bytes_of(lines[0][4:]), Desk(policy), log)
     for number, line in enumerate(lines[end + 1 :], start=end + 2):
         try:
             output.append(server.event(line))
@@ -48,9 +52,10 @@ def play(lines, output):
 
 
 class Server:
-    def __init__(self, key, desk):
+    def __init__(self, key, desk, log):
         self.key = key
         self.desk = desk
+        self.log = log
         self.connections = {}
 
     def event(self, line):
@@ -64,7 +69,7 @@ class Server:
         number = connection_of(rest)
         if number in self.connections:
             raise Fault("AlreadyOpen")
-        self.connections[number] = Connection(self.key, self.desk)
+        self.connections[number] = Connection(self.key, self.desk, Log(number, self.log))
         return ""
 
     def lost(self, rest):

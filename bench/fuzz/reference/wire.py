@@ -61,9 +61,12 @@ def cut(data, lengths):
 
 class Start(NamedTuple):
     action: int
+    privilege: int
     authen_type: int
     service: int
     user: bytes
+    port: bytes
+    address: bytes
     data: bytes
 
 
@@ -73,8 +76,7 @@ def start_of(body) -> Optional[Start]:
     fields = cut(body[8:], body[4:8])
     if fields is None:
         return None
-    user, _port, _address, data = fields
-    return Start(body[0], body[2], body[3], user, data)
+    return Start(*body[:4], *fields)
 
 
 class Continue(NamedTuple):
@@ -93,9 +95,13 @@ def continue_of(body) -> Optional[Continue]:
 
 
 class Request(NamedTuple):
-    """What is read of an authorisation request."""
+    """What is read of an authorisation request, and of an accounting request behind its flags."""
 
+    privilege: int
+    service: int
     user: bytes
+    port: bytes
+    address: bytes
     arguments: list
 
 
@@ -106,7 +112,7 @@ def request_of(body) -> Optional[Request]:
     fields = cut(body[fixed:], body[4:7] + body[8:fixed])
     if fields is None:
         return None
-    return Request(fields[0], fields[3:])
+    return Request(body[1], body[3], *fields[:3], fields[3:])
 
 
 def authentication_reply(status, text="", hidden=False):
@@ -117,6 +123,12 @@ def authorisation_reply(status, text="", arguments=()):
     lengths = bytes(len(argument) for argument in arguments)
     fixed = struct.pack("!BBHH", status, len(arguments), len(text), 0)
     return fixed + lengths + text.encode() + "".join(arguments).encode()
+
+
+def authorisation_text(reply):
+    """The reply's text, which stands between the lengths of its arguments and these."""
+    begin = 6 + reply[1]
+    return reply[begin : begin + int.from_bytes(reply[2:4], "big")].decode()
 
 
 def accounting_reply(status, text=""):
