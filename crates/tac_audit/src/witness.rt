@@ -4,8 +4,8 @@ ghost use Rattle.std.specs.Prelude.{◌≡◌, Ok, OnOk, OnErr};
 
 use std::alloc::{AllocError, AllocFailed};
 
-/// What was told doesn't count, as where a log takes no line, or there is no memory for it. What it
-/// tells of is not to be done.
+/// What was told wasn't taken, as where a log takes no line, or there is no memory for it. Whoever
+/// told it says what comes of that.
 #[derive(Clone, Copy, Debug, PartialEq, Eq)]
 pub struct Refused;
 
@@ -29,7 +29,7 @@ pub trait Witness<T>: Drop {
     /// It refused this notice, and is this one then.
     ghost refuses: { Self → T → Self → Type 0 };
 
-    /// Tells it what is about to happen. That is not to happen where it is refused.
+    /// Tells it what is about to happen. A worker leaves that undone where it is refused.
     fn tell(&mut self, notice: &T) -> Result<(), Refused>
         ensures ok { OnOk result (takes self.old notice.now self.new) }
         ensures err { OnErr result (refuses self.old notice.now self.new) };
