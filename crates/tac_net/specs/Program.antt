@@ -36,7 +36,7 @@ Fails (Ok _) port old new = ⊥
 Fails (Err Threads) port old new = new ≡ old
 Fails (Err fault) port old new = Refuses fault old new ⊎ Announces (Err fault) port old new
 
--- `listening P` was printed, and then the console was operated by this seat; some log, if one is
+-- `listening P` was printed, and then the console was operated by this seat; the log, if one is
 -- kept, was told of each line with its answer
 pub record HasAttended (ended : Seated × Result (Unit {0}) OperatorFault) (port : ℕ)
     (is_logged : Bool) (opening : Opening) (was : Seated) (before after old new : Option (List ℕ))
