@@ -187,11 +187,16 @@ module _ {S V : Type 0} (step : S → Exchange → S → Type 0) (takes : V → 
       written = rw (bytes_sent-append key g.sendings w.first) (Appends-trans old between new (bytes_sent key g.sendings) (bytes_sent key w.first) g.written w.written);
     }
 
-    first_after : WritesFirst key after between new → WritesFirst key all old new
+    first_after : WritesFirst key after (answers_of others) between new → WritesFirst key all (answers_of (g.made ++ others)) old new
     first_after w = record {
       first = g.sendings ++ w.first;
+      next = w.next;
       others = w.others;
-      parts = whole ∙ ap (λ (l : List Sending). g.sendings ++ l) w.parts ∙ sym (append_assoc g.sendings w.first w.others);
+      parts = whole ∙ ap (λ (l : List Sending). g.sendings ++ l) w.parts ∙ sym (append_assoc g.sendings (w.first ++ w.next) w.others)
+          ∙ ap (λ (l : List Sending). l ++ w.others) (sym (append_assoc g.sendings w.first w.next));
+      one = w.one;
+      carries = ap carried (append_assoc g.sendings w.first w.next)
+          ∙ carries_after key earlier first g.made g.sendings g.notices g.handled others (w.first ++ w.next) w.carries;
       written = rw (bytes_sent-append key g.sendings w.first) (Appends-trans old between new (bytes_sent key g.sendings) (bytes_sent key w.first) g.written w.written);
     }
 

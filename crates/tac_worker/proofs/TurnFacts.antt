@@ -1,5 +1,5 @@
 -- What one turn of a worker does.
-use Rattle.std.proofs.Common.{◌≡◌, ℕ, suc, List, [], ◌∷◌, ◌++◌, length, ◌<◌, take, drop, Bool, true, false, not, ◌||◌, Option, Some, None, Result, Ok, Err, IsErrAnd, if◌then◌else◌, inl, inr, refl, sym, ap, subst, ◌∙◌, append_assoc, append-nil, length-append, length-drop, arith}
+use Rattle.std.proofs.Common.{◌≡◌, ℕ, suc, List, [], ◌∷◌, ◌++◌, length, ◌<◌, ◌≤◌, take, drop, Bool, true, false, not, ◌||◌, Option, Some, None, Result, Ok, Err, IsErrAnd, if◌then◌else◌, inl, inr, refl, sym, ap, subst, ◌∙◌, append_assoc, append-nil, length-append, length-drop, arith}
 use Rattle.std.proofs.lemmas.List.{take-append-drop}
 use Rattle.std.specs.Io.KnownBytes.{Appends}
 use Rattle.std.proofs.KnownBytes.{Appends-nil}
@@ -298,17 +298,18 @@ module _ {S V : Type 0} (step : S → Exchange → S → Type 0) (rests : S → 
     done_uncalled NoSeat u = uncalled NoSeat u (λ w. w) refl refl (λ w. w)
 
   -- the witness refused the next notice
-  pub done_unwitnessed : (made : List Exchange) (left : List Ask) (notice : Notice) (later : List Notice) (was now : S) (seen sees : V) (old new : Option (List ℕ)) → AreAllMade step rests was made now
+  pub done_unwitnessed : (made : List Exchange) (next others : List Sending) (left : List Ask) (notice : Notice) (later : List Notice) (was now : S) (seen sees : V) (old new : Option (List ℕ)) → AreAllMade step rests was made now
+      → served_to key earlier frames (answers_of made) ≡ next ++ others → length next ≤ 1 → carried next ≡ answers_of made
       → asks_in key earlier frames ≡ asks_of made ++ left → notices_to key earlier frames tail (answers_of made) ≡ notice ∷ later → refuses_notice seen notice sees → Appends old new []
       → IsDone Unwitnessed was seen now sees old new
-  done_unwitnessed made left notice later was now seen sees old new had asks tells refused written = record {
+  done_unwitnessed made next others left notice later was now seen sees old new had serves one carries asks tells refused written = record {
     ends = record {
       made = made;
       makes = had;
       left = left;
       asks = asks;
       leaves = tt;
-      writes = record { first = []; others = served_to key earlier frames (answers_of made); parts = refl; written = written };
+      writes = record { first = []; next = next; others = others; parts = serves; one = one; carries = carries; written = written };
     };
     told = record { told = []; left = notice ∷ later; parts = tells; takes = (seen, refl, refused); leaves = omega arith; writes = written };
   }
@@ -445,7 +446,7 @@ module _ {S V : Type 0} (step : S → Exchange → S → Type 0) (rests : S → 
     -- the witness refused it
     done_refused : refuses_notice seen notice sees → Appends old new [] → IsDone step rests refuses takes refuses_notice key earlier (frame ∷ more) tail Unwitnessed was seen now sees old new
     done_refused refused written =
-        done_unwitnessed step rests refuses takes refuses_notice key earlier (frame ∷ more) tail made to_ask notice to_tell was now seen sees old new (now, had, rests_so now) asks_whole tells_whole refused written
+        done_unwitnessed step rests refuses takes refuses_notice key earlier (frame ∷ more) tail made (sending ∷ []) later to_ask notice to_tell was now seen sees old new (now, had, rests_so now) whole (omega arith) s.carries asks_whole tells_whole refused written
 
   -- it was told and written, and the connection closes
   done_said : (more : List Frame) (tail : Tail) → IsSaid key earlier frame made sending notice true → takes seen notice sees → Appends old new (sent key sending.packet)
@@ -637,8 +638,8 @@ module _ {S V : Type 0} (step : S → Exchange → S → Type 0) (rests : S → 
       → notices_to key (packets_of key (take taken (cut bytes).packets)) frames (cut bytes).tail [] ≡ notice ∷ later → refuses_notice seen notice sees → Turns (Err Unwitnessed) was seen was sees old old stream
   unwitnessed was seen sees old stream frames notice later left tells refused =
       let d = ends_now frames Unwitnessed was was seen sees old old left
-      (done_unwitnessed step rests refuses takes refuses_notice key _ frames (cut bytes).tail [] (asks_in key (packets_of key (take taken (cut bytes).packets)) frames) notice later was was seen sees old old
-      (was, refl, rests_so was) refl tells refused (Appends-nil old)) in
+      (done_unwitnessed step rests refuses takes refuses_notice key _ frames (cut bytes).tail [] [] (served_to key (packets_of key (take taken (cut bytes).packets)) frames []) (asks_in key (packets_of key (take taken (cut bytes).packets)) frames) notice later was was seen sees old old
+      (was, refl, rests_so was) refl (omega arith) refl refl tells refused (Appends-nil old)) in
       record { unfinished = λ e. cc; memory = λ e. absurd cc; closing = tt; ends = d.ends; told = d.told }
 
   refuses_silent : (was : S) (seen sees : V) (old : Option (List ℕ)) (stream : Stream) (packet : Packet) → IsNext key bytes taken packet Silent → refuses_notice seen (unreplied packet) sees → Turns (Err Unwitnessed) was seen was sees old old stream

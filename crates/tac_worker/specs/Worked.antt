@@ -1,6 +1,6 @@
 -- What a worker has done that served one connection by calls, at a hall or at a desk that many
 -- share.
-use Rattle.std.specs.Prelude.{◌≡◌, ◌<◌, ℕ, List, [], ◌∷◌, ◌++◌, map, length}
+use Rattle.std.specs.Prelude.{◌≡◌, ◌<◌, ◌≤◌, ℕ, List, [], ◌∷◌, ◌++◌, map, length}
 use Rattle.std.specs.Prelude.{Bool, true, false, Option, None}
 use Rattle.std.specs.Io.KnownBytes.{Appends, Consumes, IsAtEnd}
 use Rattle.tac_conn.specs.declared.ask.Answer.{Answer}
@@ -106,12 +106,15 @@ pub record WritesSome (key : List ℕ) (sendings : List Sending) (answers : List
   pub carries : carried first ≡ answers
   pub written : Appends old new (bytes_sent key first)
 
--- whole packets of these, from the first on
-pub record WritesFirst (key : List ℕ) (sendings : List Sending) (old new : Option (List ℕ))
-    : Type 0 where
+-- whole packets of these, from the first on. All answers are among them, or in the next one
+pub record WritesFirst (key : List ℕ) (sendings : List Sending) (answers : List Answer)
+    (old new : Option (List ℕ)) : Type 0 where
   pub first : List Sending
+  pub next : List Sending
   pub others : List Sending
-  pub parts : sendings ≡ first ++ others
+  pub parts : sendings ≡ first ++ next ++ others
+  pub one : length next ≤ 1
+  pub carries : carried (first ++ next) ≡ answers
   pub written : Appends old new (bytes_sent key first)
 
 -- a beginning of the bytes of these, and not all
@@ -128,7 +131,7 @@ abbrev pub Writes : End → List ℕ → List Sending → List Answer → Option
     → Type 0
 Writes Memory key sendings answers old new = WritesSome key sendings answers old new
 Writes WriteFault key sendings answers old new = WritesBeginning key sendings old new
-Writes Unwitnessed key sendings answers old new = WritesFirst key sendings old new
+Writes Unwitnessed key sendings answers old new = WritesFirst key sendings answers old new
 Writes end key sendings answers old new = Appends old new (bytes_sent key sendings)
 
 -- ---- how it ended
