@@ -6,5 +6,6 @@ mod fake;
 mod help;
 mod host;
 mod logs;
+mod mistakes;
 mod reviews;
 mod running;
