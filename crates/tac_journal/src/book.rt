@@ -3,6 +3,7 @@
 use crate::disk::{Disk, Fate};
 use crate::opening::{LogFiles, open};
 use crate::tail::{Tail, Untaken};
+use brief_lock::take;
 use std::fs::File;
 use std::io;
 use std::sync::{Mutex, Wait};
@@ -141,14 +142,14 @@ impl Place<'_> {
         H: Wait + Eprint + LogFiles,
     {
         let (file, appends) = {
-            let book = book.lock(host);
+            let book = take(host, book);
             (book.tail.file.try_clone(), book.appends)
         };
         let sent = match file {
             Ok(file) => host.sync_log(&file),
             Err(error) => Err(error),
         };
-        let mut book = book.lock(host);
+        let mut book = take(host, book);
         match sent {
             Ok(()) => {
                 disk.settle(host, appends, true);

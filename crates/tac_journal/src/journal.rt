@@ -6,6 +6,7 @@ use crate::book::{Book, Place};
 use crate::disk::Disk;
 use crate::log::Log;
 use crate::opening::LogFiles;
+use brief_lock::take;
 use std::io;
 use std::sync::{Mutex, Wait};
 use std::time::Clock;
@@ -53,7 +54,7 @@ impl Log for Journal<'_> {
         if lines.is_empty() {
             return Ok(());
         }
-        let number = self.place.append(host, &mut self.book.lock(host), lines)?;
+        let number = self.place.append(host, &mut take(host, &self.book), lines)?;
         match &self.place.disk {
             Some(disk) => self.place.send(host, disk, &self.book, number),
             None => Ok(()),
