@@ -1,19 +1,18 @@
--- What the log of a console has once a line was told with its answer, or was refused.
-use Rattle.std.specs.Prelude.{ℕ, List, Option}
-use Rattle.std.specs.Io.KnownBytes.{Appends}
+-- What the log of a console is once a line was told with its answer, or was refused.
+use Rattle.std.specs.Prelude.{◌≡◌, ◌⊎◌, ℕ, List}
 use Rattle.tac_audit.specs.declared.notice.Typing.{Typing}
 use Rattle.tac_audit.specs.Event.{typed_line}
 use Rattle.tac_audit.specs.Masking.{typed_of}
-use Rattle.tac_journal.specs.Logged.{IsCutOff}
 
 -- the line that is written of it at this time
 abbrev pub line_typed : List ℕ → Typing → List ℕ
 line_typed time typing = typed_line (typed_of time typing.line typing.answer)
 
--- the log grew by that, at some time
-abbrev pub IsTyped : Typing → Option (List ℕ) → Option (List ℕ) → Type 0
-IsTyped typing old new = (time : List ℕ) × Appends old new (line_typed time typing)
+-- the log took that, at some time
+abbrev pub IsTyped : {S : Type 0} → (S → List ℕ → S → Type 0) → Typing → S → S → Type 0
+IsTyped takes typing old new = (time : List ℕ) × takes old (line_typed time typing) new
 
--- it grew by a beginning of that, or by nothing, and not by all
-abbrev pub IsTypedInPart : Typing → Option (List ℕ) → Option (List ℕ) → Type 0
-IsTypedInPart typing old new = (time : List ℕ) × IsCutOff (line_typed time typing) old new
+-- it refused that, or it never came to it
+abbrev pub IsUntyped : {S : Type 0} → (S → List ℕ → S → Type 0) → Typing → S → S → Type 0
+IsUntyped refuses typing old new =
+    (new ≡ old) ⊎ ((time : List ℕ) × refuses old (line_typed time typing) new)

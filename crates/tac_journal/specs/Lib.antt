@@ -1,5 +1,6 @@
 pub mod Appended
 pub mod Disk
+pub mod Log
 pub mod Logged
 pub mod Lines
 pub mod Device

@@ -1,6 +1,5 @@
 -- The lines that are written of what is noted of a connection.
-use Rattle.std.specs.Prelude.{◌≡◌, ℕ, List, [], ◌∷◌, ◌++◌, Option, Some}
-use Rattle.std.specs.Option.{option_map_or}
+use Rattle.std.specs.Prelude.{◌≡◌, ℕ, List, [], ◌∷◌, Some}
 use Rattle.tac_audit.specs.declared.event.Event.{Event}
 use Rattle.tac_audit.specs.declared.logins.Noted.{Noted}
 use Rattle.tac_audit.specs.Event.{line_of}
@@ -14,13 +13,12 @@ event_of time device noted = record {
   told = noted.told;
 }
 
--- its line; nothing where nothing is noted
-abbrev pub line_noted : List ℕ → List ℕ → Option Noted → List ℕ
-line_noted time device noted = option_map_or (λ one. line_of (event_of time device one)) noted []
+-- its line, at some time
+abbrev pub IsLine : List ℕ → Noted → List ℕ → Type 0
+IsLine device noted line = (time : List ℕ) × (line ≡ line_of (event_of time device noted))
 
--- these are the lines of all that, in its order, each at some time
-abbrev pub AreLines : List ℕ → List Noted → List ℕ → Type 0
-AreLines device [] lines = lines ≡ []
-AreLines device (one ∷ more) lines =
-    (time : List ℕ) × (rest : List ℕ) × (lines ≡ line_of (event_of time device one) ++ rest)
-    × AreLines device more rest
+-- these are the lines of all that, in its order
+abbrev pub AreLines : List ℕ → List Noted → List (List ℕ) → Type 0
+AreLines device [] [] = Unit {0}
+AreLines device (one ∷ more) (line ∷ lines) = IsLine device one line × AreLines device more lines
+AreLines device noted lines = ⊥

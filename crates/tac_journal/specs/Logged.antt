@@ -1,16 +1,9 @@
--- Lines that are to be in a log: what it has then.
-use Rattle.std.specs.Prelude.{◌<◌, ℕ, List, length, take, Option, Result, Ok, Err}
-use Rattle.std.specs.Io.KnownBytes.{Appends}
+-- What takes lines: what it is once it was to take some.
+use Rattle.std.specs.Prelude.{◌≡◌, ◌⊎◌, ℕ, List, Result, Ok, Err}
 use Rattle.tac_audit.specs.declared.witness.Refused.{Refused}
 
--- it grew by a beginning of them, or by nothing, and not by all
-pub record IsCutOff (lines : List ℕ) (old new : Option (List ℕ)) : Type 0 where
-  pub taken : ℕ
-  pub within : 0 < length lines → taken < length lines
-  pub begun : Appends old new (take taken lines)
-
--- it grew by all of them, or, where they are refused, not by all
-abbrev pub IsLogged : Result (Unit {0}) Refused → List ℕ → Option (List ℕ) → Option (List ℕ)
-    → Type 0
-IsLogged (Ok done) lines old new = Appends old new lines
-IsLogged (Err refused) lines old new = IsCutOff lines old new
+-- it took them; or it refused them, or they never came to it, as where there was no memory for them
+abbrev pub IsLogged : {S : Type 0} → (S → List ℕ → S → Type 0) → (S → List ℕ → S → Type 0)
+    → Result (Unit {0}) Refused → List ℕ → S → S → Type 0
+IsLogged takes refuses (Ok done) lines old new = takes old lines new
+IsLogged takes refuses (Err refused) lines old new = (new ≡ old) ⊎ refuses old lines new

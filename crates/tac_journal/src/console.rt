@@ -5,11 +5,10 @@ ghost use Rattle.tac_audit.specs.Event.{typed_line as line_of};
 ghost use Rattle.tac_audit.specs.Masking.{typed_of};
 ghost use Rattle.tac_journal.specs.Logged.{IsLogged};
 
-use crate::entry::log_lines;
+use crate::entry::{Append, log_lines};
 use crate::moment::now;
 use basics::Bytes;
 use std::alloc::{AllocError, Global};
-use std::io::Write;
 use std::time::Clock;
 use tac_audit::{Refused, Typing, Witness, typed, typed_line};
 
@@ -26,22 +25,22 @@ fn line_of_answer(
     typed_line(alloc, &typed)
 }
 
-// Appends it to a log by one write.
-fn log_answer<F: Write>(
+// Appends it to a log.
+fn log_answer<F: Append>(
     alloc: Global,
     log: &mut F,
     time: Bytes,
     line: &[u8],
     answer: &[u8],
 ) -> Result<(), Refused>
-    ensures { IsLogged result (line_of (typed_of time line.now answer.now))
-        (F.contents log.old) (F.contents log.new) }
+    ensures { IsLogged F.takes F.refuses result (line_of (typed_of time line.now answer.now))
+        log.old log.new }
 {
     log_lines(log, line_of_answer(alloc, time, line, answer))
 }
 
 /// A witness of a console that writes each line that was typed to a log, with its answer, both
-/// without their secrets, by one write.
+/// without their secrets, by one append.
 ///
 /// An operator has to be answered while a disk is full: so the answer may be printed also where
 /// its line is refused.
@@ -52,21 +51,19 @@ pub struct ConsoleLog<'a, C, F> {
     log: F,
 }
 
-impl<'a, C: Clock, F: Write + Drop> ConsoleLog<'a, C, F> {
+impl<'a, C: Clock, F: Append + Drop> ConsoleLog<'a, C, F> {
     /// That of a console, from its beginning. Takes no memory.
     pub fn new(alloc: Global, clock: &'a C, log: F) -> ConsoleLog<'a, C, F> {
         ConsoleLog { alloc, clock, log }
     }
 }
 
-impl<C: Clock, F: Write + Drop> Witness<Typing> for ConsoleLog<'_, C, F> {
+impl<C: Clock, F: Append + Drop> Witness<Typing> for ConsoleLog<'_, C, F> {
     ghost use Rattle.tac_journal.specs.Console as console;
 
-    ghost takes = { λ was typing now. console.IsTyped typing
-        (F.contents was.log) (F.contents now.log) };
+    ghost takes = { λ was typing now. console.IsTyped F.takes typing was.log now.log };
 
-    ghost refuses = { λ was typing now. console.IsTypedInPart typing
-        (F.contents was.log) (F.contents now.log) };
+    ghost refuses = { λ was typing now. console.IsUntyped F.refuses typing was.log now.log };
 
     fn tell(&mut self, typing: &Typing) -> Result<(), Refused> {
         let time = now(self.alloc, self.clock)?;

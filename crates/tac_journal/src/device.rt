@@ -5,19 +5,18 @@ ghost use Rattle.tac_audit.specs.Logins.{Knows};
 ghost use Rattle.tac_audit.specs.Noted.{AreAnswered, noted_of, noted_of_each, packets_after_each};
 ghost use Rattle.tac_audit.specs.Witness.{AreTold};
 ghost use Rattle.tac_audit.specs.declared.notice.Notice.{Notice as NoticeValue};
-ghost use Rattle.tac_journal.specs.Device.{HasLines, HasLinesAndPart, IsNoted};
+ghost use Rattle.tac_journal.specs.Device.{HasLines, HasLinesButLast, IsNoted};
 
-use crate::entry::log_lines;
+use crate::entry::{Append, log_lines};
 use crate::lines::line_of;
 use crate::moment::Moments;
 use basics::Bytes;
 use std::alloc::Global;
-use std::io::Write;
 use std::time::Clock;
 use tac_audit::{Logins, Noted, Notice, Refused, Witness};
 
 /// A witness of one connection that writes a line to a log for each notice of which anything is
-/// noted, by one write. A login is noted at its last reply, so its questions write nothing.
+/// noted, by one append. A login is noted at its last reply, so its questions write nothing.
 ///
 /// Once it has refused a notice, the connection is to be closed.
 #[derive(Drop)]
@@ -30,7 +29,7 @@ pub struct DeviceLog<'a, C, F> {
     logins: Logins,
 }
 
-impl<'a, C: Clock, F: Write + Drop> DeviceLog<'a, C, F> {
+impl<'a, C: Clock, F: Append + Drop> DeviceLog<'a, C, F> {
     /// That of a connection of this device, by its address and port, from its beginning. The
     /// moments are those of the thread that serves it. Takes no memory.
     pub fn new(
@@ -40,20 +39,19 @@ impl<'a, C: Clock, F: Write + Drop> DeviceLog<'a, C, F> {
         log: F,
         device: Bytes,
     ) -> DeviceLog<'a, C, F>
-        // Once it took these notices, one after another, the log grew by exactly the lines of what
-        // is noted of them, in their order, each at some time.
+        // Once it took these notices, one after another, the log took exactly the lines of what is
+        // noted of them, in their order, each at some time.
         ensures lines { (notices : List NoticeValue) (now : _) →
             AreTold ⟦<DeviceLog<'a, C, F> as Witness<Notice>>⟧.takes result notices now →
             AreAnswered [] notices →
-            HasLines device (noted_of_each [] notices) (F.contents log) (F.contents now.log) }
-        // Once it then refused another, the log also has a part of the line of that, or nothing.
+            HasLines F.takes device (noted_of_each [] notices) log now.log }
+        // Once it then refused another, the log didn't take the line of that.
         ensures refused { (notices : List NoticeValue) (notice : NoticeValue) (between now : _) →
             AreTold ⟦<DeviceLog<'a, C, F> as Witness<Notice>>⟧.takes result notices between →
             ⟦<DeviceLog<'a, C, F> as Witness<Notice>>⟧.refuses between notice now →
             AreAnswered [] notices →
-            HasLinesAndPart device (noted_of_each [] notices)
-            (noted_of (packets_after_each [] notices) notice)
-            (F.contents log) (F.contents now.log) }
+            HasLinesButLast F.takes F.refuses device (noted_of_each [] notices)
+            (noted_of (packets_after_each [] notices) notice) log now.log }
     {
         DeviceLog {
             alloc,
@@ -67,8 +65,8 @@ impl<'a, C: Clock, F: Write + Drop> DeviceLog<'a, C, F> {
 
     // Appends the line of what is noted, at the present time.
     fn append(&mut self, noted: Noted) -> Result<(), Refused>
-        ensures line { IsNoted result self.old.device noted
-            (F.contents self.old.log) (F.contents self.new.log) }
+        ensures line { IsNoted F.takes F.refuses result self.old.device noted
+            self.old.log self.new.log }
         ensures device { self.new.device ≡ self.old.device }
         ensures logins { self.new.logins ≡ self.old.logins }
     {
@@ -78,16 +76,16 @@ impl<'a, C: Clock, F: Write + Drop> DeviceLog<'a, C, F> {
     }
 }
 
-impl<C: Clock, F: Write + Drop> Witness<Notice> for DeviceLog<'_, C, F> {
+impl<C: Clock, F: Append + Drop> Witness<Notice> for DeviceLog<'_, C, F> {
     ghost use Rattle.tac_journal.specs.Device as device;
 
-    ghost takes = { λ was notice now. device.Takes
-        (record { device = was.device; logins = was.logins; log = F.contents was.log }) notice
-        (record { device = now.device; logins = now.logins; log = F.contents now.log }) };
+    ghost takes = { λ was notice now. device.Takes F.takes
+        (record { device = was.device; logins = was.logins; log = was.log }) notice
+        (record { device = now.device; logins = now.logins; log = now.log }) };
 
-    ghost refuses = { λ was notice now. device.Refuses
-        (record { device = was.device; logins = was.logins; log = F.contents was.log }) notice
-        (record { device = now.device; logins = now.logins; log = F.contents now.log }) };
+    ghost refuses = { λ was notice now. device.Refuses F.refuses
+        (record { device = was.device; logins = was.logins; log = was.log }) notice
+        (record { device = now.device; logins = now.logins; log = now.log }) };
 
     fn tell(&mut self, notice: &Notice) -> Result<(), Refused> {
         match self.logins.note(self.alloc, notice)? {

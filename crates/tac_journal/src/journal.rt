@@ -1,6 +1,6 @@
 //! A file that several threads append lines to.
 
-ghost use Rattle.std.specs.Prelude.{true};
+ghost use Rattle.tac_journal.specs.Log.{somewhere};
 
 use crate::book::{Book, Place};
 use crate::disk::Disk;
@@ -41,7 +41,7 @@ impl<'a> Journal<'a> {
 }
 
 impl Log for Journal<'_> {
-    ghost keeps = { λ _. true };
+    ghost keeping = { λ _. somewhere };
 
     fn is_kept(&self) -> bool {
         true

@@ -16,7 +16,7 @@ mod tail;
 
 pub use console::ConsoleLog;
 pub use device::DeviceLog;
-pub use entry::Entry;
+pub use entry::{Append, Entry};
 pub use journal::Journal;
 pub use log::{Log, Nowhere};
 pub use moment::Moments;

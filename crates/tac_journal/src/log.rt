@@ -1,7 +1,7 @@
 //! What takes the lines of an auditor.
 
-ghost use Rattle.std.specs.Prelude.{◌≡◌, Bool, true, false};
-ghost use Rattle.std.specs.Option.{option_map_or};
+ghost use Rattle.std.specs.Prelude.{◌≡◌, OnOk};
+ghost use Rattle.tac_journal.specs.Log.{Keeping, keeping_of, nowhere};
 
 use crate::opening::LogFiles;
 use std::sync::Wait;
@@ -10,12 +10,12 @@ use tac_audit::Refused;
 
 /// A log that several threads append to, or none.
 pub trait Log {
-    /// Whether it keeps lines.
-    ghost keeps: { Self → Bool };
+    /// Whether it keeps lines, and which it took. Nothing but an append says that it took some.
+    ghost keeping: { Self → Keeping };
 
     /// Whether lines are kept. Where they aren't, none need be made.
     fn is_kept(&self) -> bool
-        ensures { result ≡ keeps self.now };
+        ensures { result ≡ (keeping self.now).is_kept };
 
     /// Appends these lines, each with its LF, at once: no line of another stands between them. It
     /// may wait for those who append meanwhile. The file, the clock and standard error are the
@@ -25,7 +25,8 @@ pub trait Log {
     /// The device that they tell of is to be sent nothing.
     fn append<H>(&self, host: &H, lines: &[u8]) -> Result<(), Refused>
     where
-        H: Wait + Clock + Eprint + LogFiles;
+        H: Wait + Clock + Eprint + LogFiles,
+        ensures { OnOk result ((keeping self.now).took lines.now) };
 }
 
 /// No log: it takes all lines, and keeps none.
@@ -33,7 +34,7 @@ pub trait Log {
 pub struct Nowhere;
 
 impl Log for Nowhere {
-    ghost keeps = { λ _. false };
+    ghost keeping = { λ _. nowhere };
 
     fn is_kept(&self) -> bool {
         false
@@ -48,7 +49,7 @@ impl Log for Nowhere {
 }
 
 impl<L: Log> Log for Option<L> {
-    ghost keeps = { λ log. option_map_or L.keeps log false };
+    ghost keeping = { keeping_of L.keeping };
 
     fn is_kept(&self) -> bool {
         match self {

@@ -1,32 +1,38 @@
--- What a log has once it was told of a connection, or of a console.
-use Rattle.std.proofs.Common.{ℕ, List, [], ◌∷◌, true, false, Option, None, Some, Result, refl, sym, subst, inl, inr}
+-- What a log took once it was told of a connection.
+use Rattle.std.proofs.Common.{◌≡◌, ℕ, List, [], ◌∷◌, Option, None, Some, Result, All, refl, sym, subst}
+use Rattle.std.proofs.lemmas.List.Elements.{All-nil, All-cons}
 use Rattle.tac_wire.specs.Stream.{cut}
 use Rattle.tac_conn.specs.declared.ask.Ask.{Ask}
 use Rattle.tac_audit.specs.declared.notice.Notice.{Notice}
 use Rattle.tac_audit.specs.declared.notice.Typing.{Typing}
-use Rattle.tac_audit.specs.Noted.{noted_of, noted_of_each, packets_after_each, AreAnswered}
+use Rattle.tac_audit.specs.Noted.{noted_of_each, AreAnswered}
 use Rattle.tac_audit.specs.Witness.{AreTold}
 use Rattle.tac_audit.proofs.NoticeFacts.{are_answered}
 use Rattle.tac_hall.specs.declared.fault.HallFault.{HallFault}
 use Rattle.tac_forum.specs.History.{Opening}
 use Rattle.tac_forum.specs.Seat.{Seated}
 use Rattle.tac_hall_console.specs.declared.fault.OperatorFault.{OperatorFault}
-use Rattle.tac_hall_console.specs.Operated.{Hears, AreHeard, IsOperated}
-use Rattle.tac_journal.specs.Device.{HasLines, HasLinesAndPart}
+use Rattle.tac_hall_console.specs.Operated.{IsOperated}
+use Rattle.tac_journal.specs.Device.{HasLines}
 use Rattle.tac_worker.specs.declared.worked.End.{End}
 use Rattle.tac_worker.specs.Told.{refused_of, TakesUntil}
 use Rattle.tac_worker.specs.Worked.{Exchange, answers_of, Traffic, IsServedBy}
-use Rattle.tac_net.specs.Logs.{Logs, Types, TypesInPart}
+use Rattle.tac_net.specs.Logs.{Logs}
 
 -- ---- a connection
 
+-- all that was told was answered
+all_answered : {end : End} {key : List ℕ} {makes : List Exchange → Type 0} {refuses : Ask → HallFault → Type 0} {are_told : List Notice → Option Notice → Type 0} {traffic : Traffic}
+    → (work : IsServedBy end key makes refuses are_told traffic) → AreAnswered [] work.told.told
+all_answered {key = key} work =
+    let tells = work.told in
+    are_answered key (cut work.input).packets (cut work.input).tail (answers_of work.ends.made) tells.told tells.left (sym tells.parts)
+
 module _ {end : End} {key : List ℕ} {makes : List Exchange → Type 0} {refuses : Ask → HallFault → Type 0} {are_told others : List Notice → Option Notice → Type 0} {traffic : Traffic} where
-  -- of what was told more is known, where it is what the connection comes to
-  served_as : (work : IsServedBy end key makes refuses are_told traffic)
-      → ((told : List Notice) (refused : Option Notice) → AreAnswered [] told → are_told told refused → others told refused) → IsServedBy end key makes refuses others traffic
+  -- more is known of what was told
+  pub served_as : (work : IsServedBy end key makes refuses are_told traffic) → others work.told.told (refused_of end work.told.left) → IsServedBy end key makes refuses others traffic
   served_as work more =
       let tells = work.told in
-      let all = are_answered key (cut work.input).packets (cut work.input).tail (answers_of work.ends.made) tells.told tells.left (sym tells.parts) in
       record {
         input = work.input;
         read = work.read;
@@ -38,42 +44,48 @@ module _ {end : End} {key : List ℕ} {makes : List Exchange → Type 0} {refuse
           told = tells.told;
           left = tells.left;
           parts = tells.parts;
-          takes = more tells.told (refused_of end tells.left) all tells.takes;
+          takes = more;
           leaves = tells.leaves;
           writes = tells.writes;
         };
       }
 
--- a log was told
-module _ {W : Type 0} (takes refuses : W → Notice → W → Type 0) (contents : W → Option (List ℕ)) (device : List ℕ) (old : Option (List ℕ)) (was now : W)
-    (lines : (notices : List Notice) (now : W) → AreTold takes was notices now → AreAnswered [] notices → HasLines device (noted_of_each [] notices) old (contents now))
-    (part : (notices : List Notice) (notice : Notice) (between now : W) → AreTold takes was notices between → refuses between notice now → AreAnswered [] notices
-    → HasLinesAndPart device (noted_of_each [] notices) (noted_of (packets_after_each [] notices) notice) old (contents now)) where
-  logs_told : (told : List Notice) (refused : Option Notice) → AreAnswered [] told → TakesUntil takes refuses was told refused now → Logs true told refused
-  logs_told told None all t = (device, old, contents now, lines told now (subst (λ (w : W). AreTold takes was told w) (sym t.2) t.1) all)
-  logs_told told (Some notice) all t = (device, old, contents now, part told notice t.0 now t.1 t.2 all)
+-- a log took each of these lines
+taken : {S : Type 0} (took : S → List ℕ → Type 0) (lines : List (List ℕ)) (old new : S) → AreTold (λ (was : S) (line : List ℕ) (now : S). (now ≡ was) × took was line) old lines new
+    → All (took old) lines
+taken took [] old new t = All-nil (took old)
+taken took (line ∷ lines) old new t = All-cons (took old) line lines t.1.1 (rw t.1.0 at (taken took lines t.0 new t.2))
 
-  pub served_logged : {end : End} {key : List ℕ} {makes : List Exchange → Type 0} {others : Ask → HallFault → Type 0} {traffic : Traffic}
-      → IsServedBy end key makes others (λ told refused. TakesUntil takes refuses was told refused now) traffic → IsServedBy end key makes others (Logs true) traffic
-  served_logged work = served_as work logs_told
+-- it was told of the connection
+module _ {W S L : Type 0} (takes refuses : W → Notice → W → Type 0) (entry : W → S) (log_of : S → L) (took : L → List ℕ → Type 0) (device : List ℕ) (old : S) (log : L) (same : log_of old ≡ log) (was now : W)
+    (lines : (notices : List Notice) (now : W) → AreTold takes was notices now → AreAnswered [] notices
+    → HasLines (λ (was : S) (line : List ℕ) (now : S). (now ≡ was) × took (log_of was) line) device (noted_of_each [] notices) old (entry now)) where
+  pub logs_told : {end : End} {key : List ℕ} {makes : List Exchange → Type 0} {others : Ask → HallFault → Type 0} {traffic : Traffic}
+      → IsServedBy end key makes others (λ told refused. TakesUntil takes refuses was told refused now) traffic
+      → (all : List (List ℕ)) × All (took log) all × IsServedBy end key makes others (Logs (Some all)) traffic
+  logs_told work =
+      let t = work.told.takes in
+      let has = lines work.told.told t.0 t.1 (all_answered work) in
+      let all = taken (λ (s : S). took (log_of s)) has.0 old (entry t.0) has.2 in
+      (has.0, subst (λ (l : L). All (took l) has.0) same all, served_as work (device, has.1))
 
 -- nobody was
 module _ {W : Type 0} (was now : W) where
-  none_refused : (told : List Notice) (refused : Option Notice) → AreAnswered [] told → TakesUntil (λ (was : W) (notice : Notice) (now : W). Unit {0}) (λ (was : W) (notice : Notice) (now : W). ⊥) was told refused now → Logs false told refused
-  none_refused told None all t = refl
-  none_refused told (Some notice) all t = absurd t.2
+  none_refused : (told : List Notice) (refused : Option Notice) → TakesUntil (λ (was : W) (notice : Notice) (now : W). Unit {0}) (λ (was : W) (notice : Notice) (now : W). ⊥) was told refused now → Logs None told refused
+  none_refused told None t = refl
+  none_refused told (Some notice) t = absurd t.2
 
   pub served_unlogged : {end : End} {key : List ℕ} {makes : List Exchange → Type 0} {others : Ask → HallFault → Type 0} {traffic : Traffic}
       → IsServedBy end key makes others (λ told refused. TakesUntil (λ (was : W) (notice : Notice) (now : W). Unit {0}) (λ (was : W) (notice : Notice) (now : W). ⊥) was told refused now) traffic
-      → IsServedBy end key makes others (Logs false) traffic
-  served_unlogged work = served_as work none_refused
+      → IsServedBy end key makes others (Logs None) traffic
+  served_unlogged work = served_as work (none_refused work.told.told _ work.told.takes)
 
 -- ---- a console
 
--- of what a witness was told more is known
-pub operated_as : {opening : Opening} {end : Result (Unit {0}) OperatorFault} {heard others : List Typing → Type 0} {was now : Seated} {before after old new : Option (List ℕ)}
-    → IsOperated opening end heard was now before after old new → ((typings : List Typing) → heard typings → others typings) → IsOperated opening end others was now before after old new
-operated_as o more = record {
+-- what its witness was told isn't asked
+pub operated_so : {opening : Opening} {end : Result (Unit {0}) OperatorFault} {heard : List Typing → Type 0} {was now : Seated} {before after old new : Option (List ℕ)}
+    → IsOperated opening end heard was now before after old new → IsOperated opening end (λ typings. Unit {0}) was now before after old new
+operated_so o = record {
   listened = o.listened;
   input = o.input;
   read = o.read;
@@ -89,7 +101,7 @@ operated_as o more = record {
   came = o.came;
   typings = o.typings;
   tells = o.tells;
-  heard = more o.typings o.heard;
+  heard = tt;
   between = o.between;
   writes = o.writes;
   stop = o.stop;
@@ -97,17 +109,3 @@ operated_as o more = record {
   ends = o.ends;
   makes = o.makes;
 }
-
-module _ {W : Type 0} (contents : W → Option (List ℕ)) where
-  hears : (was : W) (typing : Typing) (now : W)
-      → Hears (λ (was : W) (typing : Typing) (now : W). Types (contents was) typing (contents now)) (λ (was : W) (typing : Typing) (now : W). TypesInPart (contents was) typing (contents now)) was typing now
-      → Hears Types TypesInPart (contents was) typing (contents now)
-  hears was typing now (inl t) = inl t
-  hears was typing now (inr t) = inr t
-
-  -- by what its log has, a console's was told
-  pub logs_typed : (was now : W) (typings : List Typing)
-      → AreHeard (λ (was : W) (typing : Typing) (now : W). Types (contents was) typing (contents now)) (λ (was : W) (typing : Typing) (now : W). TypesInPart (contents was) typing (contents now)) was now typings
-      → AreHeard Types TypesInPart (contents was) (contents now) typings
-  logs_typed was now [] t = rw t refl
-  logs_typed was now (typing ∷ typings) t = (contents t.0, hears was typing t.0 t.1, logs_typed t.0 now typings t.2)

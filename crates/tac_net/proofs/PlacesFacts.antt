@@ -144,7 +144,7 @@ receipt_places_law end key was now before after old new work base last logs late
     (view ∙ ap (λ (l : List Made). l ++ later) ends.makes.view ∙ append_assoc was.seat.view (map in_view ends.made) later) ends.asks
 
 pub places_law : PlacesLaw
-places_law opening end key was now is_logged traffic work last history later legal view =
+places_law opening end key was now lines traffic work last history later legal view =
     let ends = work.ends in
     let number = number_after opening was ends.made now ends.makes in
     let laws = logs_law history in
@@ -155,7 +155,7 @@ places_law opening end key was now is_logged traffic work last history later leg
     (laws.1 now.number ∙ view ∙ ap (λ (l : List Made). l ++ later) seen ∙ append_assoc (view_in now.number was.seen) (map in_view ends.made) later) ends.asks
 
 pub hall_places_law : HallPlacesLaw
-hall_places_law end key was now is_logged traffic work base last logs later legal view =
+hall_places_law end key was now lines traffic work base last logs later legal view =
     let ends = work.ends in
     said_at key work.input base last logs now.number was.view later ends.made ends.left legal
     (view ∙ ap (λ (l : List Made). l ++ later) (hall_view_after was ends.made now ends.makes) ∙ append_assoc was.view (map in_view ends.made) later) ends.asks

@@ -1,22 +1,24 @@
 -- A server's course, put together from its parts.
-use Rattle.std.proofs.Common.{◌≡◌, ℕ, List, ◌∷◌, map, length, All, Bool, Option, Result, Err, refl}
+use Rattle.std.proofs.Common.{◌≡◌, ℕ, List, ◌∷◌, map, length, All, Option, Result, Err, refl}
 use mathlib.Core.Logic.{inl, inr}
 use Rattle.tac_forum.specs.History.{Opening}
 use Rattle.tac_forum.specs.Seat.{Seated, IsFresh}
 use Rattle.tac_worker.specs.declared.worked.End.{End}
 use Rattle.tac_hall_console.specs.declared.fault.OperatorFault.{OperatorFault}
+use Rattle.tac_journal.specs.Log.{Keeping}
 use Rattle.tac_net.specs.Ending.{Closes}
 use Rattle.tac_net.specs.Program.{HasAttended, Ends, Runs, end_by}
+use Rattle.tac_journal.specs.Log.{Keeping}
 use Rattle.tac_net.specs.Serving.{IsDeskConnection, HaveServed}
 use Rattle.tac_net.specs.declared.settings.Settings.{Settings}
 use Rattle.tac_net.specs.declared.fault.ServeFault.{ServeFault}
 use Rattle.tac_net.specs.declared.fault.ServeFault.TheVariants.{Memory}
 
 -- the console was operated, and the desk's end is told
-ended : (settings : Settings) (is_logged : Bool) (opening : Opening) (seat console : Seated) (operated : Result (Unit {0}) OperatorFault) (before after old told new : Option (List ℕ)) (closed : Result (Unit {0}) ServeFault)
-    → HasAttended (console, operated) settings.port is_logged opening seat before after old told → IsFresh seat → Ends closed settings is_logged opening console told new
-    → Runs (end_by operated closed) settings is_logged opening before after old new
-ended settings is_logged opening seat console operated before after old told new closed attended fresh ends =
+ended : (settings : Settings) (log : Keeping) (opening : Opening) (seat console : Seated) (operated : Result (Unit {0}) OperatorFault) (before after old told new : Option (List ℕ)) (closed : Result (Unit {0}) ServeFault)
+    → HasAttended (console, operated) settings.port opening seat before after old told → IsFresh seat → Ends closed settings log opening console told new
+    → Runs (end_by operated closed) settings log opening before after old new
+ended settings log opening seat console operated before after old told new closed attended fresh ends =
     inr (record {
       seat = seat;
       fresh = fresh;
@@ -29,15 +31,15 @@ ended settings is_logged opening seat console operated before after old told new
     })
 
 -- workers served too, and the desk was closed or not
-pub ran : (settings : Settings) (is_logged : Bool) (opening : Opening) (seats : List Seated) (seat console : Seated) (operated : Result (Unit {0}) OperatorFault) (before after old told new : Option (List ℕ)) (served : List (Seated × End)) (closed : Result (Unit {0}) ServeFault)
-    → HasAttended (console, operated) settings.port is_logged opening seat before after old told → IsFresh seat → length seats ≡ settings.workers → All IsFresh seats
-    → HaveServed (IsDeskConnection opening settings.key is_logged) settings.connections seats served → Closes closed opening (console ∷ map (λ one. one.0) served) told new
-    → Runs (end_by operated closed) settings is_logged opening before after old new
-ran settings is_logged opening seats seat console operated before after old told new served closed attended fresh count all_fresh have closes =
-    ended settings is_logged opening seat console operated before after old told new closed attended fresh (inl (served, record { seats = seats; count = count; fresh = all_fresh; have = have }, closes))
+pub ran : (settings : Settings) (log : Keeping) (opening : Opening) (seats : List Seated) (seat console : Seated) (operated : Result (Unit {0}) OperatorFault) (before after old told new : Option (List ℕ)) (served : List (Seated × End)) (closed : Result (Unit {0}) ServeFault)
+    → HasAttended (console, operated) settings.port opening seat before after old told → IsFresh seat → length seats ≡ settings.workers → All IsFresh seats
+    → HaveServed (IsDeskConnection opening settings.key log) settings.connections seats served → Closes closed opening (console ∷ map (λ one. one.0) served) told new
+    → Runs (end_by operated closed) settings log opening before after old new
+ran settings log opening seats seat console operated before after old told new served closed attended fresh count all_fresh have closes =
+    ended settings log opening seat console operated before after old told new closed attended fresh (inl (served, record { seats = seats; count = count; fresh = all_fresh; have = have }, closes))
 
 -- memory ran out for the list of those who served
-pub ran_out : (settings : Settings) (is_logged : Bool) (opening : Opening) (seat console : Seated) (operated : Result (Unit {0}) OperatorFault) (before after old told : Option (List ℕ))
-    → HasAttended (console, operated) settings.port is_logged opening seat before after old told → IsFresh seat → Runs (end_by operated (Err Memory)) settings is_logged opening before after old told
-ran_out settings is_logged opening seat console operated before after old told attended fresh =
-    ended settings is_logged opening seat console operated before after old told told (Err Memory) attended fresh (inr (refl, refl))
+pub ran_out : (settings : Settings) (log : Keeping) (opening : Opening) (seat console : Seated) (operated : Result (Unit {0}) OperatorFault) (before after old told : Option (List ℕ))
+    → HasAttended (console, operated) settings.port opening seat before after old told → IsFresh seat → Runs (end_by operated (Err Memory)) settings log opening before after old told
+ran_out settings log opening seat console operated before after old told attended fresh =
+    ended settings log opening seat console operated before after old told told (Err Memory) attended fresh (inr (refl, refl))

@@ -1,34 +1,17 @@
--- What an auditor's log has of a connection, and of a console (docs/AUDIT.md).
-use Rattle.std.specs.Prelude.{◌≡◌, ℕ, List, [], Bool, true, false, Option, Some, None}
+-- What an auditor's log took of a connection (docs/AUDIT.md).
+use Rattle.std.specs.Prelude.{◌≡◌, ℕ, List, [], false, Option, Some, None, All}
 use Rattle.tac_audit.specs.declared.notice.Notice.{Notice}
-use Rattle.tac_audit.specs.declared.notice.Typing.{Typing}
-use Rattle.tac_audit.specs.Noted.{noted_of, noted_of_each, packets_after_each}
-use Rattle.tac_hall_console.specs.Operated.{AreHeard}
-use Rattle.tac_journal.specs.Console.{IsTyped, IsTypedInPart}
-use Rattle.tac_journal.specs.Device.{HasLines, HasLinesAndPart}
+use Rattle.tac_audit.specs.Noted.{noted_of_each}
+use Rattle.tac_journal.specs.Lines.{AreLines}
+use Rattle.tac_journal.specs.Log.{Keeping}
 
--- the log grew by the lines of these notices of a connection of some device, in their order, each at
--- some time; and, where it refused another notice, by a beginning of the line of that at most. A log
--- that isn't kept refuses none
-abbrev pub Logs : Bool → List Notice → Option Notice → Type 0
-Logs false told refused = refused ≡ None
-Logs true told None =
-    (device : List ℕ) × (old : Option (List ℕ)) × (new : Option (List ℕ))
-    × HasLines device (noted_of_each [] told) old new
-Logs true told (Some notice) =
-    (device : List ℕ) × (old : Option (List ℕ)) × (new : Option (List ℕ))
-    × HasLinesAndPart device (noted_of_each [] told)
-    (noted_of (packets_after_each [] told) notice) old new
+-- the log took each of these lines. There need be none only where no log is kept
+abbrev pub HasTaken : Keeping → Option (List (List ℕ)) → Type 0
+HasTaken log None = log.is_kept ≡ false
+HasTaken log (Some lines) = All log.took lines
 
--- what a log has, before and after one line of a console was told: the line, or a beginning of it
-abbrev pub Types : Option (List ℕ) → Typing → Option (List ℕ) → Type 0
-Types old typing new = IsTyped typing old new
-
-abbrev pub TypesInPart : Option (List ℕ) → Typing → Option (List ℕ) → Type 0
-TypesInPart old typing new = IsTypedInPart typing old new
-
--- the log took each of these lines of a console, with its answer, or refused it
-abbrev pub LogsTyped : Bool → List Typing → Type 0
-LogsTyped false typings = Unit {0}
-LogsTyped true typings =
-    (old : Option (List ℕ)) × (new : Option (List ℕ)) × AreHeard Types TypesInPart old new typings
+-- these are the lines of the notices of a connection of some device, in their order, each at some
+-- time. Where there are none, no notice is refused
+abbrev pub Logs : Option (List (List ℕ)) → List Notice → Option Notice → Type 0
+Logs None told refused = refused ≡ None
+Logs (Some lines) told refused = (device : List ℕ) × AreLines device (noted_of_each [] told) lines

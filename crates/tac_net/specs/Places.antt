@@ -1,5 +1,5 @@
 -- What a worker sends, by the places that its calls have in the history of its desk.
-use Rattle.std.specs.Prelude.{◌≡◌, ℕ, zero, suc, List, [], ◌∷◌, ◌++◌, take, Bool, Option}
+use Rattle.std.specs.Prelude.{◌≡◌, ℕ, zero, suc, List, [], ◌∷◌, ◌++◌, take, Option}
 use Rattle.tac_desk.specs.Meaning.{Meaning}
 use Rattle.tac_hall.specs.declared.entry.Entry.{Entry}
 use Rattle.tac_hall.specs.declared.entry.Made.{Made}
@@ -53,8 +53,8 @@ pub record IsSaid (key bytes : List ℕ) (base : Meaning) (logs : List (List Ent
 abbrev pub PlacesLaw : Type 0
 PlacesLaw =
     (opening : Opening) (end : End) (key : List ℕ) (was now : Seated)
-    (is_logged : Bool) (traffic : Traffic)
-    (work : IsServedAt opening end key was now (Logs is_logged) traffic)
+    (lines : Option (List (List ℕ))) (traffic : Traffic)
+    (work : IsServedAt opening end key was now (Logs lines) traffic)
     (last : Meaning) (history : List (ℕ × Event)) (later : List Made)
     → Legal opening.meaning (calls_in history) last
     → view_of now.number history ≡ view_of now.number now.seen ++ later
@@ -65,8 +65,8 @@ PlacesLaw =
 abbrev pub HallPlacesLaw : Type 0
 HallPlacesLaw =
     (end : End) (key : List ℕ) (was now : Sitting)
-    (is_logged : Bool) (traffic : Traffic)
-    (work : at_hall.IsServedAt end key was now (Logs is_logged) traffic)
+    (lines : Option (List (List ℕ))) (traffic : Traffic)
+    (work : at_hall.IsServedAt end key was now (Logs lines) traffic)
     (base last : Meaning) (logs : List (List Entry)) (later : List Made)
     → Legal base (joined logs) last
     → view_along 0 now.number logs ≡ now.view ++ later

@@ -1,6 +1,5 @@
 -- A server with a console, from its first line to the closing of its desk.
-use Rattle.std.specs.Prelude.{◌≡◌, ◌⊎◌, ℕ, List, ◌∷◌, length, map, All, Bool, Option, Result, Ok}
-use Rattle.std.specs.Prelude.{Err}
+use Rattle.std.specs.Prelude.{◌≡◌, ◌⊎◌, ℕ, List, ◌∷◌, length, map, All, Option, Result, Ok, Err}
 use Rattle.std.specs.Io.KnownBytes.{Appends}
 use Rattle.tac_forum.specs.History.{Opening}
 use Rattle.tac_forum.specs.Seat.{Seated, IsFresh}
@@ -8,9 +7,9 @@ use Rattle.tac_worker.specs.declared.worked.End.{End}
 use Rattle.tac_hall_console.specs.Operated.{IsOperated}
 use Rattle.tac_hall_console.specs.declared.fault.OperatorFault.{OperatorFault}
 use Rattle.tac_hall_console.specs.declared.fault.OperatorFault.TheVariants as operator
+use Rattle.tac_journal.specs.Log.{Keeping}
 use Rattle.tac_net.specs.Opening.{listening_line, Announces}
 use Rattle.tac_net.specs.Ending.{Refuses, Closes}
-use Rattle.tac_net.specs.Logs.{LogsTyped}
 use Rattle.tac_net.specs.Serving.{IsDeskConnection, HaveServed}
 use Rattle.tac_net.specs.declared.settings.Settings.{Settings}
 use Rattle.tac_net.specs.declared.fault.ServeFault.{ServeFault}
@@ -36,58 +35,56 @@ Fails (Ok _) port old new = ⊥
 Fails (Err Threads) port old new = new ≡ old
 Fails (Err fault) port old new = Refuses fault old new ⊎ Announces (Err fault) port old new
 
--- `listening P` was printed, and then the console was operated by this seat; the log, if one is
--- kept, was told of each line with its answer
+-- `listening P` was printed, and then the console was operated by this seat. Which log was told of
+-- its lines is not said: an operator is answered whether it takes them or not
 pub record HasAttended (ended : Seated × Result (Unit {0}) OperatorFault) (port : ℕ)
-    (is_logged : Bool) (opening : Opening) (was : Seated) (before after old new : Option (List ℕ))
-    : Type 0 where
+    (opening : Opening) (was : Seated) (before after old new : Option (List ℕ)) : Type 0 where
   pub announced : Option (List ℕ)
   pub announces : Appends old announced (listening_line port)
-  pub operates : IsOperated opening ended.1 (LogsTyped is_logged) was ended.0
+  pub operates : IsOperated opening ended.1 (λ typings. Unit {0}) was ended.0
       before after announced new
 
 -- the console's part: that, or nothing was read
-abbrev pub Attends : Result (Seated × Result (Unit {0}) OperatorFault) ServeFault → ℕ → Bool
-    → Opening → Seated → Option (List ℕ) → Option (List ℕ) → Option (List ℕ) → Option (List ℕ)
-    → Type 0
-Attends (Ok ended) port is_logged opening was before after old new =
-    HasAttended ended port is_logged opening was before after old new
-Attends (Err fault) port is_logged opening was before after old new =
+abbrev pub Attends : Result (Seated × Result (Unit {0}) OperatorFault) ServeFault → ℕ → Opening
+    → Seated → Option (List ℕ) → Option (List ℕ) → Option (List ℕ) → Option (List ℕ) → Type 0
+Attends (Ok ended) port opening was before after old new =
+    HasAttended ended port opening was before after old new
+Attends (Err fault) port opening was before after old new =
     (after ≡ before) × Fails (Err fault) port old new
 
 -- so many workers, who had done nothing, served so many connections each
-pub record HaveWorked (settings : Settings) (is_logged : Bool) (opening : Opening)
+pub record HaveWorked (settings : Settings) (log : Keeping) (opening : Opening)
     (served : List (Seated × End)) : Type 0 where
   pub seats : List Seated
   pub count : length seats ≡ settings.workers
   pub fresh : All IsFresh seats
-  pub have : HaveServed (IsDeskConnection opening settings.key is_logged) settings.connections
+  pub have : HaveServed (IsDeskConnection opening settings.key log) settings.connections
       seats served
 
 -- workers served, and the desk was closed with the console's seat and theirs; or memory ran out
-abbrev pub Ends : Result (Unit {0}) ServeFault → Settings → Bool → Opening → Seated
+abbrev pub Ends : Result (Unit {0}) ServeFault → Settings → Keeping → Opening → Seated
     → Option (List ℕ) → Option (List ℕ) → Type 0
-Ends closed settings is_logged opening console old new =
-    ((served : List (Seated × End)) × HaveWorked settings is_logged opening served
+Ends closed settings log opening console old new =
+    ((served : List (Seated × End)) × HaveWorked settings log opening served
     × Closes closed opening (console ∷ map (λ one. one.0) served) old new)
     ⊎ ((closed ≡ Err Memory) × (new ≡ old))
 
 -- `listening P` was printed, then the console was operated by a seat that had done nothing, while
 -- workers served, and then the desk was closed
-pub record HasRun (end : Result (Unit {0}) ServeFault) (settings : Settings) (is_logged : Bool)
+pub record HasRun (end : Result (Unit {0}) ServeFault) (settings : Settings) (log : Keeping)
     (opening : Opening) (before after old new : Option (List ℕ)) : Type 0 where
   pub seat : Seated
   pub fresh : IsFresh seat
   pub console : Seated × Result (Unit {0}) OperatorFault
   pub told : Option (List ℕ)
-  pub attended : HasAttended console settings.port is_logged opening seat before after old told
+  pub attended : HasAttended console settings.port opening seat before after old told
   pub closed : Result (Unit {0}) ServeFault
-  pub ends : Ends closed settings is_logged opening console.0 told new
+  pub ends : Ends closed settings log opening console.0 told new
   pub is : end ≡ end_by console.1 closed
 
--- `is_logged` says whether an auditor's log is kept
-abbrev pub Runs : Result (Unit {0}) ServeFault → Settings → Bool → Opening → Option (List ℕ)
+-- the log is the auditor's
+abbrev pub Runs : Result (Unit {0}) ServeFault → Settings → Keeping → Opening → Option (List ℕ)
     → Option (List ℕ) → Option (List ℕ) → Option (List ℕ) → Type 0
-Runs end settings is_logged opening before after old new =
+Runs end settings log opening before after old new =
     ((after ≡ before) × Fails end settings.port old new)
-    ⊎ HasRun end settings is_logged opening before after old new
+    ⊎ HasRun end settings log opening before after old new

@@ -1,6 +1,6 @@
 -- What a worker has done that served connections one after another, and what several have: at a
 -- hall, or at a shared desk.
-use Rattle.std.specs.Prelude.{◌≡◌, ◌≤◌, ◌+◌, ◌⊎◌, ℕ, List, [], ◌∷◌, Bool, true, false}
+use Rattle.std.specs.Prelude.{◌≡◌, ◌≤◌, ◌+◌, ◌⊎◌, ℕ, List, [], ◌∷◌, Bool, true, false, Option}
 use Rattle.tac_conn.specs.declared.ask.Ask.{Ask}
 use Rattle.tac_forum.specs.History.{Opening}
 use Rattle.tac_forum.specs.Seat.{Seated, CatchesUp}
@@ -12,28 +12,31 @@ use Rattle.tac_worker.specs.declared.worked.End.TheVariants.{Held, NoSeat}
 use Rattle.tac_worker.specs.Worked.{Exchange, AreAllMade, Traffic, IsServedBy}
 use Rattle.tac_worker.specs.AtDesk as at_desk
 use Rattle.tac_worker.specs.AtHall as at_hall
-use Rattle.tac_net.specs.Logs.{Logs}
+use Rattle.tac_journal.specs.Log.{Keeping, nowhere}
+use Rattle.tac_net.specs.Logs.{HasTaken, Logs}
 
 -- ---- one connection
 
 -- whoever makes the calls, each by such a step, and then rests, served it, and it ended so; a call
--- is refused so. The log, if one is kept, was told of each packet before its reply was written. That
--- the bytes are the device's is in no contract
+-- is refused so. The log, if one is kept, took the line of each packet before its reply was written.
+-- That the bytes are the device's is in no contract
 pub record IsConnection {S : Type 0} (step : S → Exchange → S → Type 0) (rests : S → S → Type 0)
-    (refuses : S → Ask → HallFault → Type 0) (key : List ℕ) (is_logged : Bool)
+    (refuses : S → Ask → HallFault → Type 0) (key : List ℕ) (log : Keeping)
     (was : S) (end : End) (now : S) : Type 0 where
   pub traffic : Traffic
+  pub lines : Option (List (List ℕ))
+  pub taken : HasTaken log lines
   pub served : IsServedBy end key (λ made. AreAllMade step rests was made now) (refuses now)
-      (Logs is_logged) traffic
+      (Logs lines) traffic
 
 -- a seat of a hall served it, without a log
 abbrev pub IsHallConnection : List ℕ → Sitting → End → Sitting → Type 0
-IsHallConnection key = IsConnection at_hall.MakesOne at_hall.Rests at_hall.Refuses key false
+IsHallConnection key = IsConnection at_hall.MakesOne at_hall.Rests at_hall.Refuses key nowhere
 
 -- a seat of a shared desk did
-abbrev pub IsDeskConnection : Opening → List ℕ → Bool → Seated → End → Seated → Type 0
-IsDeskConnection opening key is_logged =
-    IsConnection (at_desk.MakesOne opening) CatchesUp (at_desk.Refuses opening) key is_logged
+abbrev pub IsDeskConnection : Opening → List ℕ → Keeping → Seated → End → Seated → Type 0
+IsDeskConnection opening key log =
+    IsConnection (at_desk.MakesOne opening) CatchesUp (at_desk.Refuses opening) key log
 
 -- how it ends where no connection was accepted: as one that couldn't be read, or as Stopped, since
 -- the server was stopping

@@ -1,8 +1,6 @@
 //! The console's part of a server: its first line, the operator's lines, and the end.
 
-ghost use Rattle.std.specs.Prelude.{true};
 ghost use Rattle.tac_hall_console.specs.Operated.{IsOperated};
-ghost use Rattle.tac_net.specs.Logs.{LogsTyped};
 ghost use Rattle.tac_net.specs.Program as program;
 
 use crate::fault::ServeFault;
@@ -17,34 +15,8 @@ use tac_forum::{Run, Seat};
 use tac_hall_console::{OperatorFault, operate};
 use tac_journal::{ConsoleLog, Entry, Log, LogFiles};
 
-// Operates the console, and tells this log of each line before it is answered.
-fn operate_with<R, J: Run, D: Desk, L, F: Write + Drop, I: Read, O: Write>(
-    premises: &Premises<'_, R, J, D, L>,
-    log: F,
-    console: Seat<J>,
-    input: &mut I,
-    output: &mut O,
-) -> (Seat<J>, Result<(), OperatorFault>)
-where
-    R: Wait + Clock + AllocGlobal,
-    ensures { IsOperated J.opening result.1 (LogsTyped true) console result.0
-        (I.remaining input.old) (I.remaining input.new)
-        (O.contents output.old) (O.contents output.new) }
-{
-    let rt = premises.rt;
-    let mut witness = ConsoleLog::new(rt.alloc(), rt, log);
-    operate(
-        rt,
-        rt.alloc(),
-        premises.desk,
-        console,
-        &mut witness,
-        input,
-        output,
-    )
-}
-
-// The same with the log of the server, if one is kept.
+// Operates the console. The log of the server, if one is kept, is told of each line before it is
+// answered.
 fn operate_logged<R, J: Run, D: Desk, L: Log, I: Read, O: Write>(
     premises: &Premises<'_, R, J, D, L>,
     console: Seat<J>,
@@ -53,24 +25,18 @@ fn operate_logged<R, J: Run, D: Desk, L: Log, I: Read, O: Write>(
 ) -> (Seat<J>, Result<(), OperatorFault>)
 where
     R: Wait + Clock + AllocGlobal + Eprint + LogFiles,
-    ensures { IsOperated J.opening result.1 (LogsTyped (L.keeps premises.now.log.now))
-        console result.0 (I.remaining input.old) (I.remaining input.new)
+    ensures { IsOperated J.opening result.1 (λ typings. Unit {0}) console result.0
+        (I.remaining input.old) (I.remaining input.new)
         (O.contents output.old) (O.contents output.new) }
 {
     let rt = premises.rt;
+    let alloc = rt.alloc();
+    let desk = premises.desk;
     if premises.log.is_kept() {
-        let entry = Entry::new(rt, premises.log);
-        return operate_with(premises, entry, console, input, output);
+        let mut witness = ConsoleLog::new(alloc, rt, Entry::new(rt, premises.log));
+        return operate(rt, alloc, desk, console, &mut witness, input, output);
     }
-    operate(
-        rt,
-        rt.alloc(),
-        premises.desk,
-        console,
-        &mut Nobody,
-        input,
-        output,
-    )
+    operate(rt, alloc, desk, console, &mut Nobody, input, output)
 }
 
 // Once each worker has a thread, the first line is printed, and then the console is operated.
@@ -82,8 +48,7 @@ fn open_console<R, J: Run, D: Desk, L: Log, I: Read, O: Write>(
 ) -> Result<(Seat<J>, Result<(), OperatorFault>), ServeFault>
 where
     R: Wait + Clock + AllocGlobal + Eprint + LogFiles,
-    ensures { program.Attends result premises.now.settings.now.port
-        (L.keeps premises.now.log.now) J.opening console
+    ensures { program.Attends result premises.now.settings.now.port J.opening console
         (I.remaining input.old) (I.remaining input.new)
         (O.contents output.old) (O.contents output.new) }
 {
@@ -105,8 +70,7 @@ pub(crate) fn attend<R, J: Run, D: Desk, L: Log, I: Read, O: Write>(
 ) -> Result<(Seat<J>, Result<(), OperatorFault>), ServeFault>
 where
     R: Wait + Clock + AllocGlobal + Eprint + LogFiles,
-    ensures { program.Attends result premises.now.settings.now.port
-        (L.keeps premises.now.log.now) J.opening console
+    ensures { program.Attends result premises.now.settings.now.port J.opening console
         (I.remaining input.old) (I.remaining input.new)
         (O.contents output.old) (O.contents output.new) }
 {

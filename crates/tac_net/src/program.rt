@@ -47,11 +47,10 @@ where
     requires seats { IsSome (S.item seats.now) }
     requires console { IsSome (C.item console.now) }
     ensures served { IfOk result.0 (λ served. IfSome (S.item seats.old) (λ waiting. HaveServed
-        (IsDeskConnection J.opening premises.now.settings.now.key (L.keeps premises.now.log.now))
+        (IsDeskConnection J.opening premises.now.settings.now.key (L.keeping premises.now.log.now))
         premises.now.settings.now.connections waiting.items served.items)) }
     ensures attended { IfSome (C.item console.old) (λ seat.
-        program.Attends result.1 premises.now.settings.now.port
-        (L.keeps premises.now.log.now) J.opening seat
+        program.Attends result.1 premises.now.settings.now.port J.opening seat
         (I.remaining input.old) (I.remaining input.new)
         (O.contents output.old) (O.contents output.new)) }
 {
@@ -66,7 +65,7 @@ where
     let mut serving = || -> Result<Vec<(Seat<J>, End)>, AllocError>
         requires { IsSome (S.item seats.now) }
         ensures { IfOk result (λ served. IfSome (S.item seats.entry.now) (λ waiting. HaveServed
-            (IsDeskConnection J.opening settings.entry.now.key (L.keeps log.entry.now))
+            (IsDeskConnection J.opening settings.entry.now.key (L.keeping log.entry.now))
             settings.entry.now.connections waiting.items served.items)) }
     {
         match seats.take_item() {
@@ -89,8 +88,7 @@ where
     let mut attending = || -> Result<(Seat<J>, Result<(), OperatorFault>), ServeFault>
         requires { IsSome (C.item console.now) }
         ensures { IfSome (C.item console.entry.now) (λ seat.
-            program.Attends result premises.entry.now.settings.now.port
-            (L.keeps premises.entry.now.log.now) J.opening seat
+            program.Attends result premises.entry.now.settings.now.port J.opening seat
             (I.remaining input.entry.now) (I.remaining input.exit.now)
             (O.contents output.entry.now) (O.contents output.exit.now)) }
     {
@@ -118,7 +116,7 @@ where
     requires roll { history ≡ J.roll }
     requires opening { record { meaning = D.meaning desk; limits = settings.now.limits }
         ≡ J.opening }
-    ensures { program.Runs result settings.now (L.keeps log.now) J.opening
+    ensures { program.Runs result settings.now (L.keeping log.now) J.opening
         (I.remaining input.old) (I.remaining input.new)
         (O.contents output.old) (O.contents output.new) }
 {
@@ -185,7 +183,7 @@ pub fn serve<R, D: Desk + Send, L: Log + Sync, I: Read, O: Write>(
 ) -> Result<(), ServeFault>
 where
     R: Threads + Wait + Clock + Sync + AllocGlobal + Eprint + LogFiles,
-    ensures runs { program.Runs result settings.now (L.keeps log.now)
+    ensures runs { program.Runs result settings.now (L.keeping log.now)
         (record { meaning = D.meaning desk; limits = settings.now.limits })
         (I.remaining input.old) (I.remaining input.new)
         (O.contents output.old) (O.contents output.new) }

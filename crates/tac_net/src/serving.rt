@@ -65,7 +65,7 @@ where
     R: Threads + Wait + Clock + Sync + AllocGlobal + Eprint + LogFiles,
     ensures { IfOk result (λ served. serving.HaveServed
         (serving.IsDeskConnection J.opening premises.now.settings.now.key
-        (L.keeps premises.now.log.now)) premises.now.settings.now.connections
+        (L.keeping premises.now.log.now)) premises.now.settings.now.connections
         seats.items served.items) }
 {
     let Premises {
@@ -79,7 +79,7 @@ where
     let listener = port.listener();
     let work = |seat: DeskSeat<J>| -> (DeskSeat<J>, End)
         ensures { serving.Serves (serving.IsDeskConnection J.opening settings.entry.now.key
-            (L.keeps log.entry.now)) settings.entry.now.connections seat result.1 result.0 }
+            (L.keeping log.entry.now)) settings.entry.now.connections seat result.1 result.0 }
     {
         let mut caller = DeskCaller::new(rt, desk, seat);
         let service = Service {

@@ -11,7 +11,6 @@ use crate::pause::{Pause, accepted};
 use crate::service::Service;
 use basics::Bytes;
 use std::alloc::{AllocError, Global};
-use std::io::Write;
 use std::net::{SocketAddr, TcpStream};
 use std::sync::Wait;
 use std::time::Clock;
@@ -84,22 +83,22 @@ where
     serve(&terms, caller, witness, &mut reader, &mut writer)
 }
 
-// The same, and this log is told, by lines that name this device.
-fn serve_logged<'a, R, G: Gate, L, C: Caller, F: Write + Drop>(
+// The same, and the log is told, by lines that name this device.
+fn serve_logged<'a, R, G: Gate, L: Log, C: Caller>(
     service: &Service<'_, R, G, L>,
     moments: &Moments,
     caller: &mut C,
     line: &'a Line<'a, &'a TcpStream, R>,
     device: Bytes,
-    log: F,
 ) -> End
 where
-    R: Wait + Clock + AllocGlobal,
-    ensures { serving.Connects
-        (serving.IsConnection C.makes C.rests C.refuses service.now.key.now true)
-        caller.old result caller.new }
+    R: Wait + Clock + AllocGlobal + Eprint + LogFiles,
+    ensures { serving.Connects (serving.IsConnection C.makes C.rests C.refuses
+        service.now.key.now (L.keeping service.now.log.now)) caller.old result caller.new }
 {
-    let mut witness = DeviceLog::new(service.rt.alloc(), service.rt, moments, log, device);
+    let rt = service.rt;
+    let entry = Entry::new(rt, service.log);
+    let mut witness = DeviceLog::new(rt.alloc(), rt, moments, entry, device);
     serve_line(service, caller, &mut witness, line)
 }
 
@@ -114,7 +113,7 @@ fn serve_stream<R, G: Gate, L: Log, C: Caller>(
 where
     R: Wait + Clock + AllocGlobal + Eprint + LogFiles,
     ensures { serving.Connects (serving.IsConnection C.makes C.rests C.refuses
-        service.now.key.now (L.keeps service.now.log.now)) caller.old result caller.new }
+        service.now.key.now (L.keeping service.now.log.now)) caller.old result caller.new }
 {
     if let Err(_) = limit_waits(stream) {
         return End::ReadFault;
@@ -126,8 +125,7 @@ where
     let Ok(device) = device_of(service.rt.alloc(), address) else {
         return End::ReadFault;
     };
-    let entry = Entry::new(service.rt, service.log);
-    serve_logged(service, moments, caller, &line, device, entry)
+    serve_logged(service, moments, caller, &line, device)
 }
 
 // Waits for a connection and serves it.
@@ -139,7 +137,7 @@ fn serve_one<R, G: Gate, L: Log, C: Caller>(
 where
     R: Wait + Clock + AllocGlobal + Eprint + LogFiles,
     ensures { serving.Connects (serving.IsConnection C.makes C.rests C.refuses
-        service.now.key.now (L.keeps service.now.log.now)) caller.old result caller.new }
+        service.now.key.now (L.keeping service.now.log.now)) caller.old result caller.new }
 {
     match accept(service, &mut rounds.pause) {
         Ok((stream, address)) => {
@@ -159,7 +157,7 @@ pub(crate) fn serve_all<R, G: Gate, L: Log, C: Caller>(
 where
     R: Wait + Clock + AllocGlobal + Eprint + LogFiles,
     ensures { serving.Serves (serving.IsConnection C.makes C.rests C.refuses
-        service.now.key.now (L.keeps service.now.log.now)) service.now.connections
+        service.now.key.now (L.keeping service.now.log.now)) service.now.connections
         caller.old result caller.new }
 {
     service.vigil.begin();

@@ -62,8 +62,9 @@ struct Refusing {
 
 impl Log for Refusing {
     ghost use Rattle.std.specs.Prelude.{is_some};
+    ghost use Rattle.tac_journal.specs.Log.{nowhere};
 
-    ghost keeps = { λ log. is_some log.refused };
+    ghost keeping = { λ log. record nowhere { is_kept = is_some log.refused } };
 
     fn is_kept(&self) -> bool {
         self.refused.is_some()

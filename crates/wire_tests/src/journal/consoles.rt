@@ -1,6 +1,6 @@
 //! Conversations at a console, in the order in which the log and the output have them.
 
-ghost use Rattle.std.specs.Prelude.{true};
+ghost use Rattle.tac_journal.specs.Log.{somewhere};
 
 use basics::{Bytes, send};
 use std::alloc::{AllocError, Global};
@@ -64,7 +64,7 @@ impl<'a> Book<'a> {
 }
 
 impl Log for Book<'_> {
-    ghost keeps = { λ _. true };
+    ghost keeping = { λ _. somewhere };
 
     fn is_kept(&self) -> bool {
         true

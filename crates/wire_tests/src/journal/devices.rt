@@ -1,7 +1,7 @@
 //! The log of a device: what time its lines have, and when it is answered where they count only once
 //! they are on the disk.
 
-ghost use Rattle.std.specs.Prelude.{true};
+ghost use Rattle.tac_journal.specs.Log.{somewhere};
 
 use crate::journal::files::free_path;
 use crate::journal::host::Host;
@@ -27,7 +27,7 @@ struct Lines {
 }
 
 impl Log for Lines {
-    ghost keeps = { λ _. true };
+    ghost keeping = { λ _. somewhere };
 
     fn is_kept(&self) -> bool {
         true

@@ -1,7 +1,7 @@
 //! The log of a device whose file takes only so many lines: what of each notice it has, and which
 //! notices are refused.
 
-ghost use Rattle.std.specs.Prelude.{true};
+ghost use Rattle.tac_journal.specs.Log.{somewhere};
 
 use crate::journal::host::Host;
 use crate::talk::{Talk, Turned, Wanted};
@@ -59,7 +59,7 @@ fn without_head(line: &str) -> Result<&str, Fail> {
 }
 
 impl Log for Few {
-    ghost keeps = { λ _. true };
+    ghost keeping = { λ _. somewhere };
 
     fn is_kept(&self) -> bool {
         true

@@ -4,4 +4,4 @@ use Rattle.tac_net.proofs.worker.serve_all.Given as goal
 
 -- so many connections came, and the worker goes on
 abbrev pub invariant-connections : goal.invariant-connections
-invariant-connections g l = Came (IsConnection g.C.Caller.makes g.C.Caller.rests g.C.Caller.refuses l.fn.service.key.now (g.L.Log.keeps l.fn.service.log.now)) l.fn.caller l.counter l.last l.caller × (goes_on l.last ≡ true)
+invariant-connections g l = Came (IsConnection g.C.Caller.makes g.C.Caller.rests g.C.Caller.refuses l.fn.service.key.now (g.L.Log.keeping l.fn.service.log.now)) l.fn.caller l.counter l.last l.caller × (goes_on l.last ≡ true)

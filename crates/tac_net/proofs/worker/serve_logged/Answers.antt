@@ -1,9 +1,8 @@
-use Rattle.std.proofs.Common.{inl}
-use Rattle.tac_net.proofs.LogFacts.{served_logged}
+use Rattle.std.proofs.Common.{inl, Some}
+use Rattle.tac_net.proofs.LogFacts.{logs_told}
 use Rattle.tac_net.proofs.worker.serve_logged.Goals as goal
 
 pub returns : goal.returns
-returns g c = inl (record {
-  traffic = c.serve_line.ensures.0;
-  served = served_logged _ _ (λ log. g.F.Write.contents log.log) _ (g.F.Write.contents c.args.log) _ _ c.new-witness.ensures.lines c.new-witness.ensures.refused c.serve_line.ensures.1;
-})
+returns g c =
+    let told = logs_told _ _ (λ log. log.log) (λ entry. entry.log.now) (λ log. (g.L.Log.keeping log).took) _ _ _ c.new-entry.ensures _ _ c.new-witness.ensures.lines c.serve_line.ensures.1 in
+    inl (record { traffic = c.serve_line.ensures.0; lines = Some told.0; taken = told.1; served = told.2 })

@@ -1,11 +1,12 @@
-use Rattle.std.proofs.Common.{inl, sym, ◌∙◌}
+use Rattle.std.proofs.Common.{inl, sym, ◌∙◌, None}
 use Rattle.tac_net.proofs.LogFacts.{served_unlogged}
 use Rattle.tac_net.proofs.worker.serve_stream.Goals as goal
 
 pub returns-then-not-is_kept : goal.returns-then-not-is_kept
 returns-then-not-is_kept g c =
-    rw (sym c.is_kept.ensures ∙ c.if-not-is_kept.true)
-    (inl (record { traffic = c.serve_line.ensures.0; served = served_unlogged _ _ c.serve_line.ensures.1 }))
-
-pub returns : goal.returns
-returns g c = rw (sym c.is_kept.ensures ∙ c.if-not-is_kept.false) c.serve_logged.ensures
+    inl (record {
+      traffic = c.serve_line.ensures.0;
+      lines = None;
+      taken = sym c.is_kept.ensures ∙ c.if-not-is_kept.true;
+      served = served_unlogged _ _ c.serve_line.ensures.1;
+    })
