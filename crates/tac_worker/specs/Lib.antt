@@ -4,3 +4,4 @@ pub mod Worked
 pub mod AtHall
 pub mod AtDesk
 pub mod Working
+pub mod Noting

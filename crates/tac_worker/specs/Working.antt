@@ -1,6 +1,6 @@
 -- How a worker serves a connection, one turn after another.
 use Rattle.std.specs.Prelude.{◌≡◌, ◌<◌, ℕ, suc, List, [], ◌∷◌, ◌++◌, length, take, drop}
-use Rattle.std.specs.Prelude.{Bool, true, false, Option, Result, Ok, Err}
+use Rattle.std.specs.Prelude.{Bool, true, false, Option, Some, Result, Ok, Err}
 use Rattle.std.specs.Io.KnownBytes.{Appends, Consumes, IsAtEnd}
 use Rattle.tac_wire.specs.declared.frame.Frame.{Frame}
 use Rattle.tac_wire.specs.Stream.{Tail, cut}
@@ -191,6 +191,13 @@ Heard (Err ReadFault) before after was now = Consumes before after []
 Heard (Err Memory) before after was now =
     (piece : List ℕ) × (0 < length piece) × Consumes before after piece × Prolongs piece
 Heard (Err end) before after was now = ⊥
+
+-- a read was made that gave this piece, and it was noted
+abbrev pub Noted : Result (Unit {0}) End → Option (List ℕ) → Option (List ℕ)
+    → List ℕ → List ℕ → Stream → Stream → Type 0
+Noted result before after old_bytes new_bytes was now =
+    (piece : List ℕ) × (new_bytes ≡ old_bytes ++ piece) × Consumes before after piece
+    × (result ≡ Err Finished → IsAtEnd after) × Heard result (Some piece) (Some []) was now
 
 -- ---- the whole connection
 

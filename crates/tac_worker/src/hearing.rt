@@ -1,29 +1,37 @@
 //! Reading what comes on a connection.
 
-ghost use Rattle.std.specs.Prelude.{◌≡◌, ◌<◌, length};
-ghost use Rattle.tac_worker.specs.Working.{Heard};
+ghost use Rattle.tac_worker.specs.Working.{Heard, Noted};
 
+use crate::notes::Pieces;
 use crate::worked::End;
 use std::io::Read;
 use tac_io::read_piece;
 use tac_stream::Stream;
 
-/// Reads once, and hands on what came. An interrupted read is tried at the next turn.
+/// How many bytes are read at once.
+pub(crate) const CHUNK: usize = 4096;
+
+/// What a read reads into.
+pub(crate) type Chunk = [u8; CHUNK];
+
+/// Reads once, hands on what came, and notes it. An interrupted read is tried at the next turn.
 pub(crate) fn hear<R: Read>(
     reader: &mut R,
-    chunk: &mut [u8],
+    chunk: &mut Chunk,
     stream: &mut Stream,
+    pieces: &mut Pieces,
 ) -> Result<(), End>
-    requires { 0 < length chunk.old }
     ensures heard { Heard result (R.remaining reader.old) (R.remaining reader.new)
         stream.old stream.new }
-    ensures len { length chunk.new ≡ length chunk.old }
+    ensures noted { Noted result (R.remaining reader.old) (R.remaining reader.new)
+        pieces.old pieces.new stream.old stream.new }
 {
     let n = match read_piece(reader, chunk) {
         Ok(Some(n)) => n,
         Ok(None) => return Ok(()),
         Err(_) => return Err(End::ReadFault),
     };
+    pieces.add(chunk, n);
     if n == 0 {
         return Err(End::Finished);
     }

@@ -7,6 +7,7 @@ mod gate;
 mod hall_caller;
 mod hearing;
 mod laws;
+mod notes;
 mod receipt_caller;
 mod terms;
 mod turning;

@@ -1,30 +1,31 @@
 //! Serving a connection, one turn after another.
 
-ghost use Rattle.std.specs.Prelude.{◌≡◌, ℕ, List, IfOk, IfErr, OnErr};
+ghost use Rattle.std.specs.Prelude.{◌≡◌, ◌≤◌, ℕ, suc, List, [], ◌∷◌, ◌++◌, length};
+ghost use Rattle.std.specs.Prelude.{IfOk, IfErr, OnErr, MatchResult};
 ghost use Rattle.tac_conn.specs.Ask.{kind_of_ask, kind_of_answer};
 ghost use Rattle.tac_conn.specs.Packet.{sent};
 ghost use Rattle.tac_conn.specs.Reply.{packet_of};
 ghost use Rattle.tac_audit.specs.Notices.{replied};
 ghost use Rattle.tac_stream.specs.Kept.{IsReady, Stands};
+ghost use Rattle.tac_worker.specs.Noting.{noting, NotesOne, NotesNone, RefusesNoted};
 ghost use Rattle.tac_worker.specs.Told.{TakesUntil};
 ghost use Rattle.tac_worker.specs.Worked.{AreAllMade, IsServedBy};
 ghost use Rattle.tac_worker.specs.Working as working;
 
 use crate::caller::Caller;
 use crate::gate::{Gate, lets_call};
-use crate::hearing::hear;
+use crate::hearing::{CHUNK, hear};
+use crate::notes::{Called, Pieces};
 use crate::terms::Terms;
 use crate::worked::End;
 use basics::send;
 use std::io::{Read, Write};
+use std::snapshot::Snapshot;
 use std::sync::Wait;
 use tac_audit::{Notice, Witness};
 use tac_conn::{Answer, Ask, Packet, Reply, Step};
 use tac_stream::{Stream, Turn};
 use tac_wire::Key;
-
-// What is read at once.
-const CHUNK: usize = 4096;
 
 /// How a turn went by which the connection stays open.
 #[derive(Clone, Copy, PartialEq, Eq)]
@@ -59,18 +60,27 @@ fn write_reply<W: Write, G: Gate>(
     Ok(Went::On)
 }
 
-// Calls an ask, once the gate lets the caller.
-fn ask_by<C: Caller, G: Gate>(caller: &mut C, gate: &G, ask: Ask) -> Result<Answer, End>
+// Calls an ask, once the gate lets the caller, and notes it.
+fn ask_by<C: Caller, G: Gate>(
+    caller: &mut C,
+    gate: &G,
+    ask: Ask,
+    called: &mut Called,
+) -> Result<Answer, End>
     ensures makes { IfOk result (λ answer. (segment : ℕ) × (place : ℕ) × C.makes caller.old
         (record { ask = ask; segment = segment; place = place; answer = answer }) caller.new) }
     ensures kind { IfOk result (λ answer. kind_of_answer answer ≡ kind_of_ask ask) }
     ensures uncalled { IfErr result (working.IsUncalled (C.refuses caller.new) ask) }
     ensures err { OnErr result (C.rests caller.old caller.new) }
+    ensures called { MatchResult result (λ answer. called.new ≡ called.old ++ (ask, answer) ∷ [])
+        (λ _. called.new ≡ called.old) }
 {
     if !lets_call(gate, caller.number()) {
         return Err(End::Held);
     }
+    let asked = Snapshot::of(&ask);
     let answer = caller.ask(ask)?;
+    called.add(&asked, &answer);
     Ok(answer)
 }
 
@@ -109,21 +119,23 @@ fn note<V: Witness<Notice>>(witness: &mut V, notice: Notice, closes: bool) -> Re
     Ok(Went::On)
 }
 
-// Serves what stands first.
-fn take_turn<H, G: Gate, C: Caller, V: Witness<Notice>, W: Write>(
+/// Serves what stands first, and notes the call that was made for it.
+pub(crate) fn take_turn<H, G: Gate, C: Caller, V: Witness<Notice>, W: Write>(
     terms: &Terms<H, G>,
     caller: &mut C,
     witness: &mut V,
     stream: &mut Stream,
     writer: &mut W,
+    called: &mut Called,
 ) -> Result<Went, End>
-    ensures { (bytes : List ℕ) (taken : ℕ) → IsReady stream.old →
+    ensures turned { (bytes : List ℕ) (taken : ℕ) → IsReady stream.old →
         Stands terms.now.key.now stream.old bytes taken →
-        working.Turned C.makes C.rests C.refuses V.takes V.refuses
-        result terms.now.key.now bytes taken
-        (record { caller = caller.old; witness = witness.old })
-        (record { caller = caller.new; witness = witness.new })
+        working.Turned (NotesOne C.makes) (NotesNone C.rests) (RefusesNoted C.refuses)
+        V.takes V.refuses result terms.now.key.now bytes taken
+        (record { caller = noting caller.old called.old; witness = witness.old })
+        (record { caller = noting caller.new called.new; witness = witness.new })
         (W.contents writer.old) (W.contents writer.new) stream.new }
+    ensures one { length called.new ≤ suc (length called.old) }
 {
     match stream.next(terms.key)? {
         Turn::Packet(packet, step) => match step {
@@ -132,7 +144,7 @@ fn take_turn<H, G: Gate, C: Caller, V: Witness<Notice>, W: Write>(
                 answer(terms, witness, writer, seat, packet, reply, closes)
             }
             Step::Asks(ask, slot) => {
-                let given = ask_by(caller, terms.gate, ask)?;
+                let given = ask_by(caller, terms.gate, ask, called)?;
                 let (reply, closes) = stream.give(slot, given);
                 let seat = caller.number();
                 answer(terms, witness, writer, seat, packet, reply, closes)
@@ -176,11 +188,13 @@ pub fn serve<H: Wait, G: Gate, C: Caller, V: Witness<Notice>, R: Read, W: Write>
 {
     let mut stream = Stream::new(terms.alloc);
     let mut chunk = [0; CHUNK];
+    let mut called = Called::new();
+    let mut pieces = Pieces::new();
     'turns: for _ in terms.rt.forever() {
-        match take_turn(terms, caller, witness, &mut stream, writer) {
+        match take_turn(terms, caller, witness, &mut stream, writer, &mut called) {
             Ok(Went::On) => {}
             Ok(Went::Rests) => {
-                if let Err(end) = hear(reader, &mut chunk, &mut stream) {
+                if let Err(end) = hear(reader, &mut chunk, &mut stream, &mut pieces) {
                     return end;
                 }
             }
