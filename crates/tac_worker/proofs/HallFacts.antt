@@ -68,7 +68,7 @@ never_unwitnessed end key was now before after old new work e =
 
 module _ (end : End) (key : List ℕ) (traffic : Traffic) where
   -- of whoever made these exchanges and was told these notices more may be known
-  served_as : (makes others : List Exchange → Type 0) (refuses : Ask → HallFault → Type 0) (tells told : List Notice → Option Notice → Type 0) (work : IsServedBy end key makes refuses tells traffic) → others work.ends.made
+  pub served_as : (makes others : List Exchange → Type 0) (refuses : Ask → HallFault → Type 0) (tells told : List Notice → Option Notice → Type 0) (work : IsServedBy end key makes refuses tells traffic) → others work.ends.made
       → ((notices : List Notice) (refused : Option Notice) → tells notices refused → told notices refused)
       → IsServedBy end key others refuses told traffic
   served_as makes others refuses tells told work m t = record {

@@ -6,3 +6,4 @@ pub mod NoteFacts
 pub mod HearFacts
 pub mod TurnFacts
 pub mod WorkFacts
+pub mod LinkFacts

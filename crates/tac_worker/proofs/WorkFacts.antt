@@ -107,6 +107,13 @@ module _ {S V : Type 0} (step : S → Exchange → S → Type 0) (rests : S → 
         written = rw (append-nil _) at (Appends-trans old mid new _ [] s.goes.written r.nothing);
       })
 
+      -- nothing was done, nor is anything left to do, and the connection goes on
+      pub serving_rests : (t : Serving step takes key was next (traffic_of before after old new) rested) × IsAtRest step rests refuses takes refuses_notice key t.input t.taken next next new new rested
+      serving_rests = (
+        record { input = s.input; taken = s.taken; read = s.read; goes = rested_so; stays = s.stays; ready = r.ready; stands = r.stands },
+        record { left = r.left; tail = r.tail; same = refl; nothing = Appends-nil new; ready = r.ready; stands = r.stands },
+      )
+
       all_taken : (cut s.input).packets ≡ take s.taken (cut s.input).packets
       all_taken =
           sym (take-append-drop s.taken (cut s.input).packets) ∙ ap (λ (l : List Frame). take s.taken (cut s.input).packets ++ l) r.left ∙ append-nil (take s.taken (cut s.input).packets)

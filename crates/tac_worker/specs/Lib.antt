@@ -5,3 +5,5 @@ pub mod AtHall
 pub mod AtDesk
 pub mod Working
 pub mod Noting
+pub mod Linked
+pub mod Linking

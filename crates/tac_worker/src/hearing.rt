@@ -9,10 +9,10 @@ use tac_io::read_piece;
 use tac_stream::Stream;
 
 /// How many bytes are read at once.
-pub(crate) const CHUNK: usize = 4096;
+pub const CHUNK: usize = 4096;
 
 /// What a read reads into.
-pub(crate) type Chunk = [u8; CHUNK];
+pub type Chunk = [u8; CHUNK];
 
 /// Reads once, hands on what came, and notes it. An interrupted read is tried at the next turn.
 pub(crate) fn hear<R: Read>(

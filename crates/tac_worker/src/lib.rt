@@ -3,11 +3,14 @@
 
 mod caller;
 mod desk_caller;
+mod due;
 mod gate;
 mod hall_caller;
 mod hearing;
 mod laws;
+mod link;
 mod notes;
+mod queue;
 mod receipt_caller;
 mod terms;
 mod turning;
@@ -16,9 +19,13 @@ mod working;
 
 pub use caller::Caller;
 pub use desk_caller::DeskCaller;
+pub use due::Due;
 pub use gate::{Gate, OpenGate};
 pub use hall_caller::HallCaller;
+pub use hearing::{CHUNK, Chunk};
 pub use laws::told_law;
+pub use link::Link;
+pub use queue::Queue;
 pub use terms::Terms;
 pub use turning::serve;
 pub use worked::{End, Worked};

@@ -3,6 +3,7 @@
 ghost use Rattle.std.specs.Prelude.{◌≡◌, ◌++◌, ◌∷◌, [], take};
 
 use crate::hearing::Chunk;
+use crate::queue::Queue;
 use http_server::Log;
 use std::marker::Model;
 use std::snapshot::Snapshot;
@@ -67,5 +68,35 @@ impl Pieces {
         ensures { self.new ≡ self.old ++ take n chunk.now }
     {
         self.reads = self.reads.and(chunk, &n);
+    }
+}
+
+/// The bytes that were sent. It has none of its own.
+#[derive(Drop)]
+pub(crate) struct Sent {
+    writes: Log<Queue, usize>,
+}
+
+impl Model for Sent {
+    ghost use Rattle.std.specs.Prelude.{ℕ, List, flat_map, take};
+
+    ghost Value = { List ℕ };
+
+    ghost view = { λ sent. flat_map (λ write. take write.1 write.0) sent.writes.items };
+}
+
+impl Sent {
+    /// Nothing was sent.
+    pub(crate) fn new() -> Sent
+        ensures { result ≡ [] }
+    {
+        Sent { writes: Log::new() }
+    }
+
+    /// The first bytes of those that wait in this queue were sent, so many.
+    pub(crate) fn add(&mut self, queue: &Queue, n: usize)
+        ensures { self.new ≡ self.old ++ take n queue.now }
+    {
+        self.writes = self.writes.and(queue, &n);
     }
 }

@@ -1,0 +1,222 @@
+//! A connection that is served in turns, while others are served too.
+
+ghost use Rattle.std.specs.Prelude.{◌≡◌, ◌≤◌, length, take, IfOk, OnErr};
+ghost use Rattle.std.specs.Io.KnownBytes.{Appends, Keeps};
+ghost use Rattle.tac_worker.specs.Linked as linked;
+
+use crate::caller::Caller;
+use crate::due::Due;
+use crate::gate::Gate;
+use crate::hearing::{Chunk, hear};
+use crate::notes::{Called, Pieces, Sent};
+use crate::queue::Queue;
+use crate::terms::Terms;
+use crate::turning::{Went, take_turn};
+use crate::worked::End;
+use std::io::{self, Read, Write};
+use std::marker::Model;
+use std::snapshot::Snapshot;
+use tac_audit::{Notice, Witness};
+use tac_stream::Stream;
+use tac_wire::Key;
+
+/// A connection that is served in turns, by a caller that may call for others in between. It holds
+/// what came and isn't served yet, what waits to be sent, and its witness.
+///
+/// What was called for it, what came and what was sent it knows in proofs alone, so its memory
+/// doesn't grow with its age: it holds one packet, or what one read gave, and one reply.
+pub struct Link<'a, C: Caller, V: Witness<Notice>> {
+    key: &'a Key,
+    first: Snapshot<V>,
+    witness: V,
+    caller: Snapshot<C>,
+    stream: Stream,
+    queue: Queue,
+    pieces: Pieces,
+    called: Called,
+    sent: Sent,
+    // Whether the last turn found no whole packet, and nothing came since.
+    rests: bool,
+    end: Option<End>,
+}
+
+// By hand, so that a proof of an owner has one call at each exit, not a drop of each field.
+impl<'a, C: Caller, V: Witness<Notice>> Drop for Link<'a, C, V> {
+    fn drop(self) {
+        let Link {
+            key: _,
+            first: _,
+            witness: _,
+            caller: _,
+            stream: _,
+            queue: _,
+            pieces: _,
+            called: _,
+            sent: _,
+            rests: _,
+            end: _,
+        } = self;
+    }
+}
+
+impl<'a, C: Caller, V: Witness<Notice>> Model for Link<'a, C, V> {
+    ghost use Rattle.tac_worker.specs.Linked.{Linked, IsLinked};
+
+    ghost Value = { Linked C V };
+
+    ghost use Rattle.tac_worker.specs.Linking.{connection_of};
+
+    ghost view = { connection_of };
+
+    ghost invariant = { λ link. IsLinked C.refuses V.takes V.refuses link.end
+        (connection_of link) link.stream };
+}
+
+impl<'a, C: Caller, V: Witness<Notice>> Link<'a, C, V> {
+    /// A connection on which nothing came, whose device has the key of these terms.
+    pub fn new<H, G>(terms: &Terms<'a, H, G>, witness: V, caller: &C) -> Link<'a, C, V>
+        ensures { result ≡ linked.fresh terms.now.key.now witness caller.now }
+    {
+        Link {
+            key: terms.key,
+            first: Snapshot::of(&witness),
+            witness,
+            caller: Snapshot::of(caller),
+            stream: Stream::new(terms.alloc),
+            queue: Queue::new(terms.alloc),
+            pieces: Pieces::new(),
+            called: Called::new(),
+            sent: Sent::new(),
+            rests: false,
+            end: None,
+        }
+    }
+
+    /// What is to be done next.
+    pub fn due(&self) -> Due
+        ensures { result ≡ linked.due_of self.now }
+    {
+        if !self.queue.pending().is_empty() {
+            return Due::Send;
+        }
+        if self.end.is_some() {
+            return Due::Close;
+        }
+        if self.rests { Due::Hear } else { Due::Turn }
+    }
+
+    /// How it ended, if it has ended.
+    ///
+    /// The calls for it are the first asks of the bytes that came. What was put on it, which is
+    /// what was sent and then what waits, is what is sent by their answers. Its witness took the
+    /// notices of that. Once it has ended this is all, or as much as the end allows. Before, it is
+    /// so up to some packet, and so it stays where the connection is given up.
+    pub fn end(&self) -> Option<End>
+        ensures end { result ≡ self.now.end }
+        ensures stands { linked.StandsSo C.refuses V.takes V.refuses result self.now }
+    {
+        self.end
+    }
+
+    /// What waits to be sent, in that order.
+    pub fn pending(&self) -> &[u8]
+        ensures { result.now ≡ self.now.pending }
+    {
+        self.queue.pending()
+    }
+
+    /// If a turn is due, serves the next packet if it has come whole: has the caller ask, tells the
+    /// witness, and puts the reply there to be sent, as [`serve`](crate::serve) does. Else it does
+    /// nothing.
+    ///
+    /// Where memory for a reply is refused, the connection ends as WriteFault: the call was made
+    /// and the witness was told of it, but nothing of that reply waits. The key is that of the
+    /// terms by which the connection was made. It may wait for the caller, the witness and the
+    /// gate, and for nobody at the other end. Linear in the packet, but for what the caller and the
+    /// witness take.
+    pub fn turn<H, G: Gate>(&mut self, terms: &Terms<H, G>, caller: &mut C)
+        ensures { linked.TurnsAt C.makes C.rests (linked.due_of self.old) self.old self.new
+            caller.old caller.new }
+    {
+        match self.due() {
+            Due::Turn => {}
+            _ => return,
+        }
+        let terms = Terms {
+            rt: terms.rt,
+            alloc: terms.alloc,
+            key: self.key,
+            gate: terms.gate,
+        };
+        let went = take_turn(
+            &terms,
+            caller,
+            &mut self.witness,
+            &mut self.stream,
+            &mut self.queue,
+            &mut self.called,
+        );
+        self.caller = Snapshot::of(caller);
+        match went {
+            Ok(Went::On) => {}
+            Ok(Went::Rests) => self.rests = true,
+            Err(end) => self.end = Some(end),
+        }
+    }
+
+    /// If a read is due, reads once, into this chunk, and keeps what came. Else it does nothing.
+    ///
+    /// An interrupted read gives nothing; a reader that would wait can say so by that error. Any
+    /// other error ends the connection as ReadFault, an end of what came as Finished, and want of
+    /// memory for what came as Memory. It may wait for the reader.
+    pub fn hear<R: Read>(&mut self, reader: &mut R, chunk: &mut Chunk)
+        ensures { linked.HearsAt (linked.due_of self.old) self.old self.new
+            (R.remaining reader.old) (R.remaining reader.new) }
+    {
+        match self.due() {
+            Due::Hear => {}
+            _ => return,
+        }
+        match hear(reader, chunk, &mut self.stream, &mut self.pieces) {
+            Ok(()) => self.rests = false,
+            Err(end) => self.end = Some(end),
+        }
+    }
+
+    /// Writes once what waits, and answers how many bytes of it the writer took. The error is the
+    /// writer's, and what waited still waits then. It may wait for the writer. Linear in what
+    /// waits.
+    pub fn send<W: Write>(&mut self, writer: &mut W) -> io::Result<usize>
+        ensures bound { IfOk result (λ n. n ≤ length self.old.pending) }
+        ensures bytes { IfOk result (λ n. Appends (W.contents writer.old) (W.contents writer.new)
+            (take n self.old.pending)) }
+        ensures link { IfOk result (λ n. self.new ≡ linked.after_sending n self.old) }
+        ensures err { OnErr result ((self.new ≡ self.old)
+            × Keeps (W.contents writer.old) (W.contents writer.new)) }
+    {
+        let n = writer.write(self.queue.pending())?;
+        self.sent.add(&self.queue, n);
+        self.queue.advance(n);
+        Ok(n)
+    }
+
+    /// Its witness, where the connection is given up.
+    pub fn into_witness(self) -> V
+        ensures { result ≡ self.entry.witness }
+    {
+        let Link {
+            key: _,
+            first: _,
+            witness,
+            caller: _,
+            stream: _,
+            queue: _,
+            pieces: _,
+            called: _,
+            sent: _,
+            rests: _,
+            end: _,
+        } = self;
+        witness
+    }
+}
