@@ -2,6 +2,7 @@
 
 mod ends;
 mod gates;
+mod linked;
 mod packets;
 mod shared;
 mod starved;

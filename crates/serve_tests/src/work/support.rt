@@ -12,7 +12,7 @@ use tac_desk::Desk;
 use tac_desks::PlainDesk;
 use tac_hall::{Hall, Seat};
 use tac_wire::Key;
-use tac_worker::{Caller, End, Terms, Worked, serve, work};
+use tac_worker::{CHUNK, Caller, Due, End, Link, Terms, Worked, serve, work};
 
 pub(crate) fn key() -> Result<Key, Fail> {
     match Key::read(b"k") {
@@ -167,6 +167,63 @@ pub(crate) fn serves_by<C: Caller, R: Wait + AllocGlobal>(
     asked: &str,
 ) -> Result<Seen, Fail> {
     serves_told(rt, caller, &mut Nobody, asked)
+}
+
+// Serves in turns what these letters represent, as far as it gets on.
+fn serves_linked<C: Caller, V: Witness<Notice>, R: Wait + AllocGlobal>(
+    rt: &R,
+    packets: &Packets,
+    caller: &mut C,
+    witness: V,
+    asked: Asked<'_>,
+) -> (Seen, V) {
+    let mut reader = Scripted {
+        letters: asked.letters.as_bytes(),
+        question: packets.question.as_slice(),
+        record: packets.record.as_slice(),
+    };
+    let mut writer = Sink::new(rt.alloc(), asked.room, WHOLE);
+    let gate = Counting {
+        calls: AtomicU64::new(asked.calls),
+        replies: AtomicU64::new(0),
+    };
+    let terms = Terms {
+        rt,
+        alloc: rt.alloc(),
+        key: &packets.key,
+        gate: &gate,
+    };
+    let mut link = Link::new(&terms, witness, caller);
+    let mut chunk = [0; CHUNK];
+    for _ in 0..500 {
+        match link.due() {
+            Due::Turn => link.turn(&terms, caller),
+            Due::Hear => link.hear(&mut reader, &mut chunk),
+            Due::Send => {
+                let _ = link.send(&mut writer);
+            }
+            Due::Close => {}
+        }
+    }
+    let seen = Seen {
+        end: link.end().unwrap_or(End::WriteFault),
+        written: writer.taken,
+        heard: gate.replies.load(Ordering::SeqCst),
+    };
+    (seen, link.into_witness())
+}
+
+/// A connection that is served in turns, by this caller and with this witness, which comes back.
+/// One that doesn't end is given up, and told as one whose writer failed.
+pub(crate) fn serves_in_turns<C: Caller, V: Witness<Notice>, R: Wait + AllocGlobal>(
+    rt: &R,
+    caller: &mut C,
+    witness: V,
+    asked: &str,
+) -> Result<(Seen, V), Fail> {
+    let asked = read_asked(asked)?;
+    let packets = read_packets(rt.alloc())?;
+    Ok(serves_linked(rt, &packets, caller, witness, asked))
 }
 
 // Whether these are replies to the question, each but the last whole.

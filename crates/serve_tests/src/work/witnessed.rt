@@ -1,17 +1,27 @@
 //! What the witness of a worker is told, and what is written once it refuses: a reply has 18 bytes.
 
 use crate::work::support::{hall_of, is_seen, serves_told};
+use std::alloc::Global;
 use std::sync::Wait;
 use std::test::Fail;
 use tac_audit::{Notice, Refused, Witness};
 use tac_worker::HallCaller;
 
-// Takes so many notices, and refuses the next. What it is told is a letter each: `p` of a packet with
-// a reply, `n` of one without, `h` of a header that is refused.
+/// Takes so many notices, and refuses the next. What it is told is a letter each: `p` of a packet
+/// with a reply, `n` of one without, `h` of a header that is refused.
 #[derive(Drop)]
-struct Scribe {
-    told: String,
-    takes: usize,
+pub(crate) struct Scribe {
+    pub(crate) told: String,
+    pub(crate) takes: usize,
+}
+
+impl Scribe {
+    pub(crate) fn new(alloc: Global, takes: usize) -> Scribe {
+        Scribe {
+            told: String::new(alloc),
+            takes,
+        }
+    }
 }
 
 fn letter_of(notice: &Notice) -> &'static str {
@@ -45,10 +55,7 @@ fn is_told<R: Wait + AllocGlobal>(rt: &R, line: &str) -> Result<(), Fail> {
     let (wanted, notices) = wanted.rsplit_once(' ').unwrap_or((wanted, ""));
     let hall = hall_of(rt, 9)?;
     let mut caller = HallCaller::new(rt, &hall, hall.seat(rt)?);
-    let mut scribe = Scribe {
-        told: String::new(rt.alloc()),
-        takes: takes.parse::<usize>()?,
-    };
+    let mut scribe = Scribe::new(rt.alloc(), takes.parse::<usize>()?);
     let seen = serves_told(rt, &mut caller, &mut scribe, asked)?;
     is_seen(rt.alloc(), &seen, scribe.told.len(), wanted)?;
     if scribe.told.as_str() == notices {
