@@ -7,7 +7,6 @@ mod event;
 mod laws;
 mod limits;
 mod locked;
-mod locking;
 mod run;
 mod seat;
 mod shared_desk;

@@ -8,7 +8,6 @@ mod entry;
 mod fault;
 mod hall;
 pub mod laws;
-mod locking;
 mod part;
 mod seat;
 mod segment;
