@@ -1,0 +1,189 @@
+"""Cases that are too long to be written down, or too many: limits of a policy, the longest packets,
+a script of 6 MB, and each beginning of a body."""
+
+from cases import Case, replay_check
+from notation import spelled_out
+
+OPS = "group ops\npermit show .*\nuser bob in ops\n"
+BOB = OPS + "login secret\n"
+SHOW_VERSION = (
+    "packet 1 c0020100.00000001.00000036.06010101030400030d080f"
+    "'bobtty0service=shellcmd=showcmd-arg=version'\n"
+)
+PERMITTED = "reply 1 c0020200.00000001.00000006.010000000000\nclosed 1\n"
+BAD_BODY = "reply 1 c0020200.00000001.0000000e.110000080000'bad body'\nclosed 1\n"
+USERNAME = "reply 1 c0010200.00000001.00000010.0400000a0000'Username: '\n"
+
+
+def cases(name):
+    """Each case of this file, with the name of the function that makes it."""
+    for make in (
+        longest_bodies,
+        longest_packets_on_a_line,
+        ten_thousand_records,
+        policies_at_the_limits,
+        edits_at_the_limits,
+        cut_requests,
+        cut_starts,
+        cut_continuations,
+        cut_records,
+    ):
+        for part, script, printed in make():
+            checks = [replay_check(*(spelled_out(text).encode() for text in (script, printed)))]
+            yield Case(f"{name}: {make.__name__}, {part}", checks)
+
+
+def opened(policy):
+    return f"key k\n{policy}run\nopen 1\n"
+
+
+def packet(header, body):
+    """A packet on connection 1, by the header but for the length."""
+    return f"packet 1 {header}.{len(body):08x}.{body.hex()}\n"
+
+
+def longest_bodies():
+    """The longest body is read, and is wrong; one that is a byte longer isn't read."""
+    for length, printed in ((131_075, BAD_BODY), (131_076, "closed 1\n")):
+        script = opened(OPS) + packet("c0020100.00000001", bytes(length))
+        yield f"{length} bytes", script, printed
+
+
+def longest_packets_on_a_line():
+    """Two packets that are as long as any may be, in a line of half a megabyte: each has a password of
+    65,535 bytes, which is wrong, and as many bytes of data."""
+    # The flags are zero, so that neither the session nor the connection ends.
+    body = b"\xff\xff\xff\xff\x00" + b"\xff" * 131_070
+    first, second = (packet(f"c0010304.{session:08x}", body) for session in (1, 2))
+    script = (
+        opened("user bob\nlogin secret\n")
+        + "packet 1 c0010104.00000001.0000000b.0101010103000000'bob'\n"
+        + "packet 1 c0010104.00000002.0000000b.0101010103000000'bob'\n"
+        + first.removesuffix("\n")
+        + second.removeprefix("packet 1")
+    )
+    printed = (
+        "reply 1 c0010204.00000001.00000010.0501000a0000'Password: '\n"
+        "reply 1 c0010204.00000002.00000010.0501000a0000'Password: '\n"
+        "reply 1 c0010404.00000001.0000001b.020000150000'Authentication failed'\n"
+        "reply 1 c0010404.00000002.0000001b.020000150000'Authentication failed'\n"
+    )
+    yield "two of them", script, printed
+
+
+def ten_thousand_records():
+    """A script of 6 MB, of records whose tasks are as long as an argument lets them be. Their list is
+    an output of 3 MB."""
+    tasks = [f"{number:04}" + "x" * 243 for number in range(10_000)]
+    packets = (
+        f"packet 1 c0030104.00000001.00000110.040601010103040001ff'bobtty0task_id={task}'\n"
+        for task in tasks
+    )
+    records = (
+        f"record {number} user bob stop task {task} elapsed 0\n"
+        for number, task in enumerate(tasks, start=1)
+    )
+    script = opened("") + "".join(packets) + "console records\nconsole tally user bob\n"
+    printed = (
+        "reply 1 c0030204.00000001.00000005.0000000001\n" * len(tasks)
+        + "".join(records)
+        + "tally user bob starts 0 stops 10000 watchdogs 0 updates 0 open 0 elapsed 0 drift 0\n"
+    )
+    yield "their list and tally", script, printed
+
+
+def policies_at_the_limits():
+    """A policy may have 1,024 subjects, and each of them 256 rules."""
+    users = "".join(f"user s{number}\n" for number in range(1024))
+    yield "as many users", f"key k\n{users}run\n", ""
+    for line, fault in (
+        ("group ops", "1026 10 Limit"),
+        ("user bob", "1026 10 Limit"),
+        # What comes before it on the line.
+        ("user s1023", "1026 3 Repeated"),
+        ("group ", "1026 2 BadName"),
+        ("group", "1026 1 BadLine"),
+    ):
+        yield f"then {line}", f"key k\n{users}{line}\nrun\n", f"fault line {fault}\n"
+    rules = "group ops\npermit show version\nuser bob in ops\n" + "deny x\n" * 256
+    yield "as many rules", opened(rules) + SHOW_VERSION, PERMITTED
+    for lines, fault in (
+        ("permit .*", "261 10 Limit"),
+        ("deny x\ngroup ,", "261 10 Limit"),
+        # What comes before it on the line.
+        ("deny *", "261 5 BadPattern 5 NothingToRepeat at 0"),
+        ("deny", "261 1 BadLine"),
+        # The next subject has rules of its own.
+        ("group a\ndeny x\ndeny *", "263 5 BadPattern 5 NothingToRepeat at 0"),
+    ):
+        yield f"then {lines}", f"key k\n{rules}{lines}\nrun\n", f"fault line {fault}\n"
+
+
+def edits_at_the_limits():
+    """Where there are 256 rules and 1,024 subjects, an edit takes one more only after one is gone."""
+    users = "".join(f"user u{number}\n" for number in range(1, 1024))
+    script = "key k\ngroup g\n" + "permit x\n" * 256 + users + "run\n"
+    printed = ""
+    for line, answer in (
+        ("insert group g 1 deny x", "refused 10 Limit"),
+        ("add user bob", "refused 10 Limit"),
+        ("why u1 x", "denied by default"),
+        ("drop group g 1", "ok"),
+        ("insert group g 1 deny x", "ok"),
+        ("remove user u7", "ok"),
+        ("add user bob", "ok"),
+    ):
+        script += f"console {line}\n"
+        printed += f"{answer}\n"
+        yield f"up to {line}", script, printed
+
+
+def each_beginning(before, header, body, answered, refused):
+    """The packet with each beginning of its body is refused, and with all of it answered. Lines may
+    come before it, which print something."""
+    lines, printed = before
+    for length in range(len(body) + 1):
+        script = opened(BOB) + lines + packet(header, body[:length])
+        answer = answered if length == len(body) else refused
+        yield f"{length} of {len(body)} bytes", script, printed + answer
+
+
+def cut_requests():
+    return each_beginning(
+        ("", ""),
+        "c0020100.00000001",
+        b"\x06\x01\x01\x01\x03\x04\x00\x03\x0d\x08\x0fbobtty0service=shellcmd=showcmd-arg=version",
+        PERMITTED,
+        BAD_BODY,
+    )
+
+
+def cut_starts():
+    return each_beginning(
+        ("", ""),
+        "c0010100.00000001",
+        b"\x01\x01\x01\x01\x00\x04\x00\x00tty0",
+        USERNAME,
+        "reply 1 c0010200.00000001.0000000e.070000080000'bad body'\nclosed 1\n",
+    )
+
+
+def cut_continuations():
+    return each_beginning(
+        ("packet 1 c0010100.00000001.0000000c.0101010100040000'tty0'\n", USERNAME),
+        "c0010300.00000001",
+        b"\x00\x03\x00\x00\x00bob",
+        "reply 1 c0010400.00000001.00000010.0501000a0000'Password: '\n",
+        "reply 1 c0010400.00000001.0000000e.070000080000'bad body'\nclosed 1\n",
+    )
+
+
+def cut_records():
+    return each_beginning(
+        ("", ""),
+        "c0030100.00000001",
+        b"\x04\x06\x01\x01\x01\x03\x04\x00\x05\x09\x0f\x0d\x08\x0f"
+        b"bobtty0task_id=7elapsed_time=12service=shellcmd=showcmd-arg=version",
+        "reply 1 c0030200.00000001.00000005.0000000001\nclosed 1\n",
+        "reply 1 c0030200.00000001.0000000d.0008000002'bad body'\nclosed 1\n",
+    )

@@ -1,0 +1,133 @@
+"""Reads conversations: files of the form that tests/README.md describes."""
+
+import itertools
+import re
+import typing
+
+from cases import Case, Mistake, replay_check
+from notation import has_packets, spelled
+
+PRINTED = ("reply ", "closed ", "fault ")
+EVENTS = ("open", "packet", "bytes", "pieces", "lost")
+LIST = re.compile("each ([A-Z]+) of")
+# The picture of the end of a text, and of each other control character.
+END = "\u2403"
+PICTURES = {0x2400 + code: code for code in range(0x20) if chr(0x2400 + code) != END}
+PICTURES[0x2421] = 0x7F
+
+
+class Line(typing.NamedTuple):
+    number: int
+    text: str
+
+
+class Step(typing.NamedTuple):
+    """A line of a script, with its end where it has one, and the lines that are printed after it."""
+
+    line: Line
+    script: str
+    printed: list
+
+
+def read_talks(path, name):
+    """The cases of a file, one for each conversation from each of its beginnings."""
+    beginnings, lists = [[]], {}
+    has_begun, is_used, used = False, True, set()
+    for paragraph in paragraphs(path, name):
+        head = paragraph[0]
+        listed = LIST.fullmatch(head.text)
+        if listed:
+            lists[listed[1]] = paragraph[1:]
+        elif head.text == "begin":
+            beginnings = [*beginnings, paragraph[1:]] if has_begun else [paragraph[1:]]
+            has_begun, is_used = True, False
+        else:
+            has_begun, is_used = False, True
+            used.update(line.text for line in itertools.chain(*beginnings, paragraph))
+            for begun in beginnings:
+                for lines in variants(begun + paragraph, lists):
+                    yield conversation(f"{name}:{head.number}", lines, name)
+    if not is_used:
+        raise Mistake(f"{name}: nothing goes on from the last beginning")
+    for unused in lists.keys() - used:
+        raise Mistake(f"{name}: no line of a conversation is {unused}")
+
+
+def paragraphs(path, name):
+    """The paragraphs of a file, without its comments."""
+    lines = path.read_text("utf-8").split("\n")
+    paragraph = []
+    for number, text in enumerate(lines, start=1):
+        if text.startswith("#"):
+            continue
+        if text != text.strip():
+            raise Mistake(f"{name}:{number}: a line with blanks at an end stands between bars")
+        if text:
+            paragraph.append(Line(number, text))
+        elif paragraph:
+            yield paragraph
+            paragraph = []
+    if paragraph:
+        raise Mistake(f"{name}: the last line has no end")
+
+
+def variants(lines, lists):
+    """The same lines, once for each choice from the lists that they name."""
+    choices = [lists.get(line.text, [line]) for line in lines]
+    return map(list, itertools.product(*choices))
+
+
+def conversation(where, lines, name):
+    """A case that replays each beginning of the conversation which ends after an event."""
+    told = steps(lines, name)
+    script = printed = ""
+    checks = []
+    for at, step in enumerate(told):
+        script += step.script
+        printed += "".join(step.printed)
+        is_last = at + 1 == len(told)
+        if is_last or "\nrun\n" in script:
+            after = f"line {step.line.number}, {step.line.text}"
+            checks.append(replay_check(script.encode(), printed.encode(), after))
+    return Case(where, checks)
+
+
+def steps(lines, name):
+    told = []
+    is_answer = False
+    for line in lines:
+        text = bare(line, name)
+        if text.startswith(PRINTED):
+            is_printed = True
+        elif text.startswith("> "):
+            is_printed, is_answer = False, True
+            text = "console " + text.removeprefix("> ")
+        else:
+            is_answer = is_answer and text.partition(" ")[0] not in EVENTS
+            is_printed = is_answer
+        if has_packets(text) and text.count("'") % 2:
+            raise Mistake(f"{name}:{line.number}: a quote is missing")
+        text = plain(spelled(text))
+        if not is_printed:
+            told.append(Step(line, text, []))
+        elif told:
+            told[-1].printed.append(text)
+        else:
+            raise Mistake(f"{name}:{line.number}: nothing comes before what is printed")
+    return told
+
+
+def bare(line, name):
+    """The line without the bars that it stands between, if it does."""
+    text = line.text
+    if not text.startswith("|"):
+        return text
+    if len(text) < 2 or not text.endswith("|"):
+        raise Mistake(f"{name}:{line.number}: the second bar is missing")
+    return text[1:-1]
+
+
+def plain(text):
+    """The line with its end, and with characters in place of their pictures."""
+    text = text.removesuffix(END) if text.endswith(END) else text + "\n"
+    return text.translate(PICTURES)
