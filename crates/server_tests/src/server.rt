@@ -9,3 +9,5 @@ mod ledger;
 mod limits;
 #[cfg(test)]
 mod support;
+#[cfg(test)]
+mod transport;

@@ -1,7 +1,7 @@
-//! Readers that fail or give little at a time, and writers that take little or fail.
+//! Replays with readers that fail or give little at a time, and with writers that take little or fail.
 
-use crate::support::{BOB, OPS, PERMITTED, SHOW_VERSION, spelled_out};
-use std::alloc::Global;
+use packet_notation::push_digits;
+use std::alloc::{AllocError, Global};
 use std::io::{self, ErrorKind, Read, Write};
 use std::process::Abort;
 use std::test::Fail;
@@ -9,6 +9,52 @@ use tac_server::{ReplayEnd, ReplayFault, replay};
 
 /// The most bytes that a script may have.
 const SCRIPT_MAX: usize = 268_435_456;
+
+/// The policy in which bob may run what begins with `show `, by rule 1 of his group.
+const OPS: &str = "group ops\npermit show .*\nuser bob in ops\n";
+
+/// The same, where bob can log in too.
+const BOB: &str = "group ops\npermit show .*\nuser bob in ops\nlogin secret\n";
+
+/// The packet in which bob asks for `show version`.
+const SHOW_VERSION: &str = "packet 1 c0020100.00000001.00000036.06010101030400030d080f\
+     'bobtty0service=shellcmd=showcmd-arg=version'\n";
+
+/// What permits it.
+const PERMITTED: &str = "reply 1 c0020200.00000001.00000006.010000000000\nclosed 1\n";
+
+// Whether the line of a script or of its output has packets.
+fn has_packets(line: &str) -> bool {
+    let word = line.split_once(' ').unwrap_or((line, "")).0;
+    matches!(word, "packet" | "reply")
+}
+
+// The parts, one after another.
+fn joined<R: AllocGlobal>(rt: &R, parts: &[&str]) -> Result<String, AllocError> {
+    let mut whole = String::new(rt.alloc());
+    for part in parts {
+        whole.push_str(part)?;
+    }
+    Ok(whole)
+}
+
+// The text of the parts, as a script and its output have it: its lines of packets are in the notation
+// of `packet_notation`.
+fn spelled_out<R: AllocGlobal>(rt: &R, parts: &[&str]) -> Result<String, AllocError> {
+    let text = joined(rt, parts)?;
+    let mut whole = String::new(rt.alloc());
+    for (at, line) in text.split('\n').enumerate() {
+        if at > 0 {
+            whole.push('\n')?;
+        }
+        if has_packets(line) {
+            push_digits(&mut whole, line)?;
+        } else {
+            whole.push_str(line)?;
+        }
+    }
+    Ok(whole)
+}
 
 /// Gives one byte a call, and is interrupted before each; fails where the bytes end, if it is to.
 #[derive(Drop)]
