@@ -7,14 +7,23 @@ class Mistake(Exception):
     """Why a file can't be read as tests, with its name and its line."""
 
 
+class File(typing.NamedTuple):
+    """A file that a run finds, with its rights; or a folder, where there is no content."""
+
+    name: str
+    content: bytes | None
+    mode: int | None
+
+
 class Run(typing.NamedTuple):
-    """The words after the program's name, what it reads on standard input, and the folder it is run
-    in. `output` is the file that its standard output is, where that isn't compared."""
+    """The words after the program's name, and what it reads on standard input. Where there are files,
+    it is run in a folder that has these alone. Where its output is full, nothing can be written
+    there."""
 
     words: tuple
     input: bytes
-    folder: str | None = None
-    output: str | None = None
+    files: tuple | None = None
+    is_full: bool = False
 
 
 class Outcome(typing.NamedTuple):
@@ -34,7 +43,7 @@ class Check(typing.NamedTuple):
 
 
 class Case(typing.NamedTuple):
-    """A case is passed where all its checks are. The name says where it is written."""
+    """A case is passed where all its checks are. The name says where it stands."""
 
     name: str
     checks: list

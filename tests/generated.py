@@ -1,7 +1,7 @@
 """Cases that are too long to be written down, or too many: limits of a policy, the longest packets,
-a script of 6 MB, and each beginning of a body."""
+a script of 6 MB, each beginning of a body, and the longest file of a key."""
 
-from cases import Case, replay_check
+from cases import Case, Check, File, Outcome, Run, replay_check
 from notation import spelled_out
 
 OPS = "group ops\npermit show .*\nuser bob in ops\n"
@@ -31,6 +31,18 @@ def cases(name):
         for part, script, printed in make():
             checks = [replay_check(*(spelled_out(text).encode() for text in (script, printed)))]
             yield Case(f"{name}: {make.__name__}, {part}", checks)
+    for length, complained in (
+        (65_536, b"tacd: nobody: No such file or directory (os error 2)\n"),
+        (65_537, b"tacd: key: it is over 65536 bytes long\n"),
+    ):
+        yield Case(f"{name}: a key's file of {length} bytes", [key_file(length, complained)])
+
+
+def key_file(length, complained):
+    """A server whose key's file is so long, and whose policy's file isn't there."""
+    key = File("key", b"k \n".ljust(length, b"x"), 0o600)
+    run = Run(("serve", "--port", "1", "--key-file", "key", "nobody"), b"", (key,))
+    return Check(run, Outcome(b"", complained, 4), "the start of a server")
 
 
 def opened(policy):

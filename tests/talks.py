@@ -6,19 +6,11 @@ import typing
 
 from cases import Case, Mistake, replay_check
 from notation import has_packets, spelled
+from paragraphs import Line, bare, paragraphs, plain
 
 PRINTED = ("reply ", "closed ", "fault ")
 EVENTS = ("open", "packet", "bytes", "pieces", "lost")
 LIST = re.compile("each ([A-Z]+) of")
-# The picture of the end of a text, and of each other control character.
-END = "\u2403"
-PICTURES = {0x2400 + code: code for code in range(0x20) if chr(0x2400 + code) != END}
-PICTURES[0x2421] = 0x7F
-
-
-class Line(typing.NamedTuple):
-    number: int
-    text: str
 
 
 class Step(typing.NamedTuple):
@@ -51,24 +43,6 @@ def read_talks(path, name):
         raise Mistake(f"{name}: nothing goes on from the last beginning")
     for unused in lists.keys() - used:
         raise Mistake(f"{name}: no line of a conversation is {unused}")
-
-
-def paragraphs(path, name):
-    """The paragraphs of a file, without its comments."""
-    lines = path.read_text("utf-8").split("\n")
-    paragraph = []
-    for number, text in enumerate(lines, start=1):
-        if text.startswith("#"):
-            continue
-        if text != text.strip():
-            raise Mistake(f"{name}:{number}: a line with blanks at an end stands between bars")
-        if text:
-            paragraph.append(Line(number, text))
-        elif paragraph:
-            yield paragraph
-            paragraph = []
-    if paragraph:
-        raise Mistake(f"{name}: the last line has no end")
 
 
 def variants(lines, lists):
@@ -115,19 +89,3 @@ def steps(lines, name):
         else:
             raise Mistake(f"{name}:{line.number}: nothing comes before what is printed")
     return told
-
-
-def bare(line, name):
-    """The line without the bars that it stands between, if it does."""
-    text = line.text
-    if not text.startswith("|"):
-        return text
-    if len(text) < 2 or not text.endswith("|"):
-        raise Mistake(f"{name}:{line.number}: the second bar is missing")
-    return text[1:-1]
-
-
-def plain(text):
-    """The line with its end, and with characters in place of their pictures."""
-    text = text.removesuffix(END) if text.endswith(END) else text + "\n"
-    return text.translate(PICTURES)

@@ -1,0 +1,2 @@
+$ tacd check --help
+prints check-long.out

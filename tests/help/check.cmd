@@ -1,0 +1,2 @@
+$ tacd check -h
+prints check.out

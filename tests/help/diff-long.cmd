@@ -1,0 +1,2 @@
+$ tacd diff --help
+prints diff-long.out

@@ -1,0 +1,2 @@
+$ tacd lint --help
+prints lint-long.out

@@ -1,0 +1,2 @@
+$ tacd replay --help
+prints replay-long.out

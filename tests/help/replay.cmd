@@ -1,0 +1,2 @@
+$ tacd replay -h
+prints replay.out

@@ -1,0 +1,2 @@
+$ tacd serve --help
+prints serve-long.out

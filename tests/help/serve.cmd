@@ -1,0 +1,2 @@
+$ tacd serve -h
+prints serve.out

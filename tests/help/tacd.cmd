@@ -1,0 +1,8 @@
+$ tacd --version
+tacd 0.6.0
+
+$ tacd -h
+prints tacd.out
+
+$ tacd --help > /dev/full
+status 4

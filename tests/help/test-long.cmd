@@ -1,0 +1,2 @@
+$ tacd test --help
+prints test-long.out

@@ -1,0 +1,2 @@
+$ tacd why --help
+prints why-long.out

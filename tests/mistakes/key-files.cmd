@@ -1,0 +1,60 @@
+# A key's file is judged after the command line, and before the policy's file, which isn't there.
+$ tacd serve --port 1 --key-file nowhere nobody
+! tacd: nowhere: No such file or directory (os error 2)
+status 4
+
+folder folder
+
+$ tacd serve --port 1 --key-file folder nobody
+! tacd: folder: it is a folder
+status 4
+
+$ tacd serve --port 1 --key-file /proc/self/mem nobody
+! tacd: /proc/self/mem: it could not be read
+status 4
+
+file bad-key
+tun␉dra
+
+$ tacd serve --port 1 --key-file bad-key nobody
+! tacd: bad-key: its first line is not 1 to 128 printable ASCII characters
+status 2
+
+file no-key
+
+$ tacd serve --port 1 --key-file no-key nobody
+! tacd: no-key: its first line is not 1 to 128 printable ASCII characters
+status 2
+
+file key
+|k |
+the second line
+
+$ tacd serve --port 1 --key-file key nobody
+! tacd: nobody: No such file or directory (os error 2)
+status 4
+
+file other-key
+key = tundra
+
+$ tacd serve --port 1 --key-file other-key nobody
+! tacd: other-key: its first line begins with 'key'; the whole line is taken for the key
+! tacd: nobody: No such file or directory (os error 2)
+status 4
+
+open file open-key
+key=tundra␃
+
+$ tacd serve --port 1 --key-file open-key nobody
+! tacd: open-key: it has secrets, and any user of this machine can read it
+! tacd: open-key: its first line begins with 'key'; the whole line is taken for the key
+! tacd: nobody: No such file or directory (os error 2)
+status 4
+
+$ tacd serve --port 1 --key k --key-file key policy
+! error: the argument '--key <K>' cannot be used with '--key-file <PATH>'
+!
+! Usage: tacd serve --port <P> <--key <K>|--key-file <PATH>> <FILE>
+!
+! For more information, try '--help'.
+status 2

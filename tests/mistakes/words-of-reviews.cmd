@@ -1,0 +1,18 @@
+$ tacd diff
+! error: the following required arguments were not provided:
+!   <OLD>
+!   <NEW>
+!
+! Usage: tacd diff <OLD> <NEW>
+!
+! For more information, try '--help'.
+status 2
+
+$ tacd test policy
+! error: the following required arguments were not provided:
+!   <CASES>
+!
+! Usage: tacd test <FILE> <CASES>
+!
+! For more information, try '--help'.
+status 2
