@@ -3,9 +3,6 @@
 
 mod devices;
 mod fake;
-mod help;
 mod host;
 mod logs;
-mod mistakes;
-mod reviews;
 mod running;

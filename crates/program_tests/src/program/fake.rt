@@ -103,21 +103,9 @@ impl BufRead for Typed<'_> {
     }
 }
 
-// What the file `next` has.
-const NEXT: &str = "group ops
-deny show run
-permit show .*
-user bob in ops
-user eve in ops
-";
-
 /// A runtime with these words, one blank between them, of which `~` is a blank within a word, this
-/// input, and this text in the file `policy`. The file `next` has another policy, and `cases` two
-/// cases. The first line of the file `key` is a key that ends in a blank, that of `bad-key` is no key,
-/// and `no-key` is empty. `long-key` is the same as `key` and as long as such a file may be, and
-/// `longer-key` is a byte longer. `other-key` has a line of another server's configuration; others
-/// can read `open-key`, which has one too, and `open-policy`, which is refused. For `no-memory` there
-/// is none. There is a folder `folder`, and no other file.
+/// input, and this text in the file `policy`. The first line of the file `key` is a key that ends in
+/// a blank. For `no-memory` there is none, and there is no other file.
 #[derive(Drop)]
 pub(crate) struct Fake<'a> {
     pub(crate) alloc: Global,
@@ -244,28 +232,15 @@ impl Eprint for Fake<'_> {
     }
 }
 
-/// A file that is read alone, or a folder, which can be opened and not read.
+/// A file that is read alone.
 #[derive(Drop)]
 pub(crate) struct FakeFile {
-    is_unreadable: bool,
-    is_open_to_others: bool,
     rest: &'static [u8],
-    // so many letters come after that
-    letters: usize,
 }
 
 impl Read for FakeFile {
     fn read(&mut self, buf: &mut [u8]) -> io::Result<usize> {
-        if self.is_unreadable {
-            return Err(io::Error::from(ErrorKind::IsADirectory));
-        }
-        if !self.rest.is_empty() {
-            return self.rest.read(buf);
-        }
-        let count = self.letters.min(buf.len());
-        buf[..count].fill(b'x');
-        self.letters -= count;
-        Ok(count)
+        self.rest.read(buf)
     }
 }
 
@@ -287,9 +262,6 @@ impl Seek for FakeFile {
 
 impl OpenFile for FakeFile {
     fn metadata(&self) -> io::Result<Metadata> {
-        if self.is_open_to_others {
-            return Ok(Metadata::of_file(0));
-        }
         Err(io::Error::from(ErrorKind::Unsupported))
     }
 
@@ -306,29 +278,12 @@ impl OpenFile for FakeFile {
     }
 }
 
-// So many letters come after what the file at a path has.
-fn letters_at(path: &str) -> usize {
-    match path {
-        "long-key" => 65_533,
-        "longer-key" => 65_534,
-        _ => 0,
-    }
-}
-
 impl Fake<'_> {
     // What the file at a path has.
     fn bytes_at(&self, path: &str) -> io::Result<&'static [u8]> {
         match path {
             "policy" => Ok(self.policy.as_bytes()),
-            "next" => Ok(NEXT.as_bytes()),
-            "cases" => Ok("permit bob show version\ndeny bob reload\n".as_bytes()),
             "key" => Ok("k \nthe second line\n".as_bytes()),
-            "long-key" | "longer-key" => Ok("k \n".as_bytes()),
-            "other-key" => Ok("key = tundra\n".as_bytes()),
-            "open-key" => Ok("key=tundra".as_bytes()),
-            "open-policy" => Ok("x".as_bytes()),
-            "bad-key" => Ok("tun\tdra\n".as_bytes()),
-            "no-key" | "unreadable" => Ok("".as_bytes()),
             "no-memory" => Err(io::Error::from(ErrorKind::OutOfMemory)),
             _ => Err(io::Error::from(ErrorKind::NotFound)),
         }
@@ -342,23 +297,15 @@ impl Files for Fake<'_> {
 
     fn open_file(&self, _how: &OpenOptions, path: &str) -> io::Result<FakeFile> {
         let rest = self.bytes_at(path)?;
-        Ok(FakeFile {
-            is_unreadable: path == "unreadable",
-            is_open_to_others: path.starts_with("open-"),
-            rest,
-            letters: letters_at(path),
-        })
+        Ok(FakeFile { rest })
     }
 
     fn open_dir(&self, _path: &str) -> io::Result<&'static [u8]> {
         Err(io::Error::from(ErrorKind::Unsupported))
     }
 
-    fn metadata(&self, path: &str) -> io::Result<Metadata> {
-        match path {
-            "folder" => Ok(Metadata::of_dir()),
-            _ => Err(io::Error::from(ErrorKind::Unsupported)),
-        }
+    fn metadata(&self, _path: &str) -> io::Result<Metadata> {
+        Err(io::Error::from(ErrorKind::Unsupported))
     }
 
     fn symlink_metadata(&self, _path: &str) -> io::Result<Metadata> {
