@@ -16,9 +16,9 @@ class File(typing.NamedTuple):
 
 
 class Run(typing.NamedTuple):
-    """The words after the program's name, and what it reads on standard input. Where there are files,
-    it is run in a folder that has these alone. Where its output is full, nothing can be written
-    there."""
+    """The words after the program's name, and what it reads on standard input. Where there are
+    files, it is run in a folder that has these alone. Where its output is full, nothing can be
+    written there."""
 
     words: tuple
     input: bytes

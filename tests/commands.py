@@ -35,7 +35,7 @@ def read_commands(path, name):
 
 
 def command(line, files):
-    """The run of a command line, which may take its input from a file, and whose output may be full."""
+    """The run of a command line. It may take its input from a file, and its output may be full."""
     program, *words = shlex.split(line)
     if program != "tacd":
         raise ValueError(f"{program} is another program")

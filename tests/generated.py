@@ -62,8 +62,8 @@ def longest_bodies():
 
 
 def longest_packets_on_a_line():
-    """Two packets that are as long as any may be, in a line of half a megabyte: each has a password of
-    65,535 bytes, which is wrong, and as many bytes of data."""
+    """Two packets that are as long as any may be, in a line of half a megabyte: each has a password
+    of 65,535 bytes, which is wrong, and as many bytes of data."""
     # The flags are zero, so that neither the session nor the connection ends.
     body = b"\xff\xff\xff\xff\x00" + b"\xff" * 131_070
     first, second = (packet(f"c0010304.{session:08x}", body) for session in (1, 2))
@@ -84,8 +84,8 @@ def longest_packets_on_a_line():
 
 
 def ten_thousand_records():
-    """A script of 6 MB, of records whose tasks are as long as an argument lets them be. Their list is
-    an output of 3 MB."""
+    """A script of 6 MB, of records whose tasks are as long as an argument lets them be. Their list
+    is an output of 3 MB."""
     tasks = [f"{number:04}" + "x" * 243 for number in range(10_000)]
     packets = (
         f"packet 1 c0030104.00000001.00000110.040601010103040001ff'bobtty0task_id={task}'\n"
@@ -116,7 +116,7 @@ def policies_at_the_limits():
         ("group ", "1026 2 BadName"),
         ("group", "1026 1 BadLine"),
     ):
-        yield f"then {line}", f"key k\n{users}{line}\nrun\n", f"fault line {fault}\n"
+        yield f"then {line!r}", f"key k\n{users}{line}\nrun\n", f"fault line {fault}\n"
     rules = "group ops\npermit show version\nuser bob in ops\n" + "deny x\n" * 256
     yield "as many rules", opened(rules) + SHOW_VERSION, PERMITTED
     for lines, fault in (
@@ -128,11 +128,11 @@ def policies_at_the_limits():
         # The next subject has rules of its own.
         ("group a\ndeny x\ndeny *", "263 5 BadPattern 5 NothingToRepeat at 0"),
     ):
-        yield f"then {lines}", f"key k\n{rules}{lines}\nrun\n", f"fault line {fault}\n"
+        yield f"then {lines!r}", f"key k\n{rules}{lines}\nrun\n", f"fault line {fault}\n"
 
 
 def edits_at_the_limits():
-    """Where there are 256 rules and 1,024 subjects, an edit takes one more only after one is gone."""
+    """Where there are 256 rules and 1,024 subjects, one more is taken only after one is gone."""
     users = "".join(f"user u{number}\n" for number in range(1, 1024))
     script = "key k\ngroup g\n" + "permit x\n" * 256 + users + "run\n"
     printed = ""

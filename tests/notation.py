@@ -1,5 +1,5 @@
-"""The notation of packets in tests: hexadecimal digits, with dots where these help to read them, and
-with texts in single quotes, which represent their bytes."""
+"""The notation of packets in tests: hexadecimal digits, with dots where these help to read them,
+and with texts in single quotes, which represent their bytes."""
 
 WORDS = ("packet", "bytes", "pieces", "reply")
 

@@ -14,7 +14,7 @@ LIST = re.compile("each ([A-Z]+) of")
 
 
 class Step(typing.NamedTuple):
-    """A line of a script, with its end where it has one, and the lines that are printed after it."""
+    """A line of a script, with its end where it has one, and the lines that it prints."""
 
     line: Line
     script: str
