@@ -7,7 +7,7 @@ from cases import Case, Check, File, Mistake, Outcome, Run
 from paragraphs import bare, paragraphs, plain
 
 FILE = re.compile("(open )?file ([^ /]+)")
-FOLDER = re.compile("folder ([^ /]+)")
+FOLDER = re.compile("folder ([^ /.]+)")
 STATUS = re.compile("status ([0-9]+)")
 # Who may read a file: its owner alone, or with `open` any user.
 CLOSED, OPEN = 0o600, 0o644
@@ -54,16 +54,26 @@ def command(line, files):
 
 def outcome(lines, path, name):
     """What the lines after a command say has to come of it."""
-    printed, complained, status = b"", "", 0
+    printed, complained, status = b"", "", None
     for line in lines:
         text = line.text
         told = STATUS.fullmatch(text)
+        if told and status is not None:
+            raise Mistake(f"{name}:{line.number}: a second status")
         if told:
             status = int(told[1])
         elif text.startswith("!"):
             complained += plain(text.removeprefix("!").removeprefix(" "))
         elif text.startswith("prints "):
-            printed += path.with_name(text.removeprefix("prints ")).read_bytes()
+            printed += stored(path, name, line)
         else:
             printed += plain(bare(line, name)).encode()
-    return Outcome(printed, complained.encode(), status)
+    return Outcome(printed, complained.encode(), status or 0)
+
+
+def stored(path, name, line):
+    """The content of the file beside this one that a line names."""
+    try:
+        return path.with_name(line.text.removeprefix("prints ")).read_bytes()
+    except (OSError, ValueError) as mistake:
+        raise Mistake(f"{name}:{line.number}: {mistake}") from mistake

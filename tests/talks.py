@@ -29,6 +29,8 @@ def read_talks(path, name):
         head = paragraph[0]
         listed = LIST.fullmatch(head.text)
         if listed:
+            if listed[1] in lists or not paragraph[1:]:
+                raise Mistake(f"{name}:{head.number}: an empty list, or a second one of its name")
             lists[listed[1]] = paragraph[1:]
         elif head.text == "begin":
             beginnings = [*beginnings, paragraph[1:]] if has_begun else [paragraph[1:]]
@@ -37,8 +39,11 @@ def read_talks(path, name):
             has_begun, is_used = False, True
             used.update(line.text for line in itertools.chain(*beginnings, paragraph))
             for begun in beginnings:
+                where = f"{name}:{head.number}"
+                if len(beginnings) > 1:
+                    where += f" from line {begun[0].number}"
                 for lines in variants(begun + paragraph, lists):
-                    yield conversation(f"{name}:{head.number}", lines, name)
+                    yield conversation(where, lines, name)
     if not is_used:
         raise Mistake(f"{name}: nothing goes on from the last beginning")
     for unused in lists.keys() - used:
@@ -60,7 +65,7 @@ def conversation(where, lines, name):
         script += step.script
         printed += "".join(step.printed)
         is_last = at + 1 == len(told)
-        if is_last or "\nrun\n" in script:
+        if is_last or "\nrun\n" in f"\n{script}":
             after = f"line {step.line.number}, {step.line.text}"
             checks.append(replay_check(script.encode(), printed.encode(), after))
     return Case(where, checks)
