@@ -1,0 +1,3 @@
+pub mod CallFacts
+pub mod StepFacts
+pub mod BoardFacts

@@ -1,0 +1,13 @@
+use Rattle.std.proofs.Common.{ap}
+use Rattle.tac_loop.specs.Steps.{woken}
+use Rattle.tac_loop.proofs.StepFacts.{goes_none, goes_more}
+use Rattle.tac_loop.proofs.line.Line.go.Goals as goal
+
+pub steps-init : goal.steps-init
+steps-init g c =
+    let line = c.args.self.now in
+    goes_none g.C.Caller.makes g.C.Caller.rests g.S.Read.remaining g.S.Write.contents (woken line) _ c.args.caller.now (ap (λ source. record line { source = source }) c.wake.ensures)
+
+pub steps-preserved : goal.steps-preserved
+steps-preserved g c =
+    goes_more g.C.Caller.makes g.C.Caller.rests g.S.Read.remaining g.S.Write.contents c.steps.counter (woken c.args.self.now) c.steps.self c.step.new.self c.args.caller.now c.steps.caller c.step.new.caller c.steps.invariant c.step.ensures

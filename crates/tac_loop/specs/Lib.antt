@@ -1,0 +1,5 @@
+pub mod Calls
+pub mod Steps
+pub mod Board
+pub mod Boarding
+pub mod Steady

@@ -1,0 +1,165 @@
+//! One caller that many connections share.
+
+ghost use Rattle.std.specs.Prelude.{◌≡◌, Some, None, count_by, is_some, option_copied};
+ghost use Rattle.std.specs.Prelude.{IfOk, IfErr, OnErr};
+ghost use Rattle.tac_worker.specs.Linked as linked;
+ghost use Rattle.tac_loop.specs.Board as board;
+
+use crate::line::Line;
+use crate::steady::Steady;
+use crate::stop::Stop;
+use crate::trace::Trace;
+use slab::Slab;
+use std::alloc::Global;
+use std::io::{Read, Write};
+use std::marker::Model;
+use std::snapshot::Snapshot;
+use tac_audit::{Notice, Witness};
+use tac_worker::{Caller, Chunk, Gate, Terms};
+
+/// One caller that many connections share, and those connections, each under a key.
+///
+/// They are numbered from 0 in the order in which they came, and no number is used again. The calls
+/// that were made, and the connections that were removed, are known in proofs alone, so its memory
+/// doesn't grow with its age.
+pub struct Switchboard<'a, C: Caller, V: Witness<Notice>, S> {
+    first: Snapshot<C>,
+    caller: C,
+    lines: Slab<Line<'a, C, V, S>>,
+    next: u64,
+    over: Trace<Line<'a, C, V, S>>,
+}
+
+// By hand, so that a proof of an owner has one call at each exit, not a drop of each field.
+impl<'a, C: Caller, V: Witness<Notice>, S: Drop> Drop for Switchboard<'a, C, V, S> {
+    fn drop(self) {
+        let Switchboard {
+            first: _,
+            caller: _,
+            lines: _,
+            next: _,
+            over: _,
+        } = self;
+    }
+}
+
+impl<'a, C: Caller, V: Witness<Notice>, S> Model for Switchboard<'a, C, V, S> {
+    ghost use Rattle.tac_loop.specs.Board.{Board, IsWorking};
+
+    ghost Value = { Board C V S };
+
+    ghost use Rattle.tac_loop.specs.Boarding.{board_of};
+
+    ghost view = { board_of };
+
+    ghost invariant = { λ board. IsWorking C.makes C.rests C.refuses V.takes V.refuses
+        (board_of board) };
+}
+
+/// A connection that wasn't added, because memory was out, or 2^64 were before it.
+#[derive(Drop)]
+pub struct NotAdded<V, S> {
+    pub witness: V,
+    pub socket: S,
+}
+
+impl<'a, C: Steady, V: Witness<Notice>, S: Read + Write + Drop> Switchboard<'a, C, V, S> {
+    /// One without connections. It takes no memory until one is added.
+    pub fn new(alloc: Global, caller: C) -> Switchboard<'a, C, V, S>
+        ensures { result ≡ board.idle caller }
+    {
+        Switchboard {
+            first: Snapshot::of(&caller),
+            caller,
+            lines: Slab::new(alloc),
+            next: 0,
+            over: Trace::new(),
+        }
+    }
+
+    /// Adds a connection, whose device has the key of these terms, and answers under which key it
+    /// is served. Where that is refused, nothing changes.
+    pub fn add<H, G>(
+        &mut self,
+        terms: &Terms<'a, H, G>,
+        witness: V,
+        socket: S,
+    ) -> Result<usize, NotAdded<V, S>>
+        ensures added { IfOk result (λ key. board.Adds (board.came terms.now.key.now witness socket
+            self.old) key self.old self.new) }
+        ensures err { OnErr result (self.new ≡ self.old) }
+        ensures back { IfErr result (λ not. not ≡ record { witness = witness; socket = socket }) }
+    {
+        let number = self.next;
+        let Some(next) = number.checked_add(1) else {
+            return Err(NotAdded { witness, socket });
+        };
+        if let Err(_) = self.lines.reserve(1) {
+            return Err(NotAdded { witness, socket });
+        }
+        let line = Line::new(number, terms, witness, socket, &self.caller);
+        let key = self.lines.insert_reserved(line);
+        self.next = next;
+        Ok(key)
+    }
+
+    /// Does what is due with the connection of this key, one step after another, until it is to be
+    /// left, and at most so many. A step is a turn, a read or a write, as [`Link`](tac_worker::Link)
+    /// says.
+    pub fn serve<H, G: Gate>(
+        &mut self,
+        key: usize,
+        terms: &Terms<H, G>,
+        chunk: &mut Chunk,
+        turns: u32,
+    ) -> Stop
+        ensures { board.ServesAt C.makes C.rests S.remaining S.contents
+            (board.at self.old.lines key) turns key result self.old self.new }
+    {
+        match self.lines.get_mut(key) {
+            Some(line) => line.go(terms, &mut self.caller, chunk, turns),
+            None => Stop::Absent,
+        }
+    }
+
+    /// Removes the connection of this key, if there is one, whether it has ended or is given up.
+    pub fn remove(&mut self, key: usize) -> Option<Line<'a, C, V, S>>
+        ensures line { result ≡ board.at self.old.lines key }
+        ensures rest { self.new ≡ board.removed_at result key self.old }
+    {
+        let Some(line) = self.lines.try_remove(key) else {
+            return None;
+        };
+        self.over.add(&line);
+        Some(line)
+    }
+
+    /// The connection of this key, if there is one.
+    pub fn get(&self, key: usize) -> Option<&Line<'a, C, V, S>>
+        ensures { option_copied result ≡ board.at self.now.lines key }
+    {
+        self.lines.get(key)
+    }
+
+    /// How many connections are served.
+    pub fn len(&self) -> usize
+        ensures { result ≡ count_by is_some self.now.lines }
+    {
+        self.lines.len()
+    }
+
+    /// The caller, once no more is to be served. Those that are still served are given up.
+    pub fn into_caller(self) -> C
+        ensures caller { result ≡ self.entry.caller }
+        ensures worked { board.IsWorking C.makes C.rests C.refuses V.takes V.refuses self.entry }
+    {
+        let Switchboard {
+            first: _,
+            caller,
+            lines: _,
+            next: _,
+            over: _,
+        } = self;
+        caller
+    }
+}
