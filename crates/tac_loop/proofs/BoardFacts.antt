@@ -5,6 +5,7 @@ use Rattle.std.proofs.lemmas.List.Elements.{All-nil, All-append, All-weaker, All
 use Rattle.std.proofs.lemmas.List.{map-append}
 use mathlib.Core.Logic.{dite}
 use native.Mathlib.Decide.{ℕ_discrete}
+use Rattle.slab.specs.Slab.{Slab}
 use Rattle.tac_conn.specs.declared.ask.Answer.{Answer}
 use Rattle.tac_conn.specs.declared.ask.Ask.{Ask}
 use Rattle.tac_audit.specs.declared.notice.Notice.{Notice}
@@ -14,10 +15,11 @@ use Rattle.tac_worker.specs.Noting.{answered}
 use Rattle.tac_worker.specs.Worked.{Exchange, AreAllMade}
 use Rattle.tac_loop.specs.declared.line.Line.{Line}
 use Rattle.tac_loop.specs.declared.stop.Stop.{Stop}
+use Rattle.tac_loop.specs.Steps.{woken}
 use Rattle.tac_loop.specs.Calls.{Call, exchanges, calls_of}
-use Rattle.tac_loop.specs.Board.{Board, idle, at, AreApart, ServesOne, ServesAt, IsAccounted, IsWorking}
+use Rattle.tac_loop.specs.Board.{Board, idle, at, came as came_next, AreApart, AreAll, Adds, removed_at, ServesOne, ServesAt, IsAccounted, IsWorking}
 use Rattle.tac_loop.proofs.CallFacts.{calls_for, own_after, other_after, none_yet, exchanges_after, all_made_after}
-use Rattle.tac_loop.proofs.StepFacts.{Grows}
+use Rattle.tac_loop.proofs.StepFacts.{Grows, Stays, stays}
 
 abbrev Lines : Type 0 → Type 0 → Type 0 → Type 0
 Lines C V S = List (Option (Line C V S))
@@ -60,6 +62,10 @@ module _ {C V S : Type 0} where
   -- the line of one key is gone
   of_rest : (lines later : Lines C V S) (key : ℕ) → at later key ≡ None → OthersStay lines later key → (k : ℕ) (l : Line C V S) → at later k ≡ Some l → (k ≢ key) × (at lines k ≡ Some l)
   of_rest lines later key none rest k l e = let ne : k ≢ key = λ same. absurd (cc (none, e, ap (at later) same)) in (ne, sym (rest k ne) ∙ e)
+
+  -- more room changes no line
+  pub kept_slots : (slab later : Slab (Line C V S)) → later ≡ record slab { capacity = later.capacity } → later.slots ≡ slab.slots
+  kept_slots slab later same = ap (λ (s : Slab (Line C V S)). s.slots) same
 
   -- ---- numbers that are known
 
@@ -197,9 +203,9 @@ module _ {C V S : Type 0} (makes : C → Exchange → C → Type 0) (rests : C �
       map_append f xs ys = map-append f xs ys
 
   -- one was removed
-  pub closed : (board : Board C V S) (later : List (Option (Line C V S))) (key : ℕ) (line : Line C V S) → Working board → at board.lines key ≡ Some line
-      → at later key ≡ None → ((other : ℕ) → other ≢ key → at later other ≡ at board.lines other) → Working (record board { lines = later; over = board.over ++ line ∷ [] })
-  closed board later key line h is none rest =
+  pub closed : (board : Board C V S) (later : List (Option (Line C V S))) (vacant key : ℕ) (line : Line C V S) → Working board → at board.lines key ≡ Some line
+      → at later key ≡ None → ((other : ℕ) → other ≢ key → at later other ≡ at board.lines other) → Working (record board { lines = later; vacant = vacant; over = board.over ++ line ∷ [] })
+  closed board later vacant key line h is none rest =
       let left = of_rest board.lines later key none rest in
       record {
         calls = h.calls;
@@ -216,11 +222,13 @@ module _ {C V S : Type 0} (makes : C → Exchange → C → Type 0) (rests : C �
       }
 
   -- one came
-  pub came : (board : Board C V S) (later : List (Option (Line C V S))) (key : ℕ) (line : Line C V S) → Working board → line.number ≡ board.next → line.link.called ≡ [] → Stands line
-      → at board.lines key ≡ None → at later key ≡ Some line → ((other : ℕ) → other ≢ key → at later other ≡ at board.lines other) → Working (record board { lines = later; next = board.next + 1 })
-  came board later key line h n called stands none here rest =
+  pub came : (board : Board C V S) (later : List (Option (Line C V S))) (vacant key : ℕ) (device : List ℕ) (witness : V) (socket : S) (line : Line C V S) → Working board → line ≡ came_next device witness socket board → Stands line
+      → at board.lines key ≡ None → at later key ≡ Some line → ((other : ℕ) → other ≢ key → at later other ≡ at board.lines other) → Working (record board { lines = later; vacant = vacant; next = board.next + 1 })
+  came board later vacant key device witness socket line h is stands none here rest =
       let lines = board.lines in
       let next = board.next in
+      let n : line.number ≡ next = ap (λ (l : Line C V S). l.number) is in
+      let called : line.link.called ≡ [] = ap (λ (l : Line C V S). l.link.called) is in
       record {
         calls = h.calls;
         made = h.made;
@@ -255,3 +263,37 @@ pub served_at : {C V S : Type 0} (makes : C → Exchange → C → Type 0) (rest
     (was now : Board C V S) → slot ≡ Some line → ServesOne makes rests remaining contents turns key line stop was now → ServesAt makes rests remaining contents slot turns key stop was now
 served_at {C} {V} {S} makes rests remaining contents slot turns key line stop was now is h =
     subst (λ (s : Option (Line C V S)). ServesAt makes rests remaining contents s turns key stop was now) (sym is) h
+
+-- ---- what is true of each connection, whoever calls
+
+module _ {C V S : Type 0} (is : Line C V S → Type 0) where
+  pub all_idle : (caller : C) → AreAll is (idle caller)
+  all_idle caller = (λ key line e. absurd cc, All-nil _)
+
+  -- one more is so
+  pub all_added : (line : Line C V S) (key : ℕ) (was now : Board C V S) → Adds line key was now → is line → AreAll is was → AreAll is now
+  all_added line key was now a mine h = (
+    of_update was.lines now.lines key line (λ k l. is l) a.here a.others mine (λ k l ne e. h.0 k l e),
+    subst (All is) (sym (ap (λ (b : Board C V S). b.over) a.rest)) h.1,
+  )
+
+  pub all_removed : (slot : Option (Line C V S)) (key : ℕ) (board : Board C V S) → slot ≡ at board.lines key → AreAll is board → AreAll is (removed_at slot key board)
+  all_removed None key board there h = h
+  all_removed (Some line) key board there h = (
+    λ k l e. h.0 k l (of_rest board.lines (set board.lines key None) key (set_here board.lines key line None (sym there)) (λ other ne. set_else board.lines key other None ne) k l e).1,
+    All-push is board.over line h.1 (h.0 key line (sym there)),
+  )
+
+  module _ (makes : C → Exchange → C → Type 0) (rests : C → C → Type 0) (remaining contents : S → Option (List ℕ)) where
+    -- what is true by the key and the first witness stays true
+    pub all_served : ((line then : Line C V S) → Stays makes rests remaining contents line then → is line → is then) → (slot : Option (Line C V S)) (turns key : ℕ) (stop : Stop) (was now : Board C V S) → slot ≡ at was.lines key
+        → ServesAt makes rests remaining contents slot turns key stop was now → AreAll is was → AreAll is now
+    all_served keep None turns key stop was now there s h = subst (AreAll is) (sym s.1) h
+    all_served keep (Some line) turns key stop was now there s h =
+        let then = s.then in
+        let stays_so = stays makes rests remaining contents s.goes.steps (woken line) then was.caller now.caller s.goes.goes in
+        let mine = keep line then (record { key = stays_so.key; first = stays_so.first }) (h.0 key line (sym there)) in
+        subst (AreAll is) (sym s.rest) (
+          of_update was.lines (set was.lines key (Some then)) key then (λ k l. is l) (set_here was.lines key line (Some then) (sym there)) (λ other ne. set_else was.lines key other (Some then) ne) mine (λ k l ne e. h.0 k l e),
+          h.1,
+        )

@@ -9,6 +9,7 @@ use Rattle.tac_worker.specs.Linked.{Linked, due_of}
 use Rattle.tac_worker.specs.Noting.{answered}
 use Rattle.tac_worker.specs.Worked.{Exchange, AreAllMade}
 use Rattle.tac_loop.specs.declared.line.Line.{Line}
+use Rattle.tac_loop.specs.declared.source.Source.{Source}
 use Rattle.tac_loop.specs.Steps.{StepsAt, Goes, woken}
 use Rattle.tac_loop.proofs.CallFacts.{all_made_after}
 
@@ -25,9 +26,9 @@ module _ {C V S : Type 0} (makes : C → Exchange → C → Type 0) (rests : C �
 
   module _ (remaining contents : S → Option (List ℕ)) where
     -- no step was done
-    pub goes_none : (was now : Line C V S) (caller : C) → now ≡ was → Goes makes rests remaining contents 0 was now caller caller
+    pub goes_first : (line : Line C V S) (source : Source S) (caller : C) → source ≡ (woken line).source → Goes makes rests remaining contents 0 (woken line) (record line { source = source }) caller caller
     unfolding Goes
-    goes_none was now caller same = (same, refl)
+    goes_first line source caller same = (ap (λ (s : Source S). record line { source = s }) same, refl)
 
     goes_next : (n : ℕ) (was then now : Line C V S) (before mid after : C) → Goes makes rests remaining contents n was then before mid → StepsAt makes rests remaining contents (due_of then.link) then now mid after
         → Goes makes rests remaining contents (suc n) was now before after
@@ -81,3 +82,25 @@ module _ {C V S : Type 0} (makes : C → Exchange → C → Type 0) (rests : C �
   -- to wake it makes no call
   pub grows_woken : (was now : Line C V S) (before after : C) → Grows (woken was) now before after → Grows was now before after
   grows_woken was now before after g = record { made = g.made; makes_all = g.makes_all; called = g.called; number = g.number }
+
+  -- ---- what stays
+
+  module _ (remaining contents : S → Option (List ℕ)) where
+    -- the key of its device, and its witness at first
+    pub record Stays (was now : Line C V S) : Type 0 where
+      pub key : now.link.key ≡ was.link.key
+      pub first : now.link.first ≡ was.link.first
+
+    stays_step : (due : Due) (was now : Line C V S) (before after : C) → StepsAt makes rests remaining contents due was now before after → Stays was now
+    stays_step next.Turn was now before after h = record { key = h.0.key; first = h.0.first }
+    stays_step next.Hear was now before after h = record { key = ap (λ (l : Linked C V). l.key) h.0.same; first = ap (λ (l : Linked C V). l.first) h.0.same }
+    stays_step next.Send was now before after h = record { key = ap (λ (l : Linked C V). l.key) h.0.link; first = ap (λ (l : Linked C V). l.first) h.0.link }
+    stays_step next.Close was now before after h = record { key = ap (λ (l : Line C V S). l.link.key) h.0; first = ap (λ (l : Line C V S). l.link.first) h.0 }
+
+    pub stays : (n : ℕ) (was now : Line C V S) (before after : C) → Goes makes rests remaining contents n was now before after → Stays was now
+    unfolding Goes
+    stays zero was now before after h = record { key = ap (λ (l : Line C V S). l.link.key) h.0; first = ap (λ (l : Line C V S). l.link.first) h.0 }
+    stays (suc n) was now before after h =
+        let s = stays n was h.0 before h.1 h.2 in
+        let t = stays_step (due_of h.0.link) h.0 now h.1 after h.3 in
+        record { key = t.key ∙ s.key; first = t.first ∙ s.first }

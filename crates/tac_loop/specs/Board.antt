@@ -21,6 +21,8 @@ pub record Board (C V S : Type 0) : Type 0 where
   pub caller : C
   -- at each key the connection that is served under it, or none
   pub lines : List (Option (Line C V S))
+  -- under which key the next one is put
+  pub vacant : ℕ
   -- how many there were; they are numbered from 0
   pub next : ℕ
   -- those that were removed, in that order, each as it was then
@@ -30,11 +32,17 @@ module _ {C V S : Type 0} where
   -- without a connection
   abbrev pub idle : C → Board C V S
   idle caller =
-      record { first = caller; caller = caller; lines = []; next = 0; over = [] }
+      record { first = caller; caller = caller; lines = []; vacant = 0; next = 0; over = [] }
 
   -- the connection that is served under this key
   abbrev pub at : List (Option (Line C V S)) → ℕ → Option (Line C V S)
   at lines key = slice_index_or lines key None
+
+  -- each connection, whether it is served or was removed, is so
+  abbrev pub AreAll : (Line C V S → Type 0) → Board C V S → Type 0
+  AreAll is board =
+      ((key : ℕ) (line : Line C V S) → at board.lines key ≡ Some line → is line)
+      × All is board.over
 
   -- ---- each by its number
 
@@ -58,17 +66,23 @@ module _ {C V S : Type 0} where
 
   -- this connection came, and was put under a key that had none
   pub record Adds (line : Line C V S) (key : ℕ) (was now : Board C V S) : Type 0 where
-    pub vacant : at was.lines key ≡ None
+    pub at_vacant : key ≡ was.vacant
+    pub none_there : at was.lines key ≡ None
     pub here : at now.lines key ≡ Some line
     pub others : (other : ℕ) → other ≢ key → at now.lines other ≡ at was.lines other
-    pub rest : now ≡ record was { lines = now.lines; next = was.next + 1 }
+    pub rest : now ≡ record was {
+      lines = now.lines;
+      vacant = now.vacant;
+      next = was.next + 1;
+    }
 
   -- ---- one less
 
-  -- it isn't served any more
+  -- it isn't served any more, and its key is the next
   abbrev pub removed : ℕ → Line C V S → Board C V S → Board C V S
   removed key line board = record board {
     lines = slice_set board.lines key None;
+    vacant = key;
     over = board.over ++ line ∷ [];
   }
 

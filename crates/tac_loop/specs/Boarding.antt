@@ -7,6 +7,7 @@ board_of board = record {
   first = board.first.value;
   caller = board.caller;
   lines = board.lines.slots;
+  vacant = board.lines.vacant_key;
   next = board.next;
   over = board.over;
 }

@@ -10,7 +10,7 @@ use std::io::{Read, Write};
 use tac_audit::{Notice, Witness};
 use tac_worker::{Caller, Chunk, Due, Gate, Link, Terms};
 
-/// A connection of many: its number, how it stands, and its socket.
+/// One of many connections: its number, how it stands, and its socket.
 pub struct Line<'a, C: Caller, V: Witness<Notice>, S> {
     number: u64,
     link: Link<'a, C, V>,

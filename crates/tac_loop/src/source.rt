@@ -4,8 +4,9 @@ ghost use Rattle.std.specs.Prelude.{◌≡◌, true, false};
 
 use std::io::{self, ErrorKind, Read, Write};
 
-/// A socket that never waits, with what it answered last. A read that would have to wait answers
-/// WouldBlock at the socket and Interrupted here, so that no connection ends by it.
+/// A socket that never waits, and what was seen of it. A read that would have had to wait is
+/// WouldBlock at the socket and Interrupted here, as [`Link::hear`](tac_worker::Link::hear) wants
+/// it, so that no connection ends by it.
 #[derive(Drop)]
 pub struct Source<S> {
     socket: S,
@@ -13,7 +14,7 @@ pub struct Source<S> {
     idle: bool,
     // A write would have had to wait.
     full: bool,
-    // A write failed, or took nothing.
+    // The last write that didn't have to wait failed, or took nothing.
     broken: bool,
 }
 

@@ -2,14 +2,14 @@
 
 ghost use Rattle.std.specs.Prelude.{◌≡◌, Some, None, count_by, is_some, option_copied};
 ghost use Rattle.std.specs.Prelude.{IfOk, IfErr, OnErr};
-ghost use Rattle.tac_worker.specs.Linked as linked;
+ghost use Rattle.slab.specs.Slab.{entries_from};
 ghost use Rattle.tac_loop.specs.Board as board;
 
 use crate::line::Line;
 use crate::steady::Steady;
 use crate::stop::Stop;
 use crate::trace::Trace;
-use slab::Slab;
+use slab::{Iter, Slab};
 use std::alloc::Global;
 use std::io::{Read, Write};
 use std::marker::Model;
@@ -19,9 +19,11 @@ use tac_worker::{Caller, Chunk, Gate, Terms};
 
 /// One caller that many connections share, and those connections, each under a key.
 ///
-/// They are numbered from 0 in the order in which they came, and no number is used again. The calls
-/// that were made, and the connections that were removed, are known in proofs alone, so its memory
-/// doesn't grow with its age.
+/// Connections are numbered from 0 in the order in which they were added, and no number is used
+/// again, while a key is once its connection was removed. The calls that the caller made, and the
+/// connections that were removed, are known in proofs alone, so the memory that is held doesn't
+/// grow with its age: a connection has the room of one packet, or of what one read gave, and of one
+/// reply.
 pub struct Switchboard<'a, C: Caller, V: Witness<Notice>, S> {
     first: Snapshot<C>,
     caller: C,
@@ -56,7 +58,7 @@ impl<'a, C: Caller, V: Witness<Notice>, S> Model for Switchboard<'a, C, V, S> {
         (board_of board) };
 }
 
-/// A connection that wasn't added, because memory was out, or 2^64 were before it.
+/// A connection that wasn't added: memory was out, or 2^64 - 1 were added before it.
 #[derive(Drop)]
 pub struct NotAdded<V, S> {
     pub witness: V,
@@ -77,8 +79,10 @@ impl<'a, C: Steady, V: Witness<Notice>, S: Read + Write + Drop> Switchboard<'a, 
         }
     }
 
-    /// Adds a connection, whose device has the key of these terms, and answers under which key it
-    /// is served. Where that is refused, nothing changes.
+    /// Adds a connection on which nothing came, whose device has the key of these terms, and
+    /// answers under which key it is served. Where memory is refused, nothing changes, and its
+    /// witness and its socket come back. It takes memory only where more are served than ever
+    /// before; linear in their count then, and else constant.
     pub fn add<H, G>(
         &mut self,
         terms: &Terms<'a, H, G>,
@@ -104,8 +108,18 @@ impl<'a, C: Steady, V: Witness<Notice>, S: Read + Write + Drop> Switchboard<'a, 
     }
 
     /// Does what is due with the connection of this key, one step after another, until it is to be
-    /// left, and at most so many. A step is a turn, a read or a write, as [`Link`](tac_worker::Link)
-    /// says.
+    /// left, and no more than so many. A step is a turn, a read or a write, as
+    /// [`Link`](tac_worker::Link) says; the chunk is what reads read into.
+    ///
+    /// Its socket has to answer WouldBlock in place of waiting. It is left as Idle where that came
+    /// of a read and no whole packet is there, and as Full where it came of a write and bytes wait:
+    /// so the next packet is neither read nor judged until the reply before is sent. An interrupted
+    /// read or write is a step that did nothing, and is tried again. Any other error of a read ends
+    /// the connection as ReadFault. Any other error of a write, and a write that takes nothing,
+    /// leaves it as Broken. What it said of waiting is forgotten at the next call.
+    ///
+    /// It may wait for the caller, the witness and the gate, and for no socket that keeps to that.
+    /// Linear in what is read, but for what the caller and the witness take.
     pub fn serve<H, G: Gate>(
         &mut self,
         key: usize,
@@ -122,7 +136,8 @@ impl<'a, C: Steady, V: Witness<Notice>, S: Read + Write + Drop> Switchboard<'a, 
         }
     }
 
-    /// Removes the connection of this key, if there is one, whether it has ended or is given up.
+    /// Removes the connection of this key, if there is one, whether it has ended or is given up, and
+    /// hands it back. Its key is the next then. Constant.
     pub fn remove(&mut self, key: usize) -> Option<Line<'a, C, V, S>>
         ensures line { result ≡ board.at self.old.lines key }
         ensures rest { self.new ≡ board.removed_at result key self.old }
@@ -134,11 +149,26 @@ impl<'a, C: Steady, V: Witness<Notice>, S: Read + Write + Drop> Switchboard<'a, 
         Some(line)
     }
 
-    /// The connection of this key, if there is one.
+    /// The connection of this key, if there is one. Constant.
     pub fn get(&self, key: usize) -> Option<&Line<'a, C, V, S>>
         ensures { option_copied result ≡ board.at self.now.lines key }
     {
         self.lines.get(key)
+    }
+
+    /// The connections that are served, each with its key, by rising key. Linear in how many were
+    /// served at once.
+    pub fn lines(&self) -> Iter<'_, Line<'a, C, V, S>>
+        ensures { result ≡ entries_from 0 self.now.lines }
+    {
+        self.lines.iter()
+    }
+
+    /// The key under which the next one is put.
+    pub fn next_key(&self) -> usize
+        ensures { result ≡ self.now.vacant }
+    {
+        self.lines.vacant_key()
     }
 
     /// How many connections are served.
@@ -148,7 +178,11 @@ impl<'a, C: Steady, V: Witness<Notice>, S: Read + Write + Drop> Switchboard<'a, 
         self.lines.len()
     }
 
-    /// The caller, once no more is to be served. Those that are still served are given up.
+    /// The caller, once no more is to be served. Connections that are still served are given up.
+    ///
+    /// It made exactly these calls, each for one connection that was added. Of each of these, what
+    /// was called for it are the calls of its number, in their order; these are the first asks of
+    /// its bytes; and what was put on it is what is sent by their answers, as far as it came.
     pub fn into_caller(self) -> C
         ensures caller { result ≡ self.entry.caller }
         ensures worked { board.IsWorking C.makes C.rests C.refuses V.takes V.refuses self.entry }

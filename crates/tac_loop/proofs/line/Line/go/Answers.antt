@@ -1,12 +1,9 @@
-use Rattle.std.proofs.Common.{ap}
 use Rattle.tac_loop.specs.Steps.{woken}
-use Rattle.tac_loop.proofs.StepFacts.{goes_none, goes_more}
+use Rattle.tac_loop.proofs.StepFacts.{goes_first, goes_more}
 use Rattle.tac_loop.proofs.line.Line.go.Goals as goal
 
 pub steps-init : goal.steps-init
-steps-init g c =
-    let line = c.args.self.now in
-    goes_none g.C.Caller.makes g.C.Caller.rests g.S.Read.remaining g.S.Write.contents (woken line) _ c.args.caller.now (ap (λ source. record line { source = source }) c.wake.ensures)
+steps-init g c = goes_first g.C.Caller.makes g.C.Caller.rests g.S.Read.remaining g.S.Write.contents c.args.self.now c.wake.new.self c.args.caller.now c.wake.ensures
 
 pub steps-preserved : goal.steps-preserved
 steps-preserved g c =

@@ -1,7 +1,7 @@
 use Rattle.std.proofs.Common.{◌≡◌, ◌+◌, sym, ap, ◌∙◌, rules}
 use Rattle.tac_loop.specs.Board.{at}
 use Rattle.tac_loop.specs.Boarding.{board_of}
-use Rattle.tac_loop.proofs.BoardFacts.{came}
+use Rattle.tac_loop.proofs.BoardFacts.{kept_slots, came}
 use Rattle.tac_loop.proofs.switchboard.Switchboard.add.Goals as goal
 
 pub invariant_of-self-2 : goal.invariant_of-self-2
@@ -10,9 +10,8 @@ invariant_of-self-2 g c =
     let key = c.insert_reserved-key.result in
     let i = c.insert_reserved-key.ensures in
     let line = c.new-line.result in
-    let same : c.reserve.new.self.slots ≡ board.lines = ap (λ slab. slab.slots) c.reserve.ensures.rest_kept in
+    let same : c.reserve.new.self.slots ≡ board.lines = kept_slots c.self.inside.lines c.reserve.new.self c.reserve.ensures.rest_kept in
     let more : c.in-Some.next ≡ board.next + 1 = search rules in
     rw more
-    (came g.C.Caller.makes g.C.Caller.rests g.C.Caller.refuses g.V.Witness.takes g.V.Witness.refuses board c.insert_reserved-key.new.self.slots key line c.self.invariant
-    (ap (λ l. l.number) c.new-line.ensures.line) (ap (λ l. l.link.called) c.new-line.ensures.line) c.new-line.ensures.stands
+    (came g.C.Caller.makes g.C.Caller.rests g.C.Caller.refuses g.V.Witness.takes g.V.Witness.refuses board c.insert_reserved-key.new.self.slots c.insert_reserved-key.new.self.vacant_key key c.args.terms.now.key.now c.args.witness c.args.socket line c.self.invariant c.new-line.ensures.line c.new-line.ensures.stands
     (ap (λ lines. at lines key) (sym same) ∙ i.was_vacant) i.updates.changed (λ other ne. i.updates.others other ne ∙ ap (λ lines. at lines other) same))
