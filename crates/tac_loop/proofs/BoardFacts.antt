@@ -16,9 +16,9 @@ use Rattle.tac_worker.specs.Worked.{Exchange, AreAllMade}
 use Rattle.tac_loop.specs.declared.line.Line.{Line}
 use Rattle.tac_loop.specs.declared.stop.Stop.{Stop}
 use Rattle.tac_loop.specs.Steps.{woken}
-use Rattle.tac_loop.specs.Calls.{Call, exchanges, calls_of}
+use Rattle.tac_loop.specs.Calls.{Call, exchanges, calls_of, AreCalled, WasAfter}
 use Rattle.tac_loop.specs.Board.{Board, idle, at, came as came_next, AreApart, AreAll, Adds, removed_at, ServesOne, ServesAt, IsAccounted, IsWorking}
-use Rattle.tac_loop.proofs.CallFacts.{calls_for, own_after, other_after, none_yet, exchanges_after, all_made_after}
+use Rattle.tac_loop.proofs.CallFacts.{calls_for, own_after, other_after, none_yet, exchanges_after, all_made_after, after_more, after_all, after_turns}
 use Rattle.tac_loop.proofs.StepFacts.{Grows, Stays, stays}
 
 abbrev Lines : Type 0 → Type 0 → Type 0 → Type 0
@@ -126,8 +126,8 @@ module _ {C V S : Type 0} (makes : C → Exchange → C → Type 0) (rests : C �
   abbrev Working : Board C V S → Type 0
   Working board = IsWorking makes rests refuses takes refuses_notice board
 
-  abbrev Accounted : List Call → ℕ → Line C V S → Type 0
-  Accounted calls next line = IsAccounted makes rests refuses takes refuses_notice calls next line
+  abbrev Accounted : C → List Call → ℕ → Line C V S → Type 0
+  Accounted first calls next line = IsAccounted makes rests refuses takes refuses_notice first calls next line
 
   abbrev Stands : Line C V S → Type 0
   Stands line = StandsSo refuses takes refuses_notice line.link.end line.link
@@ -147,15 +147,16 @@ module _ {C V S : Type 0} (makes : C → Exchange → C → Type 0) (rests : C �
   }
 
   -- more calls came, for another connection
-  accounted_still : (calls : List Call) (next n : ℕ) (made : List Exchange) (line : Line C V S) → n ≢ line.number → Accounted calls next line → Accounted (calls ++ calls_for n made) next line
-  accounted_still calls next n made line ne a = record {
+  accounted_still : (first : C) (calls : List Call) (next n : ℕ) (made : List Exchange) (line : Line C V S) → n ≢ line.number → Accounted first calls next line → Accounted first (calls ++ calls_for n made) next line
+  accounted_still first calls next n made line ne a = record {
     called = a.called ∙ ap (map answered) (sym (other_after n line.number calls made ne));
     numbered = a.numbered;
+    caller = after_more makes rests first calls (calls_for n made) line.link.caller a.caller;
     stands = a.stands;
   }
 
-  accounted_more : (calls : List Call) (next : ℕ) (line : Line C V S) → Accounted calls next line → Accounted calls (next + 1) line
-  accounted_more calls next line a = record { called = a.called; numbered = let b : line.number < next = a.numbered in omega arith; stands = a.stands }
+  accounted_more : (first : C) (calls : List Call) (next : ℕ) (line : Line C V S) → Accounted first calls next line → Accounted first calls (next + 1) line
+  accounted_more first calls next line a = record { called = a.called; numbered = let b : line.number < next = a.numbered in omega arith; caller = a.caller; stands = a.stands }
 
   -- one had turns
   pub turned : (board : Board C V S) (later : List (Option (Line C V S))) (key : ℕ) (line now : Line C V S) (after : C)
@@ -169,21 +170,24 @@ module _ {C V S : Type 0} (makes : C → Exchange → C → Type 0) (rests : C �
       let calls = h.calls in
       let mine = h.served key line is in
       let apart : (k : ℕ) (l : Line C V S) → k ≢ key → at lines k ≡ Some l → n ≢ l.number = λ k l ne e same. ne (h.apart k key l line e is (sym same)) in
+      let made : AreCalled makes rests board.first (calls ++ calls_for n g.made) after =
+      subst (λ (l : List Exchange). AreAllMade makes rests board.first l after) (sym (exchanges_after n calls g.made)) (all_made_after makes rests on then_makes board.first (exchanges calls) board.caller g.made after h.made g.makes_all) in
       record {
         calls = calls ++ calls_for n g.made;
-        made = subst (λ (l : List Exchange). AreAllMade makes rests board.first l after) (sym (exchanges_after n calls g.made)) (all_made_after makes rests on then_makes board.first (exchanges calls) board.caller g.made after h.made g.makes_all);
+        made = made;
         given = All-append (λ (call : Call). call.number < next) calls (calls_for n g.made) h.given
             (All-map (λ (call : Call). call.number < next) (λ (e : Exchange). record { number = n; exchange = e }) g.made (λ k d l. mine.numbered));
-        served = of_update lines later key now (λ k l. Accounted (calls ++ calls_for n g.made) next l) here rest
+        served = of_update lines later key now (λ k l. Accounted board.first (calls ++ calls_for n g.made) next l) here rest
             (record {
               called =
                   g.called ∙ ap (λ (l : List (Ask × Answer)). l ++ map answered g.made) mine.called ∙ sym (map_append answered (calls_of n calls) g.made)
                   ∙ ap (map answered) (sym (own_after n calls g.made) ∙ ap (λ (k : ℕ). calls_of k (calls ++ calls_for n g.made)) (sym g.number));
               numbered = subst (λ (k : ℕ). k < next) (sym g.number) mine.numbered;
+              caller = after_turns makes rests board.first calls (calls_for n g.made) line.link.caller now.link.caller board.caller after mine.caller made g.caller;
               stands = stands;
             })
-            (λ k l ne e. accounted_still calls next n g.made l (apart k l ne e) (h.served k l e));
-        over = λ k d l. accounted_still calls next n g.made _ (h.gone k d l key line is) (h.over k d l);
+            (λ k l ne e. accounted_still board.first calls next n g.made l (apart k l ne e) (h.served k l e));
+        over = λ k d l. accounted_still board.first calls next n g.made _ (h.gone k d l key line is) (h.over k d l);
         known = λ m low. known_on lines later key board.over line now is g.number here rest m (h.known m low);
         apart = λ one two x y e f. of_update lines later key now (λ i u. (j : ℕ) (v : Line C V S) → at later j ≡ Some v → u.number ≡ v.number → i ≡ j) here rest
             (of_update lines later key now (λ j v. now.number ≡ v.number → key ≡ j) here rest
@@ -212,7 +216,7 @@ module _ {C V S : Type 0} (makes : C → Exchange → C → Type 0) (rests : C �
         made = h.made;
         given = h.given;
         served = λ k l e. h.served k l (left k l e).1;
-        over = All-push (λ (l : Line C V S). Accounted h.calls board.next l) board.over line h.over (h.served key line is);
+        over = All-push (λ (l : Line C V S). Accounted board.first h.calls board.next l) board.over line h.over (h.served key line is);
         known = λ m low. known_over board.lines later key board.over line is rest m (h.known m low);
         apart = λ one two x y e f. h.apart one two x y (left one x e).1 (left two y f).1;
         gone = All-push (λ (l : Line C V S). (k : ℕ) (o : Line C V S) → at later k ≡ Some o → o.number ≢ l.number) board.over line
@@ -233,14 +237,15 @@ module _ {C V S : Type 0} (makes : C → Exchange → C → Type 0) (rests : C �
         calls = h.calls;
         made = h.made;
         given = All-weaker (λ (call : Call). call.number < next) (λ (call : Call). call.number < next + 1) (λ x p. omega arith) h.calls h.given;
-        served = of_update lines later key line (λ k l. Accounted h.calls (next + 1) l) here rest
+        served = of_update lines later key line (λ k l. Accounted board.first h.calls (next + 1) l) here rest
             (record {
               called = called ∙ ap (map answered) (sym (none_yet next h.calls h.given) ∙ ap (λ (k : ℕ). calls_of k h.calls) (sym n));
               numbered = omega (arith, n);
+              caller = subst (λ (c : C). WasAfter makes rests board.first h.calls c) (sym (ap (λ (l : Line C V S). l.link.caller) is)) (after_all makes rests board.first h.calls board.caller h.made);
               stands = stands;
             })
-            (λ k l ne e. accounted_more h.calls next l (h.served k l e));
-        over = λ k d l. accounted_more h.calls next _ (h.over k d l);
+            (λ k l ne e. accounted_more board.first h.calls next l (h.served k l e));
+        over = λ k d l. accounted_more board.first h.calls next _ (h.over k d l);
         known = λ m low. known_more lines later next key board.over line n none here rest h.known m low;
         apart = λ one two x y e f. of_update lines later key line (λ i u. (j : ℕ) (v : Line C V S) → at later j ≡ Some v → u.number ≡ v.number → i ≡ j) here rest
             (of_update lines later key line (λ j v. line.number ≡ v.number → key ≡ j) here rest

@@ -1,11 +1,11 @@
 -- Calls by the numbers of their connections.
-use Rattle.std.proofs.Common.{◌≡◌, ◌≢◌, ◌==◌, ◌<◌, ℕ, List, [], ◌∷◌, ◌++◌, map, Bool, true, false, if◌then◌else◌, refl, ap, subst, ◌∙◌, arith, append-nil}
+use Rattle.std.proofs.Common.{◌≡◌, ◌≢◌, ◌⊎◌, inl, inr, ◌==◌, ◌<◌, ℕ, List, [], ◌∷◌, ◌++◌, map, Bool, true, false, if◌then◌else◌, refl, sym, ap, subst, ◌∙◌, arith, append_assoc, append-nil}
 use Rattle.std.specs.Prelude.{All}
 use Rattle.std.proofs.lemmas.Bool.Decides.{nat_tests}
 use Rattle.std.proofs.lemmas.List.Elements.{All-head, All-tail}
 use Rattle.std.proofs.lemmas.List.{map-append}
 use Rattle.tac_worker.specs.Worked.{Exchange, AreMade, AreAllMade}
-use Rattle.tac_loop.specs.Calls.{Call, exchanges, calls_of}
+use Rattle.tac_loop.specs.Calls.{Call, exchanges, calls_of, AreCalled, WasAfter}
 
 -- these, made for this connection
 abbrev pub calls_for : ℕ → List Exchange → List Call
@@ -83,3 +83,25 @@ module _ {C : Type 0} (makes : C → Exchange → C → Type 0) (rests : C → C
   pub all_made_after : (was : C) (xs : List Exchange) (mid : C) (ys : List Exchange) (now : C) → AreAllMade makes rests was xs mid → AreAllMade makes rests mid ys now
       → AreAllMade makes rests was (xs ++ ys) now
   all_made_after was xs mid ys now m h = then_made was xs m.0 ys now m.1 (rested m.0 mid ys now m.2 h)
+
+module _ {C : Type 0} (makes : C → Exchange → C → Type 0) (rests : C → C → Type 0) where
+  -- ---- who it was
+
+  -- more calls came
+  pub after_more : (first : C) (calls more : List Call) (who : C) → WasAfter makes rests first calls who → WasAfter makes rests first (calls ++ more) who
+  after_more first calls more who a = record {
+    before = a.before;
+    later = a.later ++ more;
+    parts = ap (λ (l : List Call). l ++ more) a.parts ∙ append_assoc a.before a.later more;
+    made = a.made;
+  }
+
+  -- after all of them
+  pub after_all : (first : C) (calls : List Call) (who : C) → AreCalled makes rests first calls who → WasAfter makes rests first calls who
+  after_all first calls who made = record { before = calls; later = []; parts = sym (append-nil calls); made = made }
+
+  -- as a turn left it, or as it was before
+  pub after_turns : (first : C) (calls more : List Call) (was now before after : C) → WasAfter makes rests first calls was → AreCalled makes rests first (calls ++ more) after
+      → ((now ≡ was) × (after ≡ before)) ⊎ (now ≡ after) → WasAfter makes rests first (calls ++ more) now
+  after_turns first calls more was now before after a made (inl same) = subst (λ (c : C). WasAfter makes rests first (calls ++ more) c) (sym same.0) (after_more first calls more was a)
+  after_turns first calls more was now before after a made (inr same) = subst (λ (c : C). WasAfter makes rests first (calls ++ more) c) (sym same) (after_all first (calls ++ more) after made)

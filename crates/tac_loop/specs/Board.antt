@@ -7,11 +7,11 @@ use Rattle.tac_audit.specs.declared.notice.Notice.{Notice}
 use Rattle.tac_hall.specs.declared.fault.HallFault.{HallFault}
 use Rattle.tac_worker.specs.Linked.{StandsSo}
 use Rattle.tac_worker.specs.Noting.{answered}
-use Rattle.tac_worker.specs.Worked.{Exchange, AreAllMade}
+use Rattle.tac_worker.specs.Worked.{Exchange}
 use Rattle.tac_loop.specs.declared.line.Line.{Line}
 use Rattle.tac_loop.specs.declared.stop.Stop.{Stop}
 use Rattle.tac_loop.specs.declared.stop.Stop.TheVariants.{Absent}
-use Rattle.tac_loop.specs.Calls.{Call, exchanges, calls_of}
+use Rattle.tac_loop.specs.Calls.{Call, calls_of, AreCalled, WasAfter}
 use Rattle.tac_loop.specs.Steps.{begun, GoesUpTo, stopped, woken}
 
 -- who calls for many connections, and those connections
@@ -119,20 +119,23 @@ module _ {C V S : Type 0} (makes : C → Exchange → C → Type 0) (rests : C �
 module _ {C V S : Type 0} (makes : C → Exchange → C → Type 0) (rests : C → C → Type 0)
     (refuses : C → Ask → HallFault → Type 0) (takes refuses_notice : V → Notice → V → Type 0) where
   -- what was called for it are exactly the calls of its number, in their order, and it stands so:
-  -- they are the first asks of its bytes, and what was put on it is what is sent by their answers
-  pub record IsAccounted (calls : List Call) (next : ℕ) (line : Line C V S) : Type 0 where
-    pub called : line.link.called ≡ map answered (calls_of line.number calls)
-    pub numbered : line.number < next
-    pub stands : StandsSo refuses takes refuses_notice line.link.end line.link
+  -- they are the first asks of its bytes, and what was put on it is what is sent by their answers.
+  -- Where its next ask was refused, that is by the caller as it was after the first of the calls
+  pub record IsAccounted (first : C) (calls : List Call) (next : ℕ) (line : Line C V S) : Type 0
+    where
+      pub called : line.link.called ≡ map answered (calls_of line.number calls)
+      pub numbered : line.number < next
+      pub caller : WasAfter makes rests first calls line.link.caller
+      pub stands : StandsSo refuses takes refuses_notice line.link.end line.link
 
   -- the caller made these calls, and no others, each for a connection that is served or was removed
   pub record IsWorking (board : Board C V S) : Type 0 where
     pub calls : List Call
-    pub made : AreAllMade makes rests board.first (exchanges calls) board.caller
+    pub made : AreCalled makes rests board.first calls board.caller
     pub given : All (λ call. call.number < board.next) calls
     pub served : (key : ℕ) (line : Line C V S) → at board.lines key ≡ Some line
-        → IsAccounted calls board.next line
-    pub over : All (λ line. IsAccounted calls board.next line) board.over
+        → IsAccounted board.first calls board.next line
+    pub over : All (λ line. IsAccounted board.first calls board.next line) board.over
     -- no two have one number, and each number is of one
     pub known : (number : ℕ) → number < board.next → IsKnown board number
     pub apart : (one two : ℕ) (line other : Line C V S) → at board.lines one ≡ Some line

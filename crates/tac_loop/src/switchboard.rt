@@ -136,8 +136,8 @@ impl<'a, C: Steady, V: Witness<Notice>, S: Read + Write + Drop> Switchboard<'a, 
         }
     }
 
-    /// Removes the connection of this key, if there is one, whether it has ended or is given up, and
-    /// hands it back. Its key is the next then. Constant.
+    /// Removes the connection of this key, if there is one, whether it has ended or is given up,
+    /// and hands it back. Its key is the next then. Constant.
     pub fn remove(&mut self, key: usize) -> Option<Line<'a, C, V, S>>
         ensures line { result ≡ board.at self.old.lines key }
         ensures rest { self.new ≡ board.removed_at result key self.old }
