@@ -67,6 +67,12 @@ module _ {C V S : Type 0} where
   pub kept_slots : (slab later : Slab (Line C V S)) → later ≡ record slab { capacity = later.capacity } → later.slots ≡ slab.slots
   kept_slots slab later same = ap (λ (s : Slab (Line C V S)). s.slots) same
 
+  pub vacant_kept : (lines kept : Lines C V S) (key : ℕ) → kept ≡ lines → at kept key ≡ None → at lines key ≡ None
+  vacant_kept lines kept key same none = subst (λ (l : Lines C V S). at l key ≡ None) same none
+
+  pub others_kept : (lines kept later : Lines C V S) (key : ℕ) → kept ≡ lines → OthersStay kept later key → OthersStay lines later key
+  others_kept lines kept later key same rest = subst (λ (l : Lines C V S). OthersStay l later key) same rest
+
   -- ---- numbers that are known
 
   abbrev Known : Lines C V S → List (Line C V S) → ℕ → Type 0

@@ -1,3 +1,4 @@
 pub mod CallFacts
 pub mod StepFacts
 pub mod BoardFacts
+pub mod AccountFacts

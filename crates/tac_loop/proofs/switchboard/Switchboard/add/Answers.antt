@@ -1,7 +1,6 @@
-use Rattle.std.proofs.Common.{◌≡◌, ◌+◌, sym, ap, ◌∙◌, rules}
-use Rattle.tac_loop.specs.Board.{at}
+use Rattle.std.proofs.Common.{◌≡◌, ◌+◌, rules}
 use Rattle.tac_loop.specs.Boarding.{board_of}
-use Rattle.tac_loop.proofs.BoardFacts.{kept_slots, came}
+use Rattle.tac_loop.proofs.BoardFacts.{kept_slots, vacant_kept, others_kept, came}
 use Rattle.tac_loop.proofs.switchboard.Switchboard.add.Goals as goal
 
 pub invariant_of-self-2 : goal.invariant_of-self-2
@@ -14,4 +13,4 @@ invariant_of-self-2 g c =
     let more : c.in-Some.next ≡ board.next + 1 = search rules in
     rw more
     (came g.C.Caller.makes g.C.Caller.rests g.C.Caller.refuses g.V.Witness.takes g.V.Witness.refuses board c.insert_reserved-key.new.self.slots c.insert_reserved-key.new.self.vacant_key key c.args.terms.now.key.now c.args.witness c.args.socket line c.self.invariant c.new-line.ensures.line c.new-line.ensures.stands
-    (ap (λ lines. at lines key) (sym same) ∙ i.was_vacant) i.updates.changed (λ other ne. i.updates.others other ne ∙ ap (λ lines. at lines other) same))
+    (vacant_kept board.lines c.reserve.new.self.slots key same i.was_vacant) i.updates.changed (others_kept board.lines c.reserve.new.self.slots c.insert_reserved-key.new.self.slots key same i.updates.others))
