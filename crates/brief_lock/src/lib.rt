@@ -5,7 +5,7 @@ use std::hint::spin_loop;
 use std::sync::{Mutex, MutexGuard, Wait};
 
 // How often a thread tries to take the lock before it sleeps until it may, some 20 microseconds
-// long; who holds such a lock has it for one or two.
+// long; who holds such a lock mostly has it for one or two.
 const TRIES: u32 = 400;
 
 /// Takes the lock. A thread that sleeps lets its processor go, which costs it and its client more

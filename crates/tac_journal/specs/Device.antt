@@ -39,7 +39,7 @@ HasLinesButLast {S} takes refuses device noted last old new =
     (between : S) × HasLines takes device noted old between
     × LacksLine refuses device last between new
 
--- the line was taken, or not
+-- the line was taken; or it was refused, or never came to the log
 abbrev pub IsNoted : {S : Type 0} → (S → List ℕ → S → Type 0) → (S → List ℕ → S → Type 0)
     → Result (Unit {0}) Refused → List ℕ → Noted → S → S → Type 0
 IsNoted takes refuses (Ok done) device noted old new = HasLine takes device (Some noted) old new
@@ -66,7 +66,7 @@ pub record Takes {S : Type 0} (takes : S → List ℕ → S → Type 0) (was : P
       (earlier : List Packet) → Knows was.logins earlier → IsAnswered earlier notice →
       Knows now.logins (packets_after earlier notice)
 
--- it didn't take that line
+-- it refused that line, or the line never came to it
 abbrev pub Refuses : {S : Type 0} → (S → List ℕ → S → Type 0) → Place S → Notice → Place S
     → Type 0
 Refuses refuses was notice now =

@@ -10,7 +10,7 @@ pub record Keeping : Type 1 where
 abbrev pub nowhere : Keeping
 nowhere = record { is_kept = false; took = λ lines. Unit {0} }
 
--- it keeps all that it takes
+-- it keeps lines. That it took some says nothing of a file, which is in no contract
 abbrev pub somewhere : Keeping
 somewhere = record { is_kept = true; took = λ lines. Unit {0} }
 

@@ -45,7 +45,7 @@ impl<'a, C: Clock, F: Append + Drop> DeviceLog<'a, C, F> {
             AreTold ⟦<DeviceLog<'a, C, F> as Witness<Notice>>⟧.takes result notices now →
             AreAnswered [] notices →
             HasLines F.takes device (noted_of_each [] notices) log now.log }
-        // Once it then refused another, the log didn't take the line of that.
+        // Once it then refused another, the log refused the line of that, or it never came there.
         ensures refused { (notices : List NoticeValue) (notice : NoticeValue) (between now : _) →
             AreTold ⟦<DeviceLog<'a, C, F> as Witness<Notice>>⟧.takes result notices between →
             ⟦<DeviceLog<'a, C, F> as Witness<Notice>>⟧.refuses between notice now →

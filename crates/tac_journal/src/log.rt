@@ -10,7 +10,7 @@ use tac_audit::Refused;
 
 /// A log that several threads append to, or none.
 pub trait Log {
-    /// Whether it keeps lines, and which it took. Nothing but an append says that it took some.
+    /// Whether it keeps lines, and which it took. Only an append says that any log took some.
     ghost keeping: { Self → Keeping };
 
     /// Whether lines are kept. Where they aren't, none need be made.

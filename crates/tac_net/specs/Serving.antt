@@ -18,8 +18,8 @@ use Rattle.tac_net.specs.Logs.{HasTaken, Logs}
 -- ---- one connection
 
 -- whoever makes the calls, each by such a step, and then rests, served it, and it ended so; a call
--- is refused so. The log, if one is kept, took the line of each packet before its reply was written.
--- That the bytes are the device's is in no contract
+-- is refused so. The log, if one is kept, took the lines of the notices that were told, and the
+-- replies in these were written. That the bytes are the device's is in no contract
 pub record IsConnection {S : Type 0} (step : S → Exchange → S → Type 0) (rests : S → S → Type 0)
     (refuses : S → Ask → HallFault → Type 0) (key : List ℕ) (log : Keeping)
     (was : S) (end : End) (now : S) : Type 0 where

@@ -35,7 +35,7 @@ pub record Linked (S V : Type 0) : Type 0 where
   pub witness : V
   -- its caller, as the last turn left it
   pub caller : S
-  -- whether the last turn found no whole packet, and nothing came since
+  -- whether the last turn found no whole packet, and no read went well since
   pub rests : Bool
   -- how it ended, if it has ended
   pub end : Option End

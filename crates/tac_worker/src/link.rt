@@ -24,7 +24,7 @@ use tac_wire::Key;
 /// what came and isn't served yet, what waits to be sent, and its witness.
 ///
 /// What was called for it, what came and what was sent it knows in proofs alone, so its memory
-/// doesn't grow with its age: it holds one packet, or what one read gave, and one reply.
+/// doesn't grow with its age: it holds one packet, or what a read gave, a reply, and its sessions.
 pub struct Link<'a, C: Caller, V: Witness<Notice>> {
     key: &'a Key,
     first: Snapshot<V>,
@@ -35,7 +35,7 @@ pub struct Link<'a, C: Caller, V: Witness<Notice>> {
     pieces: Pieces,
     called: Called,
     sent: Sent,
-    // Whether the last turn found no whole packet, and nothing came since.
+    // Whether the last turn found no whole packet, and no read went well since.
     rests: bool,
     end: Option<End>,
 }
@@ -123,6 +123,13 @@ impl<'a, C: Caller, V: Witness<Notice>> Link<'a, C, V> {
         ensures { result.now ≡ self.now.pending }
     {
         self.queue.pending()
+    }
+
+    /// Its witness, as the last notice left it.
+    pub fn witness(&self) -> &V
+        ensures { result.now ≡ self.now.witness }
+    {
+        &self.witness
     }
 
     /// If a turn is due, serves the next packet if it has come whole: has the caller ask, tells the
