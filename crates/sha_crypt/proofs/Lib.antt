@@ -1,0 +1,3 @@
+mod Sameness
+mod SaltFacts
+mod TextFacts

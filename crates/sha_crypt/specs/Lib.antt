@@ -1,0 +1,3 @@
+pub mod Crypt
+pub mod HashText
+pub mod Passing
