@@ -1,0 +1,5 @@
+//! Tests of hashed passwords.
+#![tactic(auto)]
+
+#[cfg(test)]
+mod hashes;
