@@ -1,10 +1,14 @@
 -- What threads share, beside the hall and the key.
 use mir.Syntax.{w32}
 use denote.Plain.{UInt}
-use denote.Param.Send.{IsSync, sendable}
+use denote.Param.Send.{IsSend, IsSync, sendable}
 use Rattle.std.proofs.Crossing.{crosses}
 use Rattle.std.specs.contracts.net.tcp.TcpListener as TcpListener
 use Rattle.tac_hall.proofs.Crossing.{Key-sync}
+use Rattle.tac_census.proofs.census.Census.TheSendSync as census
+use Rattle.tac_net.specs.contracts.intake.Arrival as Arrival
+use Rattle.tac_net.specs.contracts.intake.Inbox as Inbox
+use Rattle.tac_net.specs.contracts.intake.Intake as Intake
 use Rattle.tac_net.specs.contracts.port.Port as Port
 use Rattle.tac_net.specs.contracts.settings.Settings as Settings
 use Rattle.tac_net.specs.contracts.vigil.Vigil as Vigil
@@ -23,3 +27,12 @@ Vigil-sync = search (crosses, sendable) depth 60
 
 pub Port-sync : IsSync Port.the_row
 Port-sync = search (crosses, sendable) depth 60
+
+pub Arrival-send : IsSend Arrival.the_row
+Arrival-send = search (crosses, sendable) depth 60
+
+pub Inbox-sync : IsSync Inbox.the_row
+Inbox-sync = search (Arrival-send, crosses, sendable) depth 60 fits 20000
+
+pub Intake-sync : IsSync Intake.the_row
+Intake-sync = search (Inbox-sync, census.the_send, crosses, sendable) depth 60 fits 20000

@@ -1,4 +1,8 @@
 pub mod LogFacts
+pub mod AccountFacts
+pub mod FitFacts
+pub mod WitnessFacts
+pub mod StandingFacts
 pub mod Crossing
 pub mod ServingFacts
 pub mod SendFacts

@@ -1,5 +1,5 @@
 -- What a log took once it was told of a connection.
-use Rattle.std.proofs.Common.{◌≡◌, ℕ, List, [], ◌∷◌, Option, None, Some, Result, All, refl, sym, subst}
+use Rattle.std.proofs.Common.{◌≡◌, inr, ℕ, List, [], ◌∷◌, true, Option, None, Some, Result, All, refl, sym, subst}
 use Rattle.std.proofs.lemmas.List.Elements.{All-nil, All-cons}
 use Rattle.tac_wire.specs.Stream.{cut}
 use Rattle.tac_conn.specs.declared.ask.Ask.{Ask}
@@ -14,15 +14,17 @@ use Rattle.tac_forum.specs.Seat.{Seated}
 use Rattle.tac_hall_console.specs.declared.fault.OperatorFault.{OperatorFault}
 use Rattle.tac_hall_console.specs.Operated.{IsOperated}
 use Rattle.tac_journal.specs.Device.{HasLines}
+use Rattle.tac_journal.specs.Log.{Keeping}
 use Rattle.tac_worker.specs.declared.worked.End.{End}
 use Rattle.tac_worker.specs.Told.{refused_of, TakesUntil}
 use Rattle.tac_worker.specs.Worked.{Exchange, answers_of, Traffic, IsServedBy}
+use Rattle.tac_net.specs.Connections.{TellsLog}
 use Rattle.tac_net.specs.Logs.{Logs}
 
 -- ---- a connection
 
 -- all that was told was answered
-all_answered : {end : End} {key : List ℕ} {makes : List Exchange → Type 0} {refuses : Ask → HallFault → Type 0} {are_told : List Notice → Option Notice → Type 0} {traffic : Traffic}
+pub all_answered : {end : End} {key : List ℕ} {makes : List Exchange → Type 0} {refuses : Ask → HallFault → Type 0} {are_told : List Notice → Option Notice → Type 0} {traffic : Traffic}
     → (work : IsServedBy end key makes refuses are_told traffic) → AreAnswered [] work.told.told
 all_answered {key = key} work =
     let tells = work.told in
@@ -56,19 +58,6 @@ taken : {S : Type 0} (took : S → List ℕ → Type 0) (lines : List (List ℕ)
 taken took [] old new t = All-nil (took old)
 taken took (line ∷ lines) old new t = All-cons (took old) line lines t.1.1 (rw t.1.0 at (taken took lines t.0 new t.2))
 
--- it was told of the connection
-module _ {W S L : Type 0} (takes refuses : W → Notice → W → Type 0) (entry : W → S) (log_of : S → L) (took : L → List ℕ → Type 0) (device : List ℕ) (old : S) (log : L) (same : log_of old ≡ log) (was now : W)
-    (lines : (notices : List Notice) (now : W) → AreTold takes was notices now → AreAnswered [] notices
-    → HasLines (λ (was : S) (line : List ℕ) (now : S). (now ≡ was) × took (log_of was) line) device (noted_of_each [] notices) old (entry now)) where
-  pub logs_told : {end : End} {key : List ℕ} {makes : List Exchange → Type 0} {others : Ask → HallFault → Type 0} {traffic : Traffic}
-      → IsServedBy end key makes others (λ told refused. TakesUntil takes refuses was told refused now) traffic
-      → (all : List (List ℕ)) × All (took log) all × IsServedBy end key makes others (Logs (Some all)) traffic
-  logs_told work =
-      let t = work.told.takes in
-      let has = lines work.told.told t.0 t.1 (all_answered work) in
-      let all = taken (λ (s : S). took (log_of s)) has.0 old (entry t.0) has.2 in
-      (has.0, subst (λ (l : L). All (took l) has.0) same all, served_as work (device, has.1))
-
 -- nobody was
 module _ {W : Type 0} (was now : W) where
   none_refused : (told : List Notice) (refused : Option Notice) → TakesUntil (λ (was : W) (notice : Notice) (now : W). Unit {0}) (λ (was : W) (notice : Notice) (now : W). ⊥) was told refused now → Logs None told refused
@@ -79,6 +68,20 @@ module _ {W : Type 0} (was now : W) where
       → IsServedBy end key makes others (λ told refused. TakesUntil (λ (was : W) (notice : Notice) (now : W). Unit {0}) (λ (was : W) (notice : Notice) (now : W). ⊥) was told refused now) traffic
       → IsServedBy end key makes others (Logs None) traffic
   served_unlogged work = served_as work (none_refused work.told.told _ work.told.takes)
+
+-- ---- a witness
+
+-- the log has the lines of all that it took
+module _ {W S L : Type 0} (takes refuses : W → Notice → W → Type 0) (entry : W → S) (log_of : S → L) (keeping : L → Keeping) (device : List ℕ) (old : S) (log : L) (same : log_of old ≡ log) (was : W)
+    (lines : (notices : List Notice) (now : W) → AreTold takes was notices now → AreAnswered [] notices
+    → HasLines (λ (was : S) (line : List ℕ) (now : S). (now ≡ was) × (keeping (log_of was)).took line) device (noted_of_each [] notices) old (entry now)) where
+  pub tells_log : (keeping log).is_kept ≡ true → TellsLog takes refuses (keeping log) was
+  tells_log kept = record {
+    logged = λ told now t answered.
+        let has = lines told now t answered in
+        inr (device, has.0, has.1, subst (λ (l : L). All (keeping l).took has.0) same (taken (λ (s : S). (keeping (log_of s)).took) has.0 old (entry now) has.2));
+    refused = λ told between now notice t r. kept;
+  }
 
 -- ---- a console
 

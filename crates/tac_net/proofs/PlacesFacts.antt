@@ -1,10 +1,13 @@
 -- What a desk represented at the places of a seat's calls.
-use Rattle.std.proofs.Common.{◌≡◌, ℕ, suc, List, [], ◌∷◌, ◌++◌, map, take, length, length-append, Bool, true, false, ◌==◌, cond, refl, sym, ap, subst, ◌∙◌, append_assoc, append-nil, arith}
+use Rattle.std.proofs.Common.{◌≡◌, ℕ, suc, List, [], ◌∷◌, ◌++◌, map, take, length, length-append, Bool, true, false, ◌==◌, cond, Option, Some, None, refl, sym, ap, subst, ◌∙◌, append_assoc, append-nil, arith}
+use Rattle.std.specs.Prelude.{if◌then◌else◌}
 use Rattle.std.proofs.Math.Seq.{take-append_seam}
 use Rattle.tac_conn.specs.declared.ask.Answer.{Answer}
 use Rattle.tac_conn.specs.declared.ask.Ask.{Ask}
 use Rattle.tac_desk.specs.Meaning.{Meaning}
 use Rattle.tac_desk.specs.Asking.{asked}
+use Rattle.tac_audit.specs.declared.notice.Notice.{Notice}
+use Rattle.tac_hall.specs.declared.fault.HallFault.{HallFault}
 use Rattle.tac_hall.specs.declared.entry.Entry.{Entry}
 use Rattle.tac_hall.specs.declared.entry.Made.{Made}
 use Rattle.tac_hall.specs.History.{Answers, Legal, at_first, and_then}
@@ -14,10 +17,21 @@ use Rattle.tac_forum.specs.History.{view_of as view_in}
 use Rattle.tac_forum.proofs.LogFacts.{logs_law}
 use Rattle.tac_worker.proofs.DeskFacts.{number_after, view_after}
 use Rattle.tac_worker.proofs.HallFacts.{view_after as hall_view_after}
-use Rattle.tac_worker.specs.Served.{served, asks, bytes_sent}
-use Rattle.tac_worker.specs.Worked.{Exchange, asks_of, answers_of, in_view}
+use Rattle.tac_worker.proofs.ServedFacts.{bytes_sent-append}
+use Rattle.tac_worker.specs.declared.worked.End.{End}
+use Rattle.tac_worker.specs.declared.worked.End.TheVariants.{Memory, WriteFault, Unwitnessed}
+use Rattle.tac_worker.specs.AtDesk.{MakesOne, Refuses}
+use Rattle.tac_worker.specs.Linked.{put}
+use Rattle.tac_worker.specs.Served.{Sending, served, asks, bytes_sent}
+use Rattle.tac_worker.specs.Worked.{Exchange, asks_of, answers_of, in_view, WritesSome, Writes, IsServedBy}
+use Rattle.tac_forum.specs.History.{Opening}
+use Rattle.tac_forum.specs.Seat.{Seated, CatchesUp}
+use Rattle.tac_loop.specs.Calls.{Call, exchanges, calls_of}
+use Rattle.tac_loop.specs.Board.{IsAccounted}
+use Rattle.tac_loop.proofs.AccountFacts.{served_by_its_own, open_by_its_own}
 use Rattle.tac_net.specs.Shared.{packets_in, answers_by}
-use Rattle.tac_net.specs.Places.{calls_before, StoodAt, IsSaid, PlacesLaw, HallPlacesLaw, ReceiptPlacesLaw}
+use Rattle.tac_net.specs.Connections.{IsTold, IsRefused, DeskLine}
+use Rattle.tac_net.specs.Places.{calls_before, StoodAt, IsSaid, LeavesUnput, IsSaidOn, PlacesLaw, HallPlacesLaw, ReceiptPlacesLaw}
 use Rattle.tac_net.proofs.SharedFacts.{sent_on, sent_stream_law}
 
 -- ---- the calls of a log, one after another
@@ -123,12 +137,10 @@ stood_at base logs after left (exchange ∷ made) h =
       answers = ap (λ (a : Answer). a ∷ answers_of made) one.3.0 ∙ ap (λ (l : List Answer). (asked one.0 exchange.ask).answer ∷ l) others.answers;
     }
 
-said_at : (key bytes : List ℕ) (base last : Meaning) (logs : List (List Entry)) (number : ℕ) (before after : List Made) (made : List Exchange) (left : List Ask) → Legal base (joined logs) last
-    → view_along 0 number logs ≡ before ++ (map in_view made ++ after) → asks key bytes ≡ asks_of made ++ left → IsSaid key bytes base logs made
-said_at key bytes base last logs number before after made left legal view asks_them =
-    let all : Viewed base logs (before ++ (map in_view made ++ after)) =
-    subst (λ (l : List Made). Viewed base logs l) view (viewed_along base number logs logs [] 0 refl refl (answered base (joined logs) last legal)) in
-    let s = stood_at base logs after left made (viewed_after base logs before (map in_view made ++ after) all) in
+said_by : (key bytes : List ℕ) (base : Meaning) (logs : List (List Entry)) (after : List Made) (made : List Exchange) (left : List Ask) → Viewed base logs (map in_view made ++ after)
+    → asks key bytes ≡ asks_of made ++ left → IsSaid key bytes base logs made
+said_by key bytes base logs after made left viewed asks_them =
+    let s = stood_at base logs after left made viewed in
     let answers : answers_of made ≡ answers_by s.meanings (asks key bytes) = s.answers ∙ ap (λ (l : List Ask). answers_by s.meanings l) (sym asks_them) in
     record {
       meanings = s.meanings;
@@ -137,6 +149,83 @@ said_at key bytes base last logs number before after made left legal view asks_t
       sent = ap (λ (l : List Answer). bytes_sent key (served key bytes l)) answers ∙ sent_stream_law key base bytes s.meanings;
     }
 
+-- what a seat called in a legal history was answered by what the desk represented then
+viewed_by : (base last : Meaning) (logs : List (List Entry)) (number : ℕ) (before view : List Made) → Legal base (joined logs) last → view_along 0 number logs ≡ before ++ view → Viewed base logs view
+viewed_by base last logs number before view legal is =
+    viewed_after base logs before view (subst (λ (l : List Made). Viewed base logs l) is (viewed_along base number logs logs [] 0 refl refl (answered base (joined logs) last legal)))
+
+said_at : (key bytes : List ℕ) (base last : Meaning) (logs : List (List Entry)) (number : ℕ) (before after : List Made) (made : List Exchange) (left : List Ask) → Legal base (joined logs) last
+    → view_along 0 number logs ≡ before ++ (map in_view made ++ after) → asks key bytes ≡ asks_of made ++ left → IsSaid key bytes base logs made
+said_at key bytes base last logs number before after made left legal view asks_them =
+    said_by key bytes base logs after made left (viewed_by base last logs number before (map in_view made ++ after) legal view) asks_them
+
+-- ---- what was put on a connection
+
+-- what was asked by these bytes, and the first of what is sent by the answers, which was put there
+record IsPut (key heard bytes : List ℕ) (end : Option End) (made : List Exchange) : Type 0 where
+  left : List Ask
+  asks_them : asks key heard ≡ asks_of made ++ left
+  unput : List ℕ
+  parts : bytes_sent key (served key heard (answers_of made)) ≡ bytes ++ unput
+  leaves : LeavesUnput end unput
+
+module _ (key : List ℕ) (sendings : List Sending) (answers : List Answer) (bytes : List ℕ) where
+  abbrev Puts : Option End → Type 0
+  Puts end = (left : List ℕ) × (bytes_sent key sendings ≡ bytes ++ left) × LeavesUnput end left
+
+  first_put : (first others : List Sending) → sendings ≡ first ++ others → bytes ≡ bytes_sent key first → bytes_sent key sendings ≡ bytes ++ bytes_sent key others
+  first_put first others parts is = ap (bytes_sent key) parts ∙ bytes_sent-append key first others ∙ ap (λ (l : List ℕ). l ++ bytes_sent key others) (sym is)
+
+  put_some : WritesSome key sendings answers (Some []) (Some bytes) → Puts None
+  put_some w = (bytes_sent key w.others, first_put w.first w.others w.parts w.written, tt)
+
+  put_by : (end : End) → Writes end key sendings answers (Some []) (Some bytes) → Puts (Some end)
+  put_by Memory w = (bytes_sent key w.others, first_put w.first w.others w.parts w.written, tt)
+  put_by WriteFault w = (w.others, w.parts ∙ ap (λ (l : List ℕ). l ++ w.others) (sym w.written), w.some_left)
+  put_by Unwitnessed w = (bytes_sent key (w.next ++ w.others), first_put w.first (w.next ++ w.others) (w.parts ∙ append_assoc w.first w.next w.others) w.written, tt)
+  put_by end w = ([], sym w ∙ sym (append-nil bytes), refl)
+
+put_over : (end : End) (key heard bytes : List ℕ) (made : List Exchange) (refuses : Ask → HallFault → Type 0) (are_told : List Notice → Option Notice → Type 0)
+    → IsServedBy end key (λ others. others ≡ made) refuses are_told (record { before = Some heard; after = Some []; old = Some []; new = Some bytes }) → IsPut key heard bytes (Some end) made
+put_over end key heard bytes made refuses are_told work =
+    let ends = work.ends in
+    let puts = put_by key (served key work.input (answers_of ends.made)) (answers_of ends.made) bytes end ends.writes in
+    let is : IsPut key work.input bytes (Some end) ends.made = record { left = ends.left; asks_them = ends.asks; unput = puts.0; parts = puts.1; leaves = puts.2 } in
+    subst (λ (l : List Exchange). IsPut key heard bytes (Some end) l) ends.makes
+    (subst (λ (l : List ℕ). IsPut key l bytes (Some end) ends.made) (sym (work.read ∙ append-nil work.input)) is)
+
+module _ (opening : Opening) (is_kept : Bool) (first : Seated) (calls : List Call) (next : ℕ) (line : DeskLine)
+    (a : IsAccounted (MakesOne opening) CatchesUp (Refuses opening) IsTold (IsRefused is_kept) first calls next line) where
+  put_on : (end : Option End) → line.link.end ≡ end → IsPut line.link.key line.link.heard (put line.link) end (calls_of line.number calls)
+  put_on None is =
+      let both = open_by_its_own (MakesOne opening) CatchesUp (Refuses opening) IsTold (IsRefused is_kept) first calls next line a is in
+      let o = both.0 in
+      let puts = put_some line.link.key (served line.link.key line.link.heard (answers_of o.made)) (answers_of o.made) (put line.link) o.writes in
+      let so : IsPut line.link.key line.link.heard (put line.link) None o.made = record { left = o.left; asks_them = o.asked; unput = puts.0; parts = puts.1; leaves = tt } in
+      subst (λ (l : List Exchange). IsPut line.link.key line.link.heard (put line.link) None l) both.1 so
+  put_on (Some end) is =
+      put_over end line.link.key line.link.heard (put line.link) (calls_of line.number calls) (Refuses opening line.link.caller) _
+      (served_by_its_own (MakesOne opening) CatchesUp (Refuses opening) IsTold (IsRefused is_kept) first calls next line a end is)
+
+  said_on : (base : Meaning) (logs : List (List Entry)) → Viewed base logs (map in_view (calls_of line.number calls) ++ []) → IsSaidOn line base logs (calls_of line.number calls)
+  said_on base logs viewed =
+      let p = put_on line.link.end refl in
+      let said = said_by line.link.key line.link.heard base logs [] (calls_of line.number calls) p.left viewed p.asks_them in
+      record { said = said; left = p.unput; parts = sym said.sent ∙ p.parts; leaves = p.leaves }
+
+-- ---- the calls of one number
+
+module _ (base : Meaning) (logs : List (List Entry)) (number : ℕ) (after : List Made) where
+  viewed_if : (here : Bool) (exchange : Exchange) (made : List Exchange) → Viewed base logs (in_view exchange ∷ map in_view made ++ []) → Viewed base logs (map in_view (if here then exchange ∷ made else made) ++ [])
+  viewed_if true exchange made h = h
+  viewed_if false exchange made h = h.1
+
+  viewed_own : (calls : List Call) → Viewed base logs (map in_view (exchanges calls) ++ after) → Viewed base logs (map in_view (calls_of number calls) ++ [])
+  viewed_own [] h = tt
+  viewed_own (call ∷ calls) h = viewed_if (call.number == number) call.exchange (calls_of number calls) (h.0, viewed_own calls h.1)
+
+-- ---- the laws
+
 pub receipt_places_law : ReceiptPlacesLaw
 receipt_places_law end key was now before after old new work base last logs later legal view =
     let ends = work.ends in
@@ -144,15 +233,21 @@ receipt_places_law end key was now before after old new work base last logs late
     (view ∙ ap (λ (l : List Made). l ++ later) ends.makes.view ∙ append_assoc was.seat.view (map in_view ends.made) later) ends.asks
 
 pub places_law : PlacesLaw
-places_law opening end key was now lines traffic work last history later legal view =
-    let ends = work.ends in
-    let number = number_after opening was ends.made now ends.makes in
+places_law opening is_kept board working last history later legal view =
+    let calls = working.calls in
+    let made = exchanges calls in
+    let number = board.caller.number in
+    let same = number_after opening board.first made board.caller working.made in
     let laws = logs_law history in
-    let seen : view_in now.number now.seen ≡ view_in now.number was.seen ++ map in_view ends.made =
-    subst (λ (n : ℕ). view_in n now.seen ≡ view_in n was.seen ++ map in_view ends.made) (sym number) (view_after opening was ends.made now ends.makes) in
-    said_at key work.input opening.meaning last (logs_of history) now.number (view_in now.number was.seen) later ends.made ends.left
+    let seen : view_in number board.caller.seen ≡ view_in number board.first.seen ++ map in_view made =
+    subst (λ (n : ℕ). view_in n board.caller.seen ≡ view_in n board.first.seen ++ map in_view made) (sym same) (view_after opening board.first made board.caller working.made) in
+    let viewed = viewed_by opening.meaning last (logs_of history) number (view_in number board.first.seen) (map in_view made ++ later)
     (subst (λ (l : List Entry). Legal opening.meaning l last) (sym laws.0) legal)
-    (laws.1 now.number ∙ view ∙ ap (λ (l : List Made). l ++ later) seen ∙ append_assoc (view_in now.number was.seen) (map in_view ends.made) later) ends.asks
+    (laws.1 number ∙ view ∙ ap (λ (l : List Made). l ++ later) seen ∙ append_assoc (view_in number board.first.seen) (map in_view made) later) in
+    let own : (line : DeskLine) → IsAccounted (MakesOne opening) CatchesUp (Refuses opening) IsTold (IsRefused is_kept) board.first calls board.next line
+    → IsSaidOn line opening.meaning (logs_of history) (calls_of line.number calls) =
+    λ line a. said_on opening is_kept board.first calls board.next line a opening.meaning (logs_of history) (viewed_own opening.meaning (logs_of history) line.number later calls viewed) in
+    (λ key line e. own line (working.served key line e), λ k d l. own _ (working.over k d l))
 
 pub hall_places_law : HallPlacesLaw
 hall_places_law end key was now lines traffic work base last logs later legal view =

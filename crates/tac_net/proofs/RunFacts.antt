@@ -1,15 +1,13 @@
 -- A server's course, put together from its parts.
-use Rattle.std.proofs.Common.{◌≡◌, ℕ, List, ◌∷◌, map, length, All, Option, Result, Err, refl}
+use Rattle.std.proofs.Common.{◌≡◌, ℕ, List, ◌∷◌, length, All, Option, Result, Err, refl}
 use mathlib.Core.Logic.{inl, inr}
 use Rattle.tac_forum.specs.History.{Opening}
 use Rattle.tac_forum.specs.Seat.{Seated, IsFresh}
-use Rattle.tac_worker.specs.declared.worked.End.{End}
 use Rattle.tac_hall_console.specs.declared.fault.OperatorFault.{OperatorFault}
 use Rattle.tac_journal.specs.Log.{Keeping}
 use Rattle.tac_net.specs.Ending.{Closes}
 use Rattle.tac_net.specs.Program.{HasAttended, Ends, Runs, end_by}
-use Rattle.tac_journal.specs.Log.{Keeping}
-use Rattle.tac_net.specs.Serving.{IsDeskConnection, HaveServed}
+use Rattle.tac_net.specs.Connections.{HasServed, HaveAllServed}
 use Rattle.tac_net.specs.declared.settings.Settings.{Settings}
 use Rattle.tac_net.specs.declared.fault.ServeFault.{ServeFault}
 use Rattle.tac_net.specs.declared.fault.ServeFault.TheVariants.{Memory}
@@ -31,9 +29,9 @@ ended settings log opening seat console operated before after old told new close
     })
 
 -- workers served too, and the desk was closed or not
-pub ran : (settings : Settings) (log : Keeping) (opening : Opening) (seats : List Seated) (seat console : Seated) (operated : Result (Unit {0}) OperatorFault) (before after old told new : Option (List ℕ)) (served : List (Seated × End)) (closed : Result (Unit {0}) ServeFault)
+pub ran : (settings : Settings) (log : Keeping) (opening : Opening) (seats : List Seated) (seat console : Seated) (operated : Result (Unit {0}) OperatorFault) (before after old told new : Option (List ℕ)) (served : List Seated) (closed : Result (Unit {0}) ServeFault)
     → HasAttended (console, operated) settings.port opening seat before after old told → IsFresh seat → length seats ≡ settings.workers → All IsFresh seats
-    → HaveServed (IsDeskConnection opening settings.key log) settings.connections seats served → Closes closed opening (console ∷ map (λ one. one.0) served) told new
+    → HaveAllServed (HasServed opening settings.key log settings.connections) seats served → Closes closed opening (console ∷ served) told new
     → Runs (end_by operated closed) settings log opening before after old new
 ran settings log opening seats seat console operated before after old told new served closed attended fresh count all_fresh have closes =
     ended settings log opening seat console operated before after old told new closed attended fresh (inl (served, record { seats = seats; count = count; fresh = all_fresh; have = have }, closes))

@@ -1,5 +1,6 @@
 pub mod Logs
 pub mod Serving
+pub mod Connections
 pub mod Opening
 pub mod Ending
 pub mod Program
@@ -8,3 +9,5 @@ pub mod Places
 pub mod Patience
 pub mod Pause
 pub mod Filling
+pub mod Witness
+pub mod Standing

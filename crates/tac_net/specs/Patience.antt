@@ -1,52 +1,53 @@
 -- When a server gives a device up (docs/SERVE.md, "Silent and hostile devices"). Times are in
 -- milliseconds, by a clock that may not be readable: then there is no time.
-use Rattle.std.specs.Prelude.{ℕ, ◌*◌, ◌-◌, min, ◌==◌, Bool, true, false, not, ◌&&◌, nat_le}
+use Rattle.std.specs.Prelude.{ℕ, ◌*◌, ◌-◌, min, ◌==◌, Bool, true, false, nat_le}
 use Rattle.std.specs.Prelude.{Option, Some, None, if◌then◌else◌}
+use Rattle.tac_net.specs.declared.patience.Idle.{Idle}
 use Rattle.tac_net.specs.declared.patience.Patience.{Patience}
 
 -- ---- the steps
 
--- a connection was accepted, of a server that is patient for so many seconds
-abbrev pub accepted : ℕ → Option ℕ → Patience
-accepted idle now =
-    record { idle = idle; since = now; has_replied = false; waits = None }
-
--- bytes came: that moves nothing, so a device that sends a byte a second is as silent as one that
--- sends none
-abbrev pub heard : Patience → Patience
-heard patience = patience
+-- a connection was accepted. Bytes that come later move nothing, so a device that sends a byte a
+-- second is as silent as one that sends none
+abbrev pub accepted : Option ℕ → Patience
+accepted now = record { since = now; has_replied = false; waits = None }
 
 -- a reply was taken whole: the device is silent since then, and nothing waits
-abbrev pub taken : Patience → Option ℕ → Patience
-taken patience now = record patience { since = now; has_replied = true; waits = None }
+abbrev pub taken : Option ℕ → Patience
+taken now = record { since = now; has_replied = true; waits = None }
+
+-- the first of these times that there is
+abbrev pub or_else : Option ℕ → Option ℕ → Option ℕ
+or_else None second = second
+or_else (Some first) second = Some first
 
 -- a reply was not taken, or not whole: it waits since the first time that it wasn't
-abbrev pub waiting_since : Option ℕ → Option ℕ → Option ℕ
-waiting_since None now = now
-waiting_since (Some first) now = Some first
-
 abbrev pub untaken : Patience → Option ℕ → Patience
-untaken patience now = record patience { waits = waiting_since patience.waits now }
+untaken patience now = record patience { waits = or_else patience.waits now }
 
 -- ---- giving up
 
--- how long it is borne with: ten seconds or less before its first reply, and after that as long as
--- the server says
-abbrev pub allowed : Patience → ℕ
-allowed patience =
-    if patience.has_replied then patience.idle * 1000 else min (patience.idle * 1000) 10000
+-- in milliseconds, for so many seconds: ten seconds or less before its first reply, and after that
+-- as long as is said. 0 seconds are for ever
+abbrev pub allowed_by : ℕ → Bool → Option ℕ
+allowed_by seconds has_replied =
+    if seconds == 0 then None
+    else if has_replied then Some (seconds * 1000) else Some (min (seconds * 1000) 10000)
 
--- so much time has passed since then; 0 seconds are for ever, and without a time none passes
-abbrev pub has_passed : Patience → Option ℕ → Option ℕ → Bool
-has_passed patience (Some start) (Some now) =
-    not (patience.idle == 0) && nat_le (allowed patience) (now - start)
-has_passed patience (Some start) None = false
-has_passed patience None now = false
+-- how long it is borne with: where its last reply asked for a name or a password by the one
+-- number, else by the other
+abbrev pub allowed : Patience → Idle → Bool → Option ℕ
+allowed patience idle asks =
+    allowed_by (if asks then idle.login else idle.idle) patience.has_replied
 
--- it is given up where it is to be read from, as silent
-abbrev pub is_silent : Patience → Option ℕ → Bool
-is_silent patience now = has_passed patience patience.since now
+-- so much time has passed since then. For ever never passes, and without a time none does
+abbrev pub has_passed : Option ℕ → Option ℕ → Option ℕ → Bool
+has_passed (Some allowed) (Some start) (Some now) = nat_le allowed (now - start)
+has_passed (Some allowed) (Some start) None = false
+has_passed (Some allowed) None now = false
+has_passed None start now = false
 
--- and where it is to be written to, as one that doesn't take its reply
-abbrev pub is_unread : Patience → Option ℕ → Bool
-is_unread patience now = has_passed patience patience.waits now
+-- it is given up: its reply has waited for so long, or else none was taken for so long
+abbrev pub is_over : Patience → Idle → Bool → Option ℕ → Bool
+is_over patience idle asks now =
+    has_passed (allowed patience idle asks) (or_else patience.waits patience.since) now

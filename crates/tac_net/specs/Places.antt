@@ -1,20 +1,24 @@
 -- What a worker sends, by the places that its calls have in the history of its desk.
-use Rattle.std.specs.Prelude.{◌≡◌, ℕ, zero, suc, List, [], ◌∷◌, ◌++◌, take, Option}
+use Rattle.std.specs.Prelude.{◌≡◌, ◌<◌, ℕ, zero, suc, List, [], ◌∷◌, ◌++◌, take, length}
+use Rattle.std.specs.Prelude.{Bool, Option, Some, None}
 use Rattle.tac_desk.specs.Meaning.{Meaning}
 use Rattle.tac_hall.specs.declared.entry.Entry.{Entry}
 use Rattle.tac_hall.specs.declared.entry.Made.{Made}
 use Rattle.tac_worker.specs.declared.worked.End.{End}
+use Rattle.tac_worker.specs.declared.worked.End.TheVariants.{Memory, WriteFault, Unwitnessed}
 use Rattle.tac_hall.specs.History.{Legal}
 use Rattle.tac_hall.specs.Seat.{Sitting}
 use Rattle.tac_hall.specs.Shedding.{view_along}
 use Rattle.tac_forum.specs.declared.event.Event.{Event}
 use Rattle.tac_forum.specs.History.{Opening, calls_in, logs_of, joined, view_of}
-use Rattle.tac_forum.specs.Seat.{Seated}
+use Rattle.tac_worker.specs.Linked.{put}
 use Rattle.tac_worker.specs.Served.{served, bytes_sent}
 use Rattle.tac_worker.specs.Worked.{Exchange, answers_of, Calling, Traffic, IsServed}
-use Rattle.tac_worker.specs.AtDesk.{IsServedAt}
 use Rattle.tac_worker.specs.AtHall as at_hall
+use Rattle.tac_loop.specs.Calls.{calls_of}
+use Rattle.tac_loop.specs.Board.{AreAll}
 use Rattle.tac_desk.specs.Serving.{sent_bytes}
+use Rattle.tac_net.specs.Connections.{DeskLine, DeskBoard, IsDeskBoard}
 use Rattle.tac_net.specs.Logs.{Logs}
 use Rattle.tac_net.specs.Shared.{said_shared_on, packets_in}
 
@@ -47,18 +51,39 @@ pub record IsSaid (key bytes : List ℕ) (base : Meaning) (logs : List (List Ent
       bytes_sent key (served key bytes (answers_of made))
       ≡ sent_bytes key (said_shared_on key base bytes meanings).sent
 
--- this is true of each connection that a worker of a shared desk served, wherever the calls of a
--- history are legal, and it has exactly the calls that the worker's seat has seen of itself, with
--- what that called later
+-- what is left to be put on a connection that stands so: nothing once it has ended, unless memory
+-- ran out, the writer failed, or the witness refused a notice
+abbrev pub LeavesUnput : Option End → List ℕ → Type 0
+LeavesUnput None left = Unit {0}
+LeavesUnput (Some Memory) left = Unit {0}
+LeavesUnput (Some WriteFault) left = 0 < length left
+LeavesUnput (Some Unwitnessed) left = Unit {0}
+LeavesUnput (Some end) left = left ≡ []
+
+-- so it is of the bytes that came on this connection, and the first of what such a server says was
+-- put on it to be sent
+pub record IsSaidOn (line : DeskLine) (base : Meaning) (logs : List (List Entry))
+    (made : List Exchange) : Type 0 where
+  pub said : IsSaid line.link.key line.link.heard base logs made
+  pub left : List ℕ
+  pub parts :
+      sent_bytes line.link.key
+      (said_shared_on line.link.key base line.link.heard said.meanings).sent
+      ≡ put line.link ++ left
+  pub leaves : LeavesUnput line.link.end left
+
+-- this is true of each connection of a seat of a shared desk, by the calls that the seat made for
+-- it, wherever the calls of a history are legal, and it has exactly the calls that the seat has
+-- seen of itself, with what that called later
 abbrev pub PlacesLaw : Type 0
 PlacesLaw =
-    (opening : Opening) (end : End) (key : List ℕ) (was now : Seated)
-    (lines : Option (List (List ℕ))) (traffic : Traffic)
-    (work : IsServedAt opening end key was now (Logs lines) traffic)
+    (opening : Opening) (is_kept : Bool) (board : DeskBoard)
+    (working : IsDeskBoard opening is_kept board)
     (last : Meaning) (history : List (ℕ × Event)) (later : List Made)
     → Legal opening.meaning (calls_in history) last
-    → view_of now.number history ≡ view_of now.number now.seen ++ later
-    → IsSaid key work.input opening.meaning (logs_of history) work.ends.made
+    → view_of board.caller.number history ≡ view_of board.caller.number board.caller.seen ++ later
+    → AreAll (λ line. IsSaidOn line opening.meaning (logs_of history)
+    (calls_of line.number working.calls)) board
 
 -- and of each that a seat of a hall served, wherever the logs of one segment after another are
 -- together a legal history, and have exactly the view of the seat, with what that called later

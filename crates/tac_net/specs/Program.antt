@@ -1,20 +1,19 @@
 -- A server with a console, from its first line to the closing of its desk.
-use Rattle.std.specs.Prelude.{◌≡◌, ◌⊎◌, ℕ, List, ◌∷◌, length, map, All, Option, Result, Ok, Err}
+use Rattle.std.specs.Prelude.{◌≡◌, ◌⊎◌, ℕ, List, ◌∷◌, length, All, Option, Result, Ok, Err}
 use Rattle.std.specs.Io.KnownBytes.{Appends}
 use Rattle.tac_forum.specs.History.{Opening}
 use Rattle.tac_forum.specs.Seat.{Seated, IsFresh}
-use Rattle.tac_worker.specs.declared.worked.End.{End}
 use Rattle.tac_hall_console.specs.Operated.{IsOperated}
 use Rattle.tac_hall_console.specs.declared.fault.OperatorFault.{OperatorFault}
 use Rattle.tac_hall_console.specs.declared.fault.OperatorFault.TheVariants as operator
 use Rattle.tac_journal.specs.Log.{Keeping}
 use Rattle.tac_net.specs.Opening.{listening_line, Announces}
 use Rattle.tac_net.specs.Ending.{Refuses, Closes}
-use Rattle.tac_net.specs.Serving.{IsDeskConnection, HaveServed}
+use Rattle.tac_net.specs.Connections.{HasServed, HaveAllServed}
 use Rattle.tac_net.specs.declared.settings.Settings.{Settings}
 use Rattle.tac_net.specs.declared.fault.ServeFault.{ServeFault}
 use Rattle.tac_net.specs.declared.fault.ServeFault.TheVariants.{ReadFault, WriteFault, Memory}
-use Rattle.tac_net.specs.declared.fault.ServeFault.TheVariants.{Threads}
+use Rattle.tac_net.specs.declared.fault.ServeFault.TheVariants.{Threads, Descriptors}
 
 -- what the end of the console ends the server as
 abbrev pub fault_by : OperatorFault → ServeFault
@@ -29,10 +28,12 @@ end_by (Err fault) closed = Err (fault_by fault)
 end_by (Ok _) closed = closed
 
 -- before its console could begin: `close refused` was printed where it has no seats, nothing where
--- it has no threads or no memory; a beginning of that or of the first line where a write failed
+-- it has no threads, no file descriptors or no memory; a beginning of that or of the first line
+-- where a write failed
 abbrev pub Fails : Result (Unit {0}) ServeFault → ℕ → Option (List ℕ) → Option (List ℕ) → Type 0
 Fails (Ok _) port old new = ⊥
 Fails (Err Threads) port old new = new ≡ old
+Fails (Err Descriptors) port old new = new ≡ old
 Fails (Err fault) port old new = Refuses fault old new ⊎ Announces (Err fault) port old new
 
 -- `listening P` was printed, and then the console was operated by this seat. Which log was told of
@@ -52,21 +53,20 @@ Attends (Ok ended) port opening was before after old new =
 Attends (Err fault) port opening was before after old new =
     (after ≡ before) × Fails (Err fault) port old new
 
--- so many workers, who had done nothing, served so many connections each
+-- so many workers, who had done nothing, served at most so many connections each
 pub record HaveWorked (settings : Settings) (log : Keeping) (opening : Opening)
-    (served : List (Seated × End)) : Type 0 where
+    (served : List Seated) : Type 0 where
   pub seats : List Seated
   pub count : length seats ≡ settings.workers
   pub fresh : All IsFresh seats
-  pub have : HaveServed (IsDeskConnection opening settings.key log) settings.connections
-      seats served
+  pub have : HaveAllServed (HasServed opening settings.key log settings.connections) seats served
 
 -- workers served, and the desk was closed with the console's seat and theirs; or memory ran out
 abbrev pub Ends : Result (Unit {0}) ServeFault → Settings → Keeping → Opening → Seated
     → Option (List ℕ) → Option (List ℕ) → Type 0
 Ends closed settings log opening console old new =
-    ((served : List (Seated × End)) × HaveWorked settings log opening served
-    × Closes closed opening (console ∷ map (λ one. one.0) served) old new)
+    ((served : List Seated) × HaveWorked settings log opening served
+    × Closes closed opening (console ∷ served) old new)
     ⊎ ((closed ≡ Err Memory) × (new ≡ old))
 
 -- `listening P` was printed, then the console was operated by a seat that had done nothing, while

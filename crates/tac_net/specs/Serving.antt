@@ -1,47 +1,34 @@
--- What a worker has done that served connections one after another, and what several have: at a
--- hall, or at a shared desk.
-use Rattle.std.specs.Prelude.{◌≡◌, ◌≤◌, ◌+◌, ◌⊎◌, ℕ, List, [], ◌∷◌, Bool, true, false, Option}
+-- What a worker of a hall has done that served connections one after another, and what several
+-- have.
+use Rattle.std.specs.Prelude.{◌≡◌, ◌≤◌, ◌+◌, ◌⊎◌, ℕ, List, [], ◌∷◌, Bool, true, false, None}
 use Rattle.tac_conn.specs.declared.ask.Ask.{Ask}
-use Rattle.tac_forum.specs.History.{Opening}
-use Rattle.tac_forum.specs.Seat.{Seated, CatchesUp}
 use Rattle.tac_hall.specs.declared.fault.HallFault.{HallFault}
 use Rattle.tac_hall.specs.Seat.{Sitting}
 use Rattle.tac_worker.specs.declared.worked.End.{End}
 use Rattle.tac_worker.specs.declared.worked.End.TheVariants.{Finished, Stopped, ReadFault}
 use Rattle.tac_worker.specs.declared.worked.End.TheVariants.{Held, NoSeat}
 use Rattle.tac_worker.specs.Worked.{Exchange, AreAllMade, Traffic, IsServedBy}
-use Rattle.tac_worker.specs.AtDesk as at_desk
 use Rattle.tac_worker.specs.AtHall as at_hall
-use Rattle.tac_journal.specs.Log.{Keeping, nowhere}
-use Rattle.tac_net.specs.Logs.{HasTaken, Logs}
+use Rattle.tac_net.specs.Logs.{Logs}
 
 -- ---- one connection
 
 -- whoever makes the calls, each by such a step, and then rests, served it, and it ended so; a call
--- is refused so. The log, if one is kept, took the lines of the notices that were told, and the
--- replies in these were written. That the bytes are the device's is in no contract
+-- is refused so. No log is told. That the bytes are the client's is in no contract
 pub record IsConnection {S : Type 0} (step : S → Exchange → S → Type 0) (rests : S → S → Type 0)
-    (refuses : S → Ask → HallFault → Type 0) (key : List ℕ) (log : Keeping)
-    (was : S) (end : End) (now : S) : Type 0 where
+    (refuses : S → Ask → HallFault → Type 0) (key : List ℕ) (was : S) (end : End) (now : S)
+    : Type 0 where
   pub traffic : Traffic
-  pub lines : Option (List (List ℕ))
-  pub taken : HasTaken log lines
   pub served : IsServedBy end key (λ made. AreAllMade step rests was made now) (refuses now)
-      (Logs lines) traffic
+      (Logs None) traffic
 
--- a seat of a hall served it, without a log
+-- a seat of a hall served it
 abbrev pub IsHallConnection : List ℕ → Sitting → End → Sitting → Type 0
-IsHallConnection key = IsConnection at_hall.MakesOne at_hall.Rests at_hall.Refuses key nowhere
+IsHallConnection key = IsConnection at_hall.MakesOne at_hall.Rests at_hall.Refuses key
 
--- a seat of a shared desk did
-abbrev pub IsDeskConnection : Opening → List ℕ → Keeping → Seated → End → Seated → Type 0
-IsDeskConnection opening key log =
-    IsConnection (at_desk.MakesOne opening) CatchesUp (at_desk.Refuses opening) key log
-
--- how it ends where no connection was accepted: as one that couldn't be read, or as Stopped, since
--- the server was stopping
+-- how it ends where no connection could be accepted: as one that couldn't be read
 abbrev pub IsUnaccepted : End → Type 0
-IsUnaccepted end = (end ≡ ReadFault) ⊎ (end ≡ Stopped)
+IsUnaccepted end = end ≡ ReadFault
 
 -- a connection was served so, or none could be accepted
 abbrev pub Connects : {S : Type 0} → (S → End → S → Type 0) → S → End → S → Type 0

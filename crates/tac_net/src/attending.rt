@@ -5,7 +5,7 @@ ghost use Rattle.tac_net.specs.Program as program;
 
 use crate::fault::ServeFault;
 use crate::opening::announce;
-use crate::service::Premises;
+use crate::premises::Premises;
 use std::io::{Read, Write};
 use std::sync::Wait;
 use std::time::Clock;
@@ -76,6 +76,7 @@ where
 {
     let attended = open_console(premises, console, input, output);
     premises.vigil.stop();
+    premises.intake.wake_all();
     premises.port.close();
     attended
 }

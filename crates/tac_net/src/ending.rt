@@ -1,6 +1,6 @@
 //! The ending of a server: its desk is closed.
 
-ghost use Rattle.std.specs.Prelude.{◌≡◌, [], ◌∷◌, ◌++◌, map, OnOk};
+ghost use Rattle.std.specs.Prelude.{◌≡◌, [], ◌∷◌, ◌++◌, OnOk};
 ghost use Rattle.tac_net.specs.Ending as ending;
 
 use crate::fault::ServeFault;
@@ -9,7 +9,6 @@ use std::alloc::AllocError;
 use std::io::Write;
 use tac_desk::Desk;
 use tac_forum::{Run, Seat, SharedDesk};
-use tac_worker::End;
 
 const REFUSED: &[u8] = b"close refused\n";
 
@@ -25,13 +24,10 @@ pub(crate) fn refuse<W: Write>(output: &mut W) -> ServeFault
 }
 
 // Adds the seats of those who served.
-fn add_seats<J: Run>(
-    seats: &mut Vec<Seat<J>>,
-    served: Vec<(Seat<J>, End)>,
-) -> Result<(), AllocError>
-    ensures { OnOk result (seats.new.items ≡ seats.old.items ++ map (λ one. one.0) served.items) }
+fn add_seats<J: Run>(seats: &mut Vec<Seat<J>>, served: Vec<Seat<J>>) -> Result<(), AllocError>
+    ensures { OnOk result (seats.new.items ≡ seats.old.items ++ served.items) }
 {
-    'workers: for (seat, _) in served {
+    'workers: for seat in served {
         seats.push(seat)?;
     }
     Ok(())
@@ -41,12 +37,12 @@ fn add_seats<J: Run>(
 pub(crate) fn close<J: Run, D: Desk, W: Write>(
     desk: SharedDesk<J, D>,
     console: Seat<J>,
-    served: Vec<(Seat<J>, End)>,
+    served: Vec<Seat<J>>,
     room: Vec<Seat<J>>,
     output: &mut W,
 ) -> Result<(), ServeFault>
     requires { room.items ≡ [] }
-    ensures { ending.Closes result J.opening (console ∷ map (λ one. one.0) served.items)
+    ensures { ending.Closes result J.opening (console ∷ served.items)
         (W.contents output.old) (W.contents output.new) }
 {
     let mut seats = room;

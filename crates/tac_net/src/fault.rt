@@ -1,10 +1,12 @@
 //! Why a server ended other than by its console.
 
 ghost use Rattle.std.specs.Prelude.{◌≡◌};
+ghost use Rattle.tac_net.specs.Opening.{IsUnready};
 ghost use Rattle.tac_net.specs.Program.{fault_by};
 ghost use Rattle.tac_net.specs.declared.fault.ServeFault.TheVariants.{Memory};
 
 use std::alloc::{AllocError, AllocFailed};
+use std::io::{self, ErrorKind};
 use tac_hall_console::OperatorFault;
 use thiserror::Error;
 
@@ -23,6 +25,9 @@ pub enum ServeFault {
     /// A worker has no thread.
     #[error("a thread could not be made")]
     Threads,
+    /// The system has no file descriptor for what a worker waits with.
+    #[error("there are too few file descriptors for the workers")]
+    Descriptors,
     /// A seat of the desk is missing, and `close refused` was printed.
     #[error("the desk could not be closed")]
     CloseRefused,
@@ -41,6 +46,17 @@ impl<T: Drop> From<AllocFailed<T>> for ServeFault {
 
     fn from(_error: AllocFailed<T>) -> ServeFault {
         ServeFault::Memory
+    }
+}
+
+impl From<io::Error> for ServeFault {
+    ghost from_gives = { λ _ fault. IsUnready fault };
+
+    fn from(error: io::Error) -> ServeFault {
+        match error.kind() {
+            ErrorKind::OutOfMemory => ServeFault::Memory,
+            _ => ServeFault::Descriptors,
+        }
     }
 }
 

@@ -1,34 +1,40 @@
-//! Serving a desk on the network: one worker a seat, each in a thread of its own, and a console.
+//! Serving a desk on the network: workers in threads, each with a seat, and a console.
 #![tactic(auto)]
 
+mod acceptor;
 mod attending;
 mod ending;
 mod fault;
 mod filling;
 mod gauge;
+mod hall_worker;
+mod intake;
 mod lent;
-mod line;
 mod opening;
+mod packet_memory;
 mod patience;
 mod pause;
+mod poller;
 mod port;
+mod premises;
 mod program;
-mod service;
 mod serving;
 mod settings;
 mod sharing;
+mod socket;
 mod vigil;
+mod witness;
 mod worker;
 
 pub use fault::ServeFault;
 pub use filling::FillingDesk;
 pub use gauge::{Fullness, Gauge};
-pub use line::Line;
-pub use patience::Patience;
+pub use packet_memory::{PacketMemory, PacketShare};
+pub use patience::{Idle, Patience};
 pub use pause::{Pause, accepted};
 pub use port::Port;
 pub use program::serve;
 pub use serving::serve_on;
 pub use settings::Settings;
 pub use sharing::sharing_laws;
-pub use vigil::Vigil;
+pub use socket::{Socket, Visits};

@@ -9,14 +9,21 @@ const FIRST_IDLE: u64 = 10_000;
 /// Milliseconds of a second.
 const SECOND: u64 = 1_000;
 
+/// After how many seconds without a reply a device is given up; 0 means never.
+#[derive(Clone, Copy, Debug, PartialEq, Eq)]
+pub struct Idle {
+    /// Before its first reply after ten at the latest.
+    pub idle: u32,
+    /// Where its last reply asked for a name or a password.
+    pub login: u32,
+}
+
 /// What of a connection says when its device is given up. Times are in milliseconds since any
 /// moment, by one clock; where the clock can't be read there is none, and nobody is given up.
 ///
 /// It is a value: each step answers what is so after it, and none looks at a clock.
 #[derive(Clone, Copy, Debug, PartialEq, Eq)]
 pub struct Patience {
-    // after how many seconds a device is given up; 0 means never
-    idle: u32,
     // when the last reply was taken, or the connection accepted
     since: Option<u64>,
     has_replied: bool,
@@ -25,32 +32,22 @@ pub struct Patience {
 }
 
 impl Patience {
-    /// A connection was accepted, by a server that gives one up after so many seconds without a
-    /// reply, and after ten at the latest before its first; never, if that is 0.
-    pub fn accepted(idle: u32, now: Option<u64>) -> Patience
-        ensures { result ≡ patience.accepted idle now }
+    /// A connection was accepted.
+    pub fn accepted(now: Option<u64>) -> Patience
+        ensures { result ≡ patience.accepted now }
     {
         Patience {
-            idle,
             since: now,
             has_replied: false,
             waits: None,
         }
     }
 
-    /// Bytes came. A device that sends some is no less silent.
-    pub fn heard(self) -> Patience
-        ensures { result ≡ patience.heard self }
-    {
-        self
-    }
-
     /// A reply was taken whole.
     pub fn taken(self, now: Option<u64>) -> Patience
-        ensures { result ≡ patience.taken self now }
+        ensures { result ≡ patience.taken now }
     {
         Patience {
-            idle: self.idle,
             since: now,
             has_replied: true,
             waits: None,
@@ -66,56 +63,46 @@ impl Patience {
             None => now,
         };
         Patience {
-            idle: self.idle,
             since: self.since,
             has_replied: self.has_replied,
             waits,
         }
     }
 
-    // How long the device is borne with.
-    fn allowed(self) -> u64
-        ensures { result ≡ patience.allowed self }
+    // For how long the device is borne with, in milliseconds; for ever where there is none.
+    fn allowed(self, idle: Idle, asks: bool) -> Option<u64>
+        ensures { result ≡ patience.allowed self idle asks }
     {
-        let idle = u64::from(self.idle) * SECOND;
+        let seconds = if asks { idle.login } else { idle.idle };
+        if seconds == 0 {
+            return None;
+        }
+        let milliseconds = u64::from(seconds) * SECOND;
         if self.has_replied {
-            idle
+            Some(milliseconds)
         } else {
-            idle.min(FIRST_IDLE)
+            Some(milliseconds.min(FIRST_IDLE))
         }
     }
 
-    // Whether so much time has passed since then.
-    fn has_passed(self, start: Option<u64>, now: Option<u64>) -> bool
-        ensures { result ≡ patience.has_passed self start now }
+    /// Whether the device is given up: its reply has waited for too long to be taken, or else none
+    /// was taken for too long. Its last reply asked for a name or a password, or not.
+    pub fn is_over(self, idle: Idle, asks: bool, now: Option<u64>) -> bool
+        ensures { result ≡ patience.is_over self idle asks now }
     {
+        let start = match self.waits {
+            Some(first) => Some(first),
+            None => self.since,
+        };
+        let Some(allowed) = self.allowed(idle, asks) else {
+            return false;
+        };
         let Some(start) = start else {
             return false;
         };
         let Some(now) = now else {
             return false;
         };
-        self.idle != 0 && self.allowed() <= now.saturating_sub(start)
-    }
-
-    /// Whether the device is given up where it is to be read from.
-    pub fn is_silent(self, now: Option<u64>) -> bool
-        ensures { result ≡ patience.is_silent self now }
-    {
-        self.has_passed(self.since, now)
-    }
-
-    /// Whether it is given up where it is to be written to: a reply has waited for too long.
-    pub fn is_unread(self, now: Option<u64>) -> bool
-        ensures { result ≡ patience.is_unread self now }
-    {
-        self.has_passed(self.waits, now)
-    }
-
-    /// Whether a reply waits to be taken, as far as a clock said so.
-    pub fn waits(self) -> bool
-        ensures { result ≡ is_some self.waits }
-    {
-        self.waits.is_some()
+        allowed <= now.saturating_sub(start)
     }
 }

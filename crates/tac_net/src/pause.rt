@@ -4,7 +4,6 @@ ghost use Rattle.std.specs.Prelude.{◌≡◌, IfErr};
 ghost use Rattle.tac_net.specs.Pause as pauses;
 ghost use Rattle.tac_net.specs.Serving.{IsUnaccepted};
 
-use crate::vigil::Vigil;
 use std::io;
 use std::thread::sleep;
 use std::time::{Clock, Duration};
@@ -50,10 +49,9 @@ impl Pause {
 }
 
 /// What is done with what came of waiting for a connection: where there is none it is paused, so
-/// that a lasting fault of the system costs no processor; but not where the server stops.
+/// that a lasting fault of the system costs no processor.
 pub fn accepted<T: Drop, C: Clock>(
     clock: &C,
-    vigil: &Vigil,
     pause: &mut Pause,
     came: io::Result<T>,
 ) -> Result<T, End>
@@ -65,7 +63,6 @@ pub fn accepted<T: Drop, C: Clock>(
             *pause = Pause::first();
             Ok(connection)
         }
-        Err(_) if vigil.is_stopping() => Err(End::Stopped),
         Err(_) => {
             sleep(clock, Duration::from_millis(pause.milliseconds()));
             *pause = pause.next();

@@ -1,5 +1,6 @@
 //! The port that devices call.
 
+use mio::net;
 use std::io;
 use std::net::{Net, Shutdown, SocketAddr, TcpListener, TcpStream};
 use std::os::fd::OwnedFd;
@@ -17,11 +18,9 @@ pub struct Port {
 impl Port {
     /// Listens at an address of this machine. The error is the system's: the address is another
     /// machine's, the port is in use, or it takes rights that the process lacks.
-    pub fn bind<R>(rt: &R, address: SocketAddr) -> io::Result<Port>
-    where
-        R: Net<Listener = TcpListener, Stream = TcpStream>,
-    {
-        let listener = TcpListener::bind(rt, address)?;
+    pub fn bind<R: Net>(rt: &R, address: SocketAddr) -> io::Result<Port> {
+        // of this crate, since its queue is as long as the system allows
+        let listener = TcpListener::from(net::TcpListener::bind(rt, address)?);
         let door = TcpStream::from(OwnedFd::from(listener.try_clone()?));
         Ok(Port {
             listener,
@@ -30,9 +29,14 @@ impl Port {
         })
     }
 
-    /// What takes the connections.
-    pub fn listener(&self) -> &TcpListener {
-        &self.listener
+    /// The address that is listened at.
+    pub fn address(&self) -> io::Result<SocketAddr> {
+        self.listener.local_addr()
+    }
+
+    /// What accepts connections there without waiting.
+    pub(crate) fn listener(&self) -> io::Result<net::TcpListener> {
+        Ok(net::TcpListener::from_std(self.listener.try_clone()?))
     }
 
     /// Nobody takes connections here any more.

@@ -1,54 +1,94 @@
 //! A server with a console.
 
-ghost use Rattle.std.specs.Prelude.{◌≡◌, IfOk, IfSome, IsSome};
+ghost use Rattle.std.specs.Prelude.{◌≡◌, map, IfOk, IfSome, IsSome};
 ghost use Rattle.pol_pattern.specs.Matching.{MatchLaw};
+ghost use Rattle.tac_net.specs.Connections.{HasServed, HaveAllServed};
 ghost use Rattle.tac_net.specs.Program as program;
-ghost use Rattle.tac_net.specs.Serving.{IsDeskConnection, HaveServed};
 
 use crate::attending::attend;
 use crate::ending::{close, refuse};
 use crate::fault::ServeFault;
 use crate::lent::Lent;
-use crate::opening::seats_of;
+use crate::opening::{places_of, waits_of};
 use crate::port::Port;
-use crate::service::Premises;
-use crate::serving::serve_seats;
+use crate::premises::Premises;
 use crate::settings::Settings;
 use crate::vigil::Vigil;
+use crate::worker::{Place, work};
 use std::alloc::AllocError;
 use std::io::{Read, Write};
 use std::marker::Brand;
+use std::net::Net;
 use std::sync::Wait;
-use std::thread::{Threads, join_mut};
+use std::thread::{Threads, join_mut, map_vec};
 use std::time::Clock;
 use tac_desk::Desk;
 use tac_forum::{EmptyHistory, Run, Seat, SharedDesk};
 use tac_hall::HallFault;
 use tac_hall_console::OperatorFault;
 use tac_journal::{Log, LogFiles};
-use tac_worker::End;
+
+// The workers, each in a thread of its own; they come back in their order.
+fn serve_places<R, J: Run + Send + Sync, D: Desk + Send, L: Log + Sync>(
+    premises: &Premises<'_, R, J, D, L>,
+    places: Vec<Place<J>>,
+) -> Result<Vec<Seat<J>>, AllocError>
+where
+    R: Threads + Wait + Clock + Sync + AllocGlobal + Eprint + LogFiles,
+    ensures { IfOk result (λ served. HaveAllServed (HasServed J.opening
+        premises.now.settings.now.key (L.keeping premises.now.log.now)
+        premises.now.settings.now.connections)
+        (map (λ place. place.seat) places.items) served.items) }
+{
+    let Premises {
+        rt,
+        port,
+        desk,
+        settings,
+        vigil,
+        intake,
+        log,
+    } = *premises;
+    let work = |place: Place<J>| -> Seat<J>
+        ensures { HasServed J.opening settings.entry.now.key (L.keeping log.entry.now)
+            settings.entry.now.connections place.seat result }
+    {
+        let premises = Premises {
+            rt,
+            port,
+            desk,
+            settings,
+            vigil,
+            intake,
+            log,
+        };
+        work(&premises, place)
+    };
+    map_vec(rt, places, &work)
+}
 
 // Workers serve in threads of their own, while this one serves the console. Once that has ended,
 // they end.
-fn serve_both<R, J: Run + Send + Sync, D: Desk + Send, L: Log + Sync, S, C, I: Read, O: Write>(
+fn serve_both<R, J: Run + Send + Sync, D: Desk + Send, L: Log + Sync, P, C, I: Read, O: Write>(
     premises: &Premises<'_, R, J, D, L>,
-    seats: &mut S,
+    places: &mut P,
     console: &mut C,
     input: &mut I,
     output: &mut O,
 ) -> (
-    Result<Vec<(Seat<J>, End)>, AllocError>,
+    Result<Vec<Seat<J>>, AllocError>,
     Result<(Seat<J>, Result<(), OperatorFault>), ServeFault>,
 )
 where
     R: Threads + Wait + Clock + Sync + AllocGlobal + Eprint + LogFiles,
-    S: Lent<Item = Vec<Seat<J>>> + Send,
+    P: Lent<Item = Vec<Place<J>>> + Send,
     C: Lent<Item = Seat<J>>,
-    requires seats { IsSome (S.item seats.now) }
+    requires places { IsSome (P.item places.now) }
     requires console { IsSome (C.item console.now) }
-    ensures served { IfOk result.0 (λ served. IfSome (S.item seats.old) (λ waiting. HaveServed
-        (IsDeskConnection J.opening premises.now.settings.now.key (L.keeping premises.now.log.now))
-        premises.now.settings.now.connections waiting.items served.items)) }
+    ensures served { IfOk result.0 (λ served. IfSome (P.item places.old) (λ waiting. HaveAllServed
+        (HasServed J.opening premises.now.settings.now.key (L.keeping premises.now.log.now)
+        premises.now.settings.now.connections)
+        (map (λ place. place.seat) waiting.items) served.items)) }
     ensures attended { IfSome (C.item console.old) (λ seat.
         program.Attends result.1 premises.now.settings.now.port J.opening seat
         (I.remaining input.old) (I.remaining input.new)
@@ -60,25 +100,28 @@ where
         desk,
         settings,
         vigil,
+        intake,
         log,
     } = *premises;
-    let mut serving = || -> Result<Vec<(Seat<J>, End)>, AllocError>
-        requires { IsSome (S.item seats.now) }
-        ensures { IfOk result (λ served. IfSome (S.item seats.entry.now) (λ waiting. HaveServed
-            (IsDeskConnection J.opening settings.entry.now.key (L.keeping log.entry.now))
-            settings.entry.now.connections waiting.items served.items)) }
+    let mut serving = || -> Result<Vec<Seat<J>>, AllocError>
+        requires { IsSome (P.item places.now) }
+        ensures { IfOk result (λ served. IfSome (P.item places.entry.now) (λ waiting.
+            HaveAllServed (HasServed J.opening settings.entry.now.key (L.keeping log.entry.now)
+            settings.entry.now.connections)
+            (map (λ place. place.seat) waiting.items) served.items)) }
     {
-        match seats.take_item() {
-            Some(seats) => {
+        match places.take_item() {
+            Some(places) => {
                 let premises = Premises {
                     rt,
                     port,
                     desk,
                     settings,
                     vigil,
+                    intake,
                     log,
                 };
-                let served = serve_seats(&premises, seats);
+                let served = serve_places(&premises, places);
                 port.leave();
                 served
             }
@@ -112,7 +155,7 @@ fn serve_run<J: Run + Send + Sync, R, D: Desk + Send, L: Log + Sync, I: Read, O:
     output: &mut O,
 ) -> Result<(), ServeFault>
 where
-    R: Threads + Wait + Clock + Sync + AllocGlobal + Eprint + LogFiles,
+    R: Threads + Wait + Clock + Sync + AllocGlobal + Eprint + LogFiles + Net,
     requires roll { history ≡ J.roll }
     requires opening { record { meaning = D.meaning desk; limits = settings.now.limits }
         ≡ J.opening }
@@ -121,17 +164,18 @@ where
         (O.contents output.old) (O.contents output.new) }
 {
     let room = Vec::with_capacity(rt.alloc(), settings.workers as usize + 1)?;
-    let vigil = Vigil::new(settings.idle);
+    let vigil = Vigil::new();
+    let (intake, waits) = waits_of(rt, rt.alloc(), port, settings)?;
     let desk = SharedDesk::<J, D>::new(history, desk, settings.limits);
     let Ok(console) = desk.seat(rt) else {
         return Err(refuse(output));
     };
-    let seats = match seats_of(rt, rt.alloc(), &desk, settings.workers) {
-        Ok(seats) => seats,
+    let places = match places_of(rt, rt.alloc(), &desk, waits) {
+        Ok(places) => places,
         Err(HallFault::Memory) => return Err(ServeFault::Memory),
         Err(_) => return Err(refuse(output)),
     };
-    let mut seats = Some(seats);
+    let mut places = Some(places);
     let mut console = Some(console);
     let premises = Premises {
         rt,
@@ -139,9 +183,10 @@ where
         desk: &desk,
         settings,
         vigil: &vigil,
+        intake: &intake,
         log,
     };
-    let (served, attended) = serve_both(&premises, &mut seats, &mut console, input, output);
+    let (served, attended) = serve_both(&premises, &mut places, &mut console, input, output);
     let (console, operated) = match attended {
         Ok(ended) => ended,
         Err(fault) => return Err(fault),
@@ -156,22 +201,22 @@ where
 
 /// Serves a desk on the network, with a console on its input and output.
 ///
-/// Once each worker has a thread it prints `listening P`. The workers serve their connections, as
-/// by [`serve_on`](crate::serve_on), while the lines of the input are the console's calls
+/// Once each worker has a thread it prints `listening P`. The workers serve connections, each of
+/// them many in turns, while the lines of the input are the console's calls
 /// ([`operate`](tac_hall_console::operate)). All calls are one history, which exists in proofs
 /// alone; its segments begin by themselves as the settings say. `quit` or the input's end stops
-/// the desk. Then the port is closed, and each worker ends within half a second, whatever its
-/// device does: as Stopped, where no connection was accepted any more. At last the desk is closed
-/// with all its seats. These are made before the threads: where one is missing, `close refused` is
-/// printed, and nothing is served.
+/// the desk. Then the port is closed, and each worker closes its connections and ends, whatever its
+/// devices do. At last the desk is closed with all its seats. These are made before the threads:
+/// where one is missing, `close refused` is printed, and nothing is served.
 ///
-/// A connection is given up, as one that can't be read or written, where so many seconds as the
-/// settings say have passed since it was accepted or since its last reply was written, whatever
-/// comes meanwhile; before its first reply after ten seconds; and where a reply isn't taken for so
-/// long. Where there is a log, each reply is written only once that was told of it
-/// ([`DeviceLog`](tac_journal::DeviceLog)), and each line of the console is told before its answer
-/// is printed. Of several faults the console's comes first. There may be
-/// 63 workers: a desk has 64 seats, and the console takes one.
+/// A new connection goes to the worker that has the fewest. It is closed where there are as many as
+/// the settings allow, in all or of its address. A connection is given up where so many seconds as
+/// the settings say have passed since it was accepted or since its last reply was taken, whatever
+/// comes meanwhile; before its first reply after ten seconds; where a reply isn't taken for so
+/// long; and where its unanswered packets find no memory. Where there is a log, each reply is sent
+/// only once that was told of it ([`DeviceLog`](tac_journal::DeviceLog)), and each line of the
+/// console is told before its answer is printed. Of several faults the console's comes first. There
+/// may be 63 workers: a desk has 64 seats, and the console takes one.
 pub fn serve<R, D: Desk + Send, L: Log + Sync, I: Read, O: Write>(
     rt: &R,
     port: &Port,
@@ -182,7 +227,7 @@ pub fn serve<R, D: Desk + Send, L: Log + Sync, I: Read, O: Write>(
     output: &mut O,
 ) -> Result<(), ServeFault>
 where
-    R: Threads + Wait + Clock + Sync + AllocGlobal + Eprint + LogFiles,
+    R: Threads + Wait + Clock + Sync + AllocGlobal + Eprint + LogFiles + Net,
     ensures runs { program.Runs result settings.now (L.keeping log.now)
         (record { meaning = D.meaning desk; limits = settings.now.limits })
         (I.remaining input.old) (I.remaining input.new)

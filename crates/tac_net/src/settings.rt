@@ -1,5 +1,6 @@
 //! What a server is told when it begins.
 
+use crate::patience::Idle;
 use tac_forum::Limits;
 use tac_wire::Key;
 
@@ -10,13 +11,21 @@ pub struct Settings {
     pub port: u16,
     /// The key that it shares with its clients.
     pub key: Key,
-    /// How many workers it has, each with a seat and a thread of its own.
+    /// How many workers it has, each with a seat and a thread of its own. Each serves many
+    /// connections at once.
     pub workers: u32,
-    /// How many connections each worker serves, one after another.
+    /// How many connections each worker serves in all, before it ends.
     pub connections: u32,
-    /// After how many seconds without a reply a connection is given up, and before its first reply
-    /// after ten at the latest; 0 means never.
-    pub idle: u32,
+    /// How many connections there may be at once. One more is closed as soon as it is accepted.
+    pub connections_at_once: u32,
+    /// How many of them may be of one IP address; 0 means that none is too many. The port doesn't
+    /// count, and an IPv4 address inside an IPv6 one is that address.
+    pub per_address: u32,
+    /// How many bytes packets that aren't answered yet may take, those of all connections together.
+    /// The first 4 kB of each connection aren't counted. A connection that needs more is closed.
+    pub packet_memory: u64,
+    /// When a connection is given up.
+    pub idle: Idle,
     /// How long the segments of its history may be. Nothing is printed of one that begins by
     /// itself.
     pub limits: Limits,

@@ -1,7 +1,5 @@
 //! What a server's threads tell one another.
 
-ghost use Rattle.std.specs.Prelude.{◌≡◌};
-
 use std::sync::atomic::{AtomicBool, AtomicU64, Ordering};
 use std::thread::sleep;
 use std::time::{Clock, Duration};
@@ -12,33 +10,20 @@ const GLANCE: u64 = 1;
 /// After how many glances without a new worker a wait gives up: two seconds.
 const MOST_GLANCES: u32 = 2_000;
 
-/// How patient a server is with its devices, how many of its workers have begun, and whether it is
-/// stopping.
+/// How many of a server's workers have begun, and whether it is stopping.
 #[derive(Drop)]
-pub struct Vigil {
-    idle: u32,
+pub(crate) struct Vigil {
     begun: AtomicU64,
     stops: AtomicBool,
 }
 
 impl Vigil {
-    /// The vigil of a server that gives a connection up after so many seconds without a reply;
-    /// never, if that is 0.
-    pub fn new(idle: u32) -> Vigil
-        ensures { result.idle ≡ idle }
-    {
+    /// That of a server that begins.
+    pub(crate) fn new() -> Vigil {
         Vigil {
-            idle,
             begun: AtomicU64::new(0),
             stops: AtomicBool::new(false),
         }
-    }
-
-    /// After how many seconds without a reply a connection is given up; 0 means never.
-    pub fn idle(&self) -> u32
-        ensures { result ≡ self.now.idle }
-    {
-        self.idle
     }
 
     /// A worker has begun, in a thread of its own.
@@ -71,12 +56,12 @@ impl Vigil {
     }
 
     /// The server is to end.
-    pub fn stop(&self) {
+    pub(crate) fn stop(&self) {
         self.stops.store(true, Ordering::SeqCst);
     }
 
     /// Whether the server is to end.
-    pub fn is_stopping(&self) -> bool {
+    pub(crate) fn is_stopping(&self) -> bool {
         self.stops.load(Ordering::SeqCst)
     }
 }

@@ -1,176 +1,458 @@
-//! A worker: a seat that serves connections, one after another.
+//! A worker: a seat that serves many connections in turns.
 
-ghost use Rattle.std.specs.Prelude.{◌≡◌, ◌⊎◌, IfErr, true};
-ghost use Rattle.tac_net.specs.Pause as pauses;
-ghost use Rattle.tac_net.specs.Serving as serving;
-ghost use Rattle.tac_worker.specs.Told.{TakesUntil};
-ghost use Rattle.tac_worker.specs.Worked.{AreAllMade, Traffic, IsServedBy};
+ghost use Rattle.std.specs.Prelude.{◌≡◌, IfSome};
+ghost use Rattle.tac_net.specs.Connections.{HasServed};
 
-use crate::line::{Line, limit_waits};
-use crate::pause::{Pause, accepted};
-use crate::service::Service;
-use basics::Bytes;
-use std::alloc::{AllocError, Global};
-use std::net::{SocketAddr, TcpStream};
+use crate::acceptor::Acceptor;
+use crate::intake::Arrival;
+use crate::poller::{CALLED, Poller, WOKEN};
+use crate::premises::Premises;
+use crate::socket::{Socket, Visits, now};
+use crate::witness::DeviceWitness;
+use mio::event::Event;
+use mio::net::TcpStream;
+use std::marker::Model;
+use std::mem::replace;
 use std::sync::Wait;
-use std::time::Clock;
-use tac_audit::{Nobody, Notice, Witness};
-use tac_journal::{DeviceLog, Entry, Log, LogFiles, Moments};
-use tac_worker::{Caller, End, Gate, Terms, serve};
+use std::time::{Clock, Duration};
+use tac_desk::Desk;
+use tac_forum::{Run, Seat};
+use tac_journal::{Log, LogFiles, Moments};
+use tac_loop::{Stop, Switchboard};
+use tac_worker::{CHUNK, Chunk, DeskCaller, OpenGate, Terms};
 
-/// What a worker keeps from one connection to the next.
+/// How many steps of one connection are made before others have theirs: 16 packets, each with its
+/// turn and its write, or fewer where more has to be read.
+const STEPS: u32 = 32;
+
+/// How many connections are accepted before those that are there have their turns.
+const MOST_ACCEPTED: usize = 64;
+
+/// How often it is looked for devices that are to be given up, in milliseconds.
+const SWEEP: u64 = 250;
+
+/// The connections of a worker, and who makes their calls.
+type Board<'a, R, J, D, L> = Switchboard<
+    'a,
+    DeskCaller<'a, R, J, D>,
+    DeviceWitness<'a, R, L>,
+    Socket<'a, TcpStream, R>,
+>;
+
+/// A worker with its connections.
+struct Worker<'a, R, J: Run, D: Desk, L: Log>
+where
+    R: Wait + Clock + AllocGlobal + Eprint + LogFiles,
+{
+    premises: &'a Premises<'a, R, J, D, L>,
+    moments: &'a Moments,
+    visits: &'a Visits,
+    // which one it is, and if it is the first, what it accepts connections for all with
+    at: usize,
+    acceptor: Option<Acceptor>,
+    board: Board<'a, R, J, D, L>,
+    // how many connections it may still add
+    left: u32,
+    // the keys of those that are to have more steps without being heard
+    busy: Vec<usize>,
+    chunk: Chunk,
+    // when it was last looked for devices that are to be given up
+    swept: u64,
+}
+
+impl<'a, R, J: Run, D: Desk, L: Log> Model for Worker<'a, R, J, D, L>
+where
+    R: Wait + Clock + AllocGlobal + Eprint + LogFiles,
+{
+    ghost use Rattle.tac_net.specs.Standing.{Standing, Stands};
+    ghost use Rattle.tac_net.specs.Witness as witness;
+
+    ghost Value = { Standing L };
+
+    ghost view = { λ worker. record {
+      first = worker.board.first;
+      settings = worker.premises.now.settings.now;
+      log = worker.premises.now.log.now;
+    } };
+
+    ghost invariant = { λ worker. Stands (witness.Takes L.keeping) (witness.Refuses L.keeping)
+        worker.premises.now.settings.now.key (L.keeping worker.premises.now.log.now)
+        worker.premises.now.settings.now.connections worker.board worker.left };
+}
+
+// What its connections share.
+fn terms_of<'a, R: AllocGlobal, J: Run, D: Desk, L>(
+    premises: &Premises<'a, R, J, D, L>,
+) -> Terms<'a, R, OpenGate>
+    ensures { result.key.now ≡ premises.now.settings.now.key }
+{
+    Terms {
+        rt: premises.rt,
+        alloc: premises.rt.alloc(),
+        key: &premises.settings.key,
+        gate: &OpenGate,
+    }
+}
+
+impl<'a, R, J: Run, D: Desk, L: Log> Worker<'a, R, J, D, L>
+where
+    R: Wait + Clock + AllocGlobal + Eprint + LogFiles,
+{
+    // A worker without connections. The first one accepts for all.
+    fn new(
+        premises: &'a Premises<'a, R, J, D, L>,
+        kept: (&'a Moments, &'a Visits),
+        at: usize,
+        seat: Seat<J>,
+        acceptor: Option<Acceptor>,
+    ) -> Worker<'a, R, J, D, L>
+        ensures { result ≡ record {
+          first = seat;
+          settings = premises.now.settings.now;
+          log = premises.now.log.now;
+        } }
+    {
+        let alloc = premises.rt.alloc();
+        let (moments, visits) = kept;
+        Worker {
+            premises,
+            moments,
+            visits,
+            at,
+            acceptor,
+            board: Switchboard::new(alloc, DeskCaller::new(premises.rt, premises.desk, seat)),
+            left: premises.settings.connections,
+            busy: Vec::new(alloc),
+            chunk: [0; CHUNK],
+            swept: 0,
+        }
+    }
+
+    // Lets go of a connection, if there is one of this key.
+    fn remove(&mut self, key: usize)
+        ensures { self.new ≡ self.old }
+    {
+        if let Some(line) = self.board.remove(key) {
+            let address = line.socket().address();
+            self.premises
+                .intake
+                .leave(self.premises.rt, self.at, address);
+        }
+    }
+
+    // Has a connection take more steps without being heard. Without memory for that it is over.
+    fn keep_busy(&mut self, key: usize)
+        ensures { self.new ≡ self.old }
+    {
+        if let Err(_) = self.busy.push(key) {
+            self.remove(key);
+        }
+    }
+
+    // Serves a connection for some steps, and lets go of it where it is over. The answer is whether
+    // it waits for room to write.
+    fn go(&mut self, key: usize) -> bool
+        ensures { self.new ≡ self.old }
+    {
+        self.visits.next();
+        match self
+            .board
+            .serve(key, &terms_of(self.premises), &mut self.chunk, STEPS)
+        {
+            Stop::Busy => {
+                self.keep_busy(key);
+                false
+            }
+            Stop::Full => true,
+            Stop::Ended(_) | Stop::Broken => {
+                self.remove(key);
+                false
+            }
+            Stop::Idle | Stop::Absent => false,
+        }
+    }
+
+    // From now on a wait tells when a connection may be read, and also when it may be written where
+    // it waits for that. Where the system refuses it, the connection is over.
+    fn register(&mut self, poller: &Poller, key: usize, is_full: bool)
+        ensures { self.new ≡ self.old }
+    {
+        let Some(line) = self.board.get(key) else {
+            return;
+        };
+        if let Err(_) = poller.register(line.socket().stream(), key, is_full) {
+            self.remove(key);
+        }
+    }
+
+    // The same of one that was registered, and waits for room to write.
+    fn await_room(&mut self, poller: &Poller, key: usize)
+        ensures { self.new ≡ self.old }
+    {
+        let Some(line) = self.board.get(key) else {
+            return;
+        };
+        if let Err(_) = poller.register_writing(line.socket().stream(), key) {
+            self.remove(key);
+        }
+    }
+
+    // Serves a connection that is registered.
+    fn serve(&mut self, poller: &Poller, key: usize)
+        ensures { self.new ≡ self.old }
+    {
+        if self.go(key) {
+            self.await_room(poller, key);
+        }
+    }
+
+    // Adds a connection, if there may be one more and memory for it.
+    fn admit(&mut self, arrival: Arrival) -> Option<usize>
+        ensures { self.new ≡ self.old }
+    {
+        let left = self.left.checked_sub(1)?;
+        let Premises {
+            rt,
+            intake,
+            log,
+            ..
+        } = *self.premises;
+        let Arrival { stream, address } = arrival;
+        let Ok(witness) = DeviceWitness::new(rt, log, self.moments, address) else {
+            return None;
+        };
+        let memory = intake.packet_memory();
+        let socket = Socket::new(stream, address.ip(), rt, memory, self.visits);
+        let Ok(key) = self.board.add(&terms_of(self.premises), witness, socket) else {
+            return None;
+        };
+        self.left = left;
+        Some(key)
+    }
+
+    // Adds a connection that was counted, and serves what has come already: it may be over by that,
+    // and needs no registration then.
+    fn add(&mut self, poller: &Poller, arrival: Arrival)
+        ensures { self.new ≡ self.old }
+    {
+        // a connection on which replies are held back for a while is served all the same
+        let _ = arrival.stream.set_nodelay(true);
+        let address = arrival.address.ip();
+        match self.admit(arrival) {
+            Some(key) => {
+                let is_full = self.go(key);
+                self.register(poller, key, is_full);
+            }
+            None => self
+                .premises
+                .intake
+                .leave(self.premises.rt, self.at, address),
+        }
+    }
+
+    // Adds what was handed over.
+    fn collect(&mut self, poller: &Poller)
+        ensures { self.new ≡ self.old }
+    {
+        let mut arrivals = Vec::new(self.premises.rt.alloc());
+        self.premises
+            .intake
+            .collect(self.premises.rt, self.at, &mut arrivals);
+        'arrivals: for arrival in arrivals {
+            self.add(poller, arrival);
+        }
+    }
+
+    // Does what an event asks for.
+    fn answer(&mut self, poller: &Poller, event: &Event)
+        ensures { self.new ≡ self.old }
+    {
+        let token = event.token();
+        if token == WOKEN {
+            self.collect(poller);
+        } else if token == CALLED {
+            if let Some(acceptor) = &mut self.acceptor {
+                acceptor.called();
+            }
+        } else {
+            self.serve(poller, token.0);
+            if event.is_read_closed() {
+                // the end of what comes is read by a read of its own
+                self.keep_busy(token.0);
+            }
+        }
+    }
+
+    // Does what the last wait told.
+    fn answer_all(&mut self, poller: &Poller)
+        ensures { self.new ≡ self.old }
+    {
+        'events: for event in poller.events() {
+            self.answer(poller, event);
+        }
+    }
+
+    // Serves those that had more to do.
+    fn go_on(&mut self, poller: &Poller)
+        ensures { self.new ≡ self.old }
+    {
+        if self.busy.is_empty() {
+            return;
+        }
+        let mut keys = replace(&mut self.busy, Vec::new(self.premises.rt.alloc()));
+        keys.sort_unstable();
+        keys.dedup();
+        'keys: for key in keys {
+            self.serve(poller, key);
+        }
+    }
+
+    // The next connection of its own, if it accepts for all and one waits.
+    fn accepted(&mut self, now: Option<u64>) -> Option<Arrival>
+        ensures { self.new ≡ self.old }
+    {
+        let Premises { rt, intake, .. } = *self.premises;
+        match &mut self.acceptor {
+            Some(acceptor) => acceptor.next(rt, intake, now),
+            None => None,
+        }
+    }
+
+    // Accepts those that wait, a number of them at most, and hands them out.
+    fn accept(&mut self, poller: &Poller, now: Option<u64>)
+        ensures { self.new ≡ self.old }
+    {
+        'calls: for _ in 0..MOST_ACCEPTED {
+            let Some(arrival) = self.accepted(now) else {
+                return;
+            };
+            self.add(poller, arrival);
+        }
+    }
+
+    // The keys of the connections whose devices are to be given up, or of some of them where memory
+    // is out.
+    fn over(&self, now: Option<u64>) -> Vec<usize> {
+        let idle = self.premises.settings.idle;
+        let mut keys = Vec::new(self.premises.rt.alloc());
+        for (key, line) in self.board.lines() {
+            let asks = line.link().witness().asks();
+            if line.socket().is_over(idle, asks, now) && keys.push(key).is_err() {
+                return keys;
+            }
+        }
+        keys
+    }
+
+    // Gives up devices, if it is time to look for them.
+    fn sweep(&mut self, now: Option<u64>)
+        ensures { self.new ≡ self.old }
+    {
+        let moment = now.unwrap_or(0);
+        if moment < self.swept.saturating_add(SWEEP) {
+            return;
+        }
+        self.swept = moment;
+        'keys: for key in self.over(now) {
+            self.remove(key);
+        }
+    }
+
+    // For how long it may wait.
+    fn patience(&self, now: Option<u64>) -> Duration {
+        if !self.busy.is_empty() {
+            return Duration::ZERO;
+        }
+        let opens = match &self.acceptor {
+            Some(acceptor) => acceptor.opens_in(now),
+            None => None,
+        };
+        Duration::from_millis(opens.unwrap_or(SWEEP).min(SWEEP))
+    }
+
+    // Waits until there is something to do, and does it.
+    fn round(&mut self, poller: &mut Poller)
+        ensures { self.new ≡ self.old }
+    {
+        let rt = self.premises.rt;
+        poller.wait(rt, self.patience(now(rt)));
+        let now = now(rt);
+        self.answer_all(poller);
+        self.go_on(poller);
+        self.accept(poller, now);
+        self.sweep(now);
+    }
+
+    // Whether it has served all connections that it was to serve.
+    fn is_done(&mut self, poller: &Poller) -> bool
+        ensures { self.new ≡ self.old }
+    {
+        if !self.premises.intake.is_over() {
+            return false;
+        }
+        self.acceptor = None;
+        self.collect(poller);
+        self.board.len() == 0
+    }
+
+    // Its seat, once it serves no more.
+    fn into_seat(self) -> Seat<J>
+        ensures { HasServed J.opening self.entry.settings.key (L.keeping self.entry.log)
+            self.entry.settings.connections self.entry.first result }
+    {
+        let Worker {
+            premises: _,
+            moments: _,
+            visits: _,
+            at: _,
+            acceptor: _,
+            board,
+            left: _,
+            busy: _,
+            chunk: _,
+            swept: _,
+        } = self;
+        board.into_caller().into_seat()
+    }
+}
+
+/// What a worker waits with. The first one accepts connections for all.
 #[derive(Drop)]
-struct Rounds {
-    // how long it pauses where no connection can be accepted
-    pause: Pause,
-    // the last moment that its lines told
-    moments: Moments,
+pub(crate) struct Waits {
+    pub(crate) poller: Poller,
+    pub(crate) acceptor: Option<Acceptor>,
 }
 
-/// Whether a worker takes another connection after one that ended so.
-fn goes_on(end: End) -> bool
-    ensures { result ≡ serving.goes_on end }
-{
-    match end {
-        End::Stopped | End::Held | End::NoSeat => false,
-        _ => true,
-    }
+/// What a worker takes to its thread: which one it is, its seat, and what it waits with.
+#[derive(Drop)]
+pub(crate) struct Place<J: Run> {
+    pub(crate) at: usize,
+    pub(crate) seat: Seat<J>,
+    pub(crate) waits: Waits,
 }
 
-// Waits for a connection. Where none can be accepted it pauses.
-fn accept<R: Clock, G, L>(
-    service: &Service<'_, R, G, L>,
-    pause: &mut Pause,
-) -> Result<(TcpStream, SocketAddr), End>
-    ensures fault { IfErr result serving.IsUnaccepted }
-    ensures pause { pauses.Goes result pause.old pause.new }
-{
-    if service.vigil.is_stopping() {
-        return Err(End::Stopped);
-    }
-    accepted(service.rt, service.vigil, pause, service.listener.accept())
-}
-
-// How a device is named in a log: by its address and its port.
-fn device_of(alloc: Global, address: SocketAddr) -> Result<Bytes, AllocError> {
-    let text = format!(in alloc; "{address}")?;
-    Bytes::from_slice(alloc, text.as_bytes())
-}
-
-// Serves a connection with an end to patience, and tells this witness of each packet before its
-// reply is written.
-fn serve_line<'a, R, G: Gate, L, C: Caller, V: Witness<Notice>>(
-    service: &Service<'_, R, G, L>,
-    caller: &mut C,
-    witness: &mut V,
-    line: &'a Line<'a, &'a TcpStream, R>,
-) -> End
-where
-    R: Wait + Clock + AllocGlobal,
-    ensures { (traffic : Traffic) × IsServedBy result service.now.key.now
-        (λ made. AreAllMade C.makes C.rests caller.old made caller.new) (C.refuses caller.new)
-        (λ told refused. TakesUntil V.takes V.refuses witness.old told refused witness.new)
-        traffic }
-{
-    let terms = Terms {
-        rt: service.rt,
-        alloc: service.rt.alloc(),
-        key: service.key,
-        gate: service.gate,
-    };
-    let mut reader = line;
-    let mut writer = line;
-    serve(&terms, caller, witness, &mut reader, &mut writer)
-}
-
-// The same, and the log is told, by lines that name this device.
-fn serve_logged<'a, R, G: Gate, L: Log, C: Caller>(
-    service: &Service<'_, R, G, L>,
-    moments: &Moments,
-    caller: &mut C,
-    line: &'a Line<'a, &'a TcpStream, R>,
-    device: Bytes,
-) -> End
+/// Serves connections until the server stops, or until it has served as many as it is to.
+pub(crate) fn work<R, J: Run, D: Desk, L: Log>(
+    premises: &Premises<'_, R, J, D, L>,
+    place: Place<J>,
+) -> Seat<J>
 where
     R: Wait + Clock + AllocGlobal + Eprint + LogFiles,
-    ensures { serving.Connects (serving.IsConnection C.makes C.rests C.refuses
-        service.now.key.now (L.keeping service.now.log.now)) caller.old result caller.new }
+    ensures { HasServed J.opening premises.now.settings.now.key (L.keeping premises.now.log.now)
+        premises.now.settings.now.connections place.seat result }
 {
-    let rt = service.rt;
-    let entry = Entry::new(rt, service.log);
-    let mut witness = DeviceLog::new(rt.alloc(), rt, moments, entry, device);
-    serve_line(service, caller, &mut witness, line)
-}
-
-// Serves a connection, with a log or without one.
-fn serve_stream<R, G: Gate, L: Log, C: Caller>(
-    service: &Service<'_, R, G, L>,
-    moments: &Moments,
-    caller: &mut C,
-    stream: &TcpStream,
-    address: SocketAddr,
-) -> End
-where
-    R: Wait + Clock + AllocGlobal + Eprint + LogFiles,
-    ensures { serving.Connects (serving.IsConnection C.makes C.rests C.refuses
-        service.now.key.now (L.keeping service.now.log.now)) caller.old result caller.new }
-{
-    if let Err(_) = limit_waits(stream) {
-        return End::ReadFault;
-    }
-    let line = Line::new(stream, service.rt, service.vigil);
-    if !service.log.is_kept() {
-        return serve_line(service, caller, &mut Nobody, &line);
-    }
-    let Ok(device) = device_of(service.rt.alloc(), address) else {
-        return End::ReadFault;
-    };
-    serve_logged(service, moments, caller, &line, device)
-}
-
-// Waits for a connection and serves it.
-fn serve_one<R, G: Gate, L: Log, C: Caller>(
-    service: &Service<'_, R, G, L>,
-    rounds: &mut Rounds,
-    caller: &mut C,
-) -> End
-where
-    R: Wait + Clock + AllocGlobal + Eprint + LogFiles,
-    ensures { serving.Connects (serving.IsConnection C.makes C.rests C.refuses
-        service.now.key.now (L.keeping service.now.log.now)) caller.old result caller.new }
-{
-    match accept(service, &mut rounds.pause) {
-        Ok((stream, address)) => {
-            serve_stream(service, &rounds.moments, caller, &stream, address)
+    let Place { at, seat, waits } = place;
+    let Waits { poller, acceptor } = waits;
+    let mut poller = poller;
+    let moments = Moments::new();
+    let visits = Visits::new();
+    let mut worker = Worker::new(&*premises, (&moments, &visits), at, seat, acceptor);
+    premises.vigil.begin();
+    'rounds: for _ in premises.rt.forever() {
+        if premises.vigil.is_stopping() || worker.is_done(&poller) {
+            return worker.into_seat();
         }
-        Err(end) => end,
+        worker.round(&mut poller);
     }
-}
-
-/// Serves so many connections, one after another, unless one ends as Stopped, Held or NoSeat
-/// before. The result is the last end, Finished where there was no connection. With a log, each
-/// reply is written only once that has its line.
-pub(crate) fn serve_all<R, G: Gate, L: Log, C: Caller>(
-    service: &Service<'_, R, G, L>,
-    caller: &mut C,
-) -> End
-where
-    R: Wait + Clock + AllocGlobal + Eprint + LogFiles,
-    ensures { serving.Serves (serving.IsConnection C.makes C.rests C.refuses
-        service.now.key.now (L.keeping service.now.log.now)) service.now.connections
-        caller.old result caller.new }
-{
-    service.vigil.begin();
-    let mut last = End::Finished;
-    let mut rounds = Rounds {
-        pause: Pause::first(),
-        moments: Moments::new(),
-    };
-    'connections: for _ in 0..service.connections {
-        last = serve_one(service, &mut rounds, caller);
-        if !goes_on(last) {
-            return last;
-        }
-    }
-    last
+    unreachable!()
 }

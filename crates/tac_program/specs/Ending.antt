@@ -48,6 +48,7 @@ status_of_review told (Err fault) = status_of fault.fault
 abbrev pub status_of_serving : ServeFault → Status
 status_of_serving serving.Memory = OutOfMemory
 status_of_serving serving.Threads = OutOfMemory
+status_of_serving serving.Descriptors = OutOfMemory
 status_of_serving serving.ReadFault = Failed
 status_of_serving serving.WriteFault = Failed
 status_of_serving serving.CloseRefused = Failed

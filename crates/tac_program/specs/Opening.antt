@@ -1,5 +1,6 @@
--- What a server begins with: the desk of its policy, or what is printed where there is none.
-use Rattle.std.specs.Prelude.{◌≡◌, ℕ, List, [], Option, Some, None, Result, Ok, Err}
+-- What a server begins with: its workers, and the desk of its policy, or what is printed where there
+-- is none.
+use Rattle.std.specs.Prelude.{◌≡◌, ℕ, min, max, List, [], Option, Some, None, Result, Ok, Err}
 use Rattle.pol_text.specs.Text.{policy_of}
 use Rattle.pol_text.specs.declared.subject.Subject.{Subject}
 use Rattle.pol_text.specs.declared.fault.PolicyFault.{PolicyFault}
@@ -16,6 +17,12 @@ use Rattle.tac_check.specs.declared.checking.CheckEnd.TheVariants.{Refused}
 abbrev pub record_limit : Option ℕ → RecordLimit
 record_limit None = refusing max_records
 record_limit (Some most) = forgetting most
+
+-- a server has as many workers as it is told; else one for each processor, but at least one and at
+-- most 16
+abbrev pub workers : Option ℕ → ℕ → ℕ
+workers None processors = max 1 (min 16 processors)
+workers (Some given) processors = given
 
 -- a policy that may stand has a desk that keeps records by this limit, and nothing is printed; of
 -- one that is refused, what its check prints is printed

@@ -1,16 +1,16 @@
 //! The words that the program takes.
 
 use crate::help::{
-    ABOUT, ADDRESS_HELP, AFTER_LONG_HELP, CASES_HELP, CHECK_ABOUT, CHECK_AFTER_HELP,
+    ABOUT, ADDRESS_HELP, AFTER_LONG_HELP, AT_ONCE_HELP, CASES_HELP, CHECK_ABOUT, CHECK_AFTER_HELP,
     CHECK_AFTER_LONG_HELP, CHECK_LONG_ABOUT, CONNECTIONS_HELP, DIFF_ABOUT, DIFF_AFTER_HELP,
     DIFF_AFTER_LONG_HELP, DIFF_LONG_ABOUT, EDITS_HELP, EXIT_CODE_HELP, FILE_HELP, IDLE_HELP,
     KEEP_RECORDS_HELP, KEY_FILE_HELP, KEY_HELP, LINE_HELP, LINT_ABOUT, LINT_AFTER_HELP,
-    LINT_AFTER_LONG_HELP, LINT_LONG_ABOUT, LOG_HELP, LONG_ABOUT, NEW_HELP, NO_CONSOLE_HELP,
-    OLD_HELP, PORT_HELP, REPLAY_ABOUT, REPLAY_AFTER_HELP, REPLAY_AFTER_LONG_HELP, REPLAY_LOG_HELP,
-    REPLAY_LONG_ABOUT, ROTATE_AT_HELP, SERVE_ABOUT, SERVE_AFTER_HELP, SERVE_AFTER_LONG_HELP,
-    SERVE_LONG_ABOUT, SYNC_HELP, TEST_ABOUT, TEST_AFTER_HELP, TEST_AFTER_LONG_HELP,
-    TEST_LONG_ABOUT, TIME_HELP, USER_HELP, WHY_ABOUT, WHY_AFTER_HELP, WHY_AFTER_LONG_HELP,
-    WHY_LONG_ABOUT, WORKERS_HELP,
+    LINT_AFTER_LONG_HELP, LINT_LONG_ABOUT, LOG_HELP, LOGIN_IDLE_HELP, LONG_ABOUT, NEW_HELP,
+    NO_CONSOLE_HELP, OLD_HELP, PACKET_MEMORY_HELP, PER_ADDRESS_HELP, PORT_HELP, REPLAY_ABOUT,
+    REPLAY_AFTER_HELP, REPLAY_AFTER_LONG_HELP, REPLAY_LOG_HELP, REPLAY_LONG_ABOUT, ROTATE_AT_HELP,
+    SERVE_ABOUT, SERVE_AFTER_HELP, SERVE_AFTER_LONG_HELP, SERVE_LONG_ABOUT, SYNC_HELP, TEST_ABOUT,
+    TEST_AFTER_HELP, TEST_AFTER_LONG_HELP, TEST_LONG_ABOUT, TIME_HELP, USER_HELP, WHY_ABOUT,
+    WHY_AFTER_HELP, WHY_AFTER_LONG_HELP, WHY_LONG_ABOUT, WORKERS_HELP,
 };
 use clap::{Arg, ArgAction, ArgGroup, Command, value_parser};
 use std::alloc::{AllocError, Global};
@@ -73,6 +73,9 @@ pub(crate) const ADDRESS: &str = "address";
 /// After how many seconds without a reply a connection is given up.
 pub(crate) const IDLE: &str = "idle";
 
+/// The same where the last reply asked for a name or a password.
+pub(crate) const LOGIN_IDLE: &str = "login-idle";
+
 /// The most records that are kept, of a server that forgets the older half of them where one more
 /// comes.
 pub(crate) const KEEP_RECORDS: &str = "keep-records";
@@ -95,10 +98,19 @@ pub(crate) const NO_CONSOLE: &str = "no-console";
 // The key, by either of its options.
 const SECRET: &str = "secret";
 
-/// How many connections a server serves at once.
+/// How many threads serve connections.
 pub(crate) const WORKERS: &str = "workers";
 
-/// How many connections each of its workers serves.
+/// How many connections there may be at once.
+pub(crate) const CONNECTIONS_AT_ONCE: &str = "connections-at-once";
+
+/// How many of them may be of one address.
+pub(crate) const PER_ADDRESS: &str = "per-address";
+
+/// How many megabytes packets that aren't answered yet may take.
+pub(crate) const PACKET_MEMORY: &str = "packet-memory";
+
+/// How many connections each worker serves in all.
 pub(crate) const CONNECTIONS: &str = "connections";
 
 // An option of `serve` that is a number, within these bounds.
@@ -130,25 +142,39 @@ fn flag<'a>(alloc: Global, id: &'a str, help: &'a str) -> Arg<'a> {
         .help(help)
 }
 
+// How many connections a server serves, and for how long.
+fn with_limits<'a>(alloc: Global, command: Command<'a>) -> Result<Command<'a>, AllocError> {
+    let at_once = (1, 1_000_000);
+    let each = (0, 1_000_000);
+    let megabytes = (1, 65_536);
+    let seconds = (0, 86_400);
+    command
+        .arg(number(alloc, WORKERS, "W", (1, 63), WORKERS_HELP))?
+        .arg(number(alloc, CONNECTIONS_AT_ONCE, "N", at_once, AT_ONCE_HELP).default_value("10000"))?
+        .arg(number(alloc, PER_ADDRESS, "N", each, PER_ADDRESS_HELP).default_value("64"))?
+        .arg(number(alloc, PACKET_MEMORY, "MB", megabytes, PACKET_MEMORY_HELP).default_value("64"))?
+        .arg(number(alloc, IDLE, "SECONDS", seconds, IDLE_HELP).default_value("300"))?
+        .arg(number(alloc, LOGIN_IDLE, "SECONDS", seconds, LOGIN_IDLE_HELP).default_value("60"))
+}
+
 // The options of a server, in the order of its help.
 fn with_options<'a>(alloc: Global, command: Command<'a>) -> Result<Command<'a>, AllocError> {
     let connections = (1, 4_294_967_295);
     let records = (1_000, 10_000_000);
-    command
+    let command = command
         .arg(number(alloc, PORT, "P", (1, 65_535), PORT_HELP).required(true))?
         .arg(text(alloc, KEY, "K", KEY_HELP))?
         .arg(text(alloc, KEY_FILE, "PATH", KEY_FILE_HELP))?
-        .arg(text(alloc, ADDRESS, "ADDR", ADDRESS_HELP).default_value("0.0.0.0"))?
-        .arg(number(alloc, WORKERS, "W", (1, 63), WORKERS_HELP).default_value("16"))?
-        .arg(number(alloc, IDLE, "SECONDS", (0, 86_400), IDLE_HELP).default_value("300"))?
+        .arg(text(alloc, ADDRESS, "ADDR", ADDRESS_HELP).default_value("0.0.0.0"))?;
+    with_limits(alloc, command)?
         .arg(number(alloc, KEEP_RECORDS, "N", records, KEEP_RECORDS_HELP))?
-        .arg(number(alloc, CONNECTIONS, "N", connections, CONNECTIONS_HELP).default_value(
-            "4294967295",
-        ))?
         .arg(number(alloc, ROTATE_AT, "N", (1, 65_536), ROTATE_AT_HELP).default_value("32768"))?
         .arg(text(alloc, LOG, "PATH", LOG_HELP))?
         .arg(flag(alloc, SYNC, SYNC_HELP).requires_arg(LOG)?)?
-        .arg(flag(alloc, NO_CONSOLE, NO_CONSOLE_HELP))
+        .arg(flag(alloc, NO_CONSOLE, NO_CONSOLE_HELP))?
+        .arg(number(alloc, CONNECTIONS, "N", connections, CONNECTIONS_HELP).default_value(
+            "4294967295",
+        ))
 }
 
 fn serve<'a>(alloc: Global) -> Result<Command<'a>, AllocError> {
@@ -252,7 +278,7 @@ pub(crate) fn command<'a>(alloc: Global) -> Result<Command<'a>, AllocError> {
         .about(ABOUT)
         .long_about(LONG_ABOUT)
         .after_long_help(AFTER_LONG_HELP)
-        .version("0.6.0")
+        .version("0.7.0")
         .subcommand_required(true);
     let command = with(command, serve(alloc))?;
     let command = with(command, check(alloc))?;

@@ -73,13 +73,26 @@ pub(crate) const ADDRESS_HELP: &str =
 pub(crate) const IDLE_HELP: &str =
     "After how many seconds without a reply a connection is closed, 0 to 86400; 0 is never";
 
+pub(crate) const LOGIN_IDLE_HELP: &str =
+    "In place of --idle where the last reply asked for a name or a password, 0 to 86400; 0 is never";
+
 pub(crate) const KEEP_RECORDS_HELP: &str =
     "Keep the latest records, at most N, 1000 to 10000000; else the first 1000000 are kept";
 
-pub(crate) const WORKERS_HELP: &str = "How many connections are served at once, 1 to 63";
+pub(crate) const WORKERS_HELP: &str =
+    "How many threads serve connections, 1 to 63; else one for each processor, at most 16";
+
+pub(crate) const AT_ONCE_HELP: &str =
+    "How many connections there may be at once, 1 to 1000000; one more is closed";
+
+pub(crate) const PER_ADDRESS_HELP: &str =
+    "How many of them may be of one IP address, 0 to 1000000; 0 is any number";
+
+pub(crate) const PACKET_MEMORY_HELP: &str =
+    "The memory for packets that aren't answered yet, 1 to 65536 MB";
 
 pub(crate) const CONNECTIONS_HELP: &str =
-    "How many connections each worker serves before it ends, at least 1";
+    "For tests: how many connections each worker serves in all before it ends, at least 1";
 
 pub(crate) const ROTATE_AT_HELP: &str =
     "Begin a new segment of the history before the Nth call of one, 1 to 65536";
@@ -100,10 +113,13 @@ pub(crate) const SERVE_AFTER_HELP: &str = "Example:
 /// What `tacd serve --help` ends with.
 pub(crate) const SERVE_AFTER_LONG_HELP: &str = with_policy_lines!(
     "\
-A worker serves one connection at a time, until the device hangs up, or has had no reply for so many
-seconds as --idle says (at most 10 before the first reply); other devices wait, so a login that waits
-for its password takes a worker. Standard output has 'listening PORT' first, and then what the
-console's lines are answered.
+Each worker is a thread, and serves many connections at once: nobody waits for a device that says
+nothing, or for a user who types a password. A connection is closed where the device hangs up, or has
+had no reply for so many seconds as --idle or --login-idle says, at most 10 before the first reply.
+One beyond --connections-at-once or --per-address is closed as it comes, and none is given up for it.
+
+Standard output has 'listening PORT' first, and then what the console's lines are answered. Standard
+error says so where too few files may be open for so many connections, as by 'ulimit -n'.
 
 Signals aren't seen: SIGTERM ends the server, and SIGHUP too. To run it in the background or in a
 container, give --no-console.
@@ -141,7 +157,7 @@ Lines of a policy:
   any number of these:",
     "\n",
     "
-Where the server stops, the port is closed, and all connections are closed within half a second.
+Where the server stops, the port and all connections are closed at once.
 
 Example:
   $ cat ops.policy
@@ -161,10 +177,10 @@ Exit status:
   0  the server was stopped
   1  the policy is refused, and why was printed, as by 'tacd check'
   2  the command line or the key is wrong
-  3  memory ran out, or a thread could not be made
+  3  memory ran out, a thread could not be made, or too few files may be open
   4  a file could not be read, that of --log could not be opened, the port could not be had, the
      console could not be read, or the output could not be written, or 'close refused' was printed:
-     a worker or the console had no seat at the desk"
+     a worker or the console had no place in the history"
 );
 
 pub(crate) const CHECK_ABOUT: &str = "Reads a policy, and prints which of its rules decide nothing";

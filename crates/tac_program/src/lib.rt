@@ -5,6 +5,7 @@
 mod command_line;
 mod complaint;
 mod console;
+mod descriptors;
 mod help;
 mod opening;
 mod options;

@@ -7,8 +7,8 @@ ghost use Rattle.std.specs.Prelude.{◌≡◌};
 ghost use Rattle.tac_program.specs.Opening as opening;
 
 use crate::command_line::{
-    ADDRESS, CONNECTIONS, FILE, IDLE, KEEP_RECORDS, KEY, KEY_FILE, LOG, NO_CONSOLE, PORT,
-    ROTATE_AT, SYNC, WORKERS,
+    ADDRESS, CONNECTIONS, CONNECTIONS_AT_ONCE, FILE, IDLE, KEEP_RECORDS, KEY, KEY_FILE, LOG,
+    LOGIN_IDLE, NO_CONSOLE, PACKET_MEMORY, PER_ADDRESS, PORT, ROTATE_AT, SYNC, WORKERS,
 };
 use crate::opening::open_secret;
 use crate::status::Status;
@@ -19,7 +19,7 @@ use std::rt::Files;
 use tac_desks::MAX_RECORDS;
 use tac_forum::Limits;
 use tac_io::{InputFault, read_whole};
-use tac_net::Settings;
+use tac_net::{Idle, Settings};
 use tac_tally::RecordLimit;
 use tac_wire::Key;
 
@@ -33,6 +33,12 @@ const MAX_CALLS: usize = 65_536;
 
 /// The most bytes that a key's file has.
 const MAX_KEY_FILE: usize = 65_536;
+
+/// The most workers of a server that isn't told how many.
+const MAX_PROCESSORS: usize = 16;
+
+/// The bytes of a megabyte.
+const MEGABYTE: u64 = 1_048_576;
 
 /// How to serve, where, and by what.
 #[derive(Drop)]
@@ -142,14 +148,32 @@ For more information, try '--help'."
     }
 }
 
-// The numbers of a command line that was parsed, which has each of them within its bounds.
-fn settings_of(matches: &ArgMatches<'_>, key: Key) -> Option<Settings> {
+// How many workers there are: as many as the option says, where it is given; else one for each
+// processor.
+fn workers_of(given: Option<u32>, processors: usize) -> u32
+    ensures { result ≡ opening.workers given processors }
+{
+    match given {
+        Some(workers) => workers,
+        None => processors.clamp(1, MAX_PROCESSORS) as u32,
+    }
+}
+
+// The numbers of a command line that was parsed, which has each of them within its bounds, on a
+// machine with so many processors.
+fn settings_of(matches: &ArgMatches<'_>, key: Key, processors: usize) -> Option<Settings> {
     Some(Settings {
         port: matches.get_one::<u16>(PORT)?,
         key,
-        workers: matches.get_one::<u32>(WORKERS)?,
+        workers: workers_of(matches.get_one::<u32>(WORKERS), processors),
         connections: matches.get_one::<u32>(CONNECTIONS)?,
-        idle: matches.get_one::<u32>(IDLE)?,
+        connections_at_once: matches.get_one::<u32>(CONNECTIONS_AT_ONCE)?,
+        per_address: matches.get_one::<u32>(PER_ADDRESS)?,
+        packet_memory: u64::from(matches.get_one::<u32>(PACKET_MEMORY)?) * MEGABYTE,
+        idle: Idle {
+            idle: matches.get_one::<u32>(IDLE)?,
+            login: matches.get_one::<u32>(LOGIN_IDLE)?,
+        },
         limits: Limits {
             calls: MAX_CALLS,
             rotate_at: matches.get_one::<u32>(ROTATE_AT)? as usize,
@@ -169,15 +193,16 @@ fn record_limit_of(most: Option<u32>) -> RecordLimit
 }
 
 impl<'a> Options<'a> {
-    /// The options of a command line that was parsed. The error is the status to end with: of the
-    /// address, which is judged first, or of the key.
+    /// The options of a command line that was parsed, on a machine with so many processors. The
+    /// error is the status to end with: of the address, which is judged first, or of the key.
     pub(crate) fn read<R: Files + Eprint + AllocGlobal>(
         rt: &R,
         matches: &ArgMatches<'a>,
+        processors: usize,
     ) -> Result<Options<'a>, Status> {
         let address = address_of(rt, matches)?;
         let key = key_of(rt, matches)?;
-        match (settings_of(matches, key), matches.get_str(FILE)) {
+        match (settings_of(matches, key, processors), matches.get_str(FILE)) {
             (Some(settings), Some(path)) => Ok(Options {
                 address: SocketAddr::from((address, settings.port)),
                 settings,

@@ -20,7 +20,7 @@ use std::rt::{Env, Files};
 use std::sync::Wait;
 use std::thread::Threads;
 use std::time::Clock;
-use std::{env, io};
+use std::{env, io, thread};
 use tac_check::{CheckEnd, check};
 use tac_journal::LogFiles;
 use tac_lint::lint;
@@ -75,6 +75,14 @@ fn parse<'a>(alloc: Global, words: &'a [String]) -> Result<ArgMatches<'a>, Error
     command(alloc)?.try_get_matches_from(words)
 }
 
+// How many processors there are; where the system doesn't tell, one.
+fn processors<H: Threads>(host: &H) -> usize {
+    match thread::available_parallelism(host) {
+        Ok(processors) => processors.get(),
+        Err(_) => 1,
+    }
+}
+
 // A parse that succeeds leaves of the options the address and the key to be judged.
 fn serve_clients<R, H>(rt: &R, host: &H, matches: &ArgMatches<'_>) -> Status
 where
@@ -82,7 +90,7 @@ where
     H: Threads + Wait + Clock + Sync + AllocGlobal + Eprint + LogFiles,
     H: Net<Listener = TcpListener, Stream = TcpStream>,
 {
-    let outcome = match Options::read(rt, matches) {
+    let outcome = match Options::read(rt, matches, processors(host)) {
         Ok(options) => serve_by(rt, host, &options),
         Err(status) => Err(status),
     };

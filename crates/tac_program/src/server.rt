@@ -8,6 +8,7 @@ ghost use Rattle.tac_program.specs.Ending.{end_of_serving};
 
 use crate::complaint::{complain, name_lint};
 use crate::console::{ConsoleInput, NoConsole};
+use crate::descriptors::warn_of_few;
 use crate::opening::{open_desk, open_secret};
 use crate::options::Options;
 use crate::status::Status;
@@ -110,7 +111,7 @@ fn serve_console<R, H, I: Read + Drop>(
 ) -> Result<(), ServeFault>
 where
     R: Print,
-    H: Threads + Wait + Clock + Sync + AllocGlobal + Eprint + LogFiles,
+    H: Threads + Wait + Clock + Sync + AllocGlobal + Eprint + LogFiles + Net,
 {
     let desk = FillingDesk::new(host, desk, options.record_limit);
     let mut input = input;
@@ -143,12 +144,13 @@ fn ended<R: Eprint>(rt: &R, outcome: Result<(), ServeFault>) -> Result<(), Statu
 pub(crate) fn serve_by<R, H>(rt: &R, host: &H, options: &Options<'_>) -> Result<(), Status>
 where
     R: Files + Input + Print + Eprint + AllocGlobal,
-    H: Threads + Wait + Clock + Sync + AllocGlobal + Eprint + LogFiles,
+    H: Threads + Wait + Clock + Sync + AllocGlobal + Eprint + LogFiles + Net,
     H: Net<Listener = TcpListener, Stream = TcpStream>,
 {
     let desk = desk_of_file(rt, options.record_limit, options.path)?;
     let journal = journal_of(rt, host, options)?;
     let port = port_at(rt, host, options.address)?;
+    warn_of_few(rt, &options.settings);
     let outcome = if options.has_console {
         let input = ConsoleInput::new(rt, rt.reader());
         serve_console(rt, host, options, desk, &journal, &port, input)

@@ -102,7 +102,8 @@ impl Status {
         ensures { result ≡ status_of_serving fault }
     {
         match fault {
-            ServeFault::Memory | ServeFault::Threads => Status::OutOfMemory,
+            ServeFault::Memory | ServeFault::Threads | ServeFault::Descriptors =>
+                Status::OutOfMemory,
             ServeFault::ReadFault | ServeFault::WriteFault | ServeFault::CloseRefused => {
                 Status::Failed
             }

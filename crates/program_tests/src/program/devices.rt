@@ -60,6 +60,13 @@ enum Visit {
     /// Bob asks on a connection that is silent afterwards, and asks on another one, where he is
     /// answered within five seconds.
     AfterASilentOne,
+    /// So many are connected at once, and are asked for a name; one more is closed without a byte.
+    /// Once they are gone bob asks.
+    OneTooMany(u32),
+    /// One is asked for a name, says no more, and is closed within five seconds.
+    AtItsName,
+    /// So many send most of the longest packet there is, and one at least is closed, or none.
+    Unfinished(u32, bool),
     /// Each on a connection of its own: one is cut off in the middle of a packet, bob asks, one is
     /// reset after its first reply, bob asks, another is cut off, bob asks, another is reset, bob
     /// asks, and then nobody is served any more.
@@ -215,6 +222,94 @@ where
     Ok(is_first && is_second && left == 0)
 }
 
+// Whether a connection is closed, without a byte.
+fn is_closed(stream: &TcpStream) -> bool {
+    let mut stream = stream;
+    match stream.read(&mut [0]) {
+        Ok(read) => read == 0,
+        Err(error) => error.kind() == ErrorKind::ConnectionReset,
+    }
+}
+
+// Connections that are each asked for a name.
+fn prompted<R>(rt: &R, address: SocketAddr, count: u32) -> io::Result<Vec<TcpStream>>
+where
+    R: Clock + AllocGlobal + Net<Listener = TcpListener, Stream = TcpStream>,
+{
+    let mut open = Vec::new(rt.alloc());
+    for _ in 0..count {
+        let stream = connect(rt, address)?;
+        if !is_answered(rt.alloc(), &stream, LOGIN, NAME_WANTED)? {
+            return Err(io::Error::from(ErrorKind::InvalidData));
+        }
+        open.push(stream)?;
+    }
+    Ok(open)
+}
+
+// Once the others are gone, bob may have to wait until the server knows.
+fn asks_at_last<R>(rt: &R, address: SocketAddr) -> bool
+where
+    R: Clock + AllocGlobal + Net<Listener = TcpListener, Stream = TcpStream>,
+{
+    for _ in 0..100 {
+        if let Ok(true) = asks_once(rt, address) {
+            return true;
+        }
+        sleep(rt, Duration::from_millis(20));
+    }
+    false
+}
+
+fn one_too_many<R>(rt: &R, address: SocketAddr, count: u32) -> io::Result<bool>
+where
+    R: Clock + AllocGlobal + Net<Listener = TcpListener, Stream = TcpStream>,
+{
+    let is_refused = {
+        let _open = prompted(rt, address, count)?;
+        let one_more = connect(rt, address)?;
+        is_closed(&one_more)
+    };
+    Ok(is_refused && asks_at_last(rt, address))
+}
+
+fn at_its_name<R>(rt: &R, address: SocketAddr) -> io::Result<bool>
+where
+    R: Clock + AllocGlobal + Net<Listener = TcpListener, Stream = TcpStream>,
+{
+    let stream = connect(rt, address)?;
+    stream.set_read_timeout(Some(Duration::from_secs(5)))?;
+    Ok(is_answered(rt.alloc(), &stream, LOGIN, NAME_WANTED)? && is_closed(&stream))
+}
+
+/// The header of a packet of 131,075 bytes, on a connection that is kept open.
+const LONG_HEADER: [u8; 12] = [0xc0, 2, 1, 4, 0, 0, 0, 1, 0, 2, 0, 3];
+
+// A connection on which most of that packet came, or as much as was taken.
+fn unfinished<R>(rt: &R, address: SocketAddr) -> io::Result<TcpStream>
+where
+    R: Clock + AllocGlobal + Net<Listener = TcpListener, Stream = TcpStream>,
+{
+    let mut stream = connect(rt, address)?;
+    stream.write_all(&LONG_HEADER)?;
+    let body = vec![in rt.alloc(); 0; 125_000]?;
+    let _ = stream.write_all(body.as_slice());
+    stream.set_read_timeout(Some(Duration::from_millis(20)))?;
+    Ok(stream)
+}
+
+// Whether one at least is closed.
+fn is_one_closed<R>(rt: &R, address: SocketAddr, count: u32) -> io::Result<bool>
+where
+    R: Clock + AllocGlobal + Net<Listener = TcpListener, Stream = TcpStream>,
+{
+    let mut open = Vec::new(rt.alloc());
+    for _ in 0..count {
+        open.push(unfinished(rt, address)?)?;
+    }
+    Ok(open.iter().any(is_closed))
+}
+
 fn eight_and_no_more<R>(rt: &R, address: SocketAddr) -> io::Result<bool>
 where
     R: Clock + AllocGlobal + Net<Listener = TcpListener, Stream = TcpStream>,
@@ -245,6 +340,11 @@ impl Visit {
             Visit::Twice => twice(rt, address),
             Visit::AfterAPause => after_a_pause(rt, address),
             Visit::AfterASilentOne => after_a_silent_one(rt, address),
+            Visit::OneTooMany(count) => one_too_many(rt, address, count),
+            Visit::AtItsName => at_its_name(rt, address),
+            Visit::Unfinished(count, wanted) => {
+                is_one_closed(rt, address, count).map(|is_closed| is_closed == wanted)
+            }
             Visit::EightAndNoMore => eight_and_no_more(rt, address),
         };
         went.unwrap_or(false)
@@ -342,9 +442,30 @@ const THERE: [u8; 4] = [127, 0, 0, 2];
 
 #[test]
 fn so_many_are_served_at_once(rt: HostRuntime) -> Result<(), Fail> {
-    visited(&rt, "--workers 6", HERE, Visit::AtOnce(6))?;
+    visited(&rt, "--workers 1", HERE, Visit::AtOnce(64))?;
     visited(&rt, "--workers 63", HERE, Visit::AtOnce(63))?;
-    visited(&rt, "--idle 0", HERE, Visit::AtOnce(16))
+    visited(&rt, "--workers 2 --per-address 0", HERE, Visit::AtOnce(200))
+}
+
+#[test]
+fn so_many_and_no_more(rt: HostRuntime) -> Result<(), Fail> {
+    visited(&rt, "--workers 2", HERE, Visit::OneTooMany(64))?;
+    visited(&rt, "--per-address 5", HERE, Visit::OneTooMany(5))?;
+    let options = "--connections-at-once 7 --per-address 0";
+    visited(&rt, options, HERE, Visit::OneTooMany(7))
+}
+
+// A log-in that waits for its name has a time of its own.
+#[test]
+fn a_login_is_given_up(rt: HostRuntime) -> Result<(), Fail> {
+    visited(&rt, "--idle 0 --login-idle 1", HERE, Visit::AtItsName)
+}
+
+// Ten connections have more than one megabyte of packets that aren't whole.
+#[test]
+fn packets_that_are_not_whole(rt: HostRuntime) -> Result<(), Fail> {
+    visited(&rt, "--packet-memory 1", HERE, Visit::Unfinished(10, true))?;
+    visited(&rt, "--packet-memory 2", HERE, Visit::Unfinished(10, false))
 }
 
 // Without the option a server has its port at each address of the machine. With it the port may be
@@ -412,7 +533,7 @@ fn the_latest_records(rt: HostRuntime) -> Result<(), Fail> {
     keeps(&rt, "--workers 1", 1001, 1)
 }
 
-// The one worker gives the silent device up a second after its reply, and then serves the other one.
+// The one worker gives the silent device up a second after its reply. It serves another meanwhile.
 #[test]
 fn a_silent_device_is_given_up(rt: HostRuntime) -> Result<(), Fail> {
     let options = "--idle 1 --workers 1";

@@ -105,7 +105,8 @@ impl BufRead for Typed<'_> {
 
 /// A runtime with these words, one blank between them, of which `~` is a blank within a word, this
 /// input, and this text in the file `policy`. The first line of the file `key` is a key that ends in
-/// a blank. For `no-memory` there is none, and there is no other file.
+/// a blank. It may have 20,000 files open. For `no-memory` there is no memory, and there is no other
+/// file.
 #[derive(Drop)]
 pub(crate) struct Fake<'a> {
     pub(crate) alloc: Global,
@@ -278,12 +279,21 @@ impl OpenFile for FakeFile {
     }
 }
 
+// What the system says of the limits of a process.
+const LIMITS: &str = "\
+Limit                     Soft Limit           Hard Limit           Units
+Max processes             96364                96364                processes
+Max open files            20000                524288               files
+Max locked memory         8388608              8388608              bytes
+";
+
 impl Fake<'_> {
     // What the file at a path has.
     fn bytes_at(&self, path: &str) -> io::Result<&'static [u8]> {
         match path {
             "policy" => Ok(self.policy.as_bytes()),
             "key" => Ok("k \nthe second line\n".as_bytes()),
+            "/proc/self/limits" => Ok(LIMITS.as_bytes()),
             "no-memory" => Err(io::Error::from(ErrorKind::OutOfMemory)),
             _ => Err(io::Error::from(ErrorKind::NotFound)),
         }

@@ -67,9 +67,11 @@ where
 // What is said of the file `policy` where it is refused.
 const LINT_SAYS_MORE: &str = "tacd: 'tacd lint policy' says more\n";
 
-// Serves on a port of the system's choice, with this console.
+// Serves on a port of the system's choice by three workers, with these further options and this
+// console.
 fn serves<R>(
     rt: &R,
+    options: &str,
     input: &'static str,
     takes_output: bool,
     status: u8,
@@ -88,7 +90,9 @@ where
         + Net<Listener = TcpListener, Stream = TcpStream>,
 {
     let port = free_port(rt)?;
-    let words = format!(in rt.alloc(); "tacd serve --key k --workers 3 policy --port {port}")?;
+    let words = format!(in rt.alloc();
+        "tacd serve --key k --workers 3{options} policy --port {port}"
+    )?;
     let policy = "group ops\npermit show .*\nuser bob in ops\n";
     let fake = Fake::new(rt.alloc(), words.as_str(), policy, input, takes_output);
     let printed = printed_on(rt.alloc(), port, answers, takes_output)?;
@@ -121,11 +125,22 @@ fn serves_a_console(rt: HostRuntime) -> Result<(), Fail> {
         "permitted by group ops rule 1\nok\nuser bob now denies: show run\nrefused 1 BadEdit\n";
     let unwritten = "tacd: the output could not be written\n";
     let ended = "tacd: the console's input ended at once, so the server stops\n";
-    serves(&rt, "", true, 0, "", ended)?;
-    serves(&rt, "quit", true, 0, "", "")?;
-    serves(&rt, "\n", true, 0, "refused 1 BadEdit\n", "")?;
-    serves(&rt, lines, true, 0, answers, "")?;
-    serves(&rt, lines, false, 4, "", unwritten)
+    serves(&rt, "", "", true, 0, "", ended)?;
+    serves(&rt, "", "quit", true, 0, "", "")?;
+    serves(&rt, "", "\n", true, 0, "refused 1 BadEdit\n", "")?;
+    serves(&rt, "", lines, true, 0, answers, "")?;
+    serves(&rt, "", lines, false, 4, "", unwritten)
+}
+
+// A server of three workers has 25 files open beside its connections.
+#[test]
+fn says_that_too_few_files_may_be_open(rt: HostRuntime) -> Result<(), Fail> {
+    let enough = " --connections-at-once 19975";
+    serves(&rt, enough, "quit", true, 0, "", "")?;
+    let few = "tacd: only 20000 files may be open, too few for 19976 connections at once: \
+        raise 'ulimit -n' or LimitNOFILE= to 20001, or lower --connections-at-once\n";
+    let too_many = " --connections-at-once 19976";
+    serves(&rt, too_many, "quit", true, 0, "", few)
 }
 
 #[test]

@@ -239,6 +239,69 @@ pub(crate) fn visits<R: Net<Listener = TcpListener, Stream = TcpStream> + AllocG
     speaks(rt.alloc(), &device)
 }
 
+/// How often a device asks at once: in more packets than one read gives.
+const OFTEN: usize = 100;
+
+// So many times the same packet, one after another.
+fn repeated(alloc: Global, text: &str) -> io::Result<Vec<u8>> {
+    let packet = sent_as(alloc, text)?;
+    let mut all = Vec::new(alloc);
+    for _ in 0..OFTEN {
+        all.extend_from_slice(packet.as_slice())?;
+    }
+    Ok(all)
+}
+
+/// A device asks many times in one piece, on a connection that is kept. Whether it has as many
+/// answers.
+pub(crate) fn asks_often<R: Net<Listener = TcpListener, Stream = TcpStream> + AllocGlobal>(
+    rt: &R,
+    address: SocketAddr,
+) -> io::Result<bool> {
+    let sent = repeated(rt.alloc(), SHOW_TWICE[0])?;
+    let wanted = repeated(rt.alloc(), PERMITTED_TWICE[0])?;
+    let device = TcpStream::connect(rt, address)?;
+    device.set_read_timeout(Some(Duration::from_secs(4)))?;
+    is_answered_with(rt.alloc(), &device, sent.as_slice(), wanted.as_slice())
+}
+
+/// A device is asked for a name, and says no more. Whether its connection is closed then.
+pub(crate) fn waits_at_its_name<R: Net<Listener = TcpListener, Stream = TcpStream> + AllocGlobal>(
+    rt: &R,
+    address: SocketAddr,
+) -> io::Result<bool> {
+    let (start, question) = VISIT[1];
+    let device = sends(rt, address, start)?;
+    device.set_read_timeout(Some(Duration::from_secs(4)))?;
+    let question = sent_as(rt.alloc(), question)?;
+    is_answered(rt.alloc(), &device, question.as_slice())
+}
+
+/// The header of a packet of 131,075 bytes.
+const LONG_HEADER: [u8; 12] = [0xc0, 2, 1, 0, 0, 0, 0, 1, 0, 2, 0, 3];
+
+/// Whether a connection is closed without a byte. It may be reset, where some of what was sent isn't
+/// read.
+pub(crate) fn is_closed(device: &TcpStream) -> io::Result<bool> {
+    let mut device = device;
+    match device.read(&mut [0]) {
+        Ok(read) => Ok(read == 0),
+        Err(error) => Ok(error.kind() == ErrorKind::ConnectionReset),
+    }
+}
+
+/// A device sends the beginning of a long packet. Whether its connection is closed without a byte.
+pub(crate) fn sends_too_much<R: Net<Listener = TcpListener, Stream = TcpStream> + AllocGlobal>(
+    rt: &R,
+    address: SocketAddr,
+) -> io::Result<bool> {
+    let mut device = sends_bytes(rt, address, &LONG_HEADER)?;
+    device.set_read_timeout(Some(Duration::from_secs(4)))?;
+    // the connection may be closed before all is sent
+    let _ = device.write_all(&[0; 20_000]);
+    is_closed(&device)
+}
+
 // What the client of this number asks, and what it is answered: one line and the other in turn.
 fn exchange_of(at: usize) -> (&'static str, &'static str) {
     if at % 2 == 0 {

@@ -1,6 +1,9 @@
 //! A server with a console, which ends by itself.
 
-use crate::net::clients::{asks, desk_of, is_answered, key, permission, visits};
+use crate::net::clients::{
+    asks, asks_often, desk_of, is_answered, is_closed, key, permission, sends_too_much, visits,
+    waits_at_its_name,
+};
 use std::alloc::{AllocError, Global};
 use std::io::{self, ErrorKind, Read, Write};
 use std::net::{Ipv4Addr, Net, SocketAddr, TcpListener, TcpStream};
@@ -12,20 +15,27 @@ use std::time::{Clock, Duration, Instant};
 use tac_desks::PlainDesk;
 use tac_forum::Limits;
 use tac_journal::{Log, LogFiles, Refused};
-use tac_net::{Port, ServeFault, Settings, serve};
+use tac_net::{Idle, Port, ServeFault, Settings, serve};
 
 /// What an operator does, and how many workers his server has.
 #[derive(Clone, Copy)]
 struct Course {
     workers: u32,
     /// After so many seconds a device is given up.
-    idle: u32,
-    /// He keeps a silent connection open.
-    keeps: bool,
+    idle: Idle,
+    /// He keeps so many silent connections open.
+    keeps: u32,
+    /// So many connections there may be of his address.
+    per_address: u32,
+    /// So many bytes unanswered packets may take, beside the first of each connection.
+    packet_memory: u64,
     /// How long the segments may be.
     limits: Limits,
     /// He asks as a client does, once for each letter, and goes on if he was permitted at each p,
     /// and at each x his connection was closed without a byte. At each v he makes a device's visit.
+    /// At each m he asks many times at once. At l he is asked for a name, and at b he sends the
+    /// beginning of a long packet, and then his connection is closed. At c it is closed at once. At
+    /// g those are closed that he keeps.
     asks: &'static str,
     /// Then he types this.
     types: &'static str,
@@ -39,8 +49,10 @@ struct Course {
 
 const QUITS: Course = Course {
     workers: 4,
-    idle: 0,
-    keeps: false,
+    idle: Idle { idle: 0, login: 0 },
+    keeps: 0,
+    per_address: 0,
+    packet_memory: 1_000_000,
     limits: Limits {
         calls: 9,
         rotate_at: 9,
@@ -99,11 +111,17 @@ fn is_served_so<R>(rt: &R, address: SocketAddr, letter: u8) -> io::Result<bool>
 where
     R: AllocGlobal + Net<Listener = TcpListener, Stream = TcpStream>,
 {
-    if letter == b'v' {
-        return visits(rt, address);
+    match letter {
+        b'v' => visits(rt, address),
+        b'm' => asks_often(rt, address),
+        b'l' => waits_at_its_name(rt, address),
+        b'b' => sends_too_much(rt, address),
+        b'c' => is_closed(&asks(rt, address)?),
+        _ => {
+            let client = asks(rt, address)?;
+            is_answered_so(rt.alloc(), &client, letter)
+        }
     }
-    let client = asks(rt, address)?;
-    is_answered_so(rt.alloc(), &client, letter)
 }
 
 /// The input of an operator who does so.
@@ -112,7 +130,7 @@ struct Operator<'a, R> {
     rt: &'a R,
     address: SocketAddr,
     course: Course,
-    silent: Option<TcpStream>,
+    silent: Vec<TcpStream>,
     is_done: bool,
 }
 
@@ -121,15 +139,34 @@ where
     R: AllocGlobal + Net<Listener = TcpListener, Stream = TcpStream>,
 {
     fn keep(&mut self) -> io::Result<()> {
-        if self.course.keeps {
-            self.silent = Some(TcpStream::connect(self.rt, self.address)?);
+        for _ in 0..self.course.keeps {
+            self.silent
+                .push(TcpStream::connect(self.rt, self.address)?)?;
         }
         Ok(())
     }
 
+    // Whether those that he keeps are closed, without a byte.
+    fn are_given_up(&self) -> io::Result<bool> {
+        for silent in self.silent.iter() {
+            if !is_answered(self.rt.alloc(), silent, b"")? {
+                return Ok(false);
+            }
+        }
+        Ok(true)
+    }
+
+    // Whether it went as this letter says.
+    fn does(&self, letter: u8) -> io::Result<bool> {
+        if letter == b'g' {
+            return self.are_given_up();
+        }
+        is_served_so(self.rt, self.address, letter)
+    }
+
     fn ask(&self) -> io::Result<()> {
         for letter in self.course.asks.bytes() {
-            if !is_served_so(self.rt, self.address, letter)? {
+            if !self.does(letter)? {
                 return Err(io::Error::from(ErrorKind::PermissionDenied));
             }
         }
@@ -236,12 +273,15 @@ where
     R: Net<Listener = TcpListener, Stream = TcpStream>,
 {
     let port = Port::bind(rt, SocketAddr::from((Ipv4Addr::LOCALHOST, 0)))?;
-    let address = port.listener().local_addr()?;
+    let address = port.address()?;
     let settings = Settings {
         port: address.port(),
         key: key()?,
         workers: course.workers,
-        connections: 9,
+        connections: 299,
+        connections_at_once: 250,
+        per_address: course.per_address,
+        packet_memory: course.packet_memory,
         idle: course.idle,
         limits: course.limits,
     };
@@ -250,7 +290,7 @@ where
         rt,
         address,
         course,
-        silent: None,
+        silent: Vec::new(rt.alloc()),
         is_done: false,
     };
     let (ended, is_printed) = serves(rt, &port, desk, &settings, &mut operator, printed)?;
@@ -285,25 +325,102 @@ fn workers_that_wait_end(rt: HostRuntime) -> Result<(), Fail> {
     ends(&rt, QUITS, "", Ok(()))
 }
 
-// Without an end by force the one worker would wait for its silent device for ever.
+// One worker serves others while two hundred devices are silent, and ends all the same.
 #[test]
-fn a_silent_device_holds_up_no_end(rt: HostRuntime) -> Result<(), Fail> {
+fn silent_devices_hold_up_nobody(rt: HostRuntime) -> Result<(), Fail> {
     let course = Course {
         workers: 1,
-        keeps: true,
-        asks: "",
+        keeps: 200,
+        asks: "pvp",
+        ..QUITS
+    };
+    ends(&rt, course, "", Ok(()))?;
+    let several = Course {
+        workers: 3,
+        ..course
+    };
+    ends(&rt, several, "", Ok(()))
+}
+
+// Silent devices are given up after a second. Those who wait for a person have a time of their own.
+#[test]
+fn silent_devices_are_given_up(rt: HostRuntime) -> Result<(), Fail> {
+    let silent = Course {
+        workers: 1,
+        idle: Idle { idle: 1, login: 0 },
+        keeps: 3,
+        asks: "pgp",
+        ..QUITS
+    };
+    ends(&rt, silent, "", Ok(()))?;
+    let at_a_prompt = Course {
+        idle: Idle { idle: 0, login: 1 },
+        keeps: 0,
+        asks: "lp",
+        ..silent
+    };
+    ends(&rt, at_a_prompt, "", Ok(()))
+}
+
+// As many connections of an address as there may be, and one more is closed, until those are gone.
+// A device that comes and goes doesn't count for long.
+#[test]
+fn connections_of_one_address(rt: HostRuntime) -> Result<(), Fail> {
+    let course = Course {
+        workers: 2,
+        idle: Idle { idle: 1, login: 1 },
+        keeps: 2,
+        per_address: 3,
+        asks: "ppppgpppp",
+        ..QUITS
+    };
+    ends(&rt, course, "", Ok(()))?;
+    let one_less = Course {
+        per_address: 2,
+        asks: "ccgpppp",
+        ..course
+    };
+    ends(&rt, one_less, "", Ok(()))
+}
+
+// As many connections in all as there may be, and then one more.
+#[test]
+fn connections_in_all(rt: HostRuntime) -> Result<(), Fail> {
+    let course = Course {
+        workers: 2,
+        idle: Idle { idle: 1, login: 1 },
+        keeps: 249,
+        asks: "pp",
+        ..QUITS
+    };
+    ends(&rt, course, "", Ok(()))?;
+    let one_more = Course {
+        keeps: 250,
+        asks: "cgp",
+        ..course
+    };
+    ends(&rt, one_more, "", Ok(()))
+}
+
+// What came in one piece is served to its end, though nothing more is heard of it.
+#[test]
+fn many_packets_at_once(rt: HostRuntime) -> Result<(), Fail> {
+    let course = Course {
+        workers: 1,
+        asks: "mpm",
         ..QUITS
     };
     ends(&rt, course, "", Ok(()))
 }
 
-// The one worker gives the silent device up after a second, and then serves the other one.
+// Where there is no memory for a packet that isn't whole, its connection is closed, and what it had
+// is free again.
 #[test]
-fn a_silent_device_is_given_up(rt: HostRuntime) -> Result<(), Fail> {
+fn packets_that_are_too_much(rt: HostRuntime) -> Result<(), Fail> {
     let course = Course {
         workers: 1,
-        idle: 1,
-        keeps: true,
+        packet_memory: 5_000,
+        asks: "bbbmp",
         ..QUITS
     };
     ends(&rt, course, "", Ok(()))
@@ -404,7 +521,7 @@ fn a_log_that_refuses(rt: HostRuntime) -> Result<(), Fail> {
 #[test]
 fn an_input_that_fails(rt: HostRuntime) -> Result<(), Fail> {
     let failing = Course {
-        keeps: true,
+        keeps: 1,
         fails: true,
         room: 99,
         ..QUITS
@@ -425,7 +542,7 @@ fn an_input_that_fails(rt: HostRuntime) -> Result<(), Fail> {
 #[test]
 fn an_output_that_fails(rt: HostRuntime) -> Result<(), Fail> {
     let failing = Course {
-        keeps: true,
+        keeps: 1,
         types: "shadow\n",
         ..QUITS
     };

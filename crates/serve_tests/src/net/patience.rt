@@ -4,8 +4,9 @@
 use std::alloc::Global;
 use std::cell::{Cell, RefCell};
 use std::io::{self, ErrorKind, Read, Write};
+use std::net::{IpAddr, Ipv4Addr};
 use std::time::{Clock, Duration};
-use tac_net::{Line, Pause, Vigil, accepted};
+use tac_net::{Idle, PacketMemory, Pause, Socket, Visits, accepted};
 use tac_worker::End;
 
 /// A clock that a test sets, and that tells how long it was to sleep.
@@ -48,8 +49,8 @@ impl Clock for Set {
     }
 }
 
-/// A device that does what its letter says. To a read it is silent, `s`, or sends a byte, `b`; of a
-/// reply it takes all, `t`, one byte, `o`, or nothing, `n`.
+/// A device that does what its letter says. To a read it is silent, `s`, or sends a byte, `b`, or as
+/// many as are read at once, `f`; of a reply it takes all, `t`, one byte, `o`, or nothing, `n`.
 #[derive(Drop)]
 struct Device {
     letter: Cell<u8>,
@@ -57,15 +58,10 @@ struct Device {
 
 impl Read for &Device {
     fn read(&mut self, buf: &mut [u8]) -> io::Result<usize> {
-        if self.letter.get() != b'b' {
-            return Err(io::Error::from(ErrorKind::WouldBlock));
-        }
-        match buf.first_mut() {
-            Some(first) => {
-                *first = b'b';
-                Ok(1)
-            }
-            None => Ok(0),
+        match self.letter.get() {
+            b'b' => Ok(buf.len().min(1)),
+            b'f' => Ok(buf.len()),
+            _ => Err(io::Error::from(ErrorKind::WouldBlock)),
         }
     }
 }
@@ -84,28 +80,27 @@ impl Write for &Device {
     }
 }
 
-// How a read or a write went: `.` it waited in vain, `x` the device is given up, `q` the server
-// stops, or how many bytes came or were taken.
+type Line<'a> = Socket<'a, &'a Device, Set>;
+
+// How a read or a write went: `.` it would have had to wait, `m` there was no memory, or how many
+// bytes came or were taken.
 fn told(went: io::Result<usize>) -> u8 {
     match went {
         Ok(n) => b'0'.wrapping_add(n.min(9) as u8),
         Err(error) => match error.kind() {
-            ErrorKind::Interrupted => b'.',
-            ErrorKind::TimedOut => b'x',
-            ErrorKind::ConnectionAborted => b'q',
+            ErrorKind::WouldBlock => b'.',
+            ErrorKind::OutOfMemory => b'm',
             _ => b'?',
         },
     }
 }
 
-// Reads from a device that does as the letter says, or writes a reply of two bytes to it.
-fn goes(device: &Device, line: &Line<'_, &Device, Set>, letter: u8) -> u8 {
-    device.letter.set(letter);
-    let mut line = line;
-    if letter == b's' || letter == b'b' {
-        told(line.read(&mut [0; 4]))
+// Whether its device is given up by now, after a reply that asked for a name or not.
+fn is_over(socket: &Line<'_>, clock: &Set, idle: Idle, asks: bool) -> u8 {
+    if socket.is_over(idle, asks, Some(clock.milliseconds.get())) {
+        b'x'
     } else {
-        told(line.write(b"ok"))
+        b'-'
     }
 }
 
@@ -118,72 +113,88 @@ fn number_of(digits: &[u8]) -> u64 {
     number
 }
 
-// Does a step: at a millisecond what a letter says, which has to go as the next letter says. At `q`
-// the server stops.
+// Does a step: at a millisecond what a letter says, which has to go as the next letter says. At `?`
+// it is asked whether the device is given up, and at `p` the same after a reply that asked for a
+// name; `v` is another visit. Four bytes are read at once, and a reply has two.
 fn is_so(
     clock: &Set,
-    vigil: &Vigil,
+    idle: Idle,
+    visits: &Visits,
     device: &Device,
-    line: &Line<'_, &Device, Set>,
+    socket: &mut Line<'_>,
     step: &str,
 ) -> bool {
     let Some((digits, [letter, wanted])) = step.as_bytes().split_last_chunk::<2>() else {
         return false;
     };
     clock.milliseconds.set(number_of(digits));
-    if *letter == b'q' {
-        vigil.stop();
-        return true;
-    }
-    goes(device, line, *letter) == *wanted
+    device.letter.set(*letter);
+    let went = match *letter {
+        b'?' => is_over(socket, clock, idle, false),
+        b'p' => is_over(socket, clock, idle, true),
+        b's' | b'b' | b'f' => told(socket.read(&mut [0; 4])),
+        b'v' => {
+            visits.next();
+            b'-'
+        }
+        _ => told(socket.write(b"ok")),
+    };
+    went == *wanted
 }
 
 // Whether all steps go as they are to go, from a connection that is accepted at 0.
-fn is_borne(alloc: Global, idle: u32, steps: &str) -> bool {
+fn is_borne(alloc: Global, idle: Idle, steps: &str) -> bool {
     let clock = Set::new(alloc);
-    let vigil = Vigil::new(idle);
+    let memory = PacketMemory::new(0);
+    let visits = Visits::new();
     let device = Device {
         letter: Cell::new(b's'),
     };
-    let line = Line::new(&device, &clock, &vigil);
+    let address = IpAddr::V4(Ipv4Addr::LOCALHOST);
+    let mut socket = Socket::new(&device, address, &clock, &memory, &visits);
     for step in steps.split(' ') {
-        if !is_so(&clock, &vigil, &device, &line, step) {
+        if !is_so(&clock, idle, &visits, &device, &mut socket, step) {
             return false;
         }
     }
     true
 }
 
-/// After so many seconds a device is given up, and what it does.
-const DEVICES: [(u32, &str); 10] = [
+/// After so many seconds a device is given up, at a prompt after so many, and what it does.
+const DEVICES: [(u32, u32, &str); 11] = [
     // before its first reply ten seconds, or fewer
-    (300, "9000s. 9999s. 10000sx"),
-    (3, "2999s. 3000sx"),
-    // a byte a second is silence
+    (300, 60, "9000s. 9999?- 10000?x"),
+    (3, 60, "2999?- 3000?x"),
+    // bytes are silence
+    (300, 60, "1000b1 1001b. 9000f4 9999f4 9999?- 10000?x"),
+    (3, 60, "500t2 1000b1 3499?- 3500?x"),
+    // after a reply as long as is said, from that reply on
+    (300, 60, "9999t2 10000?- 309998?- 309999?x"),
+    (300, 60, "9000t2 200000t2 499999?- 500000?x"),
+    // a device that doesn't read, or not all, from when it didn't
+    (300, 60, "0t2 5000n. 200000o1 304999?- 305000?x"),
+    (300, 60, "1000n. 9000n. 9500t2 9600n. 309599?- 309600?x"),
+    // at a prompt, whichever is longer
+    (300, 60, "1000t2 60999p- 61000px"),
+    // a short read has read all, at the same visit
     (
         300,
-        "1000b1 2000b1 3000b1 4000b1 5000b1 6000b1 7000b1 8000b1 9000b1 10000bx",
+        60,
+        "0b1 0b. 0b1 0v- 0b1 0b. 1f4 1b1 1v- 2n. 3b1 3b. 4o1 4b1",
     ),
-    (3, "500t2 1000b1 2000b1 3000b1 3499b1 3500bx"),
-    // after a reply as long as is said, from that reply on
-    (300, "9999t2 10000s. 20000s. 309998s. 309999sx"),
-    (300, "9000t2 200000t2 309000s. 499999b1 500000bx"),
-    // a device that doesn't read, or not all, from when it didn't
-    (300, "0t2 5000n. 200000o1 304999n. 305000nx"),
-    (300, "1000n. 9000n. 9500t2 9600n. 309599n. 309600nx"),
     // never
     (
         0,
-        "3600000s. 3600000n. 7200000n. 7200000b1 7200001o1 4000000000t2 8000000000s.",
+        0,
+        "3600000?- 3600000n. 7200000p- 7200001o1 8000000000?- 8000000000p-",
     ),
-    // a server that stops
-    (300, "1000b1 1001q. 1002t2 1003sq 1004n. 1005nq"),
 ];
 
 #[test]
 fn devices(rt: HostRuntime) {
-    for (idle, steps) in DEVICES {
-        assert!(rt; is_borne(rt.alloc(), idle, steps), "{idle}: {steps}");
+    for (idle, login, steps) in DEVICES {
+        let idle = Idle { idle, login };
+        assert!(rt; is_borne(rt.alloc(), idle, steps), "{idle:?}: {steps}");
     }
 }
 
@@ -195,26 +206,21 @@ fn came(letter: u8) -> io::Result<u8> {
     Err(io::Error::from(ErrorKind::Other))
 }
 
-// How it ended: with the connection, `k`, as one that couldn't be read, `r`, or as stopped, `s`.
+// How it ended: with the connection, `k`, or as one that couldn't be read, `r`.
 fn ended(ended: Result<u8, End>) -> u8 {
     match ended {
         Ok(letter) => letter,
         Err(End::ReadFault) => b'r',
-        Err(End::Stopped) => b's',
         Err(_) => b'?',
     }
 }
 
-// Whether waits of which this comes, one after another, end so and have it sleep so. At `q` the
-// server stops.
+// Whether waits of which this comes, one after another, end so and have it sleep so.
 fn pauses(alloc: Global, course: &str, ends: &str, slept: &str) -> bool {
     let clock = Set::new(alloc);
-    let vigil = Vigil::new(300);
     let mut pause = Pause::first();
     for (letter, wanted) in course.bytes().zip(ends.bytes()) {
-        if letter == b'q' {
-            vigil.stop();
-        } else if ended(accepted(&clock, &vigil, &mut pause, came(letter))) != wanted {
+        if ended(accepted(&clock, &mut pause, came(letter))) != wanted {
             return false;
         }
     }
@@ -230,7 +236,6 @@ fn no_connections(rt: HostRuntime) {
             "rrrrrrrrkrkrr",
             "50 100 200 400 800 1000 1000 1000 50 50 100 ",
         ),
-        ("ffqfkf", "rr.sks", "50 100 "),
     ];
     for (course, ends, slept) in rows {
         assert!(rt; pauses(rt.alloc(), course, ends, slept), "{course}");

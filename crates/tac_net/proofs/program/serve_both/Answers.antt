@@ -5,12 +5,12 @@ use denote.Param.Send.{IsSync, sendable, part_keyless, Quiet-if}
 use Rattle.std.proofs.Crossing.{crosses}
 use Rattle.tac_forum.specs.contracts.shared_desk.SharedDesk as SharedDesk
 use Rattle.tac_forum.proofs.shared_desk.SharedDesk.TheSendSync as shared
-use Rattle.tac_net.proofs.Crossing.{Port-sync, Settings-sync, Vigil-sync}
+use Rattle.tac_net.proofs.Crossing.{Intake-sync, Port-sync, Settings-sync, Vigil-sync}
 use Rattle.tac_net.proofs.program.serve_both.Goals as goal
 
 pub join_mut-requires-send-F : goal.join_mut-requires-send-F
 join_mut-requires-send-F g c κs within =
-    let waiting = c.type_bounds.send-S in
+    let waiting = c.type_bounds.send-P in
     let runtime = c.type_bounds.sync-R in
     let desk : IsSync (SharedDesk.the_row (param 1 g.row.J) (param 2 g.row.D) g.J.Run g.D.Desk) = search (shared.the_sync, c.type_bounds.send-J, c.type_bounds.sync-J, c.type_bounds.send-D, crosses, sendable) depth 60 fits 20000 in
     let log = c.type_bounds.sync-L in
@@ -30,8 +30,11 @@ join_mut-requires-send-F g c κs within =
                   (
                     (tt, Vigil-sync.shared d.5.now d.5.ref_ptr.0 d.5.ref_ptr.1 _),
                     (
-                      (tt, log.shared d.6.now d.6.ref_ptr.0 d.6.ref_ptr.1 _),
-                      tt,
+                      (tt, Intake-sync.shared d.6.now d.6.ref_ptr.0 d.6.ref_ptr.1 _),
+                      (
+                        (tt, log.shared d.7.now d.7.ref_ptr.0 d.7.ref_ptr.1 _),
+                        tt,
+                      ),
                     ),
                   ),
                 ),

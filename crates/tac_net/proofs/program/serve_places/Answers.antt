@@ -4,10 +4,11 @@ use Rattle.std.proofs.Common.{arith}
 use Rattle.std.proofs.Crossing.{crosses}
 use Rattle.tac_forum.specs.contracts.shared_desk.SharedDesk as SharedDesk
 use Rattle.tac_forum.proofs.shared_desk.SharedDesk.TheSendSync as shared
-use Rattle.tac_net.specs.Serving.{IsDeskConnection}
-use Rattle.tac_net.proofs.Crossing.{Listener-sync, Settings-sync, Vigil-sync}
-use Rattle.tac_net.proofs.ServingFacts.{each_served, ok_both}
-use Rattle.tac_net.proofs.serving.serve_seats.Goals as goal
+use Rattle.tac_net.specs.Connections.{HasServed}
+use Rattle.tac_net.proofs.Crossing.{Intake-sync, Port-sync, Settings-sync, Vigil-sync}
+use Rattle.tac_net.proofs.FitFacts.{each_served_so}
+use Rattle.tac_net.proofs.ServingFacts.{ok_both}
+use Rattle.tac_net.proofs.program.serve_places.Goals as goal
 
 -- what the closure lends to each thread, one capture after another; no search gets through them together
 pub map_vec-requires-sync-F : goal.map_vec-requires-sync-F
@@ -20,16 +21,19 @@ map_vec-requires-sync-F g c κs within =
         (
           (λ q. tt, runtime.shared d.0.now d.0.ref_ptr.0 d.0.ref_ptr.1 _),
           (
-            (λ q. tt, desk.shared d.1.now d.1.ref_ptr.0 d.1.ref_ptr.1 _),
+            (λ q. tt, Port-sync.shared d.1.now d.1.ref_ptr.0 d.1.ref_ptr.1 _),
             (
-              (λ q. tt, Listener-sync.shared d.2.now d.2.ref_ptr.0 d.2.ref_ptr.1 κ),
+              (λ q. tt, desk.shared d.2.now d.2.ref_ptr.0 d.2.ref_ptr.1 _),
               (
                 (λ q. tt, Settings-sync.shared d.3.now d.3.ref_ptr.0 d.3.ref_ptr.1 _),
                 (
                   (λ q. tt, Vigil-sync.shared d.4.now d.4.ref_ptr.0 d.4.ref_ptr.1 _),
                   (
-                    (λ q. tt, log.shared d.5.now d.5.ref_ptr.0 d.5.ref_ptr.1 _),
-                    tt,
+                    (λ q. tt, Intake-sync.shared d.5.now d.5.ref_ptr.0 d.5.ref_ptr.1 _),
+                    (
+                      (λ q. tt, log.shared d.6.now d.6.ref_ptr.0 d.6.ref_ptr.1 _),
+                      tt,
+                    ),
                   ),
                 ),
               ),
@@ -43,7 +47,7 @@ map_vec-requires-sync-F g c κs within =
 pub returns : goal.returns
 returns g c =
     ok_both c.map_vec.result (λ served same each.
-    each_served (IsDeskConnection g.J.Run.opening c.args.premises.now.settings.now.key (g.L.Log.keeping c.args.premises.now.log.now)) c.args.premises.now.settings.now.connections c.args.seats.items served.items
-    (omega (arith, same, served.ok.0, c.args.seats.ok.0))
+    each_served_so (λ place. place.seat) (HasServed g.J.Run.opening c.args.premises.now.settings.now.key (g.L.Log.keeping c.args.premises.now.log.now) c.args.premises.now.settings.now.connections) c.args.places.items served.items
+    (omega (arith, same, served.ok.0, c.args.places.ok.0))
     (λ i d h. let job = (each i d h).1 in (job.job, job.job_read, job.call.met)))
     c.map_vec.ensures.len c.map_vec.ensures.each

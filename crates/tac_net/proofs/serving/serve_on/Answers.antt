@@ -4,10 +4,10 @@ use Rattle.std.proofs.Common.{arith}
 use Rattle.std.proofs.Crossing.{crosses}
 use Rattle.tac_worker.proofs.worked.End.TheSendSync as ends
 use Rattle.tac_hall.proofs.Crossing.{Seat-send, Key-sync, Hall-sync}
-use Rattle.tac_net.proofs.Crossing.{Listener-sync, Number-sync, Vigil-sync}
+use Rattle.tac_net.proofs.Crossing.{Listener-sync, Number-sync}
 use Rattle.tac_net.specs.Serving.{IsHallConnection}
 use Rattle.tac_net.proofs.ServingFacts.{each_served, ok_both}
-use Rattle.tac_net.proofs.serving.serve_under.Goals as goal
+use Rattle.tac_net.proofs.serving.serve_on.Goals as goal
 
 pub map_vec-requires-send-J : goal.map_vec-requires-send-J
 map_vec-requires-send-J g c κs within = search (Seat-send, crosses, sendable) depth 60
@@ -34,11 +34,8 @@ map_vec-requires-sync-F g c κs within =
                 (
                   (λ q. tt, gate.shared d.4.now d.4.ref_ptr.0 d.4.ref_ptr.1 _),
                   (
-                    (λ q. tt, Vigil-sync.shared d.5.now d.5.ref_ptr.0 d.5.ref_ptr.1 _),
-                    (
-                      (λ q. tt, Number-sync.shared d.6.now d.6.ref_ptr.0 d.6.ref_ptr.1 κ),
-                      tt,
-                    ),
+                    (λ q. tt, Number-sync.shared d.5.now d.5.ref_ptr.0 d.5.ref_ptr.1 κ),
+                    tt,
                   ),
                 ),
               ),

@@ -1,0 +1,75 @@
+-- What a worker of a shared desk has done that served many connections in turns, and what several
+-- have.
+use Rattle.std.specs.Prelude.{◌≡◌, ◌≤◌, ℕ, List, [], ◌∷◌, ◌++◌, Bool, true}
+use Rattle.tac_audit.specs.declared.notice.Notice.{Notice}
+use Rattle.tac_audit.specs.Noted.{AreAnswered}
+use Rattle.tac_audit.specs.Witness.{AreTold}
+use Rattle.tac_forum.specs.History.{Opening}
+use Rattle.tac_forum.specs.Seat.{Seated, CatchesUp}
+use Rattle.tac_journal.specs.Log.{Keeping}
+use Rattle.tac_worker.specs.AtDesk as at_desk
+use Rattle.tac_loop.specs.Board.{Board, AreAll, IsWorking}
+use Rattle.tac_loop.specs.declared.line.Line.{Line}
+use Rattle.tac_net.specs.Logs.{HasLogged}
+
+-- ---- who is told
+
+-- a witness that knows all that it was told took this notice
+abbrev pub IsTold : List Notice → Notice → List Notice → Type 0
+IsTold was notice now = now ≡ was ++ notice ∷ []
+
+-- .. refused it, which only a log that is kept does
+abbrev pub IsRefused : Bool → List Notice → Notice → List Notice → Type 0
+IsRefused is_kept was notice now = (is_kept ≡ true) × (now ≡ was)
+
+-- whatever this witness takes, the log has the lines of it; and it refuses a notice only where a
+-- log is kept
+pub record TellsLog {V : Type 0} (takes refuses : V → Notice → V → Type 0) (log : Keeping)
+    (first : V) : Type 0 where
+  pub logged : (told : List Notice) (now : V) → AreTold takes first told now → AreAnswered [] told
+      → HasLogged log told
+  pub refused : (told : List Notice) (between now : V) (notice : Notice)
+      → AreTold takes first told between → refuses between notice now → log.is_kept ≡ true
+
+-- ---- a seat
+
+-- a connection of a seat, whose witness is what it was told. Of its socket nothing is said
+abbrev pub DeskLine : Type 0
+DeskLine = Line Seated (List Notice) (Unit {0})
+
+-- a seat and its connections
+abbrev pub DeskBoard : Type 0
+DeskBoard = Board Seated (List Notice) (Unit {0})
+
+-- the seat made these calls, each for one of them, and each was served by its own calls
+abbrev pub IsDeskBoard : Opening → Bool → DeskBoard → Type 0
+IsDeskBoard opening is_kept board =
+    IsWorking (at_desk.MakesOne opening) CatchesUp (at_desk.Refuses opening)
+    IsTold (IsRefused is_kept) board
+
+-- it is of a device with this key, and the log, if one is kept, took the lines of all that its
+-- witness was told
+pub record IsConnectionOf (key : List ℕ) (log : Keeping) (line : DeskLine) : Type 0 where
+  pub keyed : line.link.key ≡ key
+  pub first : line.link.first ≡ []
+  pub logged : HasLogged log line.link.witness
+
+-- a seat made its calls for at most so many connections, each of a device with this key, and no
+-- other calls
+pub record HasServed (opening : Opening) (key : List ℕ) (log : Keeping) (connections : ℕ)
+    (was now : Seated) : Type 0 where
+  pub board : DeskBoard
+  pub working : IsDeskBoard opening log.is_kept board
+  pub first : board.first ≡ was
+  pub caller : board.caller ≡ now
+  pub within : board.next ≤ connections
+  pub each : AreAll (IsConnectionOf key log) board
+
+-- ---- side by side
+
+-- each of these seats served so, and they come back in their order
+abbrev pub HaveAllServed : (Seated → Seated → Type 0) → List Seated → List Seated → Type 0
+HaveAllServed serves [] [] = Unit {0}
+HaveAllServed serves (seat ∷ seats) (one ∷ served) =
+    serves seat one × HaveAllServed serves seats served
+HaveAllServed serves seats served = ⊥

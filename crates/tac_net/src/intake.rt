@@ -1,0 +1,186 @@
+//! Where new connections go.
+
+use crate::packet_memory::PacketMemory;
+use crate::poller::{Poller, WOKEN};
+use crate::settings::Settings;
+use brief_lock::take;
+use mio::Waker;
+use mio::net::TcpStream;
+use std::alloc::Global;
+use std::io;
+use std::mem::swap;
+use std::net::{IpAddr, Net, SocketAddr};
+use std::sync::atomic::{AtomicU32, AtomicU64, Ordering};
+use std::sync::{Mutex, Wait};
+use tac_census::{Caps, Census};
+
+/// A connection that was accepted: its stream, and the address of its device.
+#[derive(Drop)]
+pub(crate) struct Arrival {
+    pub(crate) stream: TcpStream,
+    pub(crate) address: SocketAddr,
+}
+
+/// What one worker is handed, and what wakes it.
+#[derive(Drop)]
+struct Inbox {
+    waker: Waker,
+    arrivals: Mutex<Vec<Arrival>>,
+    // how many connections it has now
+    load: AtomicU32,
+    // how many it may still be handed
+    left: AtomicU32,
+}
+
+/// Where new connections go: each to the worker that has the fewest, unless there are too many.
+#[derive(Drop)]
+pub(crate) struct Intake {
+    inboxes: Vec<Inbox>,
+    census: Mutex<Census>,
+    packet_memory: PacketMemory,
+    // how many connections may still be handed to workers
+    left: AtomicU64,
+}
+
+impl Inbox {
+    fn new(poller: &Poller, alloc: Global, connections: u32) -> io::Result<Inbox> {
+        Ok(Inbox {
+            waker: Waker::new(poller.registry(), WOKEN)?,
+            arrivals: Mutex::new(Vec::new(alloc)),
+            load: AtomicU32::new(0),
+            left: AtomicU32::new(connections),
+        })
+    }
+
+    // How many connections it has, if it may be handed one more.
+    fn load(&self) -> Option<u32> {
+        if self.left.load(Ordering::SeqCst) == 0 {
+            return None;
+        }
+        Some(self.load.load(Ordering::SeqCst))
+    }
+
+    // One more is its worker's.
+    fn count(&self) {
+        self.load.fetch_add(1, Ordering::SeqCst);
+        self.left.fetch_sub(1, Ordering::SeqCst);
+    }
+
+    // Hands a connection over. Where memory is out it is closed, and the answer is false.
+    fn hand<R: Wait>(&self, rt: &R, arrival: Arrival) -> bool {
+        let is_handed = take(rt, &self.arrivals).push(arrival).is_ok();
+        let _ = self.waker.wake();
+        is_handed
+    }
+}
+
+impl Intake {
+    /// That of a server with these settings, which has no workers yet.
+    pub(crate) fn new(alloc: Global, settings: &Settings) -> Intake {
+        let caps = Caps {
+            in_all: settings.connections_at_once,
+            per_address: settings.per_address,
+        };
+        Intake {
+            inboxes: Vec::new(alloc),
+            census: Mutex::new(Census::new(alloc, caps)),
+            packet_memory: PacketMemory::new(settings.packet_memory),
+            left: AtomicU64::new(0),
+        }
+    }
+
+    /// One more worker, who waits with this and may be handed so many connections in all.
+    pub(crate) fn add(
+        &mut self,
+        alloc: Global,
+        poller: &Poller,
+        connections: u32,
+    ) -> io::Result<()> {
+        self.inboxes.push(Inbox::new(poller, alloc, connections)?)?;
+        self.left
+            .fetch_add(u64::from(connections), Ordering::SeqCst);
+        Ok(())
+    }
+
+    /// The memory for packets that aren't answered yet.
+    pub(crate) fn packet_memory(&self) -> &PacketMemory {
+        &self.packet_memory
+    }
+
+    /// Whether all connections that workers are to serve were handed to them.
+    pub(crate) fn is_over(&self) -> bool {
+        self.left.load(Ordering::SeqCst) == 0
+    }
+
+    // The worker with the fewest connections, and the first of several, if any may be handed one.
+    fn idlest(&self) -> Option<usize> {
+        let mut idlest = None;
+        let mut least = u32::MAX;
+        for (at, inbox) in self.inboxes.iter().enumerate() {
+            if let Some(load) = inbox.load() {
+                if load < least {
+                    least = load;
+                    idlest = Some(at);
+                }
+            }
+        }
+        idlest
+    }
+
+    // Hands a connection to this worker, for which it was counted. It comes back where that is the
+    // first one, who accepted it.
+    fn hand<R: Wait>(&self, rt: &R, at: usize, arrival: Arrival) -> Option<Arrival> {
+        if at == 0 {
+            return Some(arrival);
+        }
+        let address = arrival.address.ip();
+        let is_handed = match self.inboxes.get(at) {
+            Some(inbox) => inbox.hand(rt, arrival),
+            None => false,
+        };
+        if !is_handed {
+            self.leave(rt, at, address);
+        }
+        None
+    }
+
+    /// Finds a worker for a connection that the first one accepted. It comes back where that is the
+    /// first one's own. Else it is that worker's, or is closed where there are too many.
+    pub(crate) fn place<R: Wait>(&self, rt: &R, arrival: Arrival) -> Option<Arrival> {
+        let at = self.idlest()?;
+        let inbox = self.inboxes.get(at)?;
+        let address = arrival.address.ip();
+        if take(rt, &self.census).admit(address).is_err() {
+            return None;
+        }
+        inbox.count();
+        let own = self.hand(rt, at, arrival);
+        // at last, since a worker may end once nothing more is to come
+        if self.left.fetch_sub(1, Ordering::SeqCst) == 1 {
+            self.wake_all();
+        }
+        own
+    }
+
+    /// What was handed to a worker since it asked last. The list that it gives is empty.
+    pub(crate) fn collect<R: Wait>(&self, rt: &R, at: usize, into: &mut Vec<Arrival>) {
+        if let Some(inbox) = self.inboxes.get(at) {
+            swap(&mut *take(rt, &inbox.arrivals), into);
+        }
+    }
+
+    /// A connection from this address, which this worker had, is gone.
+    pub(crate) fn leave<R: Wait>(&self, rt: &R, at: usize, address: IpAddr) {
+        if let Some(inbox) = self.inboxes.get(at) {
+            inbox.load.fetch_sub(1, Ordering::SeqCst);
+        }
+        take(rt, &self.census).leave(address);
+    }
+
+    /// Ends the present wait of each worker.
+    pub(crate) fn wake_all(&self) {
+        for inbox in self.inboxes.iter() {
+            let _ = inbox.waker.wake();
+        }
+    }
+}

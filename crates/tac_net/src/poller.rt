@@ -1,0 +1,86 @@
+//! Waiting until something is to be done.
+
+use mio::net::TcpListener;
+use mio::unix::SourceFd;
+use mio::{Events, Interest, Poll, Registry, Token};
+use std::alloc::Global;
+use std::io;
+use std::net::Net;
+use std::os::fd::AsRawFd;
+use std::thread::sleep;
+use std::time::{Clock, Duration};
+
+/// What an event of a wake has for a key.
+pub(crate) const WOKEN: Token = Token(usize::MAX);
+
+/// What an event of the listener has for a key.
+pub(crate) const CALLED: Token = Token(usize::MAX - 1);
+
+/// How many events one wait tells at most.
+const MOST_EVENTS: usize = 256;
+
+/// What a worker waits with, until one of its sockets is ready or somebody wakes it.
+#[derive(Drop)]
+pub(crate) struct Poller {
+    poll: Poll,
+    events: Events,
+}
+
+impl Poller {
+    /// One without sockets.
+    pub(crate) fn new<R: Net>(rt: &R, alloc: Global) -> io::Result<Poller> {
+        let poll = Poll::new(rt)?;
+        let events = Events::with_capacity(alloc, MOST_EVENTS)?;
+        Ok(Poller { poll, events })
+    }
+
+    /// Its sockets.
+    pub(crate) fn registry(&self) -> &Registry {
+        self.poll.registry()
+    }
+
+    /// From now on a wait tells when connections wait at this listener.
+    pub(crate) fn register_listener(&self, listener: &mut TcpListener) -> io::Result<()> {
+        self.registry()
+            .register(listener, CALLED, Interest::READABLE)
+    }
+
+    /// From now on a wait tells, by this key, when this socket may be read, and when it may be
+    /// written where it waits for that.
+    pub(crate) fn register<S: AsRawFd>(
+        &self,
+        socket: &S,
+        key: usize,
+        is_full: bool,
+    ) -> io::Result<()> {
+        let descriptor = socket.as_raw_fd();
+        let interests = if is_full {
+            Interest::READABLE | Interest::WRITABLE
+        } else {
+            Interest::READABLE
+        };
+        self.registry()
+            .register(&mut SourceFd(&descriptor), Token(key), interests)
+    }
+
+    /// From now on a wait also tells when this socket may be written, which is registered.
+    pub(crate) fn register_writing<S: AsRawFd>(&self, socket: &S, key: usize) -> io::Result<()> {
+        let descriptor = socket.as_raw_fd();
+        let interests = Interest::READABLE | Interest::WRITABLE;
+        self.registry()
+            .reregister(&mut SourceFd(&descriptor), Token(key), interests)
+    }
+
+    /// Waits so long at most.
+    pub(crate) fn wait<C: Clock>(&mut self, clock: &C, at_most: Duration) {
+        if let Err(_) = self.poll.poll(&mut self.events, Some(at_most)) {
+            // so that a lasting fault of the system costs no processor
+            sleep(clock, at_most);
+        }
+    }
+
+    /// What the last wait told.
+    pub(crate) fn events(&self) -> &Events {
+        &self.events
+    }
+}

@@ -1,0 +1,20 @@
+//! What the threads of a server share.
+
+use crate::intake::Intake;
+use crate::port::Port;
+use crate::settings::Settings;
+use crate::vigil::Vigil;
+use tac_desk::Desk;
+use tac_forum::{Run, SharedDesk};
+
+/// What the threads of a server share.
+#[derive(Clone, Copy)]
+pub(crate) struct Premises<'a, R, J: Run, D: Desk, L> {
+    pub(crate) rt: &'a R,
+    pub(crate) port: &'a Port,
+    pub(crate) desk: &'a SharedDesk<J, D>,
+    pub(crate) settings: &'a Settings,
+    pub(crate) vigil: &'a Vigil,
+    pub(crate) intake: &'a Intake,
+    pub(crate) log: &'a L,
+}
