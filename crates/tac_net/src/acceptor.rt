@@ -23,7 +23,7 @@ enum Calls {
 /// The listener of a server, as the worker has it that accepts for all.
 #[derive(Drop)]
 pub(crate) struct Acceptor {
-    pub(crate) listener: TcpListener,
+    listener: TcpListener,
     calls: Calls,
     pause: Pause,
 }

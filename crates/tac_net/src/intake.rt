@@ -9,7 +9,7 @@ use mio::net::TcpStream;
 use std::alloc::Global;
 use std::io;
 use std::mem::swap;
-use std::net::{IpAddr, Net, SocketAddr};
+use std::net::{IpAddr, SocketAddr};
 use std::sync::atomic::{AtomicU32, AtomicU64, Ordering};
 use std::sync::{Mutex, Wait};
 use tac_census::{Caps, Census};

@@ -35,11 +35,6 @@ impl PacketMemory {
     fn give_back(&self, bytes: u64) {
         self.taken.fetch_sub(bytes, Ordering::SeqCst);
     }
-
-    /// How many bytes are taken.
-    pub fn taken(&self) -> u64 {
-        self.taken.load(Ordering::SeqCst)
-    }
 }
 
 // How many of so many bytes are taken from the packet memory.

@@ -1,5 +1,5 @@
--- What a server begins with: its workers, and the desk of its policy, or what is printed where there
--- is none.
+-- What a server begins with: its workers, and the desk of its policy, or what is printed where
+-- there is none.
 use Rattle.std.specs.Prelude.{◌≡◌, ℕ, min, max, List, [], Option, Some, None, Result, Ok, Err}
 use Rattle.pol_text.specs.Text.{policy_of}
 use Rattle.pol_text.specs.declared.subject.Subject.{Subject}

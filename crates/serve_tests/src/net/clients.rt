@@ -280,8 +280,8 @@ pub(crate) fn waits_at_its_name<R: Net<Listener = TcpListener, Stream = TcpStrea
 /// The header of a packet of 131,075 bytes.
 const LONG_HEADER: [u8; 12] = [0xc0, 2, 1, 0, 0, 0, 0, 1, 0, 2, 0, 3];
 
-/// Whether a connection is closed without a byte. It may be reset, where some of what was sent isn't
-/// read.
+/// Whether a connection is closed without a byte. It may be reset, where some of what was sent
+/// isn't read.
 pub(crate) fn is_closed(device: &TcpStream) -> io::Result<bool> {
     let mut device = device;
     match device.read(&mut [0]) {

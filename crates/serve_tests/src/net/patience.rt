@@ -49,8 +49,8 @@ impl Clock for Set {
     }
 }
 
-/// A device that does what its letter says. To a read it is silent, `s`, or sends a byte, `b`, or as
-/// many as are read at once, `f`; of a reply it takes all, `t`, one byte, `o`, or nothing, `n`.
+/// A device that does what its letter says. To a read it is silent, `s`, or sends a byte, `b`, or
+/// as many as are read at once, `f`; of a reply it takes all, `t`, one byte, `o`, or nothing, `n`.
 #[derive(Drop)]
 struct Device {
     letter: Cell<u8>,
