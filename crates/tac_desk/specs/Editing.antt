@@ -1,4 +1,5 @@
--- What edits at the desk are answered, and what they leave.
+-- What edits at the desk are answered, and what they leave; and so another policy that takes the
+-- place of the present one.
 use Rattle.std.specs.Prelude.{◌≡◌, List, Result, Ok, Err}
 use Rattle.pol_text.specs.declared.subject.Subject.{Subject}
 use Rattle.pol_edit.specs.Applying.{applied}
@@ -13,9 +14,8 @@ use Rattle.tac_desk.specs.Meaning.{Meaning, with_policy}
 
 -- ---- one edit, or several: they differ in what a refusal is
 
--- edits that the policy takes make this policy of it: where that may stand, the answer is
--- what changes for users; else the first subject that is too large is named, and nothing
--- changes
+-- this policy takes the place of the present one: where it may stand, the answer is what
+-- changes for users; else the first subject that is too large is named, and nothing changes
 abbrev pub Takes : {F : Type 0} → (EditFault → F) → Meaning → List Subject
     → Result (List Changed) F → Meaning → Type 0
 Takes as_refusal before policy (Ok changes) after =
@@ -58,4 +58,18 @@ EditsAll before edits answer after =
 abbrev pub IsOnlyAll : Meaning → List Edit → Result (List Changed) BatchFault → Meaning → Type 0
 IsOnlyAll before edits answer after =
     (other : Result (List Changed) BatchFault) (later : Meaning) → EditsAll before edits other later
+    → (answer ≡ other) × (after ≡ later)
+
+-- ---- another policy
+
+-- another policy takes the place of the present one, whatever it was, if it may stand; else its
+-- first subject that is too large is named, and nothing changes
+abbrev pub Loads : Meaning → List Subject → Result (List Changed) EditFault → Meaning → Type 0
+Loads before policy answer after = Takes (λ fault. fault) before policy answer after
+
+-- no other answer is right, and it leaves nothing else
+abbrev pub IsOnlyLoaded : Meaning → List Subject → Result (List Changed) EditFault → Meaning
+    → Type 0
+IsOnlyLoaded before policy answer after =
+    (other : Result (List Changed) EditFault) (later : Meaning) → Loads before policy other later
     → (answer ≡ other) × (after ≡ later)

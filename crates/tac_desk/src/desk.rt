@@ -16,6 +16,7 @@ use crate::state::State;
 use crate::thrice::Thrice;
 use pol_edit::{BatchFault, Edit, EditFault};
 use pol_meaning::Changes;
+use pol_text::Policy;
 use std::alloc::AllocError;
 use std::slice;
 use tac_conn::{Answer, Ask};
@@ -66,6 +67,17 @@ pub trait Desk: Drop {
             (editing.EditsAll (meaning self.old) edits.now result (meaning self.new)) }
         ensures only { UnlessMemory ran_out result
             (editing.IsOnlyAll (meaning self.old) edits.now result (meaning self.new)) }
+        ensures err { OnErr result (meaning self.new ≡ meaning self.old) };
+
+    /// Puts another policy in the place of the present one in one step, and answers what that
+    /// changes for users, as an edit would. Refused only where a subject of it is too large, with
+    /// the first such subject in its order, or where memory ran out; then nothing changes. Records
+    /// stay as they are.
+    fn load(&mut self, policy: &Policy) -> Result<Thrice<Changes>, EditFault>
+        ensures found { UnlessMemory is_memory result
+            (editing.Loads (meaning self.old) policy.now result (meaning self.new)) }
+        ensures only { UnlessMemory is_memory result
+            (editing.IsOnlyLoaded (meaning self.old) policy.now result (meaning self.new)) }
         ensures err { OnErr result (meaning self.new ≡ meaning self.old) };
 
     /// Answers a question, and changes nothing.
