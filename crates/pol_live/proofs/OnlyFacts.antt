@@ -13,7 +13,7 @@ use Rattle.pol_meaning.specs.Sizes.{AreSmall, IsFirstLarge, IsRefusedAs}
 use Rattle.pol_live.specs.declared.fault.BuildFault.{BuildFault}
 use Rattle.pol_live.specs.declared.fault.BuildFault.TheVariants.{TooManyStates, Memory}
 use Rattle.pol_live.specs.Refusing.{is_memory}
-use Rattle.pol_live.specs.Live.{Builds, Step, PreparesTo, Prepares, PreparesAll}
+use Rattle.pol_live.specs.Live.{Builds, Step, PreparesTo, Prepares, PreparesAll, Replaces}
 use Rattle.pol_meaning.specs.Memory.{UnlessMemory}
 
 module _ (policy : List Subject) where
@@ -68,3 +68,12 @@ unless_so is_memory (Err fault) so h = by (is_memory fault) so h
     by : {A B : Type 0} (memory : Bool) → (A → B) → Except memory A → Except memory B
     by true so h = tt
     by false so h = so h
+
+pub only_replaced : (before after : List Subject) (a b : Result Step BuildFault) → Replaces before after a → Replaces before after b → a ≡ b
+only_replaced before after (Ok a) (Ok b) h k = ap Ok (h.0 ∙ sym k.0)
+only_replaced before after (Ok a) (Err Memory) h k = absurd k
+only_replaced before after (Ok a) (Err (TooManyStates id)) h k = absurd (none_large after after id h.1 k)
+only_replaced before after (Err Memory) b h k = absurd h
+only_replaced before after (Err (TooManyStates id)) (Ok b) h k = absurd (none_large after after id k.1 h)
+only_replaced before after (Err (TooManyStates id)) (Err Memory) h k = absurd k
+only_replaced before after (Err (TooManyStates id)) (Err (TooManyStates other)) h k = ap (λ (id : SubjectId). Err (TooManyStates id)) (first_unique after after id other h k)

@@ -40,7 +40,18 @@ Prepares before edit answer = PreparesTo (λ fault. fault) before (applied befor
 abbrev pub PreparesAll : List Subject → List Edit → Result Step BatchFault → Type 0
 PreparesAll before edits answer = PreparesTo of_all before (applied_all before edits) answer
 
+-- another policy is ready to take its place if it may stand, and else refused for its first large
+-- subject
+abbrev pub Replaces : List Subject → List Subject → Result Step BuildFault → Type 0
+Replaces before after (Ok step) =
+    (step ≡ record { before = before; after = after }) × IsSmall after
+Replaces before after (Err fault) = IsRefusedFor after fault
+
 -- no other answer is right
+abbrev pub IsOnlyReplaced : List Subject → List Subject → Result Step BuildFault → Type 0
+IsOnlyReplaced before after answer =
+    (other : Result Step BuildFault) → Replaces before after other → answer ≡ other
+
 abbrev pub IsOnlyBuilt : List Subject → Result (List Subject) BuildFault → Type 0
 IsOnlyBuilt policy answer =
     (other : Result (List Subject) BuildFault) → Builds policy other → answer ≡ other

@@ -1,19 +1,22 @@
 //! Changes of a policy that are ready to be made.
 
-ghost use Rattle.std.specs.Prelude.{◌≡◌, ◌≤◌, ◌↔◌, List, ◌∷◌, [], Err, IsTrue, IfOk, OnErr};
+ghost use Rattle.std.specs.Prelude.{◌≡◌, ◌≤◌, ◌↔◌, List, ◌∷◌, [], Err, IsTrue, IfOk, OnErr, map};
 ghost use Rattle.std.specs.Option.{option_copied, option_map};
 ghost use Rattle.pol_pattern.specs.Matching.{MatchLaw};
-ghost use Rattle.pol_text.specs.Policy.{find_subject, decide, entries};
+ghost use Rattle.pol_text.specs.Policy.{find_subject, decide, entries, id_of};
 ghost use Rattle.pol_text.specs.declared.subject.Subject.{Subject as SubjectValue};
 ghost use Rattle.pol_edit.specs.declared.fault.EditFault.TheVariants.{NoSuch};
 ghost use Rattle.pol_edit.specs.Applying.{applied, is_memory};
 ghost use Rattle.pol_edit.specs.Batches.{ran_out, of_edit, IsFirstMissing};
 ghost use Rattle.pol_meaning.specs.Sizes.{IsSmall};
-ghost use Rattle.pol_live.specs.Rise.{IsEditRise, IsOne, Rises};
+ghost use Rattle.pol_live.specs.Refusing.{is_memory as built_without_memory};
+ghost use Rattle.pol_live.specs.Rise.{IsBuildRise, IsEditRise, IsOne, Rises};
 ghost use Rattle.pol_live.specs.Live.{Prepares, IsOnlyPrepared, IsDeciderFor};
 ghost use Rattle.pol_live.specs.Live.{PreparesAll, IsOnlyPreparedAll};
+ghost use Rattle.pol_live.specs.Live.{Replaces, IsOnlyReplaced};
 ghost use Rattle.pol_meaning.specs.Memory.{UnlessMemory};
 
+use crate::fault::BuildFault;
 use crate::live::Live;
 use crate::touching::{has_on_chain, touched_by};
 use basics::{Sequence, StructuralEq};
@@ -21,7 +24,7 @@ use pol_automaton::{Decider, Meter};
 use pol_edit::{BatchFault, Edit, EditFault, edited};
 use pol_names::{Decision, Name, SubjectId};
 use pol_text::Policy;
-use std::alloc::Global;
+use std::alloc::{AllocError, Global};
 use std::marker::Model;
 use std::slice;
 
@@ -57,7 +60,63 @@ impl Model for Prepared {
         LeavesOthers prepared.touched prepared.before prepared.after };
 }
 
+// The kinds and names of all subjects.
+fn ids_of(alloc: Global, policy: &Policy) -> Result<Sequence<SubjectId>, AllocError>
+    ensures { IfOk result (λ ids. ids ≡ map id_of policy.now) }
+{
+    let mut ids = Sequence::new(alloc);
+    for subject in policy.subjects() {
+        ids.push(subject.id())?;
+    }
+    Ok(ids)
+}
+
 impl Live {
+    // Another policy with its automata, beside the present one.
+    fn prepare_other(
+        &self,
+        alloc: Global,
+        policy: Policy,
+        meter: &mut Meter,
+    ) -> Result<Prepared, BuildFault>
+        ensures found { UnlessMemory built_without_memory result
+            (Replaces self.now policy result) }
+        ensures rises { IfOk result (λ prepared.
+            Rises (IsBuildRise prepared.after) meter.old.total meter.new.total) }
+        ensures kept { OnErr result (meter.old.total ≤ meter.new.total) }
+    {
+        let before = self.policy().copy(alloc)?;
+        let touched = ids_of(alloc, &policy)?;
+        let after = Live::build(alloc, policy, meter)?;
+        Ok(Prepared {
+            before,
+            after,
+            touched,
+        })
+    }
+
+    /// Makes another policy ready to take the place of this one, and changes nothing. Refused where
+    /// one of its subjects has too many residuals, with the first such subject in its order. All
+    /// automata are built anew.
+    pub fn prepare_policy(
+        &self,
+        alloc: Global,
+        policy: Policy,
+        meter: &mut Meter,
+    ) -> Result<Prepared, BuildFault>
+        ensures found { UnlessMemory built_without_memory result
+            (Replaces self.now policy result) }
+        ensures only { UnlessMemory built_without_memory result
+            (IsOnlyReplaced self.now policy result) }
+
+        // The meter rises by the residuals of each automaton that is made.
+        ensures rises { IfOk result (λ prepared.
+            Rises (IsBuildRise prepared.after) meter.old.total meter.new.total) }
+        ensures kept { OnErr result (meter.old.total ≤ meter.new.total) }
+    {
+        self.prepare_other(alloc, policy, meter)
+    }
+
     /// Makes an edit ready, and changes nothing. Refused as the edit is, and where a subject of the
     /// new policy has too many residuals, with the first such subject in its order. Automata that
     /// the edit leaves right are shared with it: where it changes a subject's rules or group, those
