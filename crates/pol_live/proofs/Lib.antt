@@ -10,4 +10,5 @@ pub mod AlikeFacts
 pub mod MeterFacts
 pub mod KeeperFacts
 pub mod PreparedFacts
+pub mod ReplaceFacts
 pub mod RiseFacts

@@ -214,21 +214,3 @@ module _ (touched : Touched) (old new : List Subject) (alike : IsAlike touched o
       none : (b : Bool) → b ≡ true → IsKept b old parts.wholes s (slot kept k) → slot kept k ≡ None
       none true e h = h
       none false e h = absurd (true≢false (sym e))
-
--- ---- where all are touched
-
-all_touched : (id : SubjectId) (p : List Subject) (s : Subject) → find_subject id p ≡ Some s → is_among (map id_of p) s ≡ true
-all_touched id [] s e = cc
-all_touched id (x ∷ p) s e = by (same_id id (id_of x)) e (all_touched id p s)
-  where
-    by : (b : Bool) → cond b (Some x) (find_subject id p) ≡ Some s → (find_subject id p ≡ Some s → is_among (map id_of p) s ≡ true)
-        → (same_id (id_of x) (id_of s) || is_among (map id_of p) s) ≡ true
-    by true h later =
-        let e : x ≡ s = same_Some x s h in
-        ap (λ (b : Bool). b || is_among (map id_of p) s) (ap (λ (t : Subject). same_id (id_of x) (id_of t)) (sym e) ∙ same_id_self (id_of x))
-    by false h later = or_right (same_id (id_of x) (id_of s)) (is_among (map id_of p) s) (later h)
-
-pub leaves_none : (old new : List Subject) → LeavesOthers (map id_of new) old new
-unfolding chain_within
-leaves_none old new id subject found other =
-    absurd (true≢false (sym (all_touched id new subject found) ∙ (or_parts (is_among (map id_of new) subject) _ other).0))

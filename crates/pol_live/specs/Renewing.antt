@@ -1,13 +1,16 @@
--- Which automata edits make anew.
+-- Which automata edits make anew, and another policy that takes the place of the present one.
 use Rattle.std.specs.Prelude.{◌≡◌, ℕ, List, length, slice_get, Bool, true, false, not, ◌&&◌, ◌||◌}
-use Rattle.std.specs.Prelude.{Option, Some, None}
-use Rattle.std.specs.Option.{option_map, option_and_then}
+use Rattle.std.specs.Prelude.{Option, Some, None, if◌then◌else◌}
+use Rattle.std.specs.Cmp.Lexicographic.{pointwise}
+use Rattle.std.specs.Option.{option_eq, option_map, option_map_or, option_and_then}
+use Rattle.std.specs.Str.{bytes_eq}
 use Rattle.pol_automaton.specs.Automaton.{Automaton}
 use Rattle.std.specs.List.{list_any, filter_map}
 use Rattle.pol_names.specs.SubjectId.{same_id, group_id, user_id}
 use Rattle.pol_names.specs.declared.subject_id.SubjectId.{SubjectId}
 use Rattle.pol_text.specs.declared.subject.Subject.{Subject}
 use Rattle.pol_text.specs.Policy.{id_of, find_subject, chain, entries}
+use Rattle.pol_text.specs.Same.{same_rule}
 use Rattle.pol_edit.specs.declared.edit.Edit.{Edit}
 use Rattle.pol_edit.specs.declared.edit.Edit.TheVariants.{AddGroup, AddUser, SetParent}
 use Rattle.pol_edit.specs.declared.edit.Edit.TheVariants.{InsertRule, RemoveRule, MoveRule}
@@ -34,6 +37,26 @@ rewrites edit = touches edit
 abbrev pub touched_by : List Edit → Touched
 touched_by edits =
     record { all = filter_map touches edits; rewritten = filter_map rewrites edits }
+
+-- whether a subject was there with these rules
+abbrev pub had_rules : List Subject → Subject → Bool
+had_rules before subject = option_map_or (λ was. pointwise same_rule was.rules subject.rules)
+    (find_subject (id_of subject) before) false
+
+-- whether it was there with these rules and in this group
+abbrev pub was_alike : List Subject → Subject → Bool
+was_alike before subject = option_map_or (λ was. pointwise same_rule was.rules subject.rules
+    && option_eq bytes_eq was.parent subject.parent) (find_subject (id_of subject) before) false
+
+-- another policy touches those of its subjects that weren't there, or with other rules or in
+-- another group; it rewrites those that weren't there with these rules
+abbrev pub touched_between : List Subject → List Subject → Touched
+touched_between before after = record {
+  all =
+      filter_map (λ subject. if was_alike before subject then None else Some (id_of subject)) after;
+  rewritten =
+      filter_map (λ subject. if had_rules before subject then None else Some (id_of subject)) after;
+}
 
 abbrev pub is_among : List SubjectId → Subject → Bool
 is_among ids subject = list_any (λ id. same_id id (id_of subject)) ids

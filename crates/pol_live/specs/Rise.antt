@@ -6,7 +6,7 @@ use Rattle.pol_edit.specs.declared.edit.Edit.{Edit}
 use Rattle.pol_meaning.specs.Along.{patterns_along}
 use Rattle.pol_live.specs.Kept.{has_rules, is_keeper, own_patterns}
 use Rattle.pol_live.specs.declared.touching.Touched.{Touched}
-use Rattle.pol_live.specs.Renewing.{touched_by, renews_own, renews_chain}
+use Rattle.pol_live.specs.Renewing.{touched_by, touched_between, renews_own, renews_chain}
 
 -- a keeper with a group has one more automaton, joined of its own and what it inherits
 abbrev pub is_joined : Subject → Bool
@@ -42,6 +42,10 @@ IsRenewalRise touched policy = IsRise (λ subject. is_keeper subject && renews_o
 -- one that these edits make together
 abbrev pub IsEditRise : List Edit → List Subject → ℕ → Type 0
 IsEditRise edits policy = IsRenewalRise (touched_by edits) policy
+
+-- one that takes the place of another
+abbrev pub IsReplacingRise : List Subject → List Subject → ℕ → Type 0
+IsReplacingRise before policy = IsRenewalRise (touched_between before policy) policy
 
 -- no other number is right
 abbrev pub IsOne : (ℕ → Type 0) → Type 0

@@ -1,16 +1,16 @@
 //! Changes of a policy that are ready to be made.
 
-ghost use Rattle.std.specs.Prelude.{◌≡◌, ◌≤◌, ◌↔◌, List, ◌∷◌, [], Err, IsTrue, IfOk, OnErr, map};
+ghost use Rattle.std.specs.Prelude.{◌≡◌, ◌≤◌, ◌↔◌, List, ◌∷◌, [], Err, IsTrue, IfOk, OnErr};
 ghost use Rattle.std.specs.Option.{option_copied, option_map};
 ghost use Rattle.pol_pattern.specs.Matching.{MatchLaw};
-ghost use Rattle.pol_text.specs.Policy.{find_subject, decide, entries, id_of};
+ghost use Rattle.pol_text.specs.Policy.{find_subject, decide, entries};
 ghost use Rattle.pol_text.specs.declared.subject.Subject.{Subject as SubjectValue};
 ghost use Rattle.pol_edit.specs.declared.fault.EditFault.TheVariants.{NoSuch};
 ghost use Rattle.pol_edit.specs.Applying.{applied, is_memory};
 ghost use Rattle.pol_edit.specs.Batches.{ran_out, of_edit, IsFirstMissing};
 ghost use Rattle.pol_meaning.specs.Sizes.{IsSmall};
 ghost use Rattle.pol_live.specs.Refusing.{is_memory as built_without_memory};
-ghost use Rattle.pol_live.specs.Rise.{IsBuildRise, IsEditRise, IsOne, Rises};
+ghost use Rattle.pol_live.specs.Rise.{IsEditRise, IsReplacingRise, IsOne, Rises};
 ghost use Rattle.pol_live.specs.Live.{Prepares, IsOnlyPrepared, IsDeciderFor};
 ghost use Rattle.pol_live.specs.Live.{PreparesAll, IsOnlyPreparedAll};
 ghost use Rattle.pol_live.specs.Live.{Replaces, IsOnlyReplaced};
@@ -18,13 +18,13 @@ ghost use Rattle.pol_meaning.specs.Memory.{UnlessMemory};
 
 use crate::fault::BuildFault;
 use crate::live::Live;
-use crate::touching::{has_on_chain, touched_by};
+use crate::touching::{has_on_chain, touched_between, touched_by};
 use basics::{Sequence, StructuralEq};
 use pol_automaton::{Decider, Meter};
 use pol_edit::{BatchFault, Edit, EditFault, edited};
 use pol_names::{Decision, Name, SubjectId};
 use pol_text::Policy;
-use std::alloc::{AllocError, Global};
+use std::alloc::Global;
 use std::marker::Model;
 use std::slice;
 
@@ -60,17 +60,6 @@ impl Model for Prepared {
         LeavesOthers prepared.touched prepared.before prepared.after };
 }
 
-// The kinds and names of all subjects.
-fn ids_of(alloc: Global, policy: &Policy) -> Result<Sequence<SubjectId>, AllocError>
-    ensures { IfOk result (λ ids. ids ≡ map id_of policy.now) }
-{
-    let mut ids = Sequence::new(alloc);
-    for subject in policy.subjects() {
-        ids.push(subject.id())?;
-    }
-    Ok(ids)
-}
-
 impl Live {
     // Another policy with its automata, beside the present one.
     fn prepare_other(
@@ -82,22 +71,28 @@ impl Live {
         ensures found { UnlessMemory built_without_memory result
             (Replaces self.now policy result) }
         ensures rises { IfOk result (λ prepared.
-            Rises (IsBuildRise prepared.after) meter.old.total meter.new.total) }
+            Rises (IsReplacingRise self.now prepared.after) meter.old.total meter.new.total) }
         ensures kept { OnErr result (meter.old.total ≤ meter.new.total) }
     {
         let before = self.policy().copy(alloc)?;
-        let touched = ids_of(alloc, &policy)?;
-        let after = Live::build(alloc, policy, meter)?;
+        let touched = touched_between(alloc, self.policy(), &policy)?;
+        let after = self.renewed(alloc, &touched, policy, meter)?;
         Ok(Prepared {
             before,
             after,
-            touched,
+            touched: touched.all,
         })
     }
 
     /// Makes another policy ready to take the place of this one, and changes nothing. Refused where
-    /// one of its subjects has too many residuals, with the first such subject in its order. All
-    /// automata are built anew.
+    /// one of its subjects has too many residuals, with the first such subject in its order.
+    /// Automata that stay right are shared with it: where a subject is new, or has other rules than
+    /// before or another group, those along the chains with it are built, and its own. So it costs
+    /// what the edits between the two policies would.
+    ///
+    /// Beside these automata it takes a copy of the present policy, two look-ups for each subject
+    /// and a comparison of its rules, and for each subject on each chain a comparison of names with
+    /// each subject that differs: some ten million comparisons at most.
     pub fn prepare_policy(
         &self,
         alloc: Global,
@@ -111,7 +106,8 @@ impl Live {
 
         // The meter rises by the residuals of each automaton that is made.
         ensures rises { IfOk result (λ prepared.
-            Rises (IsBuildRise prepared.after) meter.old.total meter.new.total) }
+            Rises (IsReplacingRise self.now prepared.after) meter.old.total meter.new.total) }
+        ensures one_rise { (policy : List SubjectValue) → IsOne (IsReplacingRise self.now policy) }
         ensures kept { OnErr result (meter.old.total ≤ meter.new.total) }
     {
         self.prepare_other(alloc, policy, meter)

@@ -1,7 +1,8 @@
-//! The subjects that edits touch.
+//! The subjects that edits touch, or another policy that takes the place of the present one.
 
-ghost use Rattle.std.specs.Prelude.{◌≡◌, ◌++◌, [], IfOk, OnOk};
+ghost use Rattle.std.specs.Prelude.{◌≡◌, ◌++◌, [], Some, None, if◌then◌else◌, IfOk, OnOk};
 ghost use Rattle.std.specs.List.{cons_option};
+ghost use Rattle.pol_text.specs.Policy.{WellFormed, id_of};
 ghost use Rattle.pol_live.specs.Renewing as renewing;
 ghost use Rattle.pol_live.specs.Renewing.{is_among as among, has_on_chain as on_chain};
 
@@ -12,7 +13,7 @@ use pol_names::SubjectId;
 use pol_text::{Policy, Subject};
 use std::alloc::{AllocError, Global};
 
-/// The subjects that edits touch.
+/// The subjects that a change of the policy touches.
 #[derive(Drop)]
 pub(crate) struct Touched {
     /// Whose rules or whose group they may change, also those that they add.
@@ -68,6 +69,53 @@ pub(crate) fn touched_by(alloc: Global, edits: &[Edit]) -> Result<Touched, Alloc
     for edit in edits {
         add(&mut all, touches(edit))?;
         add(&mut rewritten, rewrites(edit))?;
+    }
+    Ok(Touched { all, rewritten })
+}
+
+// Whether the subject was there with these rules.
+fn had_rules(before: &Policy, subject: &Subject) -> bool
+    ensures { result ≡ renewing.had_rules before.now subject.now }
+{
+    match before.find(&subject.id()) {
+        Some(was) => was.rules == subject.rules,
+        None => false,
+    }
+}
+
+// Whether it was there with these rules and in this group.
+fn was_alike(before: &Policy, subject: &Subject) -> bool
+    ensures { result ≡ renewing.was_alike before.now subject.now }
+{
+    match before.find(&subject.id()) {
+        Some(was) => was.rules == subject.rules && was.parent == subject.parent,
+        None => false,
+    }
+}
+
+// The subject, unless it is passed over.
+fn unless(passed: bool, subject: &Subject) -> Option<SubjectId>
+    ensures { result ≡ (if passed then None else Some (id_of subject.now)) }
+{
+    if passed { None } else { Some(subject.id()) }
+}
+
+/// The subjects that another policy touches. Takes two look-ups for each of its subjects, and a
+/// comparison of its rules.
+pub(crate) fn touched_between(
+    alloc: Global,
+    before: &Policy,
+    after: &Policy,
+) -> Result<Touched, AllocError>
+    ensures touched { IfOk result (λ touched.
+        touched ≡ renewing.touched_between before.now after.now) }
+    ensures well_formed { WellFormed after.now }
+{
+    let mut all = Sequence::new(alloc);
+    let mut rewritten = Sequence::new(alloc);
+    for subject in after.subjects() {
+        add(&mut all, unless(was_alike(before, subject), subject))?;
+        add(&mut rewritten, unless(had_rules(before, subject), subject))?;
     }
     Ok(Touched { all, rewritten })
 }
