@@ -12,12 +12,10 @@ use Rattle.pol_names.specs.declared.decision.By.TheVariants as by
 use Rattle.pol_names.specs.declared.decision.Decision.{Decision}
 use Rattle.pol_text.specs.declared.subject.Subject.{Subject}
 use Rattle.pol_text.specs.Policy.{find_subject, Entry, entries, first_entry, decision}
-use Rattle.pol_automaton.specs.Automaton.{Automaton, IsDecider}
 use Rattle.pol_automaton.specs.Decision.{IsFirstMatch, verdict_by, IsDecided, IsChanged}
 use Rattle.pol_automaton.specs.declared.way.Way.TheVariants.{NowPermitted, NowDenied}
 use Rattle.pol_meaning.specs.Along.{patterns_of, entries_of}
 use Rattle.pol_live.specs.ChainRules.{chain_rule}
-use Rattle.pol_live.specs.Live.{IsDeciderFor}
 use Rattle.pol_meaning.specs.Reach.{IsLeastIfAny}
 use Rattle.pol_meaning.specs.Changes.{is_permit, permits, IsGained, IsChangeOf, is_change}
 use Rattle.pol_report.specs.Sharing.{along, along_at, permits_along, IsGainedAlong, IsDifference, IsListed}
@@ -35,9 +33,6 @@ says_first e along line b = (let d : Decision = cond b (record { verdict = e.rul
 
 abbrev pub own_verdicts : List Entry → List Verdict
 own_verdicts along = map (λ rule. rule.verdict) (map chain_rule along)
-
-abbrev pub denials : List Entry → List Verdict
-denials along = map (λ rule. Deny) (map chain_rule along)
 
 -- entries with verdicts say this of each line
 pub record Says (entries : List (List ℕ)) (verdicts : List Verdict) (verdict : List ℕ → Verdict) : Type 0 where
@@ -99,24 +94,11 @@ module _ (law : MatchLaw) where
       by later true is h = law.texts x.rule.pattern line ((law.same x.rule.pattern line).0 is)
       by later false is h = later h
 
-  denied : (along : List Entry) (first : Option ℕ) → verdict_by (denials along) first ≡ Deny
-  denied along None = refl
-  denied [] (Some i) = refl
-  denied (e ∷ along) (Some zero) = refl
-  denied (e ∷ along) (Some (suc i)) = denied along (Some i)
-
   own_says : (along : List Entry) → Says (patterns_of along) (own_verdicts along) (says along)
   own_says along = record {
     sees = λ line. let first = some_first along line in (first.0, first.1, verdict_is along line first.0 first.1);
     only = λ line other h. sym (verdict_is along line h.0 h.1) ∙ h.2;
     texts = permitted_text along;
-  }
-
-  denials_say : (along : List Entry) → Says (patterns_of along) (denials along) (λ line. Deny)
-  denials_say along = record {
-    sees = λ line. let first = some_first along line in (first.0, first.1, denied along first.0);
-    only = λ line other h. sym (denied along h.0) ∙ h.2;
-    texts = λ line e. absurd cc;
   }
 
   -- ---- one side of a change
@@ -137,13 +119,6 @@ module _ (law : MatchLaw) where
       by : (line : List ℕ) (found : Option Subject) → permits_along (option_map (entries policy) found) line ≡ is_permit (says (option_map_or (entries policy) found []) line)
       by line None = refl
       by line (Some s) = refl
-
-  pub absent_side : (policy : List Subject) (id : SubjectId) (others : List Entry) → find_subject id policy ≡ None → Side (along policy id) (patterns_of others) (denials others)
-  absent_side policy id others none = record {
-    verdict = λ line. Deny;
-    says_so = denials_say others;
-    rules_so = λ line. ap (λ (found : Option Subject). permits_along (option_map (entries policy) found) line) none;
-  }
 
 denies_is : (v : Verdict) → is_permit v ≡ false → v ≡ Deny
 denies_is Permit e = absurd cc
@@ -250,18 +225,3 @@ pub by_keepers : (before after : List Subject) (id : SubjectId) (was is : Option
 by_keepers before after id was is difference old new h =
     subst (λ (rules : Option (List Entry)). IsDifference (along_at before was) rules difference) (sym new)
     (subst (λ (rules : Option (List Entry)). IsDifference rules (along after id) difference) (sym old) h)
-
--- the decider of a subject's rules, or none of a subject that isn't there
-pub its_decider : (policy : List Subject) (id : SubjectId) (decider : Automaton) → IsDeciderFor policy (find_subject id policy) (Some decider) → IsDecider decider (patterns_of (entries_of policy id))
-its_decider policy id decider h = by (find_subject id policy) h
-  where
-    by : (found : Option Subject) → IsDeciderFor policy found (Some decider) → IsDecider decider (patterns_of (option_map_or (entries policy) found []))
-    by None k = absurd k
-    by (Some s) k = k
-
-pub nobody : (policy : List Subject) (id : SubjectId) → IsDeciderFor policy (find_subject id policy) None → find_subject id policy ≡ None
-nobody policy id h = by (find_subject id policy) h
-  where
-    by : (found : Option Subject) → IsDeciderFor policy found None → found ≡ None
-    by None k = refl
-    by (Some s) k = absurd k

@@ -1,4 +1,4 @@
-//! What a change of the policy changes for its users.
+//! What users may do by one policy and not by another.
 
 ghost use Rattle.std.specs.Prelude.{◌≡◌, ◌++◌, ℕ, List, IfOk, OnOk};
 ghost use Rattle.pol_names.specs.SubjectId.{same_kind};
@@ -9,6 +9,7 @@ ghost use Rattle.pol_report.specs.Sharing.{AreKnown, IsListed};
 ghost use Rattle.pol_meaning.specs.declared.Changed.{Changed as ChangedValue};
 
 use crate::Changes;
+use crate::comparison::{Comparison, Later};
 use crate::differing::difference_for;
 use crate::known::Differences;
 use basics::Sequence;
@@ -17,67 +18,50 @@ use pol_names::{Kind, Name, SubjectId};
 use pol_text::{Policy, Subject};
 use std::alloc::{AllocError, Global};
 
-// Lists what changes for a user, searched for.
+// Lists what changes for a user. Searches once for all whose lines were decided by one keeper, and
+// are by another.
 fn list_searched(
     alloc: Global,
     changes: &mut Changes,
-    live: &Live,
-    prepared: &Prepared,
-    user: &Name,
-) -> Result<(), AllocError>
-    requires { prepared.now.before ≡ live.now }
-    ensures { OnOk result (IsListed live.now prepared.now.after user.now changes.old changes.new) }
-{
-    let difference = difference_for(alloc, live, prepared, &SubjectId::user(*user))?;
-    difference.list_for(alloc, changes, *user)
-}
-
-// Lists what changes for a user whose rules the edits may have changed. Searches once for all who
-// had their rules by one keeper, and have them by another.
-fn list_touched(
-    alloc: Global,
-    changes: &mut Changes,
     known: &mut Differences,
-    live: &Live,
-    prepared: &Prepared,
+    policies: &Comparison<'_>,
     user: &Name,
 ) -> Result<(), AllocError>
-    requires before { prepared.now.before ≡ live.now }
-    requires known { AreKnown live.now prepared.now.after known.old.by_keepers }
-    ensures known { OnOk result (AreKnown live.now prepared.now.after known.new.by_keepers) }
-    ensures listed { OnOk result (IsListed live.now prepared.now.after user.now
-        changes.old changes.new) }
+    requires known { AreKnown policies.now.before policies.now.after known.old.by_keepers }
+    ensures known { OnOk result
+        (AreKnown policies.now.before policies.now.after known.new.by_keepers) }
+    ensures listed { OnOk result
+        (IsListed policies.now.before policies.now.after user.now changes.old changes.new) }
 {
     let id = SubjectId::user(*user);
-    let before = keeper(live.policy(), &id);
-    let after = keeper(prepared.policy(), &id);
+    let before = keeper(policies.old_policy(), &id);
+    let after = keeper(policies.new_policy(), &id);
     if let Some(difference) = known.find(before, after) {
         return difference.list_for(alloc, changes, *user);
     }
-    let difference = difference_for(alloc, live, prepared, &id)?;
+    let difference = difference_for(alloc, policies, &id)?;
     difference.list_for(alloc, changes, *user)?;
     known.remember(before, after, difference)
 }
 
-// Lists what changes for a user of the new policy.
+// Lists what changes for a user, if it isn't to be skipped.
 fn list_user(
     alloc: Global,
     changes: &mut Changes,
     known: &mut Differences,
-    live: &Live,
-    prepared: &Prepared,
+    policies: &Comparison<'_>,
     user: &Name,
 ) -> Result<(), AllocError>
-    requires before { prepared.now.before ≡ live.now }
-    requires known { AreKnown live.now prepared.now.after known.old.by_keepers }
-    ensures known { OnOk result (AreKnown live.now prepared.now.after known.new.by_keepers) }
-    ensures listed { OnOk result (IsListed live.now prepared.now.after user.now
-        changes.old changes.new) }
+    requires known { AreKnown policies.now.before policies.now.after known.old.by_keepers }
+    ensures known { OnOk result
+        (AreKnown policies.now.before policies.now.after known.new.by_keepers) }
+    ensures listed { OnOk result
+        (IsListed policies.now.before policies.now.after user.now changes.old changes.new) }
 {
-    if prepared.leaves(&SubjectId::user(*user)) {
+    if policies.skips(&SubjectId::user(*user)) {
         return Ok(());
     }
-    list_touched(alloc, changes, known, live, prepared, user)
+    list_searched(alloc, changes, known, policies, user)
 }
 
 fn is_user(subject: &Subject) -> bool
@@ -97,18 +81,20 @@ fn is_alone(policy: &Policy, subject: &Subject) -> bool
 fn list_present(
     alloc: Global,
     changes: &mut Changes,
-    live: &Live,
-    prepared: &Prepared,
+    known: &mut Differences,
+    policies: &Comparison<'_>,
 ) -> Result<(), AllocError>
-    requires { prepared.now.before ≡ live.now }
-    ensures { (users : List (List ℕ)) → ChangesOf live.now prepared.now.after users changes.old
-        → OnOk result (ChangesOf live.now prepared.now.after
-        (users ++ users_of prepared.now.after) changes.new) }
+    requires known { AreKnown policies.now.before policies.now.after known.old.by_keepers }
+    ensures known { OnOk result
+        (AreKnown policies.now.before policies.now.after known.new.by_keepers) }
+    ensures listed { (users : List (List ℕ))
+        → ChangesOf policies.now.before policies.now.after users changes.old
+        → OnOk result (ChangesOf policies.now.before policies.now.after
+        (users ++ users_of policies.now.after) changes.new) }
 {
-    let mut known = Differences::new(alloc);
-    for subject in prepared.policy().subjects() {
+    for subject in policies.new_policy().subjects() {
         if is_user(subject) {
-            list_user(alloc, changes, &mut known, live, prepared, &subject.name)?;
+            list_user(alloc, changes, known, policies, &subject.name)?;
         }
     }
     Ok(())
@@ -118,20 +104,35 @@ fn list_present(
 fn list_gone(
     alloc: Global,
     changes: &mut Changes,
-    live: &Live,
-    prepared: &Prepared,
+    known: &mut Differences,
+    policies: &Comparison<'_>,
 ) -> Result<(), AllocError>
-    requires { prepared.now.before ≡ live.now }
-    ensures { (users : List (List ℕ)) → ChangesOf live.now prepared.now.after users changes.old
-        → OnOk result (ChangesOf live.now prepared.now.after
-        (users ++ users_alone prepared.now.after live.now) changes.new) }
+    requires known { AreKnown policies.now.before policies.now.after known.old.by_keepers }
+    ensures { (users : List (List ℕ))
+        → ChangesOf policies.now.before policies.now.after users changes.old
+        → OnOk result (ChangesOf policies.now.before policies.now.after
+        (users ++ users_alone policies.now.after policies.now.before) changes.new) }
 {
-    for subject in live.policy().subjects() {
-        if is_alone(prepared.policy(), subject) {
-            list_searched(alloc, changes, live, prepared, &subject.name)?;
+    for subject in policies.old_policy().subjects() {
+        if is_alone(policies.new_policy(), subject) {
+            list_searched(alloc, changes, known, policies, &subject.name)?;
         }
     }
     Ok(())
+}
+
+// Lists what changes for the users of the new policy, and then for those of the old one alone.
+fn list_changes(alloc: Global, policies: &Comparison<'_>) -> Result<Changes, AllocError>
+    ensures found { IfOk result (λ changes.
+        AreChanges policies.now.before policies.now.after changes) }
+    ensures only { IfOk result (λ changes. (other : List ChangedValue)
+        → AreChanges policies.now.before policies.now.after other → changes ≡ other) }
+{
+    let mut changes = Sequence::new(alloc);
+    let mut known = Differences::new(alloc);
+    list_present(alloc, &mut changes, &mut known, policies)?;
+    list_gone(alloc, &mut changes, &mut known, policies)?;
+    Ok(changes)
 }
 
 /// What prepared edits change for users, all together: those of the new policy in its order, then
@@ -148,8 +149,24 @@ pub fn changes(alloc: Global, live: &Live, prepared: &Prepared) -> Result<Change
     ensures only { IfOk result (λ changes. (other : List ChangedValue)
         → AreChanges live.now prepared.now.after other → changes ≡ other) }
 {
-    let mut changes = Sequence::new(alloc);
-    list_present(alloc, &mut changes, live, prepared)?;
-    list_gone(alloc, &mut changes, live, prepared)?;
-    Ok(changes)
+    let policies = Comparison::new(alloc, live, Later::Edited(prepared))?;
+    list_changes(alloc, &policies)
+}
+
+/// What users may do by the new policy and not by the old one, and the other way: users of the new
+/// policy in its order, then those of the old one alone. A user for whom nothing changes isn't
+/// listed. So what is listed from a policy to itself is nothing, and from a policy to what an edit
+/// makes of it, what that edit changes.
+///
+/// It searches once for each two automata that decide for the same user, however many users share
+/// them; all else takes a few look-ups for each subject, and the list itself.
+pub fn compare(alloc: Global, old: &Live, new: &Live) -> Result<Changes, AllocError>
+    ensures found { IfOk result (λ changes. AreChanges old.now new.now changes) }
+
+    // There is one such list.
+    ensures only { IfOk result (λ changes. (other : List ChangedValue)
+        → AreChanges old.now new.now other → changes ≡ other) }
+{
+    let policies = Comparison::new(alloc, old, Later::Other(new))?;
+    list_changes(alloc, &policies)
 }

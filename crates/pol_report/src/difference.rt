@@ -15,11 +15,11 @@ use pol_names::{Name, Verdict};
 use std::alloc::{AllocError, Global};
 
 /// What differs for those who had the rules along one chain, and have those along another.
-pub struct Difference {
+pub(crate) struct Difference {
     /// The least line that is permitted now and was denied before, if there is one.
-    pub permits: Option<Bytes>,
+    pub(crate) permits: Option<Bytes>,
     /// The least line that is denied now and was permitted before, if there is one.
-    pub denies: Option<Bytes>,
+    pub(crate) denies: Option<Bytes>,
 }
 
 // By hand, so that a proof of an owner has one call at each exit, not a drop of each field.
@@ -36,7 +36,7 @@ impl Difference {
     /// What differs between the old rules' automaton and verdicts and the new ones': the least
     /// lines of each kind, by length and then by bytes. Two searches over the pairs of the two
     /// automata's states.
-    pub fn between(
+    pub(crate) fn between(
         alloc: Global,
         old: &Decider,
         old_verdicts: &[Verdict],
@@ -68,7 +68,7 @@ impl Difference {
     }
 
     /// Lists what changes for a user for whom this differs, if anything does.
-    pub fn list_for(
+    pub(crate) fn list_for(
         &self,
         alloc: Global,
         changes: &mut Changes,

@@ -1,61 +1,43 @@
 //! What differs between the rules along two chains.
 
 ghost use Rattle.std.specs.Prelude.{◌≡◌, map, IfOk};
-ghost use Rattle.pol_names.specs.declared.decision.Verdict.TheVariants.{Deny};
+ghost use Rattle.pol_meaning.specs.Along.{entries_of};
+ghost use Rattle.pol_live.specs.ChainRules.{chain_rule};
 ghost use Rattle.pol_report.specs.Sharing.{IsDifference, along};
 
+use crate::comparison::Comparison;
 use crate::difference::Difference;
-use pol_live::{ChainRule, Live, Prepared, rules_along};
+use pol_live::rules_along;
 use pol_names::{SubjectId, Verdict};
+use pol_text::Policy;
 use std::alloc::{AllocError, Global};
 
-// What each of the rules says.
-fn verdicts(alloc: Global, rules: &[ChainRule]) -> Result<Vec<Verdict>, AllocError>
-    ensures { IfOk result (λ verdicts. verdicts.items ≡ map (λ rule. rule.verdict) rules.now) }
+// What each of the rules along a subject's chain says.
+fn verdicts_along(
+    alloc: Global,
+    policy: &Policy,
+    id: &SubjectId,
+) -> Result<Vec<Verdict>, AllocError>
+    ensures { IfOk result (λ verdicts. verdicts.items
+        ≡ map (λ rule. rule.verdict) (map chain_rule (entries_of policy.now id.now))) }
 {
+    let rules = rules_along(alloc, policy, id)?;
     rules.iter().map(|rule| rule.verdict).collect(alloc)
 }
 
-// For each of the rules a denial.
-fn denials(alloc: Global, rules: &[ChainRule]) -> Result<Vec<Verdict>, AllocError>
-    ensures { IfOk result (λ verdicts. verdicts.items ≡ map (λ rule. Deny) rules.now) }
-{
-    rules.iter().map(|_| Verdict::Deny).collect(alloc)
-}
-
-/// What differs for a subject. Who isn't in a policy may do nothing there: as if all rules that the
-/// other policy has for the subject denied. A search over the pairs of the two automata's states.
+/// What differs for a subject between two policies. Who isn't in one may do nothing there. Two
+/// searches over the pairs of states of both automata.
 pub(crate) fn difference_for(
     alloc: Global,
-    live: &Live,
-    prepared: &Prepared,
+    policies: &Comparison<'_>,
     id: &SubjectId,
 ) -> Result<Difference, AllocError>
-    requires { prepared.now.before ≡ live.now }
     ensures { IfOk result (λ difference. IsDifference
-        (along live.now id.now) (along prepared.now.after id.now) difference) }
+        (along policies.now.before id.now) (along policies.now.after id.now) difference) }
 {
-    let old_rules = rules_along(alloc, live.policy(), id)?;
-    let new_rules = rules_along(alloc, prepared.policy(), id)?;
-    match (live.decider(id), prepared.decider(id)) {
-        (Some(old), Some(new)) => {
-            let before = verdicts(alloc, &old_rules)?;
-            let after = verdicts(alloc, &new_rules)?;
-            Difference::between(alloc, old, &before, new, &after)
-        }
-        (Some(old), None) => {
-            let before = verdicts(alloc, &old_rules)?;
-            let after = denials(alloc, &old_rules)?;
-            Difference::between(alloc, old, &before, old, &after)
-        }
-        (None, Some(new)) => {
-            let before = denials(alloc, &new_rules)?;
-            let after = verdicts(alloc, &new_rules)?;
-            Difference::between(alloc, new, &before, new, &after)
-        }
-        (None, None) => Ok(Difference {
-            permits: None,
-            denies: None,
-        }),
-    }
+    let was = policies.decider_before(id);
+    let is = policies.decider_after(id);
+    let was_says = verdicts_along(alloc, policies.old_policy(), id)?;
+    let is_says = verdicts_along(alloc, policies.new_policy(), id)?;
+    Difference::between(alloc, was, &was_says, is, &is_says)
 }

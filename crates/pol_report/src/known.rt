@@ -11,13 +11,13 @@ use std::collections::BTreeMap;
 /// What was found to differ between two policies, by where the keepers in the old one and in the new
 /// one stand, if there are any. Those with one keeper now may have had several before.
 #[derive(Drop)]
-pub struct Differences {
+pub(crate) struct Differences {
     by_keepers: BTreeMap<(Option<usize>, Option<usize>), Difference>,
 }
 
 impl Differences {
     /// Nothing was found yet. Takes no memory.
-    pub fn new(alloc: Global) -> Differences
+    pub(crate) fn new(alloc: Global) -> Differences
         ensures { (before after : List SubjectValue) → AreKnown before after result.by_keepers }
     {
         Differences {
@@ -27,7 +27,7 @@ impl Differences {
 
     /// What differs for those who had and have their rules by these keepers, if it was found. The
     /// number of look-ups is logarithmic in how much was found.
-    pub fn find(
+    pub(crate) fn find(
         &self,
         keeper_before: Option<usize>,
         keeper_after: Option<usize>,
@@ -40,7 +40,7 @@ impl Differences {
     }
 
     /// Keeps what was found to differ for them.
-    pub fn remember(
+    pub(crate) fn remember(
         &mut self,
         keeper_before: Option<usize>,
         keeper_after: Option<usize>,

@@ -1,8 +1,9 @@
 //! What is reported of a policy: which rules decide nothing, by which lines rules are reached, and
-//! what a change lets users do, or no longer do.
+//! what another policy, or a change of it, lets users do, or no longer do.
 #![tactic(auto)]
 
 mod changing;
+mod comparison;
 mod difference;
 mod differing;
 mod known;
@@ -10,9 +11,7 @@ mod line;
 mod reaching;
 mod shadowing;
 
-pub use changing::changes;
-pub use difference::Difference;
-pub use known::Differences;
+pub use changing::{changes, compare};
 pub use pol_meaning::{Changed, Changes, Reached, Shadowed};
 pub use reaching::reach;
 pub use shadowing::shadows;

@@ -8,8 +8,8 @@ use Rattle.pol_report.proofs.changing.list_present.Given as goal
 -- the users among the first subjects come after those that were listed before
 abbrev pub invariant-loop-subject : goal.invariant-loop-subject
 invariant-loop-subject l = record {
-  so_far : (users : List (List ℕ)) → ChangesOf l.live l.prepared.after users l.fn.changes
-      → ChangesOf l.live l.prepared.after (users ++ map (λ subject. subject.name) (filter (λ subject. same_kind subject.kind User) (take l.subject-index l.prepared.after))) l.changes;
-  known : AreKnown l.live l.prepared.after l.known.by_keepers;
-  same : l.subject-items ≡ l.prepared.after;
+  so_far : (users : List (List ℕ)) → ChangesOf l.policies.before l.policies.after users l.fn.changes
+      → ChangesOf l.policies.before l.policies.after (users ++ map (λ subject. subject.name) (filter (λ subject. same_kind subject.kind User) (take l.subject-index l.policies.after))) l.changes;
+  known : AreKnown l.policies.before l.policies.after l.known.by_keepers;
+  same : l.subject-items ≡ l.policies.after;
 }
