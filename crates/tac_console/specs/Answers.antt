@@ -13,6 +13,7 @@ use Rattle.pol_names.specs.Decision.{verdict_text, by_text}
 use Rattle.pol_edit.specs.FaultText as edit_faults
 use Rattle.pol_edit.specs.declared.batching.BatchFault.{BatchFault}
 use Rattle.pol_edit.specs.declared.fault.EditFault.{EditFault}
+use Rattle.pol_edit.specs.declared.fault.EditFault.TheVariants.{TooManyStates}
 use Rattle.pol_meaning.specs.declared.Changed.{Changed}
 use Rattle.tac_request.specs.declared.record.AcctKind.{AcctKind}
 use Rattle.tac_request.specs.declared.record.AcctKind.TheVariants.{Begin, Stop, Watch, Update}
@@ -26,6 +27,7 @@ use Rattle.tac_desk.specs.declared.query.Report.TheVariants as reports
 use Rattle.tac_desk.specs.declared.query.QueryFault.{QueryFault}
 use Rattle.tac_console.specs.declared.batching.Notice.{Notice}
 use Rattle.tac_console.specs.declared.batching.Notice.TheVariants as notices
+use Rattle.tac_console.specs.Faults.{size_fault}
 use Rattle.tac_console.specs.Percent.{percent_form}
 use Rattle.tac_console.specs.Reports.{shadows_text, reach_text}
 
@@ -59,6 +61,12 @@ accepted changes = done ++ flat_map changed_lines changes
 abbrev pub edit_answer : Result (List Changed) EditFault → List ℕ
 edit_answer (Ok changes) = accepted changes
 edit_answer (Err fault) = refused (edit_faults.fault_text fault)
+
+-- another policy in the place of the present one is answered as an edit is; but one that is too
+-- large is told as its check tells it
+abbrev pub load_answer : Result (List Changed) EditFault → List ℕ
+load_answer (Err (TooManyStates subject)) = size_fault subject
+load_answer answer = edit_answer answer
 
 -- the changes are those of the whole batch; a refusal names the edit that is refused, if one is
 abbrev pub batch_answer : Result (List Changed) BatchFault → List ℕ

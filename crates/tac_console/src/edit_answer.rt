@@ -6,6 +6,7 @@ ghost use Rattle.tac_console.specs.Answers as answers;
 
 use crate::adding::{add, refused};
 use crate::batching::Notice;
+use crate::faults::write_size_fault;
 use basics::Bytes;
 use pol_edit::{BatchFault, EditFault};
 use pol_meaning::{Changed, Changes};
@@ -86,6 +87,25 @@ pub fn write_batch_answer(
 {
     match answer {
         Ok(changes) => add(out, accepted(alloc, changes)),
+        Err(fault) => add(out, refused(alloc, fault)),
+    }
+}
+
+/// Adds how it is answered that another policy takes the place of the present one: as an edit is,
+/// but one that is too large is told as its check tells it. The error means that memory ran out;
+/// nothing is added then. Linear in what is added.
+pub fn write_load_answer(
+    alloc: Global,
+    out: &mut Vec<u8>,
+    answer: &Result<&Changes, EditFault>,
+) -> Result<(), AllocError>
+    ensures ok { OnOk result
+        (out.new.items ≡ out.old.items ++ answers.load_answer (answers.answer_lent answer.now)) }
+    ensures err { OnErr result (out.new.items ≡ out.old.items) }
+{
+    match answer {
+        Ok(changes) => add(out, accepted(alloc, changes)),
+        Err(EditFault::TooManyStates(subject)) => write_size_fault(alloc, out, *subject),
         Err(fault) => add(out, refused(alloc, fault)),
     }
 }

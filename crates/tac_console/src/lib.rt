@@ -13,7 +13,7 @@ mod rules;
 
 pub use asked::Asked;
 pub use batching::{Action, Batch, Notice};
-pub use edit_answer::{write_batch_answer, write_edit_answer, write_notice};
+pub use edit_answer::{write_batch_answer, write_edit_answer, write_load_answer, write_notice};
 pub use faults::{write_policy_fault, write_size_fault};
 pub use query_answer::write_query_answer;
 pub use reading::read_console;
