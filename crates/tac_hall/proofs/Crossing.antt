@@ -32,7 +32,9 @@ use Rattle.tac_request.proofs.record.Record.TheSendSync as records
 use Rattle.tac_tally.proofs.tally.Tally.TheSendSync as tally
 use Rattle.tac_conn.proofs.ask.Answer.TheSendSync as answer
 use Rattle.tac_desk.proofs.query.QueryFault.TheSendSync as query_fault
-use Rattle.tac_hall.proofs.call.Call.TheSendSync as call
+use Rattle.tac_conn.proofs.ask.Ask.TheSendSync as asks
+use Rattle.pol_edit.proofs.edit.Edit.TheSendSync as edits
+use Rattle.tac_desk.proofs.query.Query.TheSendSync as queries
 use Rattle.tac_hall.proofs.shared.Shared.TheSendSync as shared
 
 pub Factor-send : IsSend Factor.the_row
@@ -92,8 +94,14 @@ CallAnswer-sync = search (Report-send, Report-sync, shared.the_sync, sequence.th
 pub CallAnswer-field : IsSend CallAnswer.the_field.row
 CallAnswer-field = search (Report-send, Report-sync, shared.the_send, sequence.the_send, sequence.the_sync, changed.the_send, changed.the_sync, edit_fault.the_send, query_fault.the_send, answer.the_send, crosses, sendable) depth 60 fits 20000
 
+pub Call-send : IsSend Call.the_row
+Call-send = search (Policy-send, sequence.the_send, asks.the_send, edits.the_send, queries.the_send, crosses, sendable) depth 60 fits 20000
+
+pub Call-sync : IsSync Call.the_row
+Call-sync = search (Policy-sync, sequence.the_sync, asks.the_sync, edits.the_sync, queries.the_sync, crosses, sendable) depth 60 fits 20000
+
 pub Kept-send : IsSend (Shared.the_row Call.the_row)
-Kept-send = shared.the_send Call.the_row call.the_send call.the_sync
+Kept-send = shared.the_send Call.the_row Call-send Call-sync
 
 pub SharedState-send : IsSend (Shared.the_row State.the_row)
 SharedState-send = shared.the_send State.the_row State-send State-sync

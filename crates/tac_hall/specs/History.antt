@@ -7,6 +7,7 @@ use Rattle.pol_edit.specs.declared.batching.BatchFault.{BatchFault}
 use Rattle.pol_edit.specs.declared.edit.Edit.{Edit}
 use Rattle.pol_edit.specs.declared.fault.EditFault.{EditFault}
 use Rattle.pol_meaning.specs.declared.Changed.{Changed}
+use Rattle.pol_text.specs.declared.subject.Subject.{Subject}
 use Rattle.tac_conn.specs.Ask.{kind_of_ask, kind_of_answer}
 use Rattle.tac_desk.specs.declared.query.Query.{Query}
 use Rattle.tac_desk.specs.declared.query.QueryFault.{QueryFault}
@@ -34,6 +35,11 @@ abbrev pub AnswersBatch : Meaning → List Edit → Result (List Changed) BatchF
 AnswersBatch was edits answer now =
     UnlessMemory ran_out answer (editing.EditsAll was edits answer now) × OnErr answer (now ≡ was)
 
+-- so was another policy, in the place of the present one
+abbrev pub AnswersLoad : Meaning → List Subject → Result (List Changed) EditFault → Meaning → Type 0
+AnswersLoad was policy answer now =
+    UnlessMemory is_memory answer (editing.Loads was policy answer now) × OnErr answer (now ≡ was)
+
 -- a question was answered so, or memory ran out
 abbrev pub AnswersQuery : Meaning → Query → Result Report QueryFault → Meaning → Type 0
 AnswersQuery was query answer now =
@@ -47,6 +53,7 @@ Answers was (calls.Ask ask) (answers.Ask answer) now =
     (answer ≡ (asked was ask).answer) × (now ≡ (asked was ask).meaning)
 Answers was (calls.Edit edit) (answers.Edit answer) now = AnswersEdit was edit answer now
 Answers was (calls.Batch edits) (answers.Batch answer) now = AnswersBatch was edits answer now
+Answers was (calls.Load policy) (answers.Edit answer) now = AnswersLoad was policy answer now
 Answers was (calls.Query query) (answers.Query answer) now = AnswersQuery was query answer now
 Answers was calls.Stop answers.Stopped now = now ≡ was
 Answers was call answer now = ⊥
@@ -60,6 +67,7 @@ abbrev pub IsOfKind : Call → CallAnswer → Type 0
 IsOfKind (calls.Ask ask) (answers.Ask answer) = kind_of_answer answer ≡ kind_of_ask ask
 IsOfKind (calls.Edit edit) (answers.Edit answer) = Unit {0}
 IsOfKind (calls.Batch edits) (answers.Batch answer) = Unit {0}
+IsOfKind (calls.Load policy) (answers.Edit answer) = Unit {0}
 IsOfKind (calls.Query query) (answers.Query answer) = IsReportTo query answer
 IsOfKind calls.Stop answers.Stopped = Unit {0}
 IsOfKind call answer = ⊥
@@ -70,6 +78,7 @@ abbrev pub is_stop : Call → Bool
 is_stop (calls.Ask ask) = false
 is_stop (calls.Edit edit) = false
 is_stop (calls.Batch edits) = false
+is_stop (calls.Load policy) = false
 is_stop (calls.Query query) = false
 is_stop calls.Stop = true
 
@@ -77,6 +86,7 @@ abbrev pub is_ask : Call → Bool
 is_ask (calls.Ask ask) = true
 is_ask (calls.Edit edit) = false
 is_ask (calls.Batch edits) = false
+is_ask (calls.Load policy) = false
 is_ask (calls.Query query) = false
 is_ask calls.Stop = false
 

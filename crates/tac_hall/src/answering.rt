@@ -140,6 +140,10 @@ pub(crate) fn answer<D: Desk>(desk: &mut D, call: &Call) -> Result<Told, AllocEr
             let answer = desk.edit_all(edits.as_slice());
             Ok(told_of_batch(answer))
         }
+        Call::Load(policy) => {
+            let answer = desk.load(policy);
+            Ok(told_of_edit(answer))
+        }
         Call::Query(query) => {
             let answer = desk.query(query);
             Ok(told_of_query(answer))

@@ -6,6 +6,7 @@ use crate::shared::Shared;
 use basics::{Sequence, StructuralEq};
 use pol_edit::{BatchFault, Edit, EditFault};
 use pol_meaning::Changes;
+use pol_text::Policy;
 use tac_conn::{Answer, Ask};
 use tac_desk::{Query, QueryFault, Report};
 
@@ -17,6 +18,8 @@ pub enum Call {
     Edit(Edit),
     /// Edits that are made together, all or none.
     Batch(Sequence<Edit>),
+    /// Another policy, in the place of the present one.
+    Load(Policy),
     /// A question to the desk.
     Query(Query),
     /// No further call is taken.
@@ -30,6 +33,7 @@ impl Drop for Call {
             Call::Ask(_) => {}
             Call::Edit(_) => {}
             Call::Batch(_) => {}
+            Call::Load(_) => {}
             Call::Query(_) => {}
             Call::Stop => {}
         }
@@ -55,6 +59,7 @@ impl Call {
             (Call::Ask(one), Call::Ask(two)) => one.same(two),
             (Call::Edit(one), Call::Edit(two)) => one.same(two),
             (Call::Batch(one), Call::Batch(two)) => one.same(two),
+            (Call::Load(one), Call::Load(two)) => one.same(two),
             (Call::Query(one), Call::Query(two)) => one.same(two),
             (Call::Stop, Call::Stop) => true,
             _ => false,
@@ -65,7 +70,8 @@ impl Call {
 /// The answer to a call, of the call's kind.
 pub enum CallAnswer {
     Ask(Answer),
-    /// What the edit changes for users, or why it is refused, a lack of memory included.
+    /// What the edit, or the policy that is loaded, changes for users; or why it is refused, a lack
+    /// of memory included.
     Edit(Result<Shared<Changes>, EditFault>),
     /// What the edits change together, or which of them is refused, and why.
     Batch(Result<Shared<Changes>, BatchFault>),
