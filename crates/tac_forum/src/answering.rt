@@ -67,6 +67,10 @@ pub(crate) fn answer<D: Desk>(desk: &mut D, call: &Call) -> Result<CallAnswer, A
             let answer = desk.edit_all(edits.as_slice());
             Ok(of_batch(answer))
         }
+        Call::Load(policy) => {
+            let answer = desk.load(policy);
+            Ok(of_edit(answer))
+        }
         Call::Query(query) => {
             let answer = desk.query(query);
             Ok(of_query(answer))
