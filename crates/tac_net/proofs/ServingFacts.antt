@@ -1,7 +1,8 @@
 -- Connections one after another, and workers side by side.
 use Rattle.std.proofs.Common.{◌≡◌, ℕ, suc, ◌+◌, ◌<◌, ◌≤◌, List, [], ◌∷◌, length, true, false, Result, Ok, Err, IfOk, slice_index_or, arith}
 use Rattle.tac_worker.specs.declared.worked.End.{End}
-use Rattle.tac_net.specs.Serving.{Came, and_then, Connects, goes_on, Serves, HaveServed}
+use Rattle.tac_worker.specs.Worked.{goes_on}
+use Rattle.tac_net.specs.Serving.{Came, and_then, Connects, Serves, HaveServed}
 
 pub came_stops : {S : Type 0} (serves : S → End → S → Type 0) (connections : ℕ) (was then now : S) (count : ℕ) (end last : End) → Came serves was count end then → goes_on end ≡ true
     → Connects serves then last now → goes_on last ≡ false → count + 1 ≤ connections → Serves serves connections was last now

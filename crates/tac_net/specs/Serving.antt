@@ -1,13 +1,12 @@
 -- What a worker of a hall has done that served connections one after another, and what several
 -- have.
-use Rattle.std.specs.Prelude.{◌≡◌, ◌≤◌, ◌+◌, ◌⊎◌, ℕ, List, [], ◌∷◌, Bool, true, false, None}
+use Rattle.std.specs.Prelude.{◌≡◌, ◌≤◌, ◌+◌, ◌⊎◌, ℕ, List, [], ◌∷◌, true, None}
 use Rattle.tac_conn.specs.declared.ask.Ask.{Ask}
 use Rattle.tac_hall.specs.declared.fault.HallFault.{HallFault}
 use Rattle.tac_hall.specs.Seat.{Sitting}
 use Rattle.tac_worker.specs.declared.worked.End.{End}
-use Rattle.tac_worker.specs.declared.worked.End.TheVariants.{Finished, Stopped, ReadFault}
-use Rattle.tac_worker.specs.declared.worked.End.TheVariants.{Held, NoSeat}
-use Rattle.tac_worker.specs.Worked.{Exchange, AreAllMade, Traffic, IsServedBy}
+use Rattle.tac_worker.specs.declared.worked.End.TheVariants.{Finished, ReadFault}
+use Rattle.tac_worker.specs.Worked.{Exchange, AreAllMade, Traffic, IsServedBy, goes_on}
 use Rattle.tac_worker.specs.AtHall as at_hall
 use Rattle.tac_net.specs.Logs.{Logs}
 
@@ -35,13 +34,6 @@ abbrev pub Connects : {S : Type 0} → (S → End → S → Type 0) → S → En
 Connects serves was end now = serves was end now ⊎ (IsUnaccepted end × (now ≡ was))
 
 -- ---- one after another
-
--- whether a worker takes another connection after one that ended so
-abbrev pub goes_on : End → Bool
-goes_on Stopped = false
-goes_on Held = false
-goes_on NoSeat = false
-goes_on end = true
 
 -- so many connections came, one after another, each but the last with an end after which the
 -- worker goes on; it ended so, as Finished where there was none

@@ -1,6 +1,6 @@
 //! A worker of a hall: a seat that serves connections, one after another.
 
-ghost use Rattle.std.specs.Prelude.{◌≡◌, IfErr};
+ghost use Rattle.std.specs.Prelude.{IfErr};
 ghost use Rattle.tac_net.specs.Pause as pauses;
 ghost use Rattle.tac_net.specs.Serving as serving;
 
@@ -21,16 +21,6 @@ pub(crate) struct Service<'a, R, G> {
     pub(crate) gate: &'a G,
     /// How many connections it serves, one after another.
     pub(crate) connections: u32,
-}
-
-/// Whether a worker takes another connection after one that ended so.
-fn goes_on(end: End) -> bool
-    ensures { result ≡ serving.goes_on end }
-{
-    match end {
-        End::Stopped | End::Held | End::NoSeat => false,
-        _ => true,
-    }
 }
 
 // Waits for a connection. Where none can be accepted it pauses.
@@ -92,7 +82,7 @@ pub(crate) fn serve_all<R: Wait + Clock + AllocGlobal, G: Gate, C: Caller>(
     let mut pause = Pause::first();
     'connections: for _ in 0..service.connections {
         last = serve_one(service, &mut pause, caller);
-        if !goes_on(last) {
+        if !last.goes_on() {
             return last;
         }
     }

@@ -143,6 +143,13 @@ end_by refusals.Memory = Memory
 end_by refusals.Closed = Stopped
 end_by refusals.NoSeat = NoSeat
 
+-- whether who served takes another connection after one that ended so
+abbrev pub goes_on : End → Bool
+goes_on Stopped = false
+goes_on Held = false
+goes_on NoSeat = false
+goes_on end = true
+
 -- the first of these asks was refused so
 abbrev pub IsFirstRefused : HallFault → (Ask → HallFault → Type 0) → List Ask → Type 0
 IsFirstRefused fault refuses [] = ⊥

@@ -1,7 +1,7 @@
 //! What a worker gives back.
 
 ghost use Rattle.std.specs.Prelude.{◌≡◌};
-ghost use Rattle.tac_worker.specs.Worked.{end_by};
+ghost use Rattle.tac_worker.specs.Worked.{end_by, goes_on};
 ghost use Rattle.tac_worker.specs.declared.worked.End.TheVariants.{Memory, Unwitnessed};
 
 use std::alloc::{AllocError, AllocFailed};
@@ -31,6 +31,18 @@ pub enum End {
     Held,
     /// The hall doesn't know the seat.
     NoSeat,
+}
+
+impl End {
+    /// Whether who served the connection takes another one after it.
+    pub fn goes_on(self) -> bool
+        ensures { result ≡ goes_on self }
+    {
+        match self {
+            End::Stopped | End::Held | End::NoSeat => false,
+            _ => true,
+        }
+    }
 }
 
 impl From<AllocError> for End {

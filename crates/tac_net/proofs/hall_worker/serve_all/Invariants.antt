@@ -1,5 +1,6 @@
 use Rattle.std.proofs.Common.{◌≡◌, true}
-use Rattle.tac_net.specs.Serving.{IsConnection, Came, goes_on}
+use Rattle.tac_worker.specs.Worked.{goes_on}
+use Rattle.tac_net.specs.Serving.{IsConnection, Came}
 use Rattle.tac_net.proofs.hall_worker.serve_all.Given as goal
 
 -- so many connections came, and the worker goes on
