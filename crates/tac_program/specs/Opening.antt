@@ -1,6 +1,7 @@
 -- What a server begins with: its workers, and the desk of its policy, or what is printed where
 -- there is none.
-use Rattle.std.specs.Prelude.{◌≡◌, ℕ, min, max, List, [], Option, Some, None, Result, Ok, Err}
+use Rattle.std.specs.Prelude.{◌≡◌, ℕ, min, max, List, [], Bool, true, false, Option, Some, None}
+use Rattle.std.specs.Prelude.{Result, Ok, Err}
 use Rattle.pol_text.specs.Text.{policy_of}
 use Rattle.pol_text.specs.declared.subject.Subject.{Subject}
 use Rattle.pol_text.specs.declared.fault.PolicyFault.{PolicyFault}
@@ -19,10 +20,11 @@ record_limit None = refusing max_records
 record_limit (Some most) = forgetting most
 
 -- a server has as many workers as it is told; else one for each processor, but at least one and at
--- most 16
-abbrev pub workers : Option ℕ → ℕ → ℕ
-workers None processors = max 1 (min 16 processors)
-workers (Some given) processors = given
+-- most 16, and as many as that where lines count only once they are on the disk
+abbrev pub workers : Option ℕ → Bool → ℕ → ℕ
+workers (Some given) syncs processors = given
+workers None true processors = 16
+workers None false processors = max 1 (min 16 processors)
 
 -- a policy that may stand has a desk that keeps records by this limit, and nothing is printed; of
 -- one that is refused, what its check prints is printed

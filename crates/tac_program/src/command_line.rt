@@ -168,10 +168,10 @@ fn with_options<'a>(alloc: Global, command: Command<'a>) -> Result<Command<'a>, 
         .arg(text(alloc, ADDRESS, "ADDR", ADDRESS_HELP).default_value("0.0.0.0"))?;
     with_limits(alloc, command)?
         .arg(number(alloc, KEEP_RECORDS, "N", records, KEEP_RECORDS_HELP))?
-        .arg(number(alloc, ROTATE_AT, "N", (1, 65_536), ROTATE_AT_HELP).default_value("32768"))?
         .arg(text(alloc, LOG, "PATH", LOG_HELP))?
         .arg(flag(alloc, SYNC, SYNC_HELP).requires_arg(LOG)?)?
         .arg(flag(alloc, NO_CONSOLE, NO_CONSOLE_HELP))?
+        .arg(number(alloc, ROTATE_AT, "N", (1, 65_536), ROTATE_AT_HELP).default_value("32768"))?
         .arg(number(alloc, CONNECTIONS, "N", connections, CONNECTIONS_HELP).default_value(
             "4294967295",
         ))

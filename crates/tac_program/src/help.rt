@@ -80,7 +80,7 @@ pub(crate) const KEEP_RECORDS_HELP: &str =
     "Keep the latest records, at most N, 1000 to 10000000; else the first 1000000 are kept";
 
 pub(crate) const WORKERS_HELP: &str =
-    "How many threads serve connections, 1 to 63; else one for each processor, at most 16";
+    "How many threads serve connections, 1 to 63; else as many as processors up to 16, or 16 with --sync";
 
 pub(crate) const AT_ONCE_HELP: &str =
     "How many connections there may be at once, 1 to 1000000; one more is closed";
@@ -95,10 +95,10 @@ pub(crate) const CONNECTIONS_HELP: &str =
     "For tests: how many connections each worker serves in all before it ends, at least 1";
 
 pub(crate) const ROTATE_AT_HELP: &str =
-    "Begin a new segment of the history before the Nth call of one, 1 to 65536";
+    "For tests: begin a new segment of the history before the Nth call of one, 1 to 65536";
 
 pub(crate) const LOG_HELP: &str =
-    "The file that takes a line of JSON for each request, before the device hears of it";
+    "The file that takes a line of JSON for each request, before its device is answered";
 
 pub(crate) const SYNC_HELP: &str = "Answer a device only once its line is on the disk";
 
@@ -142,15 +142,12 @@ Lines of the console, where a SUBJECT is 'user NAME' or 'group NAME':
   shift SUBJECT N M    rule N gets the number M
   begin, commit, abandon
                        edits after 'begin', up to 64, are kept, and made by 'commit' all or none
-  rotate               ends the present segment of the history; its number and how many calls it has
-                       are printed
   quit                 the server stops, as it does where the input ends
 
 An edit and a 'commit' are answered by 'ok', and for each user whom they concern by the shortest
 line that is now permitted, and the shortest that is now denied; or by 'refused' and why, and have
 changed nothing.
-A call that the server doesn't take is answered by 'hall' and why. The history of calls takes no
-memory. Its segments begin by themselves as --rotate-at says, and nothing is printed then.
+A line that the server doesn't take is answered by 'hall' and why.
 
 Lines of a policy:
   policy 2             the first line, if it is there: patterns may count, as '{1,3}'

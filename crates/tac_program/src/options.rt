@@ -35,7 +35,7 @@ const MAX_CALLS: usize = 65_536;
 const MAX_KEY_FILE: usize = 65_536;
 
 /// The most workers of a server that isn't told how many.
-const MAX_PROCESSORS: usize = 16;
+const MOST_WORKERS: usize = 16;
 
 /// The bytes of a megabyte.
 const MEGABYTE: u64 = 1_048_576;
@@ -149,13 +149,14 @@ For more information, try '--help'."
 }
 
 // How many workers there are: as many as the option says, where it is given; else one for each
-// processor.
-fn workers_of(given: Option<u32>, processors: usize) -> u32
-    ensures { result ≡ opening.workers given processors }
+// processor, or the most where each waits for the disk before it replies.
+fn workers_of(given: Option<u32>, syncs: bool, processors: usize) -> u32
+    ensures { result ≡ opening.workers given syncs processors }
 {
+    let wanted = if syncs { MOST_WORKERS } else { processors };
     match given {
         Some(workers) => workers,
-        None => processors.clamp(1, MAX_PROCESSORS) as u32,
+        None => wanted.clamp(1, MOST_WORKERS) as u32,
     }
 }
 
@@ -165,7 +166,11 @@ fn settings_of(matches: &ArgMatches<'_>, key: Key, processors: usize) -> Option<
     Some(Settings {
         port: matches.get_one::<u16>(PORT)?,
         key,
-        workers: workers_of(matches.get_one::<u32>(WORKERS), processors),
+        workers: workers_of(
+            matches.get_one::<u32>(WORKERS),
+            matches.get_flag(SYNC),
+            processors,
+        ),
         connections: matches.get_one::<u32>(CONNECTIONS)?,
         connections_at_once: matches.get_one::<u32>(CONNECTIONS_AT_ONCE)?,
         per_address: matches.get_one::<u32>(PER_ADDRESS)?,
