@@ -5,12 +5,17 @@ use Rattle.pol_text.specs.declared.subject.Subject.{Subject}
 use Rattle.pol_edit.specs.Batches.{of_all, applied_all}
 use Rattle.pol_edit.specs.declared.edit.Edit.{Edit}
 use Rattle.pol_edit.specs.declared.fault.EditFault.{EditFault}
+use Rattle.pol_live.specs.declared.fault.BuildFault.{BuildFault}
+use Rattle.pol_live.specs.declared.fault.BuildFault.TheVariants.{TooManyStates, Memory}
+use Rattle.pol_live.specs.Refusing.{edit_fault}
+use Rattle.pol_live.specs.Refusing as refusing
+use Rattle.pol_edit.specs.Applying.{is_memory}
 use Rattle.pol_edit.specs.declared.batching.BatchFault.{BatchFault}
-use Rattle.pol_live.specs.Live.{Step, PreparesTo, PreparesAll, IsOnlyPreparedAll}
+use Rattle.pol_live.specs.Live.{Step, PreparesTo, PreparesAll, IsOnlyPreparedAll, Replaces, IsOnlyReplaced}
 use Rattle.pol_meaning.specs.Changes.{AreChanges}
 use Rattle.pol_meaning.specs.declared.Changed.{Changed}
 use Rattle.tac_desk.specs.Meaning.{Meaning, with_policy}
-use Rattle.tac_desk.specs.Editing.{EditsTo, IsOnlyAll}
+use Rattle.tac_desk.specs.Editing.{EditsTo, IsOnlyAll, IsOnlyLoaded}
 use Rattle.tac_desk.proofs.Alone.{unnumbered}
 
 pub except_so : {A B : Type 0} (memory : Bool) → (A → B) → Except memory A → Except memory B
@@ -64,3 +69,27 @@ made_alone {X} fact edit edits all answer so alone h = subst (λ (r : Result X E
     by : (all : Result X BatchFault) → OnOk all (fact edits) → OnOk (unnumbered all) (fact (edit ∷ []))
     by (Ok value) h = subst fact alone h
     by (Err refusal) h = tt
+
+-- ---- another policy
+
+pub accepted_loaded : (before : Meaning) (policy : List Subject) (step : Step) (changes : List Changed) → Replaces before.policy policy (Ok step) → IsOnlyReplaced before.policy policy (Ok step)
+    → ((other : List Changed) → AreChanges before.policy step.after other → changes ≡ other) → IsOnlyLoaded before policy (Ok changes) (with_policy step.after before)
+accepted_loaded before policy step changes h only alone (Ok other) later k =
+    let same : step.after ≡ policy = ap (λ (s : Step). s.after) h.0 in (
+      ap (λ (c : List Changed). Ok c) (alone other (subst (λ (p : List Subject). AreChanges before.policy p other) (sym same) k.1)),
+      ap (λ (p : List Subject). with_policy p before) same ∙ sym k.2,
+    )
+accepted_loaded before policy step changes h only alone (Err fault) later k =
+    let e : ◌≡◌ {A = Result Step BuildFault} (Ok step) (Err (TooManyStates k.0.0)) = only (Err (TooManyStates k.0.0)) k.0.2 in absurd cc
+
+pub refused_loaded : (before : Meaning) (policy : List Subject) (fault : BuildFault) → IsOnlyReplaced before.policy policy (Err fault) → IsOnlyLoaded before policy (Err (edit_fault fault)) before
+refused_loaded before policy fault only (Ok changes) later k =
+    let made : Step = record { before = before.policy; after = policy } in
+    let e : ◌≡◌ {A = Result Step BuildFault} (Err fault) (Ok made) = only (Ok made) (refl, k.0) in absurd cc
+refused_loaded before policy fault only (Err other) later k =
+    let e : ◌≡◌ {A = Result Step BuildFault} (Err fault) (Err (TooManyStates k.0.0)) = only (Err (TooManyStates k.0.0)) k.0.2 in
+    let same : fault ≡ TooManyStates k.0.0 = cc in (ap (λ (f : BuildFault). Err (edit_fault f)) same ∙ ap (λ (f : EditFault). Err f) (sym k.0.1), sym k.1)
+
+pub except_built : {A B : Type 0} (fault : BuildFault) → (A → B) → Except (refusing.is_memory fault) A → Except (is_memory (edit_fault fault)) B
+except_built (TooManyStates id) so h = so h
+except_built Memory so h = tt

@@ -6,7 +6,7 @@ ghost use Rattle.pol_edit.specs.Applying as applying;
 ghost use Rattle.pol_edit.specs.Batches.{ran_out};
 ghost use Rattle.pol_meaning.specs.Memory.{UnlessMemory};
 ghost use Rattle.pol_live.specs.Refusing.{is_memory};
-ghost use Rattle.pol_live.specs.Rise.{IsBuildRise, IsEditRise, Rises};
+ghost use Rattle.pol_live.specs.Rise.{IsBuildRise, IsEditRise, IsReplacingRise, Rises};
 ghost use Rattle.tac_conn.specs.Ask.{kind_of_ask, kind_of_answer};
 ghost use Rattle.tac_conn.specs.declared.ask.Answer.TheVariants as answers;
 ghost use Rattle.tac_tally.specs.Keeping.{refusing};
@@ -20,7 +20,7 @@ ghost use Rattle.tac_desk.specs.declared.query.QueryFault.TheVariants.{NoSuch};
 
 use crate::authentication::authentication;
 use crate::deciding::{authorisation_by, is_denied};
-use crate::live_editing::change_kept;
+use crate::live_editing::{change_kept, load_kept};
 use crate::live_reports::{reach_report_of, shadow_report_of, tally_by_marks};
 use crate::records::{copy_records, numbered};
 use crate::remembering::Remembered;
@@ -246,6 +246,30 @@ impl Desk for LiveDesk {
             &mut self.meter,
             &mut self.book,
             edits,
+        )?;
+        self.remembered.clear();
+        Ok(thrice)
+    }
+
+    fn load(&mut self, policy: &Policy) -> Result<Thrice<Changes>, EditFault>
+        ensures found { UnlessMemory applying.is_memory result
+            (editing.Loads self.old.meaning policy.now result self.new.meaning) }
+        ensures only { UnlessMemory applying.is_memory result
+            (editing.IsOnlyLoaded self.old.meaning policy.now result self.new.meaning) }
+        ensures err { OnErr result (self.new.meaning ≡ self.old.meaning) }
+
+        // The meter rises by the residuals of each automaton that differs.
+        ensures rises { OnOk result
+            (Rises (IsReplacingRise self.old.meaning.policy self.new.meaning.policy)
+            self.old.meter self.new.meter) }
+        ensures kept { OnErr result (self.old.meter ≤ self.new.meter) }
+    {
+        let thrice = load_kept(
+            self.alloc,
+            &mut self.live,
+            &mut self.meter,
+            &mut self.book,
+            policy,
         )?;
         self.remembered.clear();
         Ok(thrice)

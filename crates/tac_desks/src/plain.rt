@@ -11,7 +11,7 @@ ghost use Rattle.tac_desk.specs.declared.query.QueryFault.TheVariants.{NoSuch};
 
 use crate::authentication::authentication;
 use crate::authorisation::authorisation;
-use crate::editing::change;
+use crate::editing::{change, load};
 use crate::reaching::{live_policy, reach_report, shadow_report};
 use crate::records::{copy_records, numbered};
 use crate::tallies::tally;
@@ -163,6 +163,13 @@ impl Desk for PlainDesk {
     fn edit_all(&mut self, edits: &[Edit]) -> Result<Thrice<Changes>, BatchFault> {
         let mut live = live_policy(self.alloc, &self.policy)?;
         let changes = change(self.alloc, &mut live, edits)?;
+        self.policy = live.into_policy();
+        Ok(changes)
+    }
+
+    fn load(&mut self, policy: &Policy) -> Result<Thrice<Changes>, EditFault> {
+        let mut live = live_policy(self.alloc, &self.policy)?;
+        let changes = load(self.alloc, &mut live, policy)?;
         self.policy = live.into_policy();
         Ok(changes)
     }

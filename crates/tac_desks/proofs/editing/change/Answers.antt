@@ -13,5 +13,5 @@ returns-in_err-prepared-clause-only c before same =
 pub returns-clause-only : goal.returns-clause-only
 returns-clause-only c before same =
     let made = c.in_ok-prepared.ensures in
-    rw (c.commit.ensures, c.in_ok-thrice.ensures)
-    (accepted_only before c.args.edits.now c.in_ok-prepared.prepared c.in_ok-changes.changes (rw same made.found) (rw same made.only) (rw same c.in_ok-changes.ensures.only))
+    rw c.in_ok-thrice.ensures.taken
+    (accepted_only before c.args.edits.now c.in_ok-prepared.prepared c.in_ok-thrice.thrice (rw same made.found) (rw same made.only) (rw same c.in_ok-thrice.ensures.only))
