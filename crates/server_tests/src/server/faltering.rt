@@ -4,6 +4,7 @@ ghost use Rattle.std.specs.Prelude.{◌≡◌};
 
 use pol_edit::{BatchFault, Edit, EditFault};
 use pol_meaning::Changes;
+use pol_text::Policy;
 use std::alloc::AllocError;
 use tac_conn::{Answer, Ask};
 use tac_desk::{Desk, Query, QueryFault, Report, State, Thrice};
@@ -42,6 +43,10 @@ impl Desk for Faltering {
             return Err(BatchFault::of_all(EditFault::Memory));
         }
         self.inner.edit_all(edits)
+    }
+
+    fn load(&mut self, policy: &Policy) -> Result<Thrice<Changes>, EditFault> {
+        self.inner.load(policy)
     }
 
     fn query(&mut self, query: &Query) -> Result<Thrice<Report>, QueryFault> {

@@ -18,8 +18,8 @@ use tac_conn::{Answer, Ask};
 use tac_desk::{Desk, Numbered, Query, QueryFault, Report, State, Thrice};
 use tac_tally::{Record, RecordLimit};
 
-/// A desk that knows nobody, and keeps its records backwards. It takes no edit and makes no tally:
-/// it says that memory ran out.
+/// A desk that knows nobody, and keeps its records backwards. It takes no edit and no other policy,
+/// and makes no tally: it says that memory ran out.
 #[derive(Drop)]
 pub(crate) struct Ledger {
     pub(crate) alloc: Global,
@@ -126,6 +126,10 @@ impl Desk for Ledger {
 
     fn edit_all(&mut self, _edits: &[Edit]) -> Result<Thrice<Changes>, BatchFault> {
         Err(BatchFault::of_all(EditFault::Memory))
+    }
+
+    fn load(&mut self, _policy: &Policy) -> Result<Thrice<Changes>, EditFault> {
+        Err(EditFault::Memory)
     }
 
     fn query(&mut self, query: &Query) -> Result<Thrice<Report>, QueryFault> {
