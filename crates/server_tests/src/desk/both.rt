@@ -1,7 +1,8 @@
 //! The desk that keeps automata, tallies and decisions answers as the one that works out each
 //! answer anew.
 
-use crate::desk::chance::calls;
+use crate::desk::chance::{calls, loads};
+use crate::desk::loads::load;
 use crate::desk::support::{ask, console};
 use pol_names::By;
 use pol_text::Policy;
@@ -57,6 +58,9 @@ fn call<D: Desk>(
     out.push(b'\n')?;
     if let Some(words) = line.strip_prefix("? ") {
         return asks(alloc, desk, words, out);
+    }
+    if let Some(lines) = line.strip_prefix("< ") {
+        return load(alloc, desk, lines, out);
     }
     let line = line.strip_prefix("> ").unwrap_or(line);
     console(alloc, desk, batch, line.as_bytes(), out)?;
@@ -143,29 +147,52 @@ fn is_met(printed: &str, start: &str) -> bool {
     printed.lines().any(|line| line.starts_with(start))
 }
 
-fn all_met<R: Abort>(rt: &R, printed: &str) {
-    for start in MET.lines() {
+fn all_met<R: Abort>(rt: &R, printed: &str, starts: &str) {
+    for start in starts.lines() {
         assert!(rt; is_met(printed, start), "no line is '{start}'");
     }
 }
 
-fn alike<R: Abort>(rt: &R, plain: &[u8], live: &[u8]) -> Result<(), Fail> {
+fn alike<R: Abort>(rt: &R, plain: &[u8], live: &[u8], starts: &str) -> Result<(), Fail> {
     let plain = str::from_utf8(plain)?;
     let live = str::from_utf8(live)?;
     assert!(rt; plain == live, "plain\n{plain}live\n{live}");
-    all_met(rt, plain);
+    all_met(rt, plain, starts);
     Ok(())
+}
+
+// Both desks are asked these lines, and answer alike.
+fn alike_at<R: Abort + AllocGlobal>(rt: &R, lines: &str, starts: &str) -> Result<(), Fail> {
+    let alloc = rt.alloc();
+    let mut plain = Vec::new(alloc);
+    let mut live = Vec::new(alloc);
+    talk_plainly(alloc, lines, &mut plain)?;
+    talk_live(alloc, lines, &mut live)?;
+    alike(rt, plain.as_slice(), live.as_slice(), starts)
 }
 
 #[test]
 fn three_hundred_calls(rt: HostRuntime) -> Result<(), Fail> {
-    let alloc = rt.alloc();
-    let lines = calls(alloc, 8907, 300)?;
-    let mut plain = Vec::new(alloc);
-    let mut live = Vec::new(alloc);
-    talk_plainly(alloc, lines.as_str(), &mut plain)?;
-    talk_live(alloc, lines.as_str(), &mut live)?;
-    alike(&rt, plain.as_slice(), live.as_slice())
+    let lines = calls(rt.alloc(), 8907, 300)?;
+    alike_at(&rt, lines.as_str(), MET)
+}
+
+// Such beginnings, where other policies are loaded among the calls.
+const LOADED: &str = "user ann now permits: 
+user ann now denies: 
+user bob now permits: 
+user eve now denies: 
+user zed now permits: 
+user zed now denies: 
+unknown user
+permitted at 7
+tally group 
+";
+
+#[test]
+fn three_hundred_policies(rt: HostRuntime) -> Result<(), Fail> {
+    let lines = loads(rt.alloc(), 8907, 300)?;
+    alike_at(&rt, lines.as_str(), LOADED)
 }
 
 // What is told of the meter of automata at the desk that keeps them: before each call, and at last.
@@ -251,6 +278,31 @@ fn automata_are_built_for_a_batch(rt: HostRuntime) -> Result<(), Fail> {
          user bob now permits: ping\n\
          user bob now denies: show \n\
          meter 13\n"
+    );
+    Ok(())
+}
+
+// Another policy builds automata only where it differs: none for a secret, for a user without rules
+// or for one who is gone, and for a rule those that an edit of it builds.
+#[test]
+fn automata_are_built_where_a_policy_differs(rt: HostRuntime) -> Result<(), Fail> {
+    let lines = "< group ops; permit show .*; user bob in ops; login x\n\
+        < group ops; deny show .*; permit show .*; user bob in ops\n\
+        < user ann in ops; group ops; deny show .*; permit show .*\n";
+    let printed = opened(rt.alloc(), lines)?;
+    assert_eq!(rt;
+        str::from_utf8(printed.as_slice())?,
+        "meter 7\n\
+         < group ops; permit show .*; user bob in ops; login x\n\
+         ok\n\
+         meter 7\n\
+         < group ops; deny show .*; permit show .*; user bob in ops\n\
+         ok\n\
+         user bob now denies: show \n\
+         meter 14\n\
+         < user ann in ops; group ops; deny show .*; permit show .*\n\
+         ok\n\
+         meter 14\n"
     );
     Ok(())
 }
@@ -387,11 +439,11 @@ fn kept_policy(alloc: Global) -> Result<Policy, Fail> {
     Ok(Policy::read(alloc, policy.as_slice())?)
 }
 
-// The calls of a talk.
+// The calls of a talk, and the policies that are loaded in it.
 fn calls_of(alloc: Global, talk: &str) -> Result<String, AllocError> {
     let mut calls = String::new(alloc);
     for line in talk.lines() {
-        if line.starts_with("? ") || line.starts_with("> ") {
+        if line.starts_with("? ") || line.starts_with("> ") || line.starts_with("< ") {
             writeln!(calls, "{line}")?;
         }
     }
@@ -408,13 +460,15 @@ fn says<R: Abort + AllocGlobal, D: Desk>(rt: &R, desk: &mut D, whole: &str) -> R
     Ok(())
 }
 
-fn says_plainly<R: Abort + AllocGlobal>(rt: &R, whole: &str) -> Result<(), Fail> {
+/// The desk that keeps nothing, of the policy above and at most ten records, says its part.
+pub(crate) fn says_plainly<R: Abort + AllocGlobal>(rt: &R, whole: &str) -> Result<(), Fail> {
     let policy = kept_policy(rt.alloc())?;
     let mut desk = PlainDesk::with_limit(rt.alloc(), policy, RecordLimit::forgetting(10))?;
     says(rt, &mut desk, whole)
 }
 
-fn says_live<R: Abort + AllocGlobal>(rt: &R, whole: &str) -> Result<(), Fail> {
+/// So does the desk that keeps automata.
+pub(crate) fn says_live<R: Abort + AllocGlobal>(rt: &R, whole: &str) -> Result<(), Fail> {
     let policy = kept_policy(rt.alloc())?;
     let mut desk = LiveDesk::with_limit(rt.alloc(), policy, RecordLimit::forgetting(10))?;
     says(rt, &mut desk, whole)

@@ -1,4 +1,5 @@
-//! Calls by chance: what connections ask, edits and questions, as lines of a conversation.
+//! Calls by chance: what connections ask, edits, questions and other policies, as lines of a
+//! conversation.
 
 use std::alloc::{AllocError, Global};
 
@@ -44,6 +45,14 @@ const CALLS: &str = "? login USER SECRET
 > why USER LINE
 > why USER LINE";
 
+// Policies to load, of which `; ` parts the lines.
+const POLICIES: &str = "\
+< group ops; RULE RULE group net in ops; RULE user bob in net; user eve in ops; RULE user ann in net
+< group net; RULE group ops in net; RULE user ann in WITHIN priv 7; permit .*; user bob in net
+< group net; group ops; RULE user eve in WITHIN RULE RULE user zed in WITHIN RULE login x
+< user bob; RULE RULE login more; user ann; priv 7; RULE user eve
+< user zed; permit .*; group ops; RULE user bob in ops; RULE user eve in ops; user ann in ops";
+
 // Asks for a shell, of which the level is told. By chance no such call comes.
 const SHELL: &str = "? run ann \n";
 
@@ -62,6 +71,8 @@ fn choices(word: &str) -> Option<&'static str> {
         "PLACE" => Some("1\n1\n1\n2\n3"),
         "VERDICT" => Some("permit\ndeny"),
         "PATTERN" => Some("a\na.*\n[^a]*\nab\nb+\na|b\n*a"),
+        "WITHIN" => Some("ops;\nnet;"),
+        "RULE" => Some("permit a;\npermit a.*;\npermit b+;\ndeny ab;\ndeny a|b;\ndeny [^a]*;"),
         _ => None,
     }
 }
@@ -117,6 +128,20 @@ pub(crate) fn calls(alloc: Global, seed: u32, count: u32) -> Result<String, Allo
     let mut chance = Chance { state: seed };
     text.push_str(SHELL)?;
     for _ in 0..count {
+        chance.push_call(&mut text)?;
+    }
+    Ok(text)
+}
+
+/// So many policies to load by chance, with an ask for a shell and two calls or batches after each.
+pub(crate) fn loads(alloc: Global, seed: u32, count: u32) -> Result<String, AllocError> {
+    let mut text = String::new(alloc);
+    let mut chance = Chance { state: seed };
+    for _ in 0..count {
+        let policy = chance.line(POLICIES);
+        chance.push_line(&mut text, policy)?;
+        text.push_str(SHELL)?;
+        chance.push_call(&mut text)?;
         chance.push_call(&mut text)?;
     }
     Ok(text)
