@@ -1,5 +1,5 @@
 -- What came of a call, or of a line, and how it is told.
-use Rattle.std.proofs.Common.{◌≡◌, ℕ, Bool, true, List, [], ◌++◌, Option, Result, Ok, Err, IfOk, IfErr, OnOk, OnErr, IsErrAnd, refl, sym, ap, subst, ◌∙◌, inr}
+use Rattle.std.proofs.Common.{◌≡◌, ℕ, Bool, true, false, List, [], ◌++◌, Option, Result, Ok, Err, IfOk, IfErr, OnOk, OnErr, IsErrAnd, refl, sym, ap, subst, ◌∙◌, inl, inr}
 use Rattle.std.specs.Prelude.{MatchBool}
 use Rattle.std.proofs.KnownBytes.{Appends-nil}
 use Rattle.pol_edit.specs.declared.edit.Edit.{Edit}
@@ -13,8 +13,8 @@ use Rattle.tac_hall.specs.declared.fault.HallFault.{HallFault}
 use Rattle.tac_hall.specs.Seat.{made_of}
 use Rattle.tac_hall_console.specs.declared.fault.OperatorFault.{OperatorFault}
 use Rattle.tac_hall_console.specs.declared.fault.OperatorFault.TheVariants as faults
-use Rattle.tac_hall_console.specs.Commands.{is_rotate}
-use Rattle.tac_hall_console.specs.Operated.{Outcome, ComesTo, IsRotation, StopComesTo, LineComesTo, StopEnds, made, refused, told, refusal_line}
+use Rattle.tac_hall_console.specs.Commands.{is_rotate, is_reload}
+use Rattle.tac_hall_console.specs.Operated.{Outcome, ComesTo, IsRotation, IsReload, StopComesTo, LineComesTo, StopEnds, made, refused, told, refusal_line}
 use Rattle.tac_hall_console.specs.Operating.{Tells, Adds, IsUntold, SendsUnlessMemory, Stops}
 
 -- ---- what is told of it
@@ -32,10 +32,34 @@ tells_err may outcome was now (Err fault) came = inr (outcome, came)
 pub tells_added : (may : Outcome → Seated → Type 0) (now : Seated) (old new : List ℕ) → old ≡ [] → Adds may now old new → Tells may now new
 tells_added may now old new empty a = subst (Tells may now) (sym (a.1 ∙ ap (λ (o : List ℕ). o ++ a.0) empty)) a.2
 
--- of a line `rotate`
-pub tells_rotation : (opening : Opening) (batch : Option (List Edit)) (was now : Seated) (line text : List ℕ) → is_rotate line ≡ true → Tells (IsRotation opening was) now text → Tells (LineComesTo opening batch was line) now text
-tells_rotation opening batch was now line text is t =
-    subst (λ (b : Bool). Tells (λ outcome then. MatchBool b (IsRotation opening was outcome then) (ComesTo opening was (action_of batch (asked_by line)) outcome then)) now text) (sym is) t
+-- what may come of the one thing may come of the other
+module _ (may also : Outcome → Seated → Type 0) (as_well : (outcome : Outcome) (now : Seated) → may outcome now → also outcome now) where
+  pub adds_as : {E : Type 0} (now : Seated) (old new : List ℕ) (result : Result (Unit {0}) E) → OnOk result (Adds may now old new) → OnOk result (Adds also now old new)
+  adds_as now old new (Ok u) a = (a.0, a.1, record { outcome = a.2.outcome; came = as_well a.2.outcome now a.2.came; is = a.2.is })
+  adds_as now old new (Err fault) a = tt
+
+  untold : (was now : Seated) → IsUntold may was now → IsUntold also was now
+  untold was now (inl same) = inl same
+  untold was now (inr c) = inr (c.0, as_well c.0 now c.1)
+
+  pub untold_as : {E : Type 0} (was now : Seated) (result : Result (Unit {0}) E) → OnErr result (IsUntold may was now) → OnErr result (IsUntold also was now)
+  untold_as was now (Ok u) a = tt
+  untold_as was now (Err fault) a = untold was now a
+
+module _ (opening : Opening) (batch : Option (List Edit)) (was now : Seated) (line text : List ℕ) where
+  may_if : Bool → Bool → Outcome → Seated → Type 0
+  may_if rotates reloads outcome then =
+      MatchBool rotates (IsRotation opening was outcome then) (MatchBool reloads (IsReload opening was outcome then) (ComesTo opening was (action_of batch (asked_by line)) outcome then))
+
+  -- of a line `rotate`
+  pub tells_rotation : is_rotate line ≡ true → Tells (IsRotation opening was) now text → Tells (LineComesTo opening batch was line) now text
+  unfolding may_if
+  tells_rotation is t = subst (λ (b : Bool). Tells (may_if b (is_reload line)) now text) (sym is) t
+
+  -- of a line `reload`
+  pub tells_reload : is_rotate line ≡ false → is_reload line ≡ true → Tells (IsReload opening was) now text → Tells (LineComesTo opening batch was line) now text
+  unfolding may_if
+  tells_reload other is t = subst (λ (b : Bool). Tells (may_if b (is_reload line)) now text) (sym other) (subst (λ (b : Bool). Tells (may_if false b) now text) (sym is) t)
 
 -- ---- the Stop
 

@@ -7,3 +7,4 @@ mod AnswerFacts
 mod TakeFacts
 mod ListenFacts
 mod StopFacts
+mod ReloadFacts

@@ -1,5 +1,5 @@
 -- What calls and rotations leave of the seat.
-use Rattle.std.proofs.Common.{◌≡◌, ℕ, Bool, true, false, List, [], ◌∷◌, ◌++◌, Option, refl, sym, ap, subst, ◌∙◌, append-nil, append_assoc}
+use Rattle.std.proofs.Common.{◌≡◌, ℕ, Bool, true, false, List, [], ◌∷◌, ◌++◌, Option, inl, inr, refl, sym, ap, subst, ◌∙◌, append-nil, append_assoc}
 use Rattle.std.specs.Prelude.{MatchBool}
 use Rattle.std.proofs.lemmas.List.Elements.{filter_map-append}
 use Rattle.pol_edit.specs.declared.edit.Edit.{Edit}
@@ -14,8 +14,8 @@ use Rattle.tac_forum.specs.declared.limits.Rotated.{Rotated}
 use Rattle.tac_hall.specs.declared.call.Call.{Call}
 use Rattle.tac_hall.specs.declared.call.Call.TheVariants as calls
 use Rattle.tac_hall.specs.declared.entry.Made.{Made}
-use Rattle.tac_hall_console.specs.Commands.{is_rotate}
-use Rattle.tac_hall_console.specs.Operated.{Outcome, CallsFor, ComesTo, IsRotation, LineComesTo, CameTo, Makes, noticed, made, rotated, refused, batch_by, entry_of, rotation_of, entries_of, rotations_of}
+use Rattle.tac_hall_console.specs.Commands.{is_rotate, is_reload}
+use Rattle.tac_hall_console.specs.Operated.{Outcome, CallsFor, ComesTo, IsRotation, IsReload, LineComesTo, CameTo, Makes, noticed, made, rotated, refused, unloaded, batch_by, entry_of, rotation_of, entries_of, rotations_of}
 
 -- nothing was done
 makes_none : (was : Seated) → Makes was was [] []
@@ -54,12 +54,18 @@ module _ (opening : Opening) where
       (record { number = came.2.number; view = came.2.view; rotations = came.2.rotations ∙ sym (append-nil (history.rotations_of was.number was.seen)) })
   call_makes was now call (rotated rotation) came = absurd came
   call_makes was now call (refused fault) came = makes_caught was now came.1
+  call_makes was now call (unloaded line) came = absurd came
 
   rotation_makes : (was now : Seated) (outcome : Outcome) → IsRotation opening was outcome now → Makes was now (entries_of (outcome ∷ [])) (rotations_of (outcome ∷ []))
   rotation_makes was now (noticed notice) came = absurd came
   rotation_makes was now (made entry) came = absurd came
   rotation_makes was now (rotated rotation) came = record { number = came.number; view = came.view ∙ sym (append-nil (view_of was.number was.seen)); rotations = came.rotations }
   rotation_makes was now (refused fault) came = makes_caught was now came.1
+  rotation_makes was now (unloaded line) came = absurd came
+
+  reload_makes : (was now : Seated) (outcome : Outcome) → IsReload opening was outcome now → Makes was now (entries_of (outcome ∷ [])) (rotations_of (outcome ∷ []))
+  reload_makes was now outcome (inl came) = call_makes was now (calls.Load came.0) outcome came.2
+  reload_makes was now outcome (inr none) = rw none.2 (makes_same was now none.3)
 
   action_makes : (was now : Seated) (action : Action) (outcome : Outcome) → ComesTo opening was action outcome now → Makes was now (entries_of (outcome ∷ [])) (rotations_of (outcome ∷ []))
   action_makes was now (actions.Edit edit) outcome came = call_makes was now (calls.Edit edit) outcome came
@@ -72,7 +78,8 @@ module _ (opening : Opening) where
   either false first second m = second m
 
   line_makes : (batch : Option (List Edit)) (was now : Seated) (line : List ℕ) (outcome : Outcome) → LineComesTo opening batch was line outcome now → Makes was now (entries_of (outcome ∷ [])) (rotations_of (outcome ∷ []))
-  line_makes batch was now line outcome came = either (is_rotate line) (rotation_makes was now outcome) (action_makes was now (action_of batch (asked_by line)) outcome) came
+  line_makes batch was now line outcome came =
+      either (is_rotate line) (rotation_makes was now outcome) (λ other. either (is_reload line) (reload_makes was now outcome) (action_makes was now (action_of batch (asked_by line)) outcome) other) came
 
   -- lines, one after another
   pub came_makes : (batch : Option (List Edit)) (was now : Seated) (lines : List (List ℕ)) (outcomes : List Outcome) → CameTo opening batch was lines outcomes now → Makes was now (entries_of outcomes) (rotations_of outcomes)

@@ -19,6 +19,9 @@ is_quit line = bytes_eq line (codes "quit")
 abbrev pub is_rotate : List ℕ → Bool
 is_rotate line = bytes_eq line (codes "rotate")
 
+abbrev pub is_reload : List ℕ → Bool
+is_reload line = bytes_eq line (codes "reload")
+
 -- the lines before the first `quit`
 abbrev pub commands : List (List ℕ) → List (List ℕ)
 commands [] = []

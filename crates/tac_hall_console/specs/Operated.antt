@@ -5,10 +5,18 @@ use Rattle.std.specs.Prelude.{if◌then◌else◌}
 use Rattle.std.specs.Fmt.{decimal}
 use Rattle.std.specs.Io.KnownBytes.{Appends, Consumes, IsAtEnd}
 use Rattle.basics.specs.Lines.{lines_of}
+use Rattle.pol_edit.specs.FaultText as edit_faults
 use Rattle.pol_edit.specs.declared.edit.Edit.{Edit}
-use Rattle.tac_console.specs.Answers.{edit_answer, batch_answer, query_answer, notice_text}
+use Rattle.pol_edit.specs.declared.fault.EditFault.TheVariants as edit_refusals
+use Rattle.pol_text.specs.Text.{policy_of}
+use Rattle.pol_text.specs.declared.fault.PolicyFault.{PolicyFault}
+use Rattle.pol_text.specs.declared.subject.Subject.{Subject}
+use Rattle.tac_console.specs.Answers as console
+use Rattle.tac_console.specs.Answers.{edit_answer, batch_answer, load_answer, query_answer}
+use Rattle.tac_console.specs.Answers.{notice_text}
 use Rattle.tac_console.specs.Batching.{action_of, batch_after}
 use Rattle.tac_console.specs.ConsoleText.{asked_by}
+use Rattle.tac_console.specs.Faults.{policy_fault}
 use Rattle.tac_console.specs.declared.batching.Action.{Action}
 use Rattle.tac_console.specs.declared.batching.Action.TheVariants as actions
 use Rattle.tac_console.specs.declared.batching.Notice.{Notice}
@@ -29,17 +37,19 @@ use Rattle.tac_hall.specs.FaultText.{fault_text}
 use Rattle.tac_hall.specs.Seat.{made_of}
 use Rattle.tac_hall_console.specs.declared.fault.OperatorFault.{OperatorFault}
 use Rattle.tac_hall_console.specs.declared.fault.OperatorFault.TheVariants as faults
-use Rattle.tac_hall_console.specs.Commands.{ended_lines, is_rotate, commands, quits}
+use Rattle.tac_hall_console.specs.Commands.{ended_lines, is_rotate, is_reload}
+use Rattle.tac_hall_console.specs.Commands.{commands, quits}
 
 -- ---- a line
 
 -- what came of a line: a notice without a call, or its call was made, or the present segment was
--- ended, or the one or the other was refused
+-- ended, or the one or the other was refused; or there was no policy to load, which this line tells
 pub data Outcome : Type 0 where
   noticed : Notice → Outcome
   made : Made → Outcome
   rotated : Rotated → Outcome
   refused : HallFault → Outcome
+  unloaded : List ℕ → Outcome
 
 -- what a view has of it
 abbrev pub entry_of : Outcome → Option Made
@@ -47,6 +57,7 @@ entry_of (noticed notice) = None
 entry_of (made entry) = Some entry
 entry_of (rotated rotation) = None
 entry_of (refused fault) = None
+entry_of (unloaded line) = None
 
 abbrev pub entries_of : List Outcome → List Made
 entries_of outcomes = filter_map entry_of outcomes
@@ -60,6 +71,7 @@ CallsFor opening was call (made entry) now =
 CallsFor opening was call (rotated rotation) now = ⊥
 CallsFor opening was call (refused fault) now =
     IsRefused opening now call fault × CatchesUp was now
+CallsFor opening was call (unloaded line) now = ⊥
 
 -- the edits of a batch are one call, and only a notice makes none
 abbrev pub ComesTo : Opening → Seated → Action → Outcome → Seated → Type 0
@@ -76,13 +88,52 @@ IsRotation opening was (noticed notice) now = ⊥
 IsRotation opening was (made entry) now = ⊥
 IsRotation opening was (rotated rotation) now = IsRotated was rotation now
 IsRotation opening was (refused fault) now = IsUnrotated opening now fault × CatchesUp was now
+IsRotation opening was (unloaded line) now = ⊥
 
--- what may come of a line at a console with this batch and seat, and the seat after it: `rotate` is
--- no line of a desk's console
+-- ---- another policy
+
+-- a text was judged so: it says this policy, or it is refused, as its check tells it
+abbrev pub ReadsBy : List ℕ → Result (List Subject) (List ℕ) → Type 0
+ReadsBy text (Ok policy) = policy_of text ≡ Ok policy
+ReadsBy text (Err line) =
+    (fault : PolicyFault) × (policy_of text ≡ Err fault) × (line ≡ policy_fault fault)
+
+-- there was no text, for some reason, which this line tells
+abbrev pub unread_line : List ℕ → List ℕ
+unread_line why = codes "unread " ++ why ++ 10 ∷ []
+
+abbrev pub IsUnread : Result (List Subject) (List ℕ) → Type 0
+IsUnread (Ok policy) = ⊥
+IsUnread (Err line) = (why : List ℕ) × (line ≡ unread_line why)
+
+-- a policy that some text says, or the line that tells why there is none
+abbrev pub Reads : Result (List Subject) (List ℕ) → Type 0
+Reads judged = ((text : List ℕ) × ReadsBy text judged) ⊎ IsUnread judged
+
+abbrev pub no_memory_line : List ℕ
+no_memory_line = console.refused (edit_faults.fault_text edit_refusals.Memory)
+
+-- why there is no policy to load; or that there was no memory for it
+abbrev pub Unloads : List ℕ → Type 0
+Unloads line = Reads (Err line) ⊎ (line ≡ no_memory_line)
+
+-- the call for a policy that some text says, in the place of the present one; or there was none, and
+-- nothing was done
+abbrev pub IsReload : Opening → Seated → Outcome → Seated → Type 0
+IsReload opening was outcome now =
+    ((policy : List Subject) × Reads (Ok policy)
+    × CallsFor opening was (calls.Load policy) outcome now)
+    ⊎ ((line : List ℕ) × Unloads line × (outcome ≡ unloaded line) × (now ≡ was))
+
+-- ---- a line, by what it is
+
+-- what may come of a line at a console with this batch and seat, and the seat after it: `rotate` and
+-- `reload` are no lines of a desk's console
 abbrev pub LineComesTo : Opening → Option (List Edit) → Seated → List ℕ → Outcome → Seated → Type 0
 LineComesTo opening batch was line outcome now =
     MatchBool (is_rotate line) (IsRotation opening was outcome now)
-    (ComesTo opening was (action_of batch (asked_by line)) outcome now)
+    (MatchBool (is_reload line) (IsReload opening was outcome now)
+    (ComesTo opening was (action_of batch (asked_by line)) outcome now))
 
 -- the Stop is one call
 abbrev pub StopComesTo : Opening → Seated → Outcome → Seated → Type 0
@@ -90,12 +141,15 @@ StopComesTo opening was outcome now = CallsFor opening was calls.Stop outcome no
 
 -- the batch that the line leaves
 abbrev pub batch_by : Option (List Edit) → List ℕ → Option (List Edit)
-batch_by batch line = if is_rotate line then batch else batch_after batch (asked_by line)
+batch_by batch line =
+    if is_rotate line then batch
+    else if is_reload line then batch else batch_after batch (asked_by line)
 
 -- how the answer to a call is printed; of a Stop nothing is
 abbrev pub answer_text : Call → CallAnswer → List ℕ
 answer_text (calls.Edit edit) (answers.Edit answer) = edit_answer answer
 answer_text (calls.Batch edits) (answers.Batch answer) = batch_answer answer
+answer_text (calls.Load policy) (answers.Edit answer) = load_answer answer
 answer_text (calls.Query query) (answers.Query answer) = query_answer query answer
 answer_text call answer = []
 
@@ -114,6 +168,7 @@ told (noticed notice) = notice_text notice
 told (made entry) = answer_text entry.call entry.answer
 told (rotated rotation) = rotated_line rotation
 told (refused fault) = refusal_line fault
+told (unloaded line) = line
 
 -- ---- lines, one after another
 
@@ -134,6 +189,7 @@ rotation_of (noticed notice) = None
 rotation_of (made entry) = None
 rotation_of (rotated rotation) = Some rotation
 rotation_of (refused fault) = None
+rotation_of (unloaded line) = None
 
 abbrev pub rotations_of : List Outcome → List Rotated
 rotations_of outcomes = filter_map rotation_of outcomes
@@ -220,6 +276,7 @@ IsRefusal (noticed notice) = ⊥
 IsRefusal (made entry) = ⊥
 IsRefusal (rotated rotation) = ⊥
 IsRefusal (refused fault) = Unit {0}
+IsRefusal (unloaded line) = ⊥
 
 -- after lines that went so the Stop was made, and it ends so: what came of it is told, unless the
 -- lines ended in a fault. Memory runs out only where a refusal is told

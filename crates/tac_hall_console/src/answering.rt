@@ -5,18 +5,20 @@ ghost use Rattle.tac_console.specs.Batching.{action_of, batch_after};
 ghost use Rattle.tac_console.specs.ConsoleText.{asked_by};
 ghost use Rattle.tac_hall.specs.History.{IsOfKind};
 ghost use Rattle.tac_hall_console.specs.Commands.{is_rotate as rotate_test};
+ghost use Rattle.tac_hall_console.specs.Commands.{is_reload as reload_test};
 ghost use Rattle.tac_hall_console.specs.Operated as operated;
 ghost use Rattle.tac_hall_console.specs.Operated.{CallsFor, ComesTo, answer_text, refusal_line};
 ghost use Rattle.tac_hall_console.specs.Operating as operating;
 
 use crate::fault::OperatorFault;
+use crate::reloading::{Source, read_source};
 use basics::send;
 use std::alloc::{AllocError, Global};
 use std::io::Write;
 use std::sync::Wait;
 use tac_console::{
-    Action, Batch, read_console, write_batch_answer, write_edit_answer, write_notice,
-    write_query_answer,
+    Action, Batch, read_console, write_batch_answer, write_edit_answer, write_load_answer,
+    write_notice, write_query_answer,
 };
 use tac_desk::Desk;
 use tac_forum::{Rotated, Run, Seat, SharedDesk};
@@ -24,6 +26,9 @@ use tac_hall::{Call, CallAnswer, HallFault};
 
 // Room for one line, since most answers are one.
 const LINE: usize = 64;
+
+// What is told where there is no memory for a policy.
+const NO_MEMORY: &[u8] = b"refused 12 Memory\n";
 
 /// The seat of a console, and the batch of its lines.
 #[derive(Drop)]
@@ -54,6 +59,12 @@ fn write_answer(
         }
         (Call::Batch(_), CallAnswer::Batch(Err(fault))) => {
             write_batch_answer(alloc, out, &Err(*fault))
+        }
+        (Call::Load(_), CallAnswer::Edit(Ok(changes))) => {
+            write_load_answer(alloc, out, &Ok(changes.get()))
+        }
+        (Call::Load(_), CallAnswer::Edit(Err(fault))) => {
+            write_load_answer(alloc, out, &Err(*fault))
         }
         (Call::Query(query), CallAnswer::Query(Ok(report))) => {
             write_query_answer(alloc, out, query, &Ok(report.get()))
@@ -146,6 +157,34 @@ fn act<H: Wait, J: Run, D: Desk>(
     }
 }
 
+// Puts the policy of the source in the place of the present one, and adds what came of it. A text
+// may be as large as memory, so the console goes on where there is none for it.
+fn reload<H: Wait, J: Run, D: Desk, S: Source>(
+    rt: &H,
+    alloc: Global,
+    desk: &SharedDesk<J, D>,
+    source: &S,
+    seat: &mut Seat<J>,
+    out: &mut Vec<u8>,
+) -> Result<(), AllocError>
+    ensures ok { OnOk result (operating.Adds (operated.IsReload J.opening seat.old) seat.new
+        out.old.items out.new.items) }
+    ensures err { OnErr result (operating.IsUntold (operated.IsReload J.opening seat.old)
+        seat.old seat.new) }
+{
+    match read_source(alloc, source) {
+        Ok(Ok(policy)) => tell(rt, alloc, desk, seat, &Call::Load(policy), out),
+        Ok(Err(line)) => out.extend_from_slice(line.as_slice()),
+        Err(_) => out.extend_from_slice(NO_MEMORY),
+    }
+}
+
+fn is_reload(line: &[u8]) -> bool
+    ensures { result ≡ reload_test line.now }
+{
+    line == b"reload".as_slice()
+}
+
 fn is_rotate(line: &[u8]) -> bool
     ensures { result ≡ rotate_test line.now }
 {
@@ -177,10 +216,11 @@ fn answer_asked<H: Wait, J: Run, D: Desk>(
 
 /// How a line is answered, without its LF: by a call or a rotation, if it asks for one. Where
 /// memory ran out that may have been done even so, and no line may follow.
-pub(crate) fn answer_line<H: Wait, J: Run, D: Desk>(
+pub(crate) fn answer_line<H: Wait, J: Run, D: Desk, S: Source>(
     rt: &H,
     alloc: Global,
     desk: &SharedDesk<J, D>,
+    source: &S,
     console: &mut Console<J>,
     line: &[u8],
 ) -> Result<Vec<u8>, AllocError>
@@ -196,6 +236,10 @@ pub(crate) fn answer_line<H: Wait, J: Run, D: Desk>(
     let mut text = Vec::with_capacity(alloc, LINE)?;
     if is_rotate(line) {
         rotate(rt, desk, &mut console.seat, &mut text)?;
+        return Ok(text);
+    }
+    if is_reload(line) {
+        reload(rt, alloc, desk, source, &mut console.seat, &mut text)?;
         return Ok(text);
     }
     answer_asked(rt, alloc, desk, console, line, &mut text)?;

@@ -5,6 +5,8 @@ mod answering;
 mod fault;
 mod operating;
 mod operator;
+mod reloading;
 
 pub use fault::OperatorFault;
 pub use operating::operate;
+pub use reloading::{Source, Unread};

@@ -7,6 +7,7 @@ ghost use Rattle.tac_hall_console.specs.Operating as operating;
 use crate::answering::{Console, write_refused};
 use crate::fault::OperatorFault;
 use crate::operator::Operator;
+use crate::reloading::Source;
 use std::alloc::Global;
 use std::io::{Read, Write};
 use std::sync::Wait;
@@ -41,8 +42,11 @@ fn stop<H: Wait, J: Run, D: Desk, W: Write>(
 /// A line that is an edit or a question is one call of this seat, and its answer is printed.
 /// Between `begin` and `commit` edits are kept instead, without a call, and the `commit` is one
 /// call with all of them. A call that is refused is told as `hall N REFUSAL`; no batch is open
-/// after that of a `commit` either. The line `rotate` ends the present segment, and leaves the
-/// batch as it is. Any other line is answered by `refused 1 BadEdit`.
+/// after that of a `commit` either. The line `rotate` ends the present segment, and `reload` puts
+/// the policy of the source in the place of the present one, in one call; both leave the batch as
+/// it is. A source without a text is told as `unread WHY`, a text that is refused as by its check,
+/// and one that finds no memory as `refused 12 Memory`. Any other line is answered by `refused 1
+/// BadEdit`.
 ///
 /// A line `quit`, or the end of the input, makes the Stop, which is one call; so does a fault. It
 /// is refused only as Closed, or as LogFull where the log is full. Edits that are kept then are
@@ -61,20 +65,23 @@ fn stop<H: Wait, J: Run, D: Desk, W: Write>(
 /// otherwise. A read or a write that is interrupted is tried again; a write that takes nothing is
 /// a fault. It may wait for the desk's lock, the witness, the reader and the writer. Linear in what
 /// is read and written, but for what the desk and the witness take.
-pub fn operate<H: Wait, J: Run, D: Desk, V: Witness<Typing>, R: Read, W: Write>(
+pub fn operate<H, J: Run, D: Desk, S: Source, V: Witness<Typing>, R: Read, W: Write>(
     rt: &H,
-    alloc: Global,
     desk: &SharedDesk<J, D>,
+    source: &S,
     seat: Seat<J>,
     witness: &mut V,
     reader: &mut R,
     writer: &mut W,
 ) -> (Seat<J>, Result<(), OperatorFault>)
+where
+    H: Wait + AllocGlobal,
     ensures { IsOperated J.opening result.1
         (AreHeard V.takes V.refuses witness.old witness.new) seat result.0
         (R.remaining reader.old) (R.remaining reader.new)
         (W.contents writer.old) (W.contents writer.new) }
 {
+    let alloc = rt.alloc();
     let console = Console {
         seat,
         batch: Batch::closed(),
@@ -84,7 +91,7 @@ pub fn operate<H: Wait, J: Run, D: Desk, V: Witness<Typing>, R: Read, W: Write>(
         console,
         begun: Vec::new(alloc),
     };
-    let listened = operator.listen(rt, desk, witness, reader, writer);
+    let listened = operator.listen(rt, desk, source, witness, reader, writer);
     let mut seat = operator.console.seat;
     let end = stop(rt, alloc, desk, &mut seat, writer, listened);
     (seat, end)

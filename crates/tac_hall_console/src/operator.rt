@@ -9,6 +9,7 @@ ghost use Rattle.tac_hall_console.specs.Operating.{scene};
 
 use crate::answering::{Console, answer_line, write_text};
 use crate::fault::OperatorFault;
+use crate::reloading::Source;
 use basics::{Bytes, split_once};
 use std::alloc::Global;
 use std::io::{Read, Write};
@@ -71,10 +72,11 @@ impl<J: Run> Operator<J> {
 
     // Answers the line that was begun as a whole one, once the witness was told. Where memory runs
     // out it is told without an answer, since what the line asks for may have been done.
-    fn answer<H: Wait, D: Desk, V: Witness<Typing>, W: Write>(
+    fn answer<H: Wait, D: Desk, S: Source, V: Witness<Typing>, W: Write>(
         &mut self,
         rt: &H,
         desk: &SharedDesk<J, D>,
+        source: &S,
         witness: &mut V,
         writer: &mut W,
     ) -> Result<(), OperatorFault>
@@ -85,7 +87,7 @@ impl<J: Run> Operator<J> {
         ensures begun { self.new.begun.items ≡ [] }
     {
         let line = self.begun.as_slice();
-        match answer_line(rt, self.alloc, desk, &mut self.console, line) {
+        match answer_line(rt, self.alloc, desk, source, &mut self.console, line) {
             Ok(text) => {
                 let answer = self.tell(witness, text);
                 write_text(writer, answer.as_slice())
@@ -98,10 +100,11 @@ impl<J: Run> Operator<J> {
     }
 
     // Answers the lines that end in a piece, each before the next is looked at.
-    fn take<H: Wait, D: Desk, V: Witness<Typing>, W: Write>(
+    fn take<H: Wait, D: Desk, S: Source, V: Witness<Typing>, W: Write>(
         &mut self,
         rt: &H,
         desk: &SharedDesk<J, D>,
+        source: &S,
         witness: &mut V,
         writer: &mut W,
         piece: &[u8],
@@ -119,7 +122,7 @@ impl<J: Run> Operator<J> {
                 self.tell(witness, Vec::new(self.alloc));
                 return Ok(Went::Quits);
             }
-            self.answer(rt, desk, witness, writer)?;
+            self.answer(rt, desk, source, witness, writer)?;
             rest = after;
         }
         self.begun.extend_from_slice(rest)?;
@@ -127,10 +130,11 @@ impl<J: Run> Operator<J> {
     }
 
     // The input has ended: the line that was begun, if it isn't empty, is the last.
-    fn take_last<H: Wait, D: Desk, V: Witness<Typing>, W: Write>(
+    fn take_last<H: Wait, D: Desk, S: Source, V: Witness<Typing>, W: Write>(
         &mut self,
         rt: &H,
         desk: &SharedDesk<J, D>,
+        source: &S,
         witness: &mut V,
         writer: &mut W,
     ) -> Result<(), OperatorFault>
@@ -149,15 +153,16 @@ impl<J: Run> Operator<J> {
             self.tell(witness, Vec::new(self.alloc));
             return Ok(());
         }
-        self.answer(rt, desk, witness, writer)
+        self.answer(rt, desk, source, witness, writer)
     }
 
     /// Answers the lines that come, up to `quit` or the end of the input, and tells the witness of
     /// each. An interrupted read is tried again.
-    pub(crate) fn listen<H: Wait, D: Desk, V: Witness<Typing>, R: Read, W: Write>(
+    pub(crate) fn listen<H: Wait, D: Desk, S: Source, V: Witness<Typing>, R: Read, W: Write>(
         &mut self,
         rt: &H,
         desk: &SharedDesk<J, D>,
+        source: &S,
         witness: &mut V,
         reader: &mut R,
         writer: &mut W,
@@ -177,9 +182,9 @@ impl<J: Run> Operator<J> {
                 continue;
             };
             if n == 0 {
-                return self.take_last(rt, desk, witness, writer);
+                return self.take_last(rt, desk, source, witness, writer);
             }
-            match self.take(rt, desk, witness, writer, &chunk[..n])? {
+            match self.take(rt, desk, source, witness, writer, &chunk[..n])? {
                 Went::On => {}
                 Went::Quits => return Ok(()),
             }
