@@ -1,0 +1,5 @@
+//! Tests of operators at a socket.
+#![tactic(auto)]
+
+#[cfg(test)]
+mod operators;

@@ -1,0 +1,120 @@
+//! The socket's file, at which operators come in.
+
+use std::fs::{DirBuilder, Permissions};
+use std::io::{ErrorKind, IsTerminal};
+use std::net::{Net, Shutdown};
+use std::os::fd::OwnedFd;
+use std::os::unix::fs::{DirBuilderExt, FileTypeExt, PermissionsExt};
+use std::os::unix::net::{UnixListener, UnixStream};
+use std::rt::Files;
+use std::{fs, io};
+
+/// The rights of the folder in which the socket is made: its owner's alone.
+const FOLDER_MODE: u32 = 0o700;
+
+/// The rights of the socket: its owner's alone.
+const MODE: u32 = 0o600;
+
+/// What the system does for consoles.
+pub trait ConsoleHost {
+    /// Listens at a path, which nobody but its owner can open at any moment. What a server left
+    /// there that was killed is replaced. The error is the system's, or says that something else is
+    /// there or that a server listens there.
+    fn open_door(&self, path: &str) -> io::Result<UnixListener>;
+
+    /// Removes the file of such a socket.
+    fn remove_door(&self, path: &str) -> io::Result<()>;
+
+    /// Whether somebody types at standard input.
+    fn is_terminal(&self) -> bool;
+}
+
+impl ConsoleHost for HostRuntime {
+    fn open_door(&self, path: &str) -> io::Result<UnixListener> {
+        open_door(self, path)
+    }
+
+    fn remove_door(&self, path: &str) -> io::Result<()> {
+        fs::remove_file(self, path)
+    }
+
+    fn is_terminal(&self) -> bool {
+        self.stdin().is_terminal()
+    }
+}
+
+// Whether the place is free: nothing is there, or a socket at which nobody listens.
+fn see_that_it_is_free<R: Files + Net>(rt: &R, path: &str) -> io::Result<()> {
+    let Ok(metadata) = fs::symlink_metadata(rt, path) else {
+        return Ok(());
+    };
+    if !metadata.file_type().is_socket() {
+        return Err(io::Error::new(ErrorKind::AlreadyExists, "it is no socket"));
+    }
+    match UnixStream::connect(rt, path) {
+        Ok(_) => Err(io::Error::new(ErrorKind::AddrInUse, "a server is there already")),
+        Err(error) if error.kind() == ErrorKind::ConnectionRefused => Ok(()),
+        Err(error) => Err(error),
+    }
+}
+
+// Listens at a path, and moves that to another one once its rights are set.
+fn listen_at<R: Files + Net>(rt: &R, within: &str, path: &str) -> io::Result<UnixListener> {
+    let listener = UnixListener::bind(rt, within)?;
+    fs::set_permissions(rt, within, Permissions::from_mode(MODE))?;
+    fs::rename(rt, within, path)?;
+    Ok(listener)
+}
+
+fn open_door<R: Files + Net + AllocGlobal>(rt: &R, path: &str) -> io::Result<UnixListener> {
+    see_that_it_is_free(rt, path)?;
+    let folder = format!(in rt.alloc(); "{path}.new")?;
+    let within = format!(in rt.alloc(); "{path}.new/s")?;
+    // what a server left that was killed at this point
+    let _ = fs::remove_file(rt, within.as_str());
+    let _ = fs::remove_dir(rt, folder.as_str());
+    DirBuilder::new()
+        .mode(FOLDER_MODE)
+        .create(rt, folder.as_str())?;
+    let listening = listen_at(rt, within.as_str(), path);
+    let _ = fs::remove_file(rt, within.as_str());
+    let _ = fs::remove_dir(rt, folder.as_str());
+    listening
+}
+
+/// A socket at which operators come in, and which can be closed while threads wait there.
+#[derive(Drop)]
+pub struct Door<'a> {
+    path: &'a str,
+    listener: UnixListener,
+    // the same socket as a stream, which can be shut down
+    shutter: UnixStream,
+}
+
+impl<'a> Door<'a> {
+    /// Listens at a path ([`ConsoleHost::open_door`]).
+    pub fn open<R: ConsoleHost>(rt: &R, path: &'a str) -> io::Result<Door<'a>> {
+        let listener = rt.open_door(path)?;
+        let shutter = UnixStream::from(OwnedFd::from(listener.try_clone()?));
+        Ok(Door {
+            path,
+            listener,
+            shutter,
+        })
+    }
+
+    /// Waits for an operator.
+    pub(crate) fn accept(&self) -> io::Result<UnixStream> {
+        let (stream, _) = self.listener.accept()?;
+        Ok(stream)
+    }
+
+    /// Takes no more operators, and removes the file. Whoever waits for one is told at once that
+    /// there is none.
+    pub(crate) fn close<R: ConsoleHost>(&self, rt: &R) {
+        // Before it is closed, since another server may put its own there from then on. To remove
+        // what is gone, or to shut down what is closed, fails and does no harm.
+        let _ = rt.remove_door(self.path);
+        let _ = self.shutter.shutdown(Shutdown::Both);
+    }
+}

@@ -1,0 +1,17 @@
+//! Operators at a socket: what several of them type is one console's lines, in the order in which
+//! they are taken.
+#![tactic(auto)]
+
+mod attending;
+mod board;
+mod door;
+mod exchange;
+mod lines;
+mod part;
+mod patience;
+mod session;
+
+pub use attending::{Parting, attend};
+pub use door::{ConsoleHost, Door};
+pub use exchange::{Exchange, ExchangeInput, ExchangeOutput};
+pub use patience::Patience;
