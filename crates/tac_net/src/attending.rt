@@ -12,13 +12,14 @@ use std::time::Clock;
 use tac_audit::Nobody;
 use tac_desk::Desk;
 use tac_forum::{Run, Seat};
-use tac_hall_console::{OperatorFault, operate};
+use tac_hall_console::{OperatorFault, Source, operate};
 use tac_journal::{ConsoleLog, Entry, Log, LogFiles};
 
 // Operates the console. The log of the server, if one is kept, is told of each line before it is
 // answered.
-fn operate_logged<R, J: Run, D: Desk, L: Log, I: Read, O: Write>(
+fn operate_logged<R, J: Run, D: Desk, L: Log, S: Source, I: Read, O: Write>(
     premises: &Premises<'_, R, J, D, L>,
+    source: &S,
     console: Seat<J>,
     input: &mut I,
     output: &mut O,
@@ -30,18 +31,18 @@ where
         (O.contents output.old) (O.contents output.new) }
 {
     let rt = premises.rt;
-    let alloc = rt.alloc();
     let desk = premises.desk;
     if premises.log.is_kept() {
-        let mut witness = ConsoleLog::new(alloc, rt, Entry::new(rt, premises.log));
-        return operate(rt, alloc, desk, console, &mut witness, input, output);
+        let mut witness = ConsoleLog::new(rt.alloc(), rt, Entry::new(rt, premises.log));
+        return operate(rt, desk, source, console, &mut witness, input, output);
     }
-    operate(rt, alloc, desk, console, &mut Nobody, input, output)
+    operate(rt, desk, source, console, &mut Nobody, input, output)
 }
 
 // Once each worker has a thread, the first line is printed, and then the console is operated.
-fn open_console<R, J: Run, D: Desk, L: Log, I: Read, O: Write>(
+fn open_console<R, J: Run, D: Desk, L: Log, S: Source, I: Read, O: Write>(
     premises: &Premises<'_, R, J, D, L>,
+    source: &S,
     console: Seat<J>,
     input: &mut I,
     output: &mut O,
@@ -57,13 +58,14 @@ where
         return Err(ServeFault::Threads);
     }
     announce(rt.alloc(), output, premises.settings.port)?;
-    Ok(operate_logged(premises, console, input, output))
+    Ok(operate_logged(premises, source, console, input, output))
 }
 
 /// The console's part, from its first line to its last. Then all workers are told to end, whatever
 /// they wait for. Nothing is read and no line printed where a worker has no thread.
-pub(crate) fn attend<R, J: Run, D: Desk, L: Log, I: Read, O: Write>(
+pub(crate) fn attend<R, J: Run, D: Desk, L: Log, S: Source, I: Read, O: Write>(
     premises: &Premises<'_, R, J, D, L>,
+    source: &S,
     console: Seat<J>,
     input: &mut I,
     output: &mut O,
@@ -74,7 +76,7 @@ where
         (I.remaining input.old) (I.remaining input.new)
         (O.contents output.old) (O.contents output.new) }
 {
-    let attended = open_console(premises, console, input, output);
+    let attended = open_console(premises, source, console, input, output);
     premises.vigil.stop();
     premises.intake.wake_all();
     premises.port.close();

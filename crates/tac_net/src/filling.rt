@@ -15,6 +15,7 @@ ghost use Rattle.tac_net.specs.Filling as filling;
 use crate::gauge::{Fullness, Gauge};
 use pol_edit::{BatchFault, Edit, EditFault};
 use pol_meaning::Changes;
+use pol_text::Policy;
 use std::alloc::AllocError;
 use tac_conn::{Answer, Ask};
 use tac_desk::{Desk, Query, QueryFault, Report, State, Thrice};
@@ -114,6 +115,18 @@ impl<R: Eprint, D: Desk> Desk for FillingDesk<'_, R, D> {
         ensures gauge { self.new.gauge ≡ self.old.gauge }
     {
         self.desk.edit_all(edits)
+    }
+
+    fn load(&mut self, policy: &Policy) -> Result<Thrice<Changes>, EditFault>
+        ensures found { UnlessMemory is_memory result (editing.Loads (D.meaning self.old.desk)
+            policy.now result (D.meaning self.new.desk)) }
+        ensures only { UnlessMemory is_memory result
+            (editing.IsOnlyLoaded (D.meaning self.old.desk)
+            policy.now result (D.meaning self.new.desk)) }
+        ensures err { OnErr result (D.meaning self.new.desk ≡ D.meaning self.old.desk) }
+        ensures gauge { self.new.gauge ≡ self.old.gauge }
+    {
+        self.desk.load(policy)
     }
 
     fn query(&mut self, query: &Query) -> Result<Thrice<Report>, QueryFault>

@@ -5,6 +5,7 @@ mod acceptor;
 mod attending;
 mod ending;
 mod fault;
+mod files;
 mod filling;
 mod gauge;
 mod hall_worker;
@@ -27,6 +28,7 @@ mod witness;
 mod worker;
 
 pub use fault::ServeFault;
+pub use files::ServerFiles;
 pub use filling::FillingDesk;
 pub use gauge::{Fullness, Gauge};
 pub use packet_memory::{PacketMemory, PacketShare};

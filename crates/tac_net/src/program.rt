@@ -8,6 +8,7 @@ ghost use Rattle.tac_net.specs.Program as program;
 use crate::attending::attend;
 use crate::ending::{close, refuse};
 use crate::fault::ServeFault;
+use crate::files::ServerFiles;
 use crate::lent::Lent;
 use crate::opening::{places_of, waits_of};
 use crate::port::Port;
@@ -25,7 +26,7 @@ use std::time::Clock;
 use tac_desk::Desk;
 use tac_forum::{EmptyHistory, Run, Seat, SharedDesk};
 use tac_hall::HallFault;
-use tac_hall_console::OperatorFault;
+use tac_hall_console::{OperatorFault, Source};
 use tac_journal::{Log, LogFiles};
 
 // The workers, each in a thread of its own; they come back in their order.
@@ -69,8 +70,9 @@ where
 
 // Workers serve in threads of their own, while this one serves the console. Once that has ended,
 // they end.
-fn serve_both<R, J: Run + Send + Sync, D: Desk + Send, L: Log + Sync, P, C, I: Read, O: Write>(
+fn serve_both<R, J, D: Desk + Send, L: Log + Sync, S: Source, P, C, I: Read, O: Write>(
     premises: &Premises<'_, R, J, D, L>,
+    source: &S,
     places: &mut P,
     console: &mut C,
     input: &mut I,
@@ -81,6 +83,7 @@ fn serve_both<R, J: Run + Send + Sync, D: Desk + Send, L: Log + Sync, P, C, I: R
 )
 where
     R: Threads + Wait + Clock + Sync + AllocGlobal + Eprint + LogFiles,
+    J: Run + Send + Sync,
     P: Lent<Item = Vec<Place<J>>> + Send,
     C: Lent<Item = Seat<J>>,
     requires places { IsSome (P.item places.now) }
@@ -136,7 +139,7 @@ where
             (O.contents output.entry.now) (O.contents output.exit.now)) }
     {
         match console.take_item() {
-            Some(seat) => attend(premises, seat, input, output),
+            Some(seat) => attend(premises, source, seat, input, output),
             None => unreachable!(),
         }
     };
@@ -144,22 +147,23 @@ where
 }
 
 // Serves a desk of this run, whose history is empty yet.
-fn serve_run<J: Run + Send + Sync, R, D: Desk + Send, L: Log + Sync, I: Read, O: Write>(
+fn serve_run<J, R, D: Desk + Send, L: Log + Sync, S: Source, I: Read, O: Write>(
     rt: &R,
     port: &Port,
     history: EmptyHistory,
     desk: D,
     settings: &Settings,
-    log: &L,
+    files: &ServerFiles<'_, L, S>,
     input: &mut I,
     output: &mut O,
 ) -> Result<(), ServeFault>
 where
+    J: Run + Send + Sync,
     R: Threads + Wait + Clock + Sync + AllocGlobal + Eprint + LogFiles + Net,
     requires roll { history ≡ J.roll }
     requires opening { record { meaning = D.meaning desk; limits = settings.now.limits }
         ≡ J.opening }
-    ensures { program.Runs result settings.now (L.keeping log.now) J.opening
+    ensures { program.Runs result settings.now (L.keeping files.now.log.now) J.opening
         (I.remaining input.old) (I.remaining input.new)
         (O.contents output.old) (O.contents output.new) }
 {
@@ -184,9 +188,16 @@ where
         settings,
         vigil: &vigil,
         intake: &intake,
-        log,
+        log: files.log,
     };
-    let (served, attended) = serve_both(&premises, &mut places, &mut console, input, output);
+    let (served, attended) = serve_both(
+        &premises,
+        files.source,
+        &mut places,
+        &mut console,
+        input,
+        output,
+    );
     let (console, operated) = match attended {
         Ok(ended) => ended,
         Err(fault) => return Err(fault),
@@ -203,11 +214,12 @@ where
 ///
 /// Once each worker has a thread it prints `listening P`. The workers serve connections, each of
 /// them many in turns, while the lines of the input are the console's calls
-/// ([`operate`](tac_hall_console::operate)). All calls are one history, which exists in proofs
-/// alone; its segments begin by themselves as the settings say. `quit` or the input's end stops
-/// the desk. Then the port is closed, and each worker closes its connections and ends, whatever its
-/// devices do. At last the desk is closed with all its seats. These are made before the threads:
-/// where one is missing, `close refused` is printed, and nothing is served.
+/// ([`operate`](tac_hall_console::operate)), `reload` with the policy of the source. All calls are
+/// one history, which exists in proofs alone; its segments begin by themselves as the settings say.
+/// `quit` or the input's end stops the desk. Then the port is closed, and each worker closes its
+/// connections and ends, whatever its devices do. At last the desk is closed with all its seats.
+/// These are made before the threads: where one is missing, `close refused` is printed, and nothing
+/// is served.
 ///
 /// A new connection goes to the worker that has the fewest. It is closed where there are as many as
 /// the settings allow, in all or of its address. A connection is given up where so many seconds as
@@ -217,18 +229,18 @@ where
 /// only once that was told of it ([`DeviceLog`](tac_journal::DeviceLog)), and each line of the
 /// console is told before its answer is printed. Of several faults the console's comes first. There
 /// may be 63 workers: a desk has 64 seats, and the console takes one.
-pub fn serve<R, D: Desk + Send, L: Log + Sync, I: Read, O: Write>(
+pub fn serve<R, D: Desk + Send, L: Log + Sync, S: Source, I: Read, O: Write>(
     rt: &R,
     port: &Port,
     desk: D,
     settings: &Settings,
-    log: &L,
+    files: &ServerFiles<'_, L, S>,
     input: &mut I,
     output: &mut O,
 ) -> Result<(), ServeFault>
 where
     R: Threads + Wait + Clock + Sync + AllocGlobal + Eprint + LogFiles + Net,
-    ensures runs { program.Runs result settings.now (L.keeping log.now)
+    ensures runs { program.Runs result settings.now (L.keeping files.now.log.now)
         (record { meaning = D.meaning desk; limits = settings.now.limits })
         (I.remaining input.old) (I.remaining input.new)
         (O.contents output.old) (O.contents output.new) }
@@ -237,5 +249,5 @@ where
     ensures matching { MatchLaw }
 {
     let history = EmptyHistory::new(rt.alloc())?;
-    serve_run::<Brand, R, D, L, I, O>(rt, port, history, desk, settings, log, input, output)
+    serve_run::<Brand, R, D, L, S, I, O>(rt, port, history, desk, settings, files, input, output)
 }

@@ -1,0 +1,10 @@
+//! The files of a server.
+
+/// What a server writes and reads beside its connections and its console.
+#[derive(Clone, Copy)]
+pub struct ServerFiles<'a, L, S> {
+    /// The log, which is told of what devices are answered and of each line of the console.
+    pub log: &'a L,
+    /// Where the console's `reload` finds a policy.
+    pub source: &'a S,
+}
