@@ -52,10 +52,10 @@ pub(crate) const SERVE_ABOUT: &str = "Serves devices on a port, with a console o
 pub(crate) const SERVE_LONG_ABOUT: &str =
     "Serves devices that run TACACS+ (RFC 8907) on a port, with a console on standard input.
 
-The policy is read from a file once. It is edited at the console, and an edit counts from the next
-packet on. Edits and accounting records are kept in memory, and are gone when the server ends; but
-where --log names a file, that keeps a line of JSON for each request and for each line of the
-console. A request is answered only once its line is in the file.
+The policy is read from a file, and again where 'reload' is typed at the console. There it is
+edited, and an edit counts from the next packet on. Edits and accounting records are kept in memory,
+and are gone when the server ends; but where --log names a file, that keeps a line of JSON for each
+request and for each line of the console. A request is answered only once its line is in the file.
 
 The key is 1 to 128 printable ASCII characters. Give it by --key-file: a key on the command line can
 be seen by everyone with a login on this machine, by 'ps' for one.";
@@ -142,11 +142,13 @@ Lines of the console, where a SUBJECT is 'user NAME' or 'group NAME':
   shift SUBJECT N M    rule N gets the number M
   begin, commit, abandon
                        edits after 'begin', up to 64, are kept, and made by 'commit' all or none
+  reload               the policy's file is read again, and takes the place of the policy
   quit                 the server stops, as it does where the input ends
 
-An edit and a 'commit' are answered by 'ok', and for each user whom they concern by the shortest
-line that is now permitted, and the shortest that is now denied; or by 'refused' and why, and have
-changed nothing.
+An edit, a 'commit' and a 'reload' are answered by 'ok', and for each user whom they concern by the
+shortest line that is now permitted, and the shortest that is now denied; or by 'refused' and why,
+and have changed nothing. A file that is refused is told as by 'tacd check', and one that can't be
+read by 'unread' and why.
 A line that the server doesn't take is answered by 'hall' and why.
 
 Lines of a policy:

@@ -13,6 +13,7 @@ mod program;
 mod replaying;
 mod reviewing;
 mod server;
+mod source;
 mod status;
 
 pub use program::run;

@@ -23,8 +23,8 @@ use tac_tally::RecordLimit;
 /// The right by which any user of a machine reads a file.
 const OTHERS_READ: u32 = 0o004;
 
-// Whether the path is a folder's: that could be opened, but its first read would fail.
-fn is_folder<R: Files>(rt: &R, path: &str) -> bool {
+/// Whether the path is a folder's: that could be opened, but its first read would fail.
+pub(crate) fn is_folder<R: Files>(rt: &R, path: &str) -> bool {
     match fs::metadata(rt, path) {
         Ok(metadata) => metadata.is_dir(),
         Err(_) => false,
@@ -55,14 +55,20 @@ fn is_read_by_others<F: OpenFile>(file: &F) -> bool {
     }
 }
 
-/// The same of a file that has secrets. Standard error says so where others can read them.
-pub(crate) fn open_secret<R: Files + Eprint>(rt: &R, path: &str) -> Result<R::File, Status> {
-    let file = open_file(rt, path)?;
-    if is_read_by_others(&file) {
+/// Says so of a file that has secrets where others can read them. It doesn't matter whether this
+/// could be written.
+pub(crate) fn warn_of_readers<R: Eprint, F: OpenFile>(rt: &R, path: &str, file: &F) {
+    if is_read_by_others(file) {
         let _ = eprintln!(rt;
             "tacd: {path}: it has secrets, and any user of this machine can read it"
         );
     }
+}
+
+/// The same of a file that has secrets. Standard error says so where others can read them.
+pub(crate) fn open_secret<R: Files + Eprint>(rt: &R, path: &str) -> Result<R::File, Status> {
+    let file = open_file(rt, path)?;
+    warn_of_readers(rt, path, &file);
     Ok(file)
 }
 

@@ -11,6 +11,7 @@ use crate::console::{ConsoleInput, NoConsole};
 use crate::descriptors::warn_of_few;
 use crate::opening::{open_desk, open_secret};
 use crate::options::Options;
+use crate::source::PolicyFile;
 use crate::status::Status;
 use std::io;
 use std::io::Read;
@@ -21,7 +22,7 @@ use std::thread::Threads;
 use std::time::Clock;
 use tac_desks::LiveDesk;
 use tac_journal::{Journal, LogFiles};
-use tac_net::{FillingDesk, Port, ServeFault, serve};
+use tac_net::{FillingDesk, Port, ServeFault, ServerFiles, serve};
 use tac_tally::RecordLimit;
 
 // The desk of the policy in a file, which keeps records as the limit says. The error here and below
@@ -110,17 +111,25 @@ fn serve_console<R, H, I: Read + Drop>(
     input: I,
 ) -> Result<(), ServeFault>
 where
-    R: Print,
+    R: Files + Print + Eprint,
     H: Threads + Wait + Clock + Sync + AllocGlobal + Eprint + LogFiles + Net,
 {
     let desk = FillingDesk::new(host, desk, options.record_limit);
+    let source = PolicyFile {
+        host: rt,
+        path: options.path,
+    };
+    let files = ServerFiles {
+        log: journal,
+        source: &source,
+    };
     let mut input = input;
     serve(
         host,
         port,
         desk,
         &options.settings,
-        journal,
+        &files,
         &mut input,
         &mut io::writer(rt),
     )
