@@ -3,6 +3,8 @@
 
 mod ends;
 mod lines;
+mod reloads;
+pub(crate) mod shelf;
 mod streams;
 mod support;
 mod turns;

@@ -17,6 +17,7 @@ fn of_calls(calls: usize) -> Course {
             rotate_at: NEVER,
         },
         is_stopped: false,
+        given: &[],
     }
 }
 

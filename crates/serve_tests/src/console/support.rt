@@ -2,8 +2,9 @@
 
 ghost use Rattle.std.specs.Prelude.{◌≡◌};
 
+use crate::console::shelf::{Given, Shelf};
 use crate::console::streams::{Manner, Room, Typed};
-use crate::hall::shared::closes;
+use crate::hall::shared::{NEVER, closes};
 use crate::hall::support::{OPS, desk_of};
 use std::alloc::{AllocError, Global};
 use std::io::{Read, Write};
@@ -23,11 +24,13 @@ pub(crate) const WHOLE: Manner = Manner {
     fails: false,
 };
 
-/// The limits of a shared desk, and whether another seat has stopped it before its console begins.
+/// The limits of a shared desk, whether another seat has stopped it before its console begins, and
+/// what each `reload` finds.
 #[derive(Clone, Copy)]
 pub(crate) struct Course {
     pub(crate) limits: Limits,
     pub(crate) is_stopped: bool,
+    pub(crate) given: &'static [Given],
 }
 
 /// How a console ended, and why a call of another seat is refused after that.
@@ -52,7 +55,8 @@ fn operates_at<J: Run, D: Desk, V: Witness<Typing>, I: Read, O: Write, R: Wait +
         return Err(Fail::from("no stop"));
     }
     let seat = desk.seat(rt)?;
-    let (seat, end) = operate(rt, rt.alloc(), desk, seat, witness, input, output);
+    let shelf = Shelf::new(course.given);
+    let (seat, end) = operate(rt, desk, &shelf, seat, witness, input, output);
     let after = desk.call(rt, other, &Call::Stop).err();
     Ok((seat, Ended { end, after }))
 }
@@ -234,6 +238,7 @@ fn types_in_pieces<R: Wait + AllocGlobal>(
 fn talks<R: Wait + AllocGlobal>(
     rt: &R,
     limits: Limits,
+    given: &'static [Given],
     talk: &str,
     after: HallFault,
 ) -> Result<(), Fail> {
@@ -241,6 +246,7 @@ fn talks<R: Wait + AllocGlobal>(
     let course = Course {
         limits,
         is_stopped: false,
+        given,
     };
     let wanted = Wanted {
         written: printed.as_slice(),
@@ -257,10 +263,37 @@ pub(crate) fn converses<R: Wait + AllocGlobal>(
     limits: Limits,
     talk: &str,
 ) -> Result<(), Fail> {
-    talks(rt, limits, talk, HallFault::Closed)
+    talks(rt, limits, &[], talk, HallFault::Closed)
 }
 
 /// The same where the log has no place for the Stop, so that the desk isn't stopped.
 pub(crate) fn fills<R: Wait + AllocGlobal>(rt: &R, limits: Limits, talk: &str) -> Result<(), Fail> {
-    talks(rt, limits, talk, HallFault::LogFull)
+    talks(rt, limits, &[], talk, HallFault::LogFull)
+}
+
+/// A conversation in which each `reload` finds one of these, in their order, at a shared desk whose
+/// log is never full.
+pub(crate) fn reloads<R: Wait + AllocGlobal>(
+    rt: &R,
+    given: &'static [Given],
+    talk: &str,
+) -> Result<(), Fail> {
+    let limits = Limits {
+        calls: 999,
+        rotate_at: NEVER,
+    };
+    talks(rt, limits, given, talk, HallFault::Closed)
+}
+
+/// The same where the log takes two calls, and has no place for the Stop.
+pub(crate) fn reloads_in_two<R: Wait + AllocGlobal>(
+    rt: &R,
+    given: &'static [Given],
+    talk: &str,
+) -> Result<(), Fail> {
+    let limits = Limits {
+        calls: 2,
+        rotate_at: NEVER,
+    };
+    talks(rt, limits, given, talk, HallFault::LogFull)
 }

@@ -99,6 +99,7 @@ fn takes_turns<R: Wait + AllocGlobal>(rt: &R, turns: &[Turn]) -> Result<(), Fail
     let course = Course {
         limits: ROOMY,
         is_stopped: false,
+        given: &[],
     };
     let ended = operates(rt, course, &mut Nobody, &mut typist, &mut screen)?;
     is_done(&typist, ended.end.is_ok())

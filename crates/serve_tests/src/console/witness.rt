@@ -1,6 +1,7 @@
 //! What the witness of a console is told, and when.
 
 use crate::console::lines::ROOMY;
+use crate::console::shelf::Given;
 use crate::console::streams::{Manner, Typed};
 use crate::console::support::{Course, Ended, WHOLE, operates};
 use crate::hall::shared::NEVER;
@@ -79,6 +80,12 @@ struct Case<'a> {
     room: usize,
 }
 
+// What the first `reload` finds, and the second.
+const GIVEN: [Given; 2] = [
+    Given::Text("group ops\npermit ping\nuser bob in ops\n"),
+    Given::Why("ops.policy: it is a folder"),
+];
+
 /// Nothing goes wrong.
 const WELL: Case<'static> = Case {
     calls: ROOMY.calls,
@@ -113,6 +120,7 @@ fn run<R: Wait + AllocGlobal>(
             rotate_at: NEVER,
         },
         is_stopped: false,
+        given: &GIVEN,
     };
     let ended = operates(rt, course, &mut witness, &mut reader, &mut writer)?;
     Ok((notes.into_inner(), ended))
@@ -282,4 +290,24 @@ fn nothing_of_half_a_line(rt: HostRuntime) -> Result<(), Fail> {
     let first = ("> shadow [none\n]\nnone\n", Err(OperatorFault::ReadFault));
     tells_in(&rt, WELL, "shadow\nquit", fails, first)?;
     tells_in(&rt, WELL, "shadow\nhello", fails, first)
+}
+
+// It is told of a policy that is loaded as of any line, with all of the answer.
+#[test]
+fn another_policy(rt: HostRuntime) -> Result<(), Fail> {
+    let wanted = "> reload [ok
+user bob now permits: ping
+user bob now denies: show 
+]
+ok
+user bob now permits: ping
+user bob now denies: show 
+> reload [unread ops.policy: it is a folder
+]
+unread ops.policy: it is a folder
+> reload [refused 12 Memory
+]
+refused 12 Memory
+";
+    tells(&rt, WELL, "reload\nreload\nreload\n", (wanted, Ok(())))
 }

@@ -90,6 +90,24 @@ fn edits_count_for_the_other_seat(rt: HostRuntime) -> Result<(), Fail> {
 }
 
 #[test]
+fn another_policy_counts_for_the_other_seat(rt: HostRuntime) -> Result<(), Fail> {
+    converses(
+        &rt,
+        6,
+        "
+        1 run bob show version = 0:0 permitted
+        1 record bob 7 = 0:1 stored
+        0 load group ops; permit ping; deny .*; user eve in ops; user bob in ops = 0:2 changes 2
+        1 run bob show version = 0:3 denied by group ops rule 2
+        1 run bob ping = 0:4 permitted
+        0 load group ops; deny .*a..............; user bob in ops = 0:5 refused 11 TooManyStates group ops
+        1 load group ops = 1 LogFull
+        ",
+        6,
+    )
+}
+
+#[test]
 fn logins_are_answered_by_the_desk(rt: HostRuntime) -> Result<(), Fail> {
     converses(
         &rt,

@@ -65,6 +65,10 @@ impl Desk for Starved {
         Err(BatchFault::of_all(EditFault::Memory))
     }
 
+    fn load(&mut self, _policy: &Policy) -> Result<Thrice<Changes>, EditFault> {
+        Err(EditFault::Memory)
+    }
+
     fn query(&mut self, query: &Query) -> Result<Thrice<Report>, QueryFault> {
         match query {
             Query::Records => Err(QueryFault::Memory),
@@ -101,10 +105,11 @@ fn refusals_for_memory_stand_in_the_log(rt: HostRuntime) -> Result<(), Fail> {
         0 insert group ops 1 deny show .* = 0:0 refused 12 Memory
         1 records = 0:1 refused 12 Memory
         1 batch add group net; insert group net 1 permit ping = 0:2 refused 12 Memory
-        1 run bob show version = 0:3 permitted
-        0 stop = 0:4 stopped
+        0 load group ops; user bob in ops = 0:3 refused 12 Memory
+        1 run bob show version = 0:4 permitted
+        0 stop = 0:5 stopped
         ",
-        5,
+        6,
     )
 }
 

@@ -105,8 +105,18 @@ fn edits(alloc: Global, words: &str) -> Result<Sequence<Edit>, Fail> {
     Ok(edits)
 }
 
-/// `run NAME LINE`, `pass NAME SECRET`, `record NAME TASK`, `records`, `stop`, `batch EDITS`, or an
-/// edit.
+// The policy whose lines `; ` parts.
+fn policy_of(alloc: Global, words: &str) -> Result<Policy, Fail> {
+    let mut text = String::new(alloc);
+    for line in words.split("; ") {
+        text.push_str(line)?;
+        text.push_str("\n")?;
+    }
+    Ok(Policy::read(alloc, text.as_bytes())?)
+}
+
+/// `run NAME LINE`, `pass NAME SECRET`, `record NAME TASK`, `records`, `stop`, `batch EDITS`, `load
+/// LINES`, or an edit.
 pub(crate) fn call_of(alloc: Global, words: &str) -> Result<Call, Fail> {
     let (verb, rest) = word(words);
     match verb {
@@ -114,6 +124,7 @@ pub(crate) fn call_of(alloc: Global, words: &str) -> Result<Call, Fail> {
         "records" => Ok(Call::Query(Query::Records)),
         "stop" => Ok(Call::Stop),
         "batch" => Ok(Call::Batch(edits(alloc, rest)?)),
+        "load" => Ok(Call::Load(policy_of(alloc, rest)?)),
         _ => Ok(Call::Edit(read_edit(alloc, words.as_bytes())?)),
     }
 }

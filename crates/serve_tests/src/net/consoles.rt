@@ -1,5 +1,6 @@
 //! A server with a console, which ends by itself.
 
+use crate::console::shelf::Shelf;
 use crate::net::clients::{
     asks, asks_often, desk_of, is_answered, is_closed, key, permission, sends_too_much, visits,
     waits_at_its_name,
@@ -15,7 +16,7 @@ use std::time::{Clock, Duration, Instant};
 use tac_desks::PlainDesk;
 use tac_forum::Limits;
 use tac_journal::{Log, LogFiles, Refused};
-use tac_net::{Idle, Port, ServeFault, Settings, serve};
+use tac_net::{Idle, Port, ServeFault, ServerFiles, Settings, serve};
 
 /// What an operator does, and how many workers his server has.
 #[derive(Clone, Copy)]
@@ -256,7 +257,12 @@ where
         refused: operator.course.refused,
         appends: AtomicU64::new(0),
     };
-    let ended = serve(rt, port, desk, settings, &log, operator, &mut screen);
+    let shelf = Shelf::new(&[]);
+    let files = ServerFiles {
+        log: &log,
+        source: &shelf,
+    };
+    let ended = serve(rt, port, desk, settings, &files, operator, &mut screen);
     Ok((ended, screen.taken.as_slice() == wanted.as_bytes()))
 }
 

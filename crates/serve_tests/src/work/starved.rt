@@ -55,6 +55,10 @@ impl Desk for Starved {
         Err(BatchFault::of_all(EditFault::Memory))
     }
 
+    fn load(&mut self, _policy: &Policy) -> Result<Thrice<Changes>, EditFault> {
+        Err(EditFault::Memory)
+    }
+
     fn query(&mut self, query: &Query) -> Result<Thrice<Report>, QueryFault> {
         self.inner.query(query)
     }

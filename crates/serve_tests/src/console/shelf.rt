@@ -1,0 +1,55 @@
+//! A source of policies that has what a test says.
+
+use basics::Bytes;
+use std::alloc::Global;
+use std::cell::Cell;
+use tac_hall_console::{Source, Unread};
+
+/// What a source gives.
+#[derive(Clone, Copy)]
+pub(crate) enum Given {
+    /// A text.
+    Text(&'static str),
+    /// No text, for this reason.
+    Why(&'static str),
+    /// No text for want of memory.
+    Nothing,
+}
+
+/// Gives these, one each time that it is asked, and nothing after the last.
+#[derive(Drop)]
+pub(crate) struct Shelf {
+    given: &'static [Given],
+    taken: Cell<usize>,
+}
+
+impl Shelf {
+    pub(crate) fn new(given: &'static [Given]) -> Shelf {
+        Shelf {
+            given,
+            taken: Cell::new(0),
+        }
+    }
+
+    fn next(&self) -> Given {
+        let at = self.taken.get();
+        self.taken.set(at.saturating_add(1));
+        self.given.get(at).copied().unwrap_or(Given::Nothing)
+    }
+}
+
+impl Source for Shelf {
+    fn text(&self, alloc: Global) -> Result<Vec<u8>, Unread> {
+        match self.next() {
+            Given::Text(text) => match Bytes::from_slice(alloc, text.as_bytes()) {
+                Ok(text) => Ok(text.into_vec()),
+                Err(_) => Err(Unread::Memory),
+            },
+            Given::Why(why) => match Bytes::from_slice(alloc, why.as_bytes()) {
+                Ok(why) => Err(Unread::Why(why)),
+                Err(_) => Err(Unread::Memory),
+            },
+            Given::Nothing => Err(Unread::Memory),
+        }
+    }
+}
