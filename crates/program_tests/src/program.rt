@@ -5,4 +5,5 @@ mod devices;
 mod fake;
 mod host;
 mod logs;
+mod reloads;
 mod running;

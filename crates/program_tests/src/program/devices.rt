@@ -73,7 +73,7 @@ enum Visit {
     EightAndNoMore,
 }
 
-fn decoded(alloc: Global, digits: &str) -> io::Result<Vec<u8>> {
+pub(crate) fn decoded(alloc: Global, digits: &str) -> io::Result<Vec<u8>> {
     match hex::decode(alloc, digits.as_bytes()) {
         Ok(bytes) => Ok(bytes),
         Err(_) => Err(io::Error::from(ErrorKind::InvalidInput)),

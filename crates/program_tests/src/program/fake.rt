@@ -1,7 +1,7 @@
 //! A runtime whose words, files and streams are those of a test.
 
 use std::alloc::{Allocator, Global};
-use std::cell::RefCell;
+use std::cell::{Cell, RefCell};
 use std::env::FillError;
 use std::fmt::Display;
 use std::fs::{FileTimes, Metadata, OpenFile, OpenOptions};
@@ -63,36 +63,41 @@ impl Stream {
     }
 }
 
-/// What is typed, once the flag is set, where there is one.
-#[derive(Drop)]
-pub(crate) struct Typed<'a> {
-    text: &'static [u8],
-    after: Option<&'a AtomicBool>,
-}
-
-impl Typed<'_> {
-    fn wait(&self) {
-        if let Some(flag) = self.after {
-            for _ in 0..u64::MAX {
-                if flag.load(Ordering::SeqCst) {
-                    return;
-                }
-                yield_now();
+// Waits until the flag is set, where there is one.
+fn wait(flag: Option<&AtomicBool>) {
+    if let Some(flag) = flag {
+        for _ in 0..u64::MAX {
+            if flag.load(Ordering::SeqCst) {
+                return;
             }
+            yield_now();
         }
     }
 }
 
+/// What is typed, once the flag is set, where there is one; and then more, once that flag is set.
+#[derive(Drop)]
+pub(crate) struct Typed<'a> {
+    text: &'static [u8],
+    after: Option<&'a AtomicBool>,
+    more: &'static [u8],
+    then: Option<&'a AtomicBool>,
+}
+
 impl Read for Typed<'_> {
     fn read(&mut self, buf: &mut [u8]) -> io::Result<usize> {
-        self.wait();
+        if self.text.is_empty() {
+            wait(self.then);
+            return self.more.read(buf);
+        }
+        wait(self.after);
         self.text.read(buf)
     }
 }
 
 impl BufRead for Typed<'_> {
     fn fill_buf(&mut self) -> io::Result<&[u8]> {
-        self.wait();
+        wait(self.after);
         Ok(self.text)
     }
 
@@ -104,7 +109,7 @@ impl BufRead for Typed<'_> {
 }
 
 /// A runtime with these words, one blank between them, of which `~` is a blank within a word, this
-/// input, and this text in the file `policy`. The first line of the file `key` is a key that ends in
+/// input, and this text in the file `policy`, which has others later. The first line of the file `key` is a key that ends in
 /// a blank. It may have 20,000 files open. For `no-memory` there is no memory, and there is no
 /// other file.
 #[derive(Drop)]
@@ -115,6 +120,13 @@ pub(crate) struct Fake<'a> {
     pub(crate) policy: &'static str,
     // the input comes once this flag is set
     pub(crate) after: Option<&'a AtomicBool>,
+    // then this, once that flag is set
+    pub(crate) more: &'static str,
+    pub(crate) then: Option<&'a AtomicBool>,
+    // what the file `policy` has each further time that it is opened, or why it can't be; then it
+    // is as at first
+    pub(crate) later: &'static [Result<&'static str, ErrorKind>],
+    pub(crate) opened: Cell<usize>,
     pub(crate) output: Stream,
     pub(crate) complaints: Stream,
 }
@@ -134,6 +146,10 @@ impl<'a> Fake<'a> {
             input,
             policy,
             after: Some(after),
+            more: "",
+            then: None,
+            later: &[],
+            opened: Cell::new(0),
             output: Stream::new(alloc, true),
             complaints: Stream::new(alloc, true),
         }
@@ -152,6 +168,10 @@ impl<'a> Fake<'a> {
             input,
             policy,
             after: None,
+            more: "",
+            then: None,
+            later: &[],
+            opened: Cell::new(0),
             output: Stream::new(alloc, takes_output),
             complaints: Stream::new(alloc, true),
         }
@@ -205,6 +225,8 @@ impl<'a> Input for Fake<'a> {
         Typed {
             text: self.input.as_bytes(),
             after: self.after,
+            more: self.more.as_bytes(),
+            then: self.then,
         }
     }
 }
@@ -288,10 +310,24 @@ Max locked memory         8388608              8388608              bytes
 ";
 
 impl Fake<'_> {
+    // What the file `policy` has this time.
+    fn policy_now(&self) -> io::Result<&'static [u8]> {
+        let opened = self.opened.get();
+        self.opened.set(opened.saturating_add(1));
+        let text = match opened.checked_sub(1) {
+            Some(before) => self.later.get(before).copied().unwrap_or(Ok(self.policy)),
+            None => Ok(self.policy),
+        };
+        match text {
+            Ok(text) => Ok(text.as_bytes()),
+            Err(kind) => Err(io::Error::from(kind)),
+        }
+    }
+
     // What the file at a path has.
     fn bytes_at(&self, path: &str) -> io::Result<&'static [u8]> {
         match path {
-            "policy" => Ok(self.policy.as_bytes()),
+            "policy" => self.policy_now(),
             "key" => Ok("k \nthe second line\n".as_bytes()),
             "/proc/self/limits" => Ok(LIMITS.as_bytes()),
             "no-memory" => Err(io::Error::from(ErrorKind::OutOfMemory)),
