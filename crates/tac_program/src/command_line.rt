@@ -2,15 +2,17 @@
 
 use crate::help::{
     ABOUT, ADDRESS_HELP, AFTER_LONG_HELP, AT_ONCE_HELP, CASES_HELP, CHECK_ABOUT, CHECK_AFTER_HELP,
-    CHECK_AFTER_LONG_HELP, CHECK_LONG_ABOUT, CONNECTIONS_HELP, DIFF_ABOUT, DIFF_AFTER_HELP,
-    DIFF_AFTER_LONG_HELP, DIFF_LONG_ABOUT, EDITS_HELP, EXIT_CODE_HELP, FILE_HELP, IDLE_HELP,
-    KEEP_RECORDS_HELP, KEY_FILE_HELP, KEY_HELP, LINE_HELP, LINT_ABOUT, LINT_AFTER_HELP,
-    LINT_AFTER_LONG_HELP, LINT_LONG_ABOUT, LOG_HELP, LOGIN_IDLE_HELP, LONG_ABOUT, NEW_HELP,
-    NO_CONSOLE_HELP, OLD_HELP, PACKET_MEMORY_HELP, PER_ADDRESS_HELP, PORT_HELP, REPLAY_ABOUT,
-    REPLAY_AFTER_HELP, REPLAY_AFTER_LONG_HELP, REPLAY_LOG_HELP, REPLAY_LONG_ABOUT, ROTATE_AT_HELP,
-    SERVE_ABOUT, SERVE_AFTER_HELP, SERVE_AFTER_LONG_HELP, SERVE_LONG_ABOUT, SYNC_HELP, TEST_ABOUT,
-    TEST_AFTER_HELP, TEST_AFTER_LONG_HELP, TEST_LONG_ABOUT, TIME_HELP, USER_HELP, WHY_ABOUT,
-    WHY_AFTER_HELP, WHY_AFTER_LONG_HELP, WHY_LONG_ABOUT, WORKERS_HELP,
+    CHECK_AFTER_LONG_HELP, CHECK_LONG_ABOUT, CONNECTIONS_HELP, CONSOLE_ABOUT, CONSOLE_AFTER_HELP,
+    CONSOLE_AFTER_LONG_HELP, CONSOLE_LONG_ABOUT, CONSOLE_OPTION_HELP, CONSOLE_PATH_HELP,
+    DIFF_ABOUT, DIFF_AFTER_HELP, DIFF_AFTER_LONG_HELP, DIFF_LONG_ABOUT, EDITS_HELP, EXIT_CODE_HELP,
+    FILE_HELP, IDLE_HELP, KEEP_RECORDS_HELP, KEY_FILE_HELP, KEY_HELP, LINE_HELP, LINT_ABOUT,
+    LINT_AFTER_HELP, LINT_AFTER_LONG_HELP, LINT_LONG_ABOUT, LOG_HELP, LOGIN_IDLE_HELP, LONG_ABOUT,
+    NEW_HELP, NO_CONSOLE_HELP, OLD_HELP, PACKET_MEMORY_HELP, PER_ADDRESS_HELP, PORT_HELP,
+    REPLAY_ABOUT, REPLAY_AFTER_HELP, REPLAY_AFTER_LONG_HELP, REPLAY_LOG_HELP, REPLAY_LONG_ABOUT,
+    ROTATE_AT_HELP, SERVE_ABOUT, SERVE_AFTER_HELP, SERVE_AFTER_LONG_HELP, SERVE_LONG_ABOUT,
+    SYNC_HELP, TEST_ABOUT, TEST_AFTER_HELP, TEST_AFTER_LONG_HELP, TEST_LONG_ABOUT, TIME_HELP,
+    USER_HELP, WHY_ABOUT, WHY_AFTER_HELP, WHY_AFTER_LONG_HELP, WHY_LONG_ABOUT, WORD_HELP,
+    WORKERS_HELP,
 };
 use clap::{Arg, ArgAction, ArgGroup, Command, value_parser};
 use std::alloc::{AllocError, Global};
@@ -98,6 +100,14 @@ pub(crate) const NO_CONSOLE: &str = "no-console";
 // The key, by either of its options.
 const SECRET: &str = "secret";
 
+/// The socket at which operators type.
+pub(crate) const CONSOLE: &str = "console";
+
+/// The same of a client, and the words that it types.
+pub(crate) const CONSOLE_PATH: &str = "PATH";
+
+pub(crate) const WORD: &str = "WORD";
+
 /// How many threads serve connections.
 pub(crate) const WORKERS: &str = "workers";
 
@@ -170,7 +180,8 @@ fn with_options<'a>(alloc: Global, command: Command<'a>) -> Result<Command<'a>, 
         .arg(number(alloc, KEEP_RECORDS, "N", records, KEEP_RECORDS_HELP))?
         .arg(text(alloc, LOG, "PATH", LOG_HELP))?
         .arg(flag(alloc, SYNC, SYNC_HELP).requires_arg(LOG)?)?
-        .arg(flag(alloc, NO_CONSOLE, NO_CONSOLE_HELP))?
+        .arg(text(alloc, CONSOLE, "PATH", CONSOLE_OPTION_HELP))?
+        .arg(flag(alloc, NO_CONSOLE, NO_CONSOLE_HELP).conflicts_with(CONSOLE)?)?
         .arg(number(alloc, ROTATE_AT, "N", (1, 65_536), ROTATE_AT_HELP).default_value("32768"))?
         .arg(number(alloc, CONNECTIONS, "N", connections, CONNECTIONS_HELP).default_value(
             "4294967295",
@@ -264,6 +275,28 @@ fn replay<'a>(alloc: Global) -> Result<Command<'a>, AllocError> {
         .arg(text(alloc, TIME, "TEXT", TIME_HELP).requires_arg(LOG)?)
 }
 
+// The words of a line, whatever they begin with.
+fn words<'a>(alloc: Global) -> Arg<'a> {
+    Arg::new(alloc, WORD)
+        .num_args(0..)
+        .trailing_var_arg(true)
+        .allow_hyphen_values(true)
+        .help(WORD_HELP)
+}
+
+fn console<'a>(alloc: Global) -> Result<Command<'a>, AllocError> {
+    let path = Arg::new(alloc, CONSOLE_PATH)
+        .required(true)
+        .help(CONSOLE_PATH_HELP);
+    Command::new(alloc, CONSOLE)
+        .about(CONSOLE_ABOUT)
+        .long_about(CONSOLE_LONG_ABOUT)
+        .after_help(CONSOLE_AFTER_HELP)
+        .after_long_help(CONSOLE_AFTER_LONG_HELP)
+        .arg(path)?
+        .arg(words(alloc))
+}
+
 // The command with one more below it.
 fn with<'a>(
     command: Command<'a>,
@@ -281,6 +314,7 @@ pub(crate) fn command<'a>(alloc: Global) -> Result<Command<'a>, AllocError> {
         .version("0.8.0")
         .subcommand_required(true);
     let command = with(command, serve(alloc))?;
+    let command = with(command, console(alloc))?;
     let command = with(command, check(alloc))?;
     let command = with(command, lint(alloc))?;
     let command = with(command, diff(alloc))?;

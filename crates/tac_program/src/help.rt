@@ -40,17 +40,20 @@ pub(crate) const LONG_ABOUT: &str =
 
 A network device that runs TACACS+ (RFC 8907) asks a server who may log in and which command lines a
 user may run, and has it record what was done. 'tacd serve' is such a server: it listens on a port,
-and takes edits of its policy and questions at a console. 'tacd check' reads a policy and prints
-which of its rules decide nothing, 'tacd lint' what in it is probably not meant; 'tacd diff' prints
-what a new policy permits and denies that an old one didn't, 'tacd why' which rule decides on a line,
-and 'tacd test' whether all lines of a table are decided as it says. 'tacd replay' takes what devices
-send from a script, together with the policy, and prints what is answered; it opens no socket.";
+and takes edits of its policy and questions at a console. 'tacd console' types there where that is at
+a socket. 'tacd check' reads a policy and prints which of its rules decide nothing, 'tacd lint' what
+in it is probably not meant; 'tacd diff' prints what a new policy permits and denies that an old one
+didn't, 'tacd why' which rule decides on a line, and 'tacd test' whether all lines of a table are
+decided as it says. 'tacd replay' takes what devices send from a script, together with the policy,
+and prints what is answered; it opens no socket.";
 
-pub(crate) const SERVE_ABOUT: &str = "Serves devices on a port, with a console on standard input";
+pub(crate) const SERVE_ABOUT: &str =
+    "Serves devices on a port, with a console on standard input or at a socket";
 
 /// What `tacd serve --help` begins with.
 pub(crate) const SERVE_LONG_ABOUT: &str =
-    "Serves devices that run TACACS+ (RFC 8907) on a port, with a console on standard input.
+    "Serves devices that run TACACS+ (RFC 8907) on a port, with a console on standard input or at a
+socket.
 
 The policy is read from a file, and again where 'reload' is typed at the console. There it is
 edited, and an edit counts from the next packet on. Edits and accounting records are kept in memory,
@@ -105,6 +108,9 @@ pub(crate) const SYNC_HELP: &str = "Answer a device only once its line is on the
 pub(crate) const NO_CONSOLE_HELP: &str =
     "Read no standard input, and serve until the process is ended, as by SIGTERM";
 
+pub(crate) const CONSOLE_OPTION_HELP: &str =
+    "The socket at which operators type by 'tacd console'; standard input isn't read then";
+
 pub(crate) const SERVE_AFTER_HELP: &str = "Example:
   tacd serve --port 49 --key-file tacd.key campus.policy
 
@@ -122,7 +128,7 @@ Standard output has 'listening PORT' first, and then what the console's lines ar
 error says so where too few files may be open for so many connections, as by 'ulimit -n'.
 
 Signals aren't seen: SIGTERM ends the server, and SIGHUP too. To run it in the background or in a
-container, give --no-console.
+container, give --console PATH, where operators type by 'tacd console PATH', or --no-console.
 
 Lines of the console, where a SUBJECT is 'user NAME' or 'group NAME':
   policy               the policy as it is now
@@ -181,6 +187,51 @@ Exit status:
      console could not be read, or the output could not be written, or 'close refused' was printed:
      a worker or the console had no place in the history"
 );
+
+pub(crate) const CONSOLE_ABOUT: &str = "Types at the console of a server that has --console";
+
+/// What `tacd console --help` begins with.
+pub(crate) const CONSOLE_LONG_ABOUT: &str =
+    "Types at the console of a server that has --console PATH, and prints what is answered.
+
+The words of a line are joined by blanks. Without a WORD, lines are read: from a terminal, with a
+prompt, until the input ends; or from a file or a pipe, each once the one before is answered. There
+the first that is refused ends it: the rest isn't sent, and a batch that is open is dropped.
+
+'tacd serve --help' describes the lines and their answers. At a socket there are two more: 'help', and
+'operator NAME', which says who types. This program says that by itself, from SUDO_USER, LOGNAME or
+USER. Eight operators may be there at once. While one of them has a batch open, edits of the others
+are answered by 'busy NAME'; he loses it where he types nothing for a minute.";
+
+pub(crate) const CONSOLE_PATH_HELP: &str = "The server's socket; root and its own user can open it";
+
+pub(crate) const WORD_HELP: &str = "The words of a line; without any, lines are read";
+
+pub(crate) const CONSOLE_AFTER_HELP: &str = "Examples:
+  tacd console /run/tacd/console why ben show vlan
+  tacd console /run/tacd/console < changes
+
+'tacd console --help' describes what is printed.";
+
+/// What `tacd console --help` ends with.
+pub(crate) const CONSOLE_AFTER_LONG_HELP: &str =
+    "What is printed on standard error where a line of a file is refused:
+  tacd: line N: ANSWER; later lines weren't sent
+
+Examples:
+  $ tacd console /run/tacd/console why ben show vlan
+  permitted by group staff rule 4
+  $ tacd diff --edits saved.policy campus.policy | tacd console /run/tacd/console
+  $ tacd console /run/tacd/console quit
+  ok
+
+Exit status:
+  0  each line was answered, and none was refused
+  1  an answer began with 'refused', 'fault', 'hall', 'unread' or 'busy'
+  2  the command line is wrong
+  3  memory ran out
+  4  no server is at PATH, all of its places are taken, it ended the session, or reading or writing
+     failed";
 
 pub(crate) const CHECK_ABOUT: &str = "Reads a policy, and prints which of its rules decide nothing";
 
@@ -531,6 +582,7 @@ pub(crate) const AFTER_LONG_HELP: &str = "Examples:
   tacd why campus.policy ben show vlan
   tacd test campus.policy campus.cases
   tacd serve --port 49 --key-file tacd.key campus.policy
+  tacd console /run/tacd/console why ben show vlan
   tacd replay < session.script
 
 'tacd COMMAND --help' describes what is read, what is printed, and the exit status.";

@@ -5,9 +5,11 @@
 mod command_line;
 mod complaint;
 mod console;
+mod console_client;
 mod descriptors;
 mod help;
 mod opening;
+mod operators;
 mod options;
 mod program;
 mod replaying;

@@ -7,8 +7,8 @@ ghost use Rattle.std.specs.Prelude.{◌≡◌};
 ghost use Rattle.tac_program.specs.Opening as opening;
 
 use crate::command_line::{
-    ADDRESS, CONNECTIONS, CONNECTIONS_AT_ONCE, FILE, IDLE, KEEP_RECORDS, KEY, KEY_FILE, LOG,
-    LOGIN_IDLE, NO_CONSOLE, PACKET_MEMORY, PER_ADDRESS, PORT, ROTATE_AT, SYNC, WORKERS,
+    ADDRESS, CONNECTIONS, CONNECTIONS_AT_ONCE, CONSOLE, FILE, IDLE, KEEP_RECORDS, KEY, KEY_FILE,
+    LOG, LOGIN_IDLE, NO_CONSOLE, PACKET_MEMORY, PER_ADDRESS, PORT, ROTATE_AT, SYNC, WORKERS,
 };
 use crate::opening::open_secret;
 use crate::status::Status;
@@ -54,8 +54,10 @@ pub(crate) struct Options<'a> {
     pub(crate) log: Option<&'a str>,
     /// Whether a line counts only once it is on the disk.
     pub(crate) syncs: bool,
-    /// Whether standard input is the console of an operator.
+    /// Whether standard input is the console of an operator, unless operators have a socket.
     pub(crate) has_console: bool,
+    /// The socket at which operators type, if there is one.
+    pub(crate) console: Option<&'a str>,
 }
 
 // The key of a word of the command line. What is said of it doesn't show it.
@@ -216,6 +218,7 @@ impl<'a> Options<'a> {
                 log: matches.get_str(LOG),
                 syncs: matches.get_flag(SYNC),
                 has_console: !matches.get_flag(NO_CONSOLE),
+                console: matches.get_str(CONSOLE),
             }),
             _ => Err(Status::BadCommandLine),
         }

@@ -3,8 +3,9 @@
 ghost use Rattle.std.specs.Prelude.{◌≡◌, ◌≢◌, ◌⊎◌};
 ghost use Rattle.clap.specs.Values.{kind_of};
 
-use crate::command_line::{CHECK, DIFF, FILE, LINT, REPLAY, SERVE, TEST, WHY, command};
+use crate::command_line::{CHECK, CONSOLE, DIFF, FILE, LINT, REPLAY, SERVE, TEST, WHY, command};
 use crate::complaint::{complain, name_lint};
+use crate::console_client::type_at_console;
 use crate::opening::open_file;
 use crate::options::Options;
 use crate::replaying::replay_script;
@@ -24,6 +25,7 @@ use std::{env, io, thread};
 use tac_check::{CheckEnd, check};
 use tac_journal::LogFiles;
 use tac_lint::lint;
+use tac_operators::ConsoleHost;
 
 // The policy comes from a file, and what is found goes to standard output.
 fn check_policy<R: Files + Print + Eprint + AllocGlobal>(rt: &R, path: &str) -> Status {
@@ -87,7 +89,7 @@ fn processors<H: Threads>(host: &H) -> usize {
 fn serve_clients<R, H>(rt: &R, host: &H, matches: &ArgMatches<'_>) -> Status
 where
     R: Files + Input + Print + Eprint + AllocGlobal,
-    H: Threads + Wait + Clock + Sync + AllocGlobal + Eprint + LogFiles,
+    H: Threads + Wait + Clock + Sync + AllocGlobal + Eprint + LogFiles + ConsoleHost,
     H: Net<Listener = TcpListener, Stream = TcpStream>,
 {
     let outcome = match Options::read(rt, matches, processors(host)) {
@@ -122,15 +124,19 @@ where
     Some(test(rt, options))
 }
 
-// A parse that succeeds has met a subcommand: `serve`, `replay`, or one that looks at policies.
+// A parse that succeeds has met a subcommand: `serve`, `console`, `replay`, or one that looks at
+// policies.
 fn carry_out<R, H>(rt: &R, host: &H, matches: &ArgMatches<'_>) -> Status
 where
-    R: Files + Input + Print + Eprint + AllocGlobal,
-    H: Threads + Wait + Clock + Sync + AllocGlobal + Eprint + LogFiles,
+    R: Env + Files + Input + Print + Eprint + AllocGlobal,
+    H: Threads + Wait + Clock + Sync + AllocGlobal + Eprint + LogFiles + ConsoleHost,
     H: Net<Listener = TcpListener, Stream = TcpStream>,
 {
     if let Some(options) = matches.subcommand_matches(SERVE) {
         return serve_clients(rt, host, options);
+    }
+    if let Some(options) = matches.subcommand_matches(CONSOLE) {
+        return type_at_console(rt, host, options);
     }
     if let Some(options) = matches.subcommand_matches(REPLAY) {
         return replay_script(rt, host, options);
@@ -140,8 +146,8 @@ where
 
 fn obey<R, H>(rt: &R, host: &H, words: &[String]) -> Status
 where
-    R: Files + Input + Print + Eprint + AllocGlobal,
-    H: Threads + Wait + Clock + Sync + AllocGlobal + Eprint + LogFiles,
+    R: Env + Files + Input + Print + Eprint + AllocGlobal,
+    H: Threads + Wait + Clock + Sync + AllocGlobal + Eprint + LogFiles + ConsoleHost,
     H: Net<Listener = TcpListener, Stream = TcpStream>,
 {
     match parse(rt.alloc(), words) {
@@ -159,7 +165,7 @@ fn words_of<R: Env + AllocGlobal>(rt: &R) -> io::Result<Vec<String>> {
 pub fn run<R, H>(rt: &R, host: &H) -> ExitCode
 where
     R: Env + Files + Input + Print + Eprint + AllocGlobal,
-    H: Threads + Wait + Clock + Sync + AllocGlobal + Eprint + LogFiles,
+    H: Threads + Wait + Clock + Sync + AllocGlobal + Eprint + LogFiles + ConsoleHost,
     H: Net<Listener = TcpListener, Stream = TcpStream>,
 {
     let status = match words_of(rt) {

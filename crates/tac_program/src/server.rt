@@ -10,11 +10,12 @@ use crate::complaint::{complain, name_lint};
 use crate::console::{ConsoleInput, NoConsole};
 use crate::descriptors::warn_of_few;
 use crate::opening::{open_desk, open_secret};
+use crate::operators::serve_operators;
 use crate::options::Options;
 use crate::source::PolicyFile;
 use crate::status::Status;
 use std::io;
-use std::io::Read;
+use std::io::{Read, Write};
 use std::net::{Net, SocketAddr, TcpListener, TcpStream};
 use std::rt::Files;
 use std::sync::Wait;
@@ -23,6 +24,7 @@ use std::time::Clock;
 use tac_desks::LiveDesk;
 use tac_journal::{Journal, LogFiles};
 use tac_net::{FillingDesk, Port, ServeFault, ServerFiles, serve};
+use tac_operators::ConsoleHost;
 use tac_tally::RecordLimit;
 
 // The desk of the policy in a file, which keeps records as the limit says. The error here and below
@@ -100,15 +102,16 @@ where
     }
 }
 
-// Serves with a console on this input, until that ends. Standard error says when records fill up.
-fn serve_console<R, H, I: Read + Drop>(
+/// Serves with a console on this input and output, until that ends. Standard error says when records
+/// fill up.
+pub(crate) fn serve_console<R, H, I: Read + Drop, O: Write + Drop>(
     rt: &R,
     host: &H,
     options: &Options<'_>,
     desk: LiveDesk,
     journal: &Option<Journal<'_>>,
     port: &Port,
-    input: I,
+    streams: (I, O),
 ) -> Result<(), ServeFault>
 where
     R: Files + Print + Eprint,
@@ -123,7 +126,7 @@ where
         log: journal,
         source: &source,
     };
-    let mut input = input;
+    let (mut input, mut output) = streams;
     serve(
         host,
         port,
@@ -131,12 +134,12 @@ where
         &options.settings,
         &files,
         &mut input,
-        &mut io::writer(rt),
+        &mut output,
     )
 }
 
 // Says why a server ended, unless it was stopped. The error is the status to end with.
-fn ended<R: Eprint>(rt: &R, outcome: Result<(), ServeFault>) -> Result<(), Status>
+pub(crate) fn ended<R: Eprint>(rt: &R, outcome: Result<(), ServeFault>) -> Result<(), Status>
     ensures { result ≡ end_of_serving outcome }
 {
     match outcome {
@@ -148,27 +151,32 @@ fn ended<R: Eprint>(rt: &R, outcome: Result<(), ServeFault>) -> Result<(), Statu
     }
 }
 
-/// Serves as the options say, until its console ends it: the runtime's input and output, or no input
-/// at all. Threads, sockets and the log are the host's.
+/// Serves as the options say, until its console ends it: a socket's, the runtime's input and output,
+/// or no input at all. Threads, sockets and the log are the host's.
 pub(crate) fn serve_by<R, H>(rt: &R, host: &H, options: &Options<'_>) -> Result<(), Status>
 where
     R: Files + Input + Print + Eprint + AllocGlobal,
-    H: Threads + Wait + Clock + Sync + AllocGlobal + Eprint + LogFiles + Net,
+    H: Threads + Wait + Clock + Sync + AllocGlobal + Eprint + LogFiles + Net + ConsoleHost,
     H: Net<Listener = TcpListener, Stream = TcpStream>,
 {
     let desk = desk_of_file(rt, options.record_limit, options.path)?;
     let journal = journal_of(rt, host, options)?;
     let port = port_at(rt, host, options.address)?;
     warn_of_few(rt, &options.settings);
+    if let Some(path) = options.console {
+        return serve_operators(rt, host, options, desk, &journal, &port, path);
+    }
     let outcome = if options.has_console {
         let input = ConsoleInput::new(rt, rt.reader());
-        serve_console(rt, host, options, desk, &journal, &port, input)
+        let streams = (input, io::writer(rt));
+        serve_console(rt, host, options, desk, &journal, &port, streams)
     } else {
         let input = NoConsole {
             clock: host,
             port: &port,
         };
-        serve_console(rt, host, options, desk, &journal, &port, input)
+        let streams = (input, io::writer(rt));
+        serve_console(rt, host, options, desk, &journal, &port, streams)
     };
     ended(rt, outcome)
 }

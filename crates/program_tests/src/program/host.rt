@@ -5,11 +5,13 @@ use std::fmt::Display;
 use std::fs::File;
 use std::io;
 use std::net::{Net, SocketAddr, TcpListener, TcpStream};
+use std::os::unix::net::UnixListener;
 use std::sync::Wait;
 use std::sync::atomic::{AtomicU64, Ordering};
 use std::thread::Threads;
 use std::time::{Clock, Duration};
 use tac_journal::LogFiles;
+use tac_operators::ConsoleHost;
 
 /// A host like this one.
 #[derive(Drop)]
@@ -77,5 +79,19 @@ impl<R: LogFiles> LogFiles for Host<'_, R> {
     fn sync_log(&self, file: &File) -> io::Result<()> {
         self.syncs.fetch_add(1, Ordering::SeqCst);
         self.rt.sync_log(file)
+    }
+}
+
+impl<R: ConsoleHost> ConsoleHost for Host<'_, R> {
+    fn open_door(&self, path: &str) -> io::Result<UnixListener> {
+        self.rt.open_door(path)
+    }
+
+    fn remove_door(&self, path: &str) -> io::Result<()> {
+        self.rt.remove_door(path)
+    }
+
+    fn is_terminal(&self) -> bool {
+        self.rt.is_terminal()
     }
 }

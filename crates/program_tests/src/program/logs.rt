@@ -16,6 +16,7 @@ use std::test::Fail;
 use std::thread::{Threads, join};
 use std::time::Clock;
 use tac_journal::LogFiles;
+use tac_operators::ConsoleHost;
 use tac_program::run;
 
 // What a device sends on one connection, and what it is answered: bob asks for `show version`, begins
@@ -83,7 +84,7 @@ where
 // made. The ports, and the status.
 fn served<R>(rt: &R, words: &str, syncs: &AtomicU64, address: SocketAddr) -> ((u64, u64), ExitCode)
 where
-    R: Threads + Wait + Clock + Sync + AllocGlobal + LogFiles + Eprint,
+    R: Threads + Wait + Clock + Sync + AllocGlobal + LogFiles + ConsoleHost + Eprint,
     R: Net<Listener = TcpListener, Stream = TcpStream>,
 {
     let is_over = AtomicBool::new(false);
@@ -123,7 +124,16 @@ fn shown<R: AllocGlobal>(rt: &R, text: &str, ports: (u64, u64)) -> Result<String
 // the disk so often at least, or never.
 fn logs<R>(rt: &R, path: &str, options: &str, least: u64) -> Result<(), Fail>
 where
-    R: Abort + Threads + Wait + Clock + Sync + AllocGlobal + LogFiles + Eprint + Files,
+    R: Abort
+        + Threads
+        + Wait
+        + Clock
+        + Sync
+        + AllocGlobal
+        + LogFiles
+        + ConsoleHost
+        + Eprint
+        + Files,
     R: Net<Listener = TcpListener, Stream = TcpStream>,
 {
     // where a run has failed before, its file may be there
@@ -177,7 +187,7 @@ const SCRIPT_LINES: &str =
 // The status of the program, by these words and with the script as its input.
 fn played<R>(rt: &R, words: &str) -> ExitCode
 where
-    R: Threads + Wait + Clock + Sync + AllocGlobal + LogFiles + Eprint,
+    R: Threads + Wait + Clock + Sync + AllocGlobal + LogFiles + ConsoleHost + Eprint,
     R: Net<Listener = TcpListener, Stream = TcpStream>,
 {
     let (is_over, syncs) = (AtomicBool::new(true), AtomicU64::new(0));

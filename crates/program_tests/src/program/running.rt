@@ -9,6 +9,7 @@ use std::test::Fail;
 use std::thread::Threads;
 use std::time::Clock;
 use tac_journal::LogFiles;
+use tac_operators::ConsoleHost;
 use tac_program::run;
 
 // Exactly this stands on a stream, after the program was run by these words.
@@ -30,6 +31,7 @@ where
         + Sync
         + AllocGlobal
         + LogFiles
+        + ConsoleHost
         + Eprint
         + Net<Listener = TcpListener, Stream = TcpStream>,
 {
@@ -57,6 +59,7 @@ where
         + Sync
         + AllocGlobal
         + LogFiles
+        + ConsoleHost
         + Eprint
         + Net<Listener = TcpListener, Stream = TcpStream>,
 {
@@ -86,6 +89,7 @@ where
         + Sync
         + AllocGlobal
         + LogFiles
+        + ConsoleHost
         + Eprint
         + Net<Listener = TcpListener, Stream = TcpStream>,
 {

@@ -1,0 +1,64 @@
+//! A server whose console is typed at a socket.
+
+use crate::options::Options;
+use crate::server::{ended, serve_console};
+use crate::status::Status;
+use std::io;
+use std::net::Net;
+use std::rt::Files;
+use std::sync::Wait;
+use std::thread::Threads;
+use std::time::Clock;
+use tac_desks::LiveDesk;
+use tac_journal::{Journal, LogFiles};
+use tac_net::{Port, ServeFault};
+use tac_operators::{ConsoleHost, Door, Exchange, Patience, attend};
+
+// Where operators come in.
+fn door_at<'a, R: Eprint, H: ConsoleHost>(
+    rt: &R,
+    host: &H,
+    path: &'a str,
+) -> Result<Door<'a>, Status> {
+    match Door::open(host, path) {
+        Ok(door) => Ok(door),
+        Err(error) => {
+            let _ = eprintln!(rt; "tacd: {path}: {error}");
+            Err(Status::of_unopened(error.kind()))
+        }
+    }
+}
+
+/// Serves with operators at this socket, until one of them ends it, who hears of that last of all.
+pub(crate) fn serve_operators<R, H>(
+    rt: &R,
+    host: &H,
+    options: &Options<'_>,
+    desk: LiveDesk,
+    journal: &Option<Journal<'_>>,
+    port: &Port,
+    path: &str,
+) -> Result<(), Status>
+where
+    R: Files + Print + Eprint,
+    H: Threads + Wait + Clock + Sync + AllocGlobal + Eprint + LogFiles + Net + ConsoleHost,
+{
+    let door = door_at(rt, host, path)?;
+    let exchange = Exchange::new(host.alloc());
+    let mut desk = Some(desk);
+    let mut console = || -> Result<(), ServeFault> {
+        match desk.take() {
+            Some(desk) => {
+                // what is printed before the first line goes to standard output
+                let output = exchange.output(host, io::writer(rt));
+                let streams = (exchange.input(host), output);
+                serve_console(rt, host, options, desk, journal, port, streams)
+            }
+            None => Ok(()),
+        }
+    };
+    let (end, parting) = attend(host, &door, &exchange, Patience::usual(), &mut console);
+    let outcome = end.unwrap_or(Err(ServeFault::Threads));
+    parting.tell(outcome.is_ok());
+    ended(rt, outcome)
+}

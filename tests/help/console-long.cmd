@@ -1,0 +1,2 @@
+$ tacd console --help
+prints console-long.out

@@ -1,0 +1,2 @@
+$ tacd console -h
+prints console.out
