@@ -6,7 +6,7 @@
 use hex::FromHexError;
 use std::alloc::{AllocError, Global};
 use std::fmt::Write;
-use tac_wire::{Header, Key, pad_in_place};
+use tac_wire::{HEADER_SIZE, Header, Key, pad_in_place};
 
 // Adds what stands out of quotes, without its dots.
 fn push_plain(out: &mut String, part: &str) -> Result<(), AllocError> {
@@ -48,7 +48,7 @@ pub fn bytes(alloc: Global, text: &str) -> Result<Vec<u8>, FromHexError> {
 /// there isn't a whole header nothing is padded.
 pub fn packet(alloc: Global, key: &Key, text: &str) -> Result<Vec<u8>, FromHexError> {
     let mut bytes = bytes(alloc, text)?;
-    if let Some((header, body)) = bytes.split_first_chunk_mut::<12>() {
+    if let Some((header, body)) = bytes.split_first_chunk_mut::<HEADER_SIZE>() {
         pad_in_place(&Header::read(header), key, body);
     }
     Ok(bytes)

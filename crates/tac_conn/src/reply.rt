@@ -8,12 +8,13 @@ ghost use Rattle.tac_conn.specs.Reply as replies;
 
 use crate::ask::{Answer, AskKind};
 use arrayvec::ArrayVec;
+use itoa::Buffer;
 use pol_names::{By, SubjectId};
 use tac_authen::{AuthenReply, AuthenStatus, write_reply};
 use tac_request::{
     AcctReply, AcctStatus, AuthorReply, AuthorStatus, write_acct_reply, write_author_reply,
 };
-use tac_wire::{Header, MESSAGE_MAX, Message, REPLY_MAX, decimal_digits, message_of};
+use tac_wire::{Header, MESSAGE_MAX, Message, REPLY_MAX, message_of};
 
 /// What a reply says.
 #[derive(Drop, PartialEq, Eq)]
@@ -187,7 +188,7 @@ fn denied_by(owner: &SubjectId, number: u16) -> Message
     put(&mut text, owner.kind.keyword().as_bytes());
     put(&mut text, owner.name.as_slice());
     put(&mut text, RULE);
-    put(&mut text, decimal_digits(number).as_slice());
+    put(&mut text, Buffer::new().format(number).as_bytes());
     text
 }
 

@@ -13,13 +13,13 @@ use crate::adding::{add, refused};
 use crate::percent::write_percent;
 use crate::rules::{write_reach, write_rows};
 use basics::Bytes;
+use itoa::Buffer;
 use pol_names::{By, Decision, SubjectId, Verdict};
 use std::alloc::{AllocError, Global};
 use std::io;
 use std::io::Write;
 use tac_desk::{Numbered, Query, QueryFault, Report};
 use tac_tally::{AcctKind, Tally};
-use tac_wire::decimal_digits;
 
 // ---- tallies
 
@@ -62,7 +62,7 @@ fn write_rule(out: &mut Vec<u8>, owner: &SubjectId, number: u16) -> io::Result<(
     out.extend_from_slice(owner.kind.keyword().as_bytes())?;
     out.extend_from_slice(owner.name.as_slice())?;
     out.extend_from_slice(b" rule ")?;
-    out.extend_from_slice(decimal_digits(number).as_slice())?;
+    out.extend_from_slice(Buffer::new().format(number).as_bytes())?;
     out.push(b'\n')?;
     Ok(())
 }

@@ -11,7 +11,8 @@ ghost use Rattle.tac_wire.specs.Cut.{cut};
 
 use crate::author_request::total;
 use arrayvec::ArrayVec;
-use tac_wire::{BodyFault, MESSAGE_MAX, Message, REPLY_MAX, decimal_digits, message_of};
+use itoa::Buffer;
+use tac_wire::{BodyFault, MESSAGE_MAX, Message, REPLY_MAX, message_of};
 
 /// What is decided (RFC 8907, section 6.2). Numbers without a name are read as they are.
 #[derive(Clone, Copy, Debug, PartialEq, Eq)]
@@ -55,7 +56,7 @@ fn level_argument(level: u8) -> ArrayVec<u8, 12>
     let mut argument = ArrayVec::new();
     argument.try_extend_from_slice(LEVEL_NAME).unwrap();
     argument
-        .try_extend_from_slice(decimal_digits(u16::from(level)).as_slice())
+        .try_extend_from_slice(Buffer::new().format(level).as_bytes())
         .unwrap();
     argument
 }

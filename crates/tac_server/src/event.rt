@@ -10,7 +10,7 @@ use crate::number::connection_number;
 use basics::{Bytes, read_number, split_once};
 use hex::FromHexError;
 use std::alloc::{AllocError, Global};
-use tac_wire::{Header, Key, pad_in_place};
+use tac_wire::{HEADER_SIZE, Header, Key, pad_in_place};
 
 /// What a line asks for.
 #[derive(Drop)]
@@ -47,9 +47,9 @@ fn wire_packet(key: &Key, bytes: Bytes) -> Option<Bytes>
     ensures { result ≡ packet_of key.now bytes }
 {
     let mut packet = bytes.into_vec();
-    let (header, _) = packet.as_slice().split_first_chunk::<12>()?;
+    let (header, _) = packet.as_slice().split_first_chunk::<HEADER_SIZE>()?;
     let header = Header::read(header);
-    let (_, body) = packet.as_mut_slice().split_at_mut(12);
+    let (_, body) = packet.as_mut_slice().split_at_mut(HEADER_SIZE);
     pad_in_place(&header, key, body);
     Some(Bytes::from(packet))
 }

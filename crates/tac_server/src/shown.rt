@@ -11,7 +11,7 @@ ghost use Rattle.tac_server.specs.Events as events;
 use std::alloc::{AllocError, Global};
 use std::io;
 use std::io::Write;
-use tac_wire::{Header, Key, pad_in_place};
+use tac_wire::{HEADER_SIZE, Header, Key, pad_in_place};
 
 // The first packet of what was sent, and what follows it; nothing where no packet is whole.
 fn split_packet(bytes: &[u8]) -> Option<(&[u8], &[u8])>
@@ -19,12 +19,12 @@ fn split_packet(bytes: &[u8]) -> Option<(&[u8], &[u8])>
         MatchOption result ⊥ (λ parts. (parts.0.now ≡ packet) × (parts.1.now ≡ rest)) }
     ensures shorter { IfSome result (λ parts. length parts.1.now < length bytes.now) }
 {
-    let (head, body) = bytes.split_first_chunk::<12>()?;
+    let (head, body) = bytes.split_first_chunk::<HEADER_SIZE>()?;
     let len = Header::read(head).length as usize;
     if body.len() < len {
         return None;
     }
-    Some(bytes.split_at(12 + len))
+    Some(bytes.split_at(HEADER_SIZE + len))
 }
 
 // A packet as it was sent, with the pad taken off.
@@ -32,10 +32,14 @@ fn unpadded(alloc: Global, key: &Key, sent: &[u8]) -> Result<Vec<u8>, AllocError
     ensures { IfOk result (λ bytes. bytes.items ≡ events.unpadded key.now sent.now) }
 {
     let mut bytes = Vec::from_slice(alloc, sent)?;
-    let Some((head, _)) = sent.split_first_chunk::<12>() else {
+    let Some((head, _)) = sent.split_first_chunk::<HEADER_SIZE>() else {
         return Ok(bytes);
     };
-    pad_in_place(&Header::read(head), key, &mut bytes.as_mut_slice()[12..]);
+    pad_in_place(
+        &Header::read(head),
+        key,
+        &mut bytes.as_mut_slice()[HEADER_SIZE..],
+    );
     Ok(bytes)
 }
 

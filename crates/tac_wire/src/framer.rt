@@ -5,13 +5,10 @@ ghost use Rattle.tac_wire.specs.Stream as stream;
 ghost use Rattle.tac_wire.specs.declared.frame.Frame.{Frame as FrameValue};
 
 use crate::frame::{Frame, RefusedHeader, fault_of};
-use crate::header::Header;
+use crate::header::{HEADER_SIZE, Header};
 use basics::Bytes;
 use std::alloc::{AllocError, Global};
 use std::marker::Model;
-
-// How many bytes a header has.
-const HEADER: usize = 12;
 
 /// What stands first in what a [`Framer`] holds.
 #[derive(Drop)]
@@ -61,7 +58,7 @@ fn first_item(alloc: Global, bytes: &[u8]) -> Result<Next, AllocError>
     ensures found { IfOk result (λ next. stream.BeginsWith next bytes.now) }
     ensures memory { OnErr result (stream.IsPacket (stream.told (stream.first_item bytes.now))) }
 {
-    let Some((head, rest)) = bytes.split_first_chunk::<HEADER>() else {
+    let Some((head, rest)) = bytes.split_first_chunk::<HEADER_SIZE>() else {
         return Ok(Next::Need);
     };
     let header = Header::read(head);
@@ -149,7 +146,7 @@ impl Framer {
         }
         let next = first_item(self.alloc, &self.buffer[self.read..])?;
         match &next {
-            Next::Packet(frame) => self.read += HEADER + frame.body.len(),
+            Next::Packet(frame) => self.read += HEADER_SIZE + frame.body.len(),
             Next::Fault(_) => self.end(),
             _ => {}
         }

@@ -5,6 +5,9 @@ ghost use Rattle.tac_wire.specs.Header.{header_bytes, header_of};
 
 use byteorder::{BigEndian, ByteOrder};
 
+/// How many bytes a header has (RFC 8907, section 4.1).
+pub const HEADER_SIZE: usize = 12;
+
 /// What a packet is about (RFC 8907, section 4.1). Numbers without a name are types that aren't
 /// served.
 #[derive(Clone, Copy, Debug, PartialEq, Eq)]
@@ -39,8 +42,8 @@ impl Header {
     /// The flag by which a client asks for many sessions on one connection.
     pub const SINGLE_CONNECTION: u8 = 0x04;
 
-    /// The header that twelve bytes spell, in network order. Takes no memory.
-    pub fn read(bytes: &[u8; 12]) -> Header
+    /// The header that these bytes spell, in network order. Takes no memory.
+    pub fn read(bytes: &[u8; HEADER_SIZE]) -> Header
         ensures value { result ≡ header_of bytes.now }
         // No byte is lost.
         ensures found { header_bytes result ≡ bytes.now }
@@ -56,7 +59,7 @@ impl Header {
     }
 
     /// The bytes that spell the header, in network order. Takes no memory.
-    pub fn write(&self) -> [u8; 12]
+    pub fn write(&self) -> [u8; HEADER_SIZE]
         ensures value { result ≡ header_bytes self.now }
         // What was written is read again.
         ensures again { header_of result ≡ self.now }
@@ -66,7 +69,7 @@ impl Header {
             length,
             ..
         } = *self;
-        let mut bytes = [0; 12];
+        let mut bytes = [0; HEADER_SIZE];
         bytes[0] = self.version;
         bytes[1] = self.kind.0;
         bytes[2] = self.seq;

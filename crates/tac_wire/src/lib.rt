@@ -4,7 +4,6 @@
 
 mod body;
 mod chap;
-mod decimal;
 mod frame;
 mod framer;
 mod header;
@@ -15,9 +14,8 @@ pub use body::{
     BodyFault, MESSAGE_MAX, Message, REPLY_MAX, cut, cut_laws, message_of, well_formed,
 };
 pub use chap::chap_response;
-pub use decimal::decimal_digits;
 pub use frame::{Frame, FrameFault, RefusedHeader};
 pub use framer::{Framer, Next};
-pub use header::{Header, PacketType};
+pub use header::{HEADER_SIZE, Header, PacketType};
 pub use key::Key;
 pub use pad::pad_in_place;
