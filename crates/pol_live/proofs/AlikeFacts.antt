@@ -17,7 +17,7 @@ use Rattle.pol_pattern.specs.Reading.{pattern_of}
 use Rattle.pol_text.specs.declared.subject.Subject.{Subject}
 use Rattle.pol_text.specs.declared.fault.ChainFault.{ChainFault}
 use Rattle.pol_text.specs.declared.fault.ChainFault.TheVariants as chains
-use Rattle.pol_text.specs.Policy.{id_of, find_subject, all_of}
+use Rattle.pol_text.specs.Policy.{id_of, find_subject, all_of, max_rules, max_subjects}
 use Rattle.pol_text.specs.Text.{new_subject}
 use Rattle.pol_text.specs.Change.{with_changed, without, is_parent, has_room_below, chain_fault, with_parent, with_secret, with_priv, with_rule_at, without_rule_at, with_rule_moved}
 use Rattle.pol_edit.specs.Batches as batches
@@ -200,7 +200,7 @@ alike_add kind name parent old new made =
     let a = unless_ok (not (has_group parent old)) _ _ new made in
     let b = unless_ok (is_some (find_subject (record { kind = kind; name = name }) old)) _ _ new a in
     let c = unless_ok (not (all_of (λ name. has_room_below name old) parent)) _ _ new b in
-    let d = unless_ok (nat_le 1024 (length old)) _ _ new c in
+    let d = unless_ok (nat_le max_subjects (length old)) _ _ new c in
     let is : new ≡ old ++ new_subject kind name parent ∷ [] = cc in
     alike_added (new_subject kind name parent) old new is
 
@@ -249,7 +249,7 @@ alike_insert id at verdict text old new made =
     let there = then_ok (present id old) _ new made in
     let placed = unless_ok (not (is_number at (length there.0.rules + 1))) _ _ new there.1 in
     let read = then_ok (pattern_read (pattern_of text)) _ new placed in
-    let room = unless_ok (nat_le 256 (length there.0.rules)) _ _ new read.1 in
+    let room = unless_ok (nat_le max_rules (length there.0.rules)) _ _ new read.1 in
     let is : new ≡ with_changed id (with_rule_at (at - 1) (record { verdict = verdict; pattern = read.0 })) old = cc in
     alike_changed id (with_rule_at (at - 1) (record { verdict = verdict; pattern = read.0 })) old new (λ _. refl) is
 

@@ -10,35 +10,35 @@ use Rattle.pol_names.specs.SubjectId.{same_id}
 use Rattle.pol_names.specs.declared.subject_id.SubjectId.{SubjectId}
 use Rattle.pol_text.specs.declared.subject.Rule.{Rule}
 use Rattle.pol_text.specs.declared.subject.Subject.{Subject}
-use Rattle.pol_text.specs.Policy.{id_of, find_subject, parent_of, chain_within, Entry, numbered, own_entries, entries_along, is_right_subject, is_right_rule}
+use Rattle.pol_text.specs.Policy.{id_of, find_subject, parent_of, chain_within, Entry, numbered, own_entries, entries_along, is_right_subject, is_right_rule, max_rules}
 use Rattle.pol_live.proofs.AlongFacts.{entries_step, entries_none}
 
 -- ---- subjects that a policy has
 
-few_right : (s : Subject) → is_right_subject s ≡ true → length s.rules ≤ 256
+few_right : (s : Subject) → is_right_subject s ≡ true → length s.rules ≤ max_rules
 few_right s right =
     let front = (and_parts _ (list_all is_right_rule s.rules) right).0 in
-    let few = (and_parts _ (nat_le (length s.rules) 256) front).1 in
+    let few = (and_parts _ (nat_le (length s.rules) max_rules) front).1 in
     grind (arith, nat_tests)
 
-pub found_few : (id : SubjectId) (policy : List Subject) (s : Subject) → list_all is_right_subject policy ≡ true → find_subject id policy ≡ Some s → length s.rules ≤ 256
+pub found_few : (id : SubjectId) (policy : List Subject) (s : Subject) → list_all is_right_subject policy ≡ true → find_subject id policy ≡ Some s → length s.rules ≤ max_rules
 found_few id [] s right e = absurd cc
 found_few id (x ∷ rest) s right e = by (same_id id (id_of x)) e (found_few id rest s (and_parts (is_right_subject x) (list_all is_right_subject rest) right).1)
   where
-    by : (b : Bool) → cond b (Some x) (find_subject id rest) ≡ Some s → (find_subject id rest ≡ Some s → length s.rules ≤ 256) → length s.rules ≤ 256
+    by : (b : Bool) → cond b (Some x) (find_subject id rest) ≡ Some s → (find_subject id rest ≡ Some s → length s.rules ≤ max_rules) → length s.rules ≤ max_rules
     by true h later = let same : x ≡ s = cc in few_right s (ap is_right_subject (sym same) ∙ (and_parts (is_right_subject x) (list_all is_right_subject rest) right).0)
     by false h later = later h
 
-pub few_at : (policy : List Subject) (r : Option (Bor Subject)) (k : ℕ) → list_all is_right_subject policy ≡ true → option_copied r ≡ slice_get policy k → IfSome r (λ s. length s.now.rules ≤ 256)
+pub few_at : (policy : List Subject) (r : Option (Bor Subject)) (k : ℕ) → list_all is_right_subject policy ≡ true → option_copied r ≡ slice_get policy k → IfSome r (λ s. length s.now.rules ≤ max_rules)
 few_at policy None k right e = tt
 few_at policy (Some s) k right e = by policy k right (sym e)
   where
-    by : (policy : List Subject) (k : ℕ) → list_all is_right_subject policy ≡ true → slice_get policy k ≡ Some s.now → length s.now.rules ≤ 256
+    by : (policy : List Subject) (k : ℕ) → list_all is_right_subject policy ≡ true → slice_get policy k ≡ Some s.now → length s.now.rules ≤ max_rules
     by [] k right e = absurd cc
     by (x ∷ rest) zero right e = let same : x ≡ s.now = cc in few_right s.now (ap is_right_subject (sym same) ∙ (and_parts (is_right_subject x) (list_all is_right_subject rest) right).0)
     by (x ∷ rest) (suc k) right e = by rest k (and_parts (is_right_subject x) (list_all is_right_subject rest) right).1 e
 
-pub right_few : (r : Option (Bor Subject)) → IfSome r (λ s. IsTrue (is_right_subject s.now)) → IfSome r (λ s. length s.now.rules ≤ 256)
+pub right_few : (r : Option (Bor Subject)) → IfSome r (λ s. IsTrue (is_right_subject s.now)) → IfSome r (λ s. length s.now.rules ≤ max_rules)
 right_few None right = tt
 right_few (Some s) right = few_right s.now right
 

@@ -4,7 +4,7 @@ ghost use Rattle.std.specs.Prelude.{◌≡◌, ◌≤◌, ◌++◌, ℕ, List, l
 ghost use Rattle.std.specs.Prelude.{OnOk};
 ghost use Rattle.std.specs.Option.{option_map, option_copied};
 ghost use Rattle.pol_automaton.specs.Entries.{AreEntries};
-ghost use Rattle.pol_text.specs.Policy.{parent_of, own_entries, entries};
+ghost use Rattle.pol_text.specs.Policy.{parent_of, own_entries, entries, max_rules};
 ghost use Rattle.pol_text.specs.declared.subject.Subject.{Subject as SubjectValue};
 ghost use Rattle.pol_live.specs.ChainRules.{chain_rule as rule_of, decision_by};
 ghost use Rattle.pol_meaning.specs.Along.{entries_of, patterns_along};
@@ -41,7 +41,7 @@ impl ChainRule {
 /// The group that the subject belongs to.
 pub(crate) fn parent<'a>(policy: &'a Policy, subject: &Subject) -> Option<&'a Subject>
     ensures found { option_copied result ≡ parent_of policy.now subject.now }
-    ensures few { IfSome result (λ group. length group.now.rules ≤ 256) }
+    ensures few { IfSome result (λ group. length group.now.rules ≤ max_rules) }
 {
     policy.parent_of(subject)
 }
@@ -79,7 +79,7 @@ pub(crate) fn patterns_from(
 
 // Adds the subject's own rules.
 fn add_rules(rules: &mut Vec<ChainRule>, subject: &Subject) -> Result<(), AllocError>
-    requires { length subject.now.rules ≤ 256 }
+    requires { length subject.now.rules ≤ max_rules }
     ensures { OnOk result (rules.new.items
         ≡ rules.old.items ++ map rule_of (own_entries subject.now)) }
 {
@@ -99,7 +99,7 @@ fn rules_from(
     policy: &Policy,
     subject: &Subject,
 ) -> Result<Vec<ChainRule>, AllocError>
-    requires { length subject.now.rules ≤ 256 }
+    requires { length subject.now.rules ≤ max_rules }
     ensures { IfOk result (λ rules. rules.items ≡ map rule_of (entries policy.now subject.now)) }
 {
     let mut rules = Vec::new(alloc);

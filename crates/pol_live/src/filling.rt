@@ -9,7 +9,7 @@ ghost use Rattle.pol_scan.specs.Table.{count};
 ghost use Rattle.pol_automaton.specs.Automaton.{Automaton, IsDecider};
 ghost use Rattle.pol_residual.specs.Residuals.{HasMoreResiduals};
 ghost use Rattle.pol_text.specs.declared.subject.Subject.{Subject as SubjectValue};
-ghost use Rattle.pol_text.specs.Policy.{parent_of, ends_within, InheritsEntries};
+ghost use Rattle.pol_text.specs.Policy.{parent_of, ends_within, InheritsEntries, max_rules};
 ghost use Rattle.pol_meaning.specs.Sizes.{IsLarge, most_residuals};
 ghost use Rattle.pol_live.specs.Kept.{IsFit, IsOf, IsPutAt, AreParts, Grows, slot, own_patterns};
 ghost use Rattle.pol_live.specs.Kept.{has_rules as with_rules, is_keeper as keeps};
@@ -54,7 +54,7 @@ pub(crate) fn is_keeper(subject: &Subject) -> bool
 /// The subject at a place.
 pub(crate) fn subject_at(policy: &Policy, index: usize) -> Option<&Subject>
     ensures found { option_copied result ≡ slice_get policy.now index }
-    ensures few { IfSome result (λ subject. length subject.now.rules ≤ 256) }
+    ensures few { IfSome result (λ subject. length subject.now.rules ≤ max_rules) }
 {
     policy.subjects().get(index)
 }

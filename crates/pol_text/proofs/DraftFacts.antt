@@ -12,7 +12,7 @@ use Rattle.pol_text.specs.declared.fault.PolicyFault.{PolicyFault}
 use Rattle.pol_text.specs.declared.fault.LineFault.{LineFault}
 use Rattle.pol_text.specs.declared.fault.LineFault.TheVariants as lines
 use Rattle.pol_names.specs.SubjectId.{same_id}
-use Rattle.pol_text.specs.Policy.{id_of, find_subject}
+use Rattle.pol_text.specs.Policy.{id_of, find_subject, max_subjects}
 use Rattle.pol_text.specs.Draft.{LineFails, LineMakes, at_place, place_given}
 use Rattle.pol_text.specs.Text.{Draft, subjects_of, new_subject, with_subject, with_present, after_first, split_last, ◌>>=◌, with_line, with_lines, FailsUnlessMemory}
 
@@ -29,9 +29,9 @@ LineFails-bind lines.Memory r f h = tt
 LineFails-bind (lines.Refused refusal) r f h = rw h refl
 
 -- a subject is added where its place is given
-placed : (there : Bool) (count : ℕ) (draft added : Draft) → cond there (Err Repeated) (cond (nat_le 1024 count) (Err Limit) (Ok added)) ≡ (place_given there count >>= λ _. Ok added)
+placed : (there : Bool) (count : ℕ) (draft added : Draft) → cond there (Err Repeated) (cond (nat_le max_subjects count) (Err Limit) (Ok added)) ≡ (place_given there count >>= λ _. Ok added)
 placed true count draft added = refl
-placed false count draft added = by (nat_le 1024 count)
+placed false count draft added = by (nat_le max_subjects count)
   where
     by : (b : Bool) → cond b (Err Limit) (Ok added) ≡ (cond {A = Result Unit PolicyRefusal} b (Err Limit) (Ok (tt {0})) >>= λ _. Ok added)
     by true = refl

@@ -9,7 +9,7 @@ use Rattle.pol_names.specs.declared.subject_id.SubjectId.{SubjectId}
 use Rattle.pol_text.specs.declared.subject.Subject.{Subject}
 use Rattle.pol_names.specs.Name.{is_name}
 use Rattle.pol_names.specs.SubjectId.{same_id, group_id}
-use Rattle.pol_text.specs.Policy.{id_of, find_subject, ends_within, all_distinct, all_of, is_right_subject, has_parent, WellFormed}
+use Rattle.pol_text.specs.Policy.{id_of, find_subject, ends_within, all_distinct, all_of, is_right_subject, has_parent, WellFormed, max_subjects}
 use Rattle.pol_text.specs.Change.{has_room_below}
 use Rattle.pol_text.proofs.Keeps.{all_found, all_from, all_both, differs_back, same_id_is, found_same}
 use Rattle.pol_text.proofs.RightSubject.{right_parts}
@@ -110,7 +110,7 @@ module _ (p : List Subject) (w : WellFormed p) where
       by (Some name) h = found name (find_subject (group_id name) p) refl h
 
   -- the longer policy
-  pub kept_add : (y : Subject) → find_subject (id_of y) p ≡ None → length p < 1024 → all_of (λ group. has_room_below group p) y.parent ≡ true → is_right_subject y ≡ true
+  pub kept_add : (y : Subject) → find_subject (id_of y) p ≡ None → length p < max_subjects → all_of (λ group. has_room_below group p) y.parent ≡ true → is_right_subject y ≡ true
       → WellFormed (p ++ y ∷ [])
   kept_add y absent room below right =
       record {

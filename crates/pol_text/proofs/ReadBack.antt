@@ -18,7 +18,7 @@ use Rattle.pol_names.specs.declared.decision.Verdict.TheVariants.{Permit, Deny}
 use Rattle.pol_pattern.specs.declared.version.Version.{Version}
 use Rattle.pol_text.specs.declared.subject.Subject.{Subject}
 use Rattle.pol_text.specs.declared.fault.PolicyRefusal.{PolicyRefusal}
-use Rattle.pol_text.specs.Policy.{find_subject, all_of}
+use Rattle.pol_text.specs.Policy.{find_subject, all_of, max_subjects}
 use Rattle.pol_text.specs.Text.{◌>>=◌, Draft, subjects_of, is_field, heading, new_subject, with_subject, after_first, split_last, with_present, with_login, with_enable, level_of, with_priv, with_rule, with_words, is_blank, with_trimmed, with_line, with_lines, policy_of, body_of}
 use Rattle.pol_text.specs.Spelling.{Sets, login, enable, level, rule, Adds, begins, sets, Extends, meaningful, Spells}
 use Rattle.pol_text.proofs.SettingFacts.{and_left, and_right, rule_read}
@@ -39,7 +39,7 @@ unfolding with_trimmed with_words
 user_begins version number rest draft = refl
 
 begun : (version : Version) (number : ℕ) (kind : Kind) (name : List ℕ) (parent : Option (List ℕ)) (draft : Draft) → is_name name ≡ true → all_of is_name parent ≡ true
-    → is_some (find_subject (record { kind = kind; name = name }) (subjects_of draft)) ≡ false → length draft < 1024
+    → is_some (find_subject (record { kind = kind; name = name }) (subjects_of draft)) ≡ false → length draft < max_subjects
     → with_trimmed version number (kind_word kind ++ (name ++ after_name parent)) draft ≡ Ok (draft ++ (number, new_subject kind name parent) ∷ [])
 begun version number Group name parent draft h k none room =
     group_begins version number (name ++ after_name parent) draft ∙ rw (heading_is name parent h k) (subject_new number Group name parent draft none room)

@@ -21,7 +21,7 @@ use Rattle.pol_text.specs.declared.fault.PolicyFault.TheVariants.{Refused}
 use Rattle.pol_text.specs.Draft.{RightDraft}
 use Rattle.pol_names.specs.Name.{is_name, name_of}
 use Rattle.pol_names.specs.SubjectId.{same_kind, same_id}
-use Rattle.pol_text.specs.Policy.{id_of, find_subject, all_distinct, all_of, is_right_subject, has_parent, ends_within, WellFormed}
+use Rattle.pol_text.specs.Policy.{id_of, find_subject, all_distinct, all_of, is_right_subject, has_parent, ends_within, WellFormed, max_subjects}
 use Rattle.pol_text.specs.Text.{◌>>=◌, Draft, subjects_of, named, is_field, with_parent, heading, new_subject, with_subject, after_first, split_last, with_present, with_login, with_enable, with_priv, with_rule, with_words, is_blank, with_trimmed, with_line, at_line, with_lines, checked, with_right_chains, body_of, with_body, policy_of}
 use Rattle.pol_text.proofs.SettingFacts.{and_left, and_right, right_parts, right_whole, Kept, login_kept, enable_kept, priv_kept, rule_kept}
 
@@ -102,7 +102,7 @@ pub subject_right : (line : ℕ) (kind : Kind) (name : List ℕ) (parent : Optio
 unfolding with_subject
 subject_right line kind name parent draft next named belongs r h =
     let p = second_ok (is_some (find_subject (record { kind = kind; name = name }) (subjects_of draft))) Repeated _ next h in
-    let q = second_ok (nat_le 1024 (length draft)) Limit _ next p.1 in
+    let q = second_ok (nat_le max_subjects (length draft)) Limit _ next p.1 in
     let is : next ≡ draft ++ (line, new_subject kind name parent) ∷ [] = cc in
     let subjects = subjects-push draft line (new_subject kind name parent) in
     let absent : list_any (same_id (record { kind = kind; name = name })) (map id_of (subjects_of draft)) ≡ false = any_is (record { kind = kind; name = name }) (subjects_of draft) ∙ p.0 in
@@ -153,7 +153,7 @@ right-present front line old new kept r =
       right = rw (after, list_all-append is_right_subject (subjects_of front) (new ∷ []), fronts, still) refl;
     }
   where
-    fits : length (front ++ (line, old) ∷ []) ≤ 1024 → length (front ++ (line, new) ∷ []) ≤ 1024
+    fits : length (front ++ (line, old) ∷ []) ≤ max_subjects → length (front ++ (line, new) ∷ []) ≤ max_subjects
     fits few = let a = length-append front ((line, old) ∷ []) in let b = length-append front ((line, new) ∷ []) in omega arith
 
 pub present_right : (change : Subject → Result Subject PolicyRefusal) (draft next : Draft) → ((old new : Subject) → change old ≡ Ok new → Kept old new) → RightDraft draft

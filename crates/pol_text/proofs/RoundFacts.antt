@@ -24,7 +24,7 @@ use Rattle.pol_text.specs.declared.fault.PolicyRefusal.TheVariants.{BadLine, NoS
 use Rattle.pol_names.specs.Name.{is_name, is_name_byte}
 use Rattle.pol_names.specs.Secret.{is_secret}
 use Rattle.pol_names.specs.SubjectId.{same_kind, same_id}
-use Rattle.pol_text.specs.Policy.{id_of, find_subject, all_distinct, all_of, is_right_rule, is_right_subject, has_parent, ends_within, WellFormed}
+use Rattle.pol_text.specs.Policy.{id_of, find_subject, all_distinct, all_of, is_right_rule, is_right_subject, has_parent, ends_within, WellFormed, max_rules, max_subjects}
 use Rattle.pol_names.specs.SubjectId.{kind_word}
 use Rattle.pol_names.specs.Decision.{verdict_word}
 use Rattle.pol_text.specs.Text.{◌>>=◌, Draft, subjects_of, named, is_field, with_parent, heading, new_subject, with_subject, with_present, with_login, with_enable, with_priv, with_rule, with_words, with_trimmed, with_line, at_line, with_lines, checked, with_right_chains, policy_of, heading_line, line_for, rule_line, subject_lines, policy_lines, text_of_lines, text_of}
@@ -130,15 +130,15 @@ heading_text name None h k = rw (append-nil name) (name_text name (bytes_of name
 heading_text name (Some parent) h k =
     rw (list_all-append is_symbol name (codes " in " ++ parent), name_text name (bytes_of name h), name_text parent (bytes_of parent k)) refl
 
-pub subject_new : (number : ℕ) (kind : Kind) (name : List ℕ) (parent : Option (List ℕ)) (draft : Draft) → is_some (find_subject (record { kind = kind; name = name }) (subjects_of draft)) ≡ false → length draft < 1024
+pub subject_new : (number : ℕ) (kind : Kind) (name : List ℕ) (parent : Option (List ℕ)) (draft : Draft) → is_some (find_subject (record { kind = kind; name = name }) (subjects_of draft)) ≡ false → length draft < max_subjects
     → with_subject number kind name parent draft ≡ Ok (draft ++ (number, new_subject kind name parent) ∷ [])
 unfolding with_subject
 subject_new number kind name parent draft none room =
-    let test : nat_le 1024 (length draft) ≡ false = grind (arith, nat_tests) in
+    let test : nat_le max_subjects (length draft) ≡ false = grind (arith, nat_tests) in
     rw (none, test) refl
 
 begun : (number : ℕ) (kind : Kind) (name : List ℕ) (parent : Option (List ℕ)) (draft : Draft) → is_name name ≡ true → all_of is_name parent ≡ true
-    → is_some (find_subject (record { kind = kind; name = name }) (subjects_of draft)) ≡ false → length draft < 1024
+    → is_some (find_subject (record { kind = kind; name = name }) (subjects_of draft)) ≡ false → length draft < max_subjects
     → with_line Two number (kind_word kind ++ name ++ after_name parent) draft ≡ Ok (draft ++ (number, new_subject kind name parent) ∷ [])
 begun number Group name parent draft h k none room =
     group_line number (name ++ after_name parent) draft (heading_text name parent h k) ∙ rw (heading_is name parent h k) (subject_new number Group name parent draft none room)
@@ -206,17 +206,17 @@ module _ (number at : ℕ) (front : Draft) (name : List ℕ) (parent : Option (L
       (priv_line number (decimal level) (with_last (made kind name parent login enable None [])) r.text r.field
       ∙ present_is (with_priv (decimal level)) front at (made kind name parent login enable None []) ∙ rw r.read refl)
 
-  ruled : (kind : Kind) (login enable : Option (List ℕ)) (level : Option ℕ) (verdict : Verdict) (pattern : List ℕ) (done : List Rule) → is_ok (pattern_of pattern) ≡ true → length done < 256
+  ruled : (kind : Kind) (login enable : Option (List ℕ)) (level : Option ℕ) (verdict : Verdict) (pattern : List ℕ) (done : List Rule) → is_ok (pattern_of pattern) ≡ true → length done < max_rules
       → with_line Two number (verdict_word verdict ++ pattern) (with_last (made kind name parent login enable level done))
       ≡ Ok (with_last (made kind name parent login enable level (done ++ record { verdict = verdict; pattern = pattern } ∷ [])))
   ruled kind login enable level verdict pattern done right room =
-      let test : nat_le 256 (length done) ≡ false = grind (arith, nat_tests) in
+      let test : nat_le max_rules (length done) ≡ false = grind (arith, nat_tests) in
       verdict_line number verdict pattern (with_last (made kind name parent login enable level done)) (pattern_text pattern right)
       ∙ present_is (with_rule Two verdict pattern) front at (made kind name parent login enable level done)
       ∙ rw (rule_read Two verdict pattern pattern (made kind name parent login enable level done) (pattern_same pattern right), test) refl
 
 all_ruled : (number at : ℕ) (front : Draft) (name : List ℕ) (parent : Option (List ℕ)) (kind : Kind) (login enable : Option (List ℕ)) (level : Option ℕ) (done rules : List Rule)
-    → list_all is_right_rule rules ≡ true → length done + length rules ≤ 256
+    → list_all is_right_rule rules ≡ true → length done + length rules ≤ max_rules
     → with_lines Two number (map rule_line rules) (front ++ (at, made kind name parent login enable level done) ∷ []) ≡ Ok (front ++ (at, made kind name parent login enable level (done ++ rules)) ∷ [])
 unfolding with_lines
 all_ruled number at front name parent kind login enable level done [] right room =
@@ -227,7 +227,7 @@ all_ruled number at front name parent kind login enable level done [] right room
     rules-nil (rule ∷ rules) = ap (λ (rest : List Rule). rule ∷ rest) (rules-nil rules)
 all_ruled number at front name parent kind login enable level done (rule ∷ rules) right room =
     let lengths = length-append done (rule ∷ []) in
-    let few : length done < 256 = omega arith in
+    let few : length done < max_rules = omega arith in
     let step = ruled number at front name parent kind login enable level rule.verdict rule.pattern done (and_left (is_right_rule rule) _ right) few in
     let moved : (done ++ rule ∷ []) ++ rules ≡ done ++ rule ∷ rules = append_assoc done (rule ∷ []) rules in
     rw step (all_ruled (number + 1) at front name parent kind login enable level (done ++ rule ∷ []) rules (and_right (is_right_rule rule) _ right) (omega arith)
@@ -235,7 +235,7 @@ all_ruled number at front name parent kind login enable level done (rule ∷ rul
 
 -- ---- a subject
 
-subject_read : (number : ℕ) (draft : Draft) (subject : Subject) → is_right_subject subject ≡ true → is_some (find_subject (id_of subject) (subjects_of draft)) ≡ false → length draft < 1024
+subject_read : (number : ℕ) (draft : Draft) (subject : Subject) → is_right_subject subject ≡ true → is_some (find_subject (id_of subject) (subjects_of draft)) ≡ false → length draft < max_subjects
     → with_lines Two number (subject_lines subject) draft ≡ Ok (draft ++ (number, subject) ∷ [])
 subject_read number draft subject right none room =
     let r = right_parts subject right in
@@ -251,7 +251,7 @@ subject_read number draft subject right none room =
     let d1 = draft ++ (number, made kind name parent subject.login None None []) ∷ [] in
     let d2 = draft ++ (number, made kind name parent subject.login subject.enable None []) ∷ [] in
     let d3 = draft ++ (number, made kind name parent subject.login subject.enable subject.priv_lvl []) ∷ [] in
-    let few : 0 + length subject.rules ≤ 256 = let test = r.few in grind (arith, nat_tests) in
+    let few : 0 + length subject.rules ≤ max_rules = let test = r.few in grind (arith, nat_tests) in
     let h0 = one_line number heading draft d0 (begun number kind name parent draft r.name r.parent none room) in
     let h1 = both number (heading ∷ []) login draft d0 d1 h0 (logged (number + 1) number draft name parent kind subject.login subject.enable r.login r.secrets) in
     let h2 = both number (heading ∷ login) enable draft d1 d2 h1 (enabled (number + length (heading ∷ login)) number draft name parent kind subject.login subject.enable r.enable r.secrets) in
@@ -285,7 +285,7 @@ apart (x ∷ before) after id h =
     not_is false k = refl
 
 policy_read : (number : ℕ) (draft : Draft) (policy : List Subject) → list_all is_right_subject policy ≡ true → all_distinct (map id_of (subjects_of draft ++ policy)) ≡ true
-    → length draft + length policy ≤ 1024 → with_lines Two number (policy_lines policy) draft ≡ Ok (draft ++ numbered number policy)
+    → length draft + length policy ≤ max_subjects → with_lines Two number (policy_lines policy) draft ≡ Ok (draft ++ numbered number policy)
 unfolding with_lines numbered
 policy_read number draft [] right distinct few = let whole : draft ++ [] ≡ draft = draft-nil draft in rw whole refl
   where
@@ -297,7 +297,7 @@ policy_read number draft (subject ∷ rest) right distinct few =
     let after = number + length (subject_lines subject) in
     let split = map-append id_of (subjects_of draft) (subject ∷ rest) in
     let none = sym (any_is (id_of subject) (subjects_of draft)) ∙ apart (map id_of (subjects_of draft)) (map id_of rest) (id_of subject) (sym (ap all_distinct split) ∙ distinct) in
-    let room : length draft < 1024 = omega arith in
+    let room : length draft < max_subjects = omega arith in
     let one = subject_read number draft subject (and_left (is_right_subject subject) _ right) none room in
     let same : subjects_of next ++ rest ≡ subjects_of draft ++ subject ∷ rest = ap (λ (s : List Subject). s ++ rest) (subjects-push draft number subject) ∙ append_assoc (subjects_of draft) (subject ∷ []) rest in
     let still : all_distinct (map id_of (subjects_of next ++ rest)) ≡ true = ap (λ (s : List Subject). all_distinct (map id_of s)) same ∙ distinct in

@@ -7,6 +7,7 @@ use Rattle.std.proofs.lemmas.List.Edits.{length-insert, length-remove}
 use Rattle.std.proofs.lemmas.List.Folds.{list_all-append}
 use Rattle.std.proofs.lemmas.Option.{slice_get_within}
 use Rattle.pol_text.proofs.Keeps.{all_at}
+use Rattle.pol_text.specs.Policy.{max_rules}
 
 all_take : {X : Type 0} (test : X → Bool) (n : ℕ) (xs : List X) → list_all test xs ≡ true → list_all test (take n xs) ≡ true
 all_take test zero xs all = refl
@@ -30,11 +31,11 @@ pub all_insert : {X : Type 0} (test : X → Bool) (xs : List X) (at : ℕ) (y : 
 all_insert test xs at y all here =
     all_append test (take at xs) (y ∷ drop at xs) (all_take test at xs all) (and_from (test y) (list_all test (drop at xs)) here (all_drop test at xs all))
 
-pub few_removed : {X : Type 0} (xs : List X) (at : ℕ) → at < length xs → nat_le (length xs) 256 ≡ true → nat_le (length (remove xs at)) 256 ≡ true
-few_removed xs at lt few = le-leb (length (remove xs at)) 256 (omega (arith, length-remove xs at lt, leb-true (length xs) 256 few))
+pub few_removed : {X : Type 0} (xs : List X) (at : ℕ) → at < length xs → nat_le (length xs) max_rules ≡ true → nat_le (length (remove xs at)) max_rules ≡ true
+few_removed xs at lt few = le-leb (length (remove xs at)) max_rules (omega (arith, length-remove xs at lt, leb-true (length xs) max_rules few))
 
-pub few_inserted : {X : Type 0} (xs : List X) (at : ℕ) (y : X) → at ≤ length xs → length xs < 256 → nat_le (length (insert xs at y)) 256 ≡ true
-few_inserted xs at y le lt = le-leb (length (insert xs at y)) 256 (omega (arith, length-insert xs at y le))
+pub few_inserted : {X : Type 0} (xs : List X) (at : ℕ) (y : X) → at ≤ length xs → length xs < max_rules → nat_le (length (insert xs at y)) max_rules ≡ true
+few_inserted xs at y le lt = le-leb (length (insert xs at y)) max_rules (omega (arith, length-insert xs at y le))
 
 -- the move
 pub all_moved : {X : Type 0} (test : X → Bool) (xs : List X) (from to : ℕ) → list_all test xs ≡ true → list_all test (option_map_or (insert (remove xs from) to) (slice_get xs from) xs) ≡ true
@@ -44,14 +45,14 @@ all_moved {X = X} test xs from to all = by (slice_get xs from) refl
     by None e = all
     by (Some y) e = all_insert test (remove xs from) to y (all_remove test xs from all) (all_at test xs from y all e)
 
-pub few_moved : {X : Type 0} (xs : List X) (from to : ℕ) → to < length xs → nat_le (length xs) 256 ≡ true
-    → nat_le (length (option_map_or (insert (remove xs from) to) (slice_get xs from) xs)) 256 ≡ true
+pub few_moved : {X : Type 0} (xs : List X) (from to : ℕ) → to < length xs → nat_le (length xs) max_rules ≡ true
+    → nat_le (length (option_map_or (insert (remove xs from) to) (slice_get xs from) xs)) max_rules ≡ true
 few_moved {X = X} xs from to lt few = by (slice_get xs from) refl
   where
-    by : (o : Option X) → slice_get xs from ≡ o → nat_le (length (option_map_or (insert (remove xs from) to) o xs)) 256 ≡ true
+    by : (o : Option X) → slice_get xs from ≡ o → nat_le (length (option_map_or (insert (remove xs from) to) o xs)) max_rules ≡ true
     by None e = few
     by (Some y) e =
         let within : from < length xs = slice_get_within xs from y e in
         let fewer = length-remove xs from within in
         let more = length-insert (remove xs from) to y (omega arith) in
-        le-leb (length (insert (remove xs from) to y)) 256 (omega (arith, leb-true (length xs) 256 few))
+        le-leb (length (insert (remove xs from) to y)) max_rules (omega (arith, leb-true (length xs) max_rules few))

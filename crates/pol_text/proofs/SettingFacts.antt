@@ -25,7 +25,7 @@ use Rattle.pol_text.specs.declared.setting.Setting.TheVariants as settings
 use Rattle.pol_names.specs.Name.{is_name}
 use Rattle.pol_names.specs.Secret.{is_secret, secret_of}
 use Rattle.pol_names.specs.SubjectId.{same_kind}
-use Rattle.pol_text.specs.Policy.{id_of, all_of, is_right_rule, has_right_secrets, is_right_subject}
+use Rattle.pol_text.specs.Policy.{id_of, all_of, is_right_rule, has_right_secrets, is_right_subject, max_rules}
 use Rattle.pol_text.specs.Setting.{changed_by}
 use Rattle.pol_text.specs.Text.{set_once, with_login, with_enable, with_priv, with_rule, level_of, pattern_in}
 
@@ -50,7 +50,7 @@ pub record Right (subject : Subject) : Type 0 where
   pub enable : all_of is_secret subject.enable ≡ true
   pub secrets : has_right_secrets subject ≡ true
   pub level : all_of (λ level. nat_le level 15) subject.priv_lvl ≡ true
-  pub few : nat_le (length subject.rules) 256 ≡ true
+  pub few : nat_le (length subject.rules) max_rules ≡ true
   pub rules : list_all is_right_rule subject.rules ≡ true
 
 pub right_parts : (subject : Subject) → is_right_subject subject ≡ true → Right subject
@@ -201,7 +201,7 @@ priv_kept text subject next h =
     }
 
 pub rule_read : (version : Version) (verdict : Verdict) (text pattern : List ℕ) (subject : Subject) → pattern_in version text ≡ Ok pattern
-    → with_rule version verdict text subject ≡ cond (nat_le 256 (length subject.rules)) (Err Limit) (Ok (record subject { rules = subject.rules ++ record { verdict = verdict; pattern = pattern } ∷ [] }))
+    → with_rule version verdict text subject ≡ cond (nat_le max_rules (length subject.rules)) (Err Limit) (Ok (record subject { rules = subject.rules ++ record { verdict = verdict; pattern = pattern } ∷ [] }))
 unfolding with_rule
 rule_read version verdict text pattern subject e = rw e refl
 
@@ -212,7 +212,7 @@ rule_refused version verdict text fault subject e = rw e refl
 pub rule_kept : (version : Version) (verdict : Verdict) (text : List ℕ) (subject next : Subject) → with_rule version verdict text subject ≡ Ok next → Kept subject next
 rule_kept version verdict text subject next h = by (pattern_in version text) refl
   where
-    more : (pattern : List ℕ) → pattern_in version text ≡ Ok pattern → Right subject → nat_le 256 (length subject.rules) ≡ false → Right (record subject { rules = subject.rules ++ record { verdict = verdict; pattern = pattern } ∷ [] })
+    more : (pattern : List ℕ) → pattern_in version text ≡ Ok pattern → Right subject → nat_le max_rules (length subject.rules) ≡ false → Right (record subject { rules = subject.rules ++ record { verdict = verdict; pattern = pattern } ∷ [] })
     more pattern e r room =
         let one : is_right_rule (record { verdict = verdict; pattern = pattern }) ≡ true = pattern_right version text pattern e in
         record {
@@ -226,7 +226,7 @@ rule_kept version verdict text subject next h = by (pattern_in version text) ref
           rules = list_all-append is_right_rule subject.rules (record { verdict = verdict; pattern = pattern } ∷ []) ∙ rw (r.rules, one) refl;
         }
 
-    fits : (pattern : List ℕ) → pattern_in version text ≡ Ok pattern → (b : Bool) → nat_le 256 (length subject.rules) ≡ b
+    fits : (pattern : List ℕ) → pattern_in version text ≡ Ok pattern → (b : Bool) → nat_le max_rules (length subject.rules) ≡ b
         → cond b (Err Limit) (Ok (record subject { rules = subject.rules ++ record { verdict = verdict; pattern = pattern } ∷ [] })) ≡ Ok next → Kept subject next
     fits pattern e true room k = absurd cc
     fits pattern e false room k =
@@ -234,7 +234,7 @@ rule_kept version verdict text subject next h = by (pattern_in version text) ref
         record { same = ap id_of is; right = λ (r : Right subject). rw is (more pattern e r room) }
 
     by : (p : Result (List ℕ) PatternFault) → pattern_in version text ≡ p → Kept subject next
-    by (Ok pattern) e = fits pattern e (nat_le 256 (length subject.rules)) refl (sym (rule_read version verdict text pattern subject e) ∙ h)
+    by (Ok pattern) e = fits pattern e (nat_le max_rules (length subject.rules)) refl (sym (rule_read version verdict text pattern subject e) ∙ h)
     by (Err fault) e = let none = sym (rule_refused version verdict text fault subject e) ∙ h in absurd cc
 
 pub change_kept : (setting : Setting) (subject next : Subject) → changed_by setting subject ≡ Ok next → Kept subject next

@@ -21,7 +21,7 @@ use Rattle.pol_names.specs.declared.decision.Verdict.TheVariants.{Permit, Deny}
 use Rattle.pol_text.specs.declared.subject.Subject.{Subject}
 use Rattle.pol_text.specs.declared.fault.PolicyRefusal.{PolicyRefusal}
 use Rattle.pol_text.specs.declared.fault.PolicyRefusal.TheVariants.{BadLine, BadName, Repeated, Limit, NoSubject}
-use Rattle.pol_text.specs.Policy.{find_subject}
+use Rattle.pol_text.specs.Policy.{find_subject, max_rules, max_subjects}
 use Rattle.pol_text.specs.Text.{◌>>=◌, Draft, subjects_of, named, is_field, with_parent, heading, new_subject, with_subject, split_last, with_present, set_once, with_login, with_enable, level_of, with_priv, with_rule, with_words, is_blank, with_trimmed, with_line, at_line, with_lines, with_right_chains, policy_of, pattern_in, body_of, with_body}
 use Rattle.pol_text.specs.Spelling.{Sets, login, enable, level, rule, Adds, begins, sets, Extends, meaningful, Spells}
 use Rattle.pol_text.proofs.SettingFacts.{and_left, rule_read, rule_refused}
@@ -97,11 +97,11 @@ begun_adds version number kind line rest draft next spelled h =
     let p = bind_ok (heading rest (split_at_first 32 rest)) _ next h in
     let right = heading_right rest (split_at_first 32 rest) p.0 p.1 in
     let a = second_ok (is_some (find_subject (record { kind = kind; name = p.0.0 }) (subjects_of draft))) Repeated _ next p.2 in
-    let b = second_ok (nat_le 1024 (length draft)) Limit _ next a.1 in
+    let b = second_ok (nat_le max_subjects (length draft)) Limit _ next a.1 in
     let is : next ≡ draft ++ (number, new_subject kind p.0.0 p.0.1) ∷ [] = cc in
     let sizes : length (subjects_of draft) ≡ length draft = length-map draft (λ (entry : ℕ × Subject). entry.1) in
     let test = b.0 in
-    let room : length (subjects_of draft) < 1024 = grind (arith, nat_tests) in
+    let room : length (subjects_of draft) < max_subjects = grind (arith, nat_tests) in
     let whole = heading_spelled rest (split_at_first 32 rest) p.0 refl p.1 in
     begins kind p.0.0 p.0.1 right.0 right.1
     (spelled ∙ ap (λ (t : List ℕ). kind_word kind ++ t) whole ∙ sym (append_assoc (kind_word kind) p.0.0 (after_name p.0.1)))
@@ -152,9 +152,9 @@ rule_sets version verdict line text old new spelled h = by (pattern_in version t
   where
     by : (p : Result (List ℕ) PatternFault) → pattern_in version text ≡ p → Sets version old line new
     by (Ok pattern) e =
-        let k = second_ok (nat_le 256 (length old.rules)) Limit _ new (sym (rule_read version verdict text pattern old e) ∙ h) in
+        let k = second_ok (nat_le max_rules (length old.rules)) Limit _ new (sym (rule_read version verdict text pattern old e) ∙ h) in
         let test = k.0 in
-        let room : length old.rules < 256 = grind (arith, nat_tests) in
+        let room : length old.rules < max_rules = grind (arith, nat_tests) in
         let is : new ≡ record old { rules = old.rules ++ record { verdict = verdict; pattern = pattern } ∷ [] } = cc in
         rule verdict text pattern e spelled room is
     by (Err fault) e = let none = sym (rule_refused version verdict text fault old e) ∙ h in absurd cc

@@ -7,7 +7,7 @@ ghost use Rattle.std.specs.List.{list_all, list_any};
 ghost use Rattle.std.specs.Option.{option_map_or};
 ghost use Rattle.std.specs.Result.{result_err};
 ghost use Rattle.pol_names.specs.SubjectId.{same_id, group_id};
-ghost use Rattle.pol_text.specs.Policy.{id_of, find_subject, ends_within as ends_test, all_of};
+ghost use Rattle.pol_text.specs.Policy.{id_of, find_subject, ends_within as ends_test, all_of, max_rules, max_subjects};
 ghost use Rattle.pol_text.specs.Policy.{WellFormed, TellsEndless};
 ghost use Rattle.pol_text.specs.Change.{with_changed, without, is_parent, has_room_below};
 ghost use Rattle.pol_text.specs.Change.{chain_fault, with_parent, with_secret, with_priv};
@@ -102,7 +102,7 @@ impl Policy {
         parent: Option<Name>,
     ) -> Result<(), AllocError>
         requires absent { find_subject (record { kind = kind; name = name }) self.old ≡ None }
-        requires room { length self.old < 1024 }
+        requires room { length self.old < max_subjects }
         requires below { IsTrue (all_of (λ group. has_room_below group self.old) parent) }
         ensures ok { OnOk result (self.new ≡ self.old ++ new_subject kind name parent ∷ []) }
         ensures err { OnErr result (self.new ≡ self.old) }
@@ -181,7 +181,7 @@ impl Policy {
     /// Puts a rule at a place among a subject's rules, counted from 0; those from there on move up.
     pub fn insert_rule(&mut self, id: &SubjectId, at: usize, rule: Rule) -> Result<(), AllocError>
         requires { IsTrue (option_map_or
-            (λ subject. nat_le at (length subject.rules) && nat_lt (length subject.rules) 256)
+            (λ subject. nat_le at (length subject.rules) && nat_lt (length subject.rules) max_rules)
             (find_subject id.now self.old) false) }
         ensures ok { OnOk result
             (self.new ≡ with_changed id.now (with_rule_at at rule) self.old) }

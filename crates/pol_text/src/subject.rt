@@ -4,7 +4,7 @@ ghost use Rattle.std.specs.Prelude.{◌≡◌, ◌≤◌, length, is_some, IsTru
 ghost use Rattle.pol_names.specs.Secret.{is_secret};
 ghost use Rattle.pol_names.specs.SubjectId.{kind_word};
 ghost use Rattle.pol_names.specs.SubjectId.{group_id, user_id};
-ghost use Rattle.pol_text.specs.Policy.{id_of, all_of, is_right_rule, is_right_subject};
+ghost use Rattle.pol_text.specs.Policy.{id_of, all_of, is_right_rule, is_right_subject, max_rules};
 ghost use Rattle.pol_text.specs.Policy.{first_match as first_of};
 ghost use Rattle.pol_text.specs.Change.{with_secret, with_rule_at};
 ghost use Rattle.pol_text.specs.Setting.{secret_for};
@@ -187,7 +187,7 @@ impl Subject {
 
     /// What the first of the subject's own rules whose pattern holds the line decides.
     pub(crate) fn first_match(&self, line: &[u8]) -> Option<Decision>
-        requires { length self.now.rules ≤ 256 }
+        requires { length self.now.rules ≤ max_rules }
         ensures { result ≡ first_of (id_of self.now) 1 self.now.rules line.now }
     {
         let owner = self.id();

@@ -9,7 +9,7 @@ use Rattle.pol_names.specs.declared.subject_id.Kind.{Kind}
 use Rattle.pol_names.specs.declared.subject_id.Kind.TheVariants.{Group, User}
 use Rattle.pol_names.specs.declared.subject_id.SubjectId.{SubjectId}
 use Rattle.pol_text.specs.declared.subject.Subject.{Subject}
-use Rattle.pol_text.specs.Policy.{WellFormed, id_of, find_subject, all_distinct, all_of, has_parent}
+use Rattle.pol_text.specs.Policy.{WellFormed, id_of, find_subject, all_distinct, all_of, has_parent, max_subjects}
 use Rattle.pol_text.specs.Same.{same_subject, same_subject-Decides}
 use Rattle.pol_text.specs.Change.{with_changed, with_parent, is_parent}
 use Rattle.pol_text.specs.Text.{new_subject}
@@ -199,7 +199,7 @@ module _ (old new : List Subject) where
 
   -- there is room for one more
   pub room : (plan : Plan) (x : Subject) (rest : List Subject) → AreLeft (x ∷ rest) new → WellFormed new → WellFormed plan.made → ((i : SubjectId) → IsNew old new i (find_subject i plan.made))
-      → find_subject (id_of x) plan.made ≡ None → length plan.made < 1024
+      → find_subject (id_of x) plan.made ≡ None → length plan.made < max_subjects
   room plan x rest left w made kept absent =
       let more : suc (length plan.made) ≤ length new = no_more (x ∷ plan.made) new distinct among in
       let few = w.few in

@@ -20,7 +20,7 @@ use Rattle.pol_names.specs.declared.subject_id.SubjectId.{SubjectId}
 use Rattle.pol_names.specs.declared.decision.Verdict.{Verdict}
 use Rattle.pol_text.specs.declared.subject.Rule.{Rule}
 use Rattle.pol_text.specs.declared.subject.Subject.{Subject}
-use Rattle.pol_text.specs.Policy.{WellFormed, id_of, find_subject, all_of, is_right_subject}
+use Rattle.pol_text.specs.Policy.{WellFormed, id_of, find_subject, all_of, is_right_subject, max_rules, max_subjects}
 use Rattle.pol_text.proofs.Keeps.{same_id_is, all_found, found_same}
 use Rattle.pol_text.proofs.RightSubject.{right_parts}
 use Rattle.pol_text.specs.Setting.{secret_for}
@@ -45,7 +45,7 @@ takes_gone : (p : List Subject) (id : SubjectId) (s : Subject) → find_subject 
 unfolding applied removed_from
 takes_gone p id s found unused = rw (found, unused) refl
 
-takes_added : (p : List Subject) (kind : Kind) (name : List ℕ) → find_subject (record { kind = kind; name = name }) p ≡ None → nat_le 1024 (length p) ≡ false
+takes_added : (p : List Subject) (kind : Kind) (name : List ℕ) → find_subject (record { kind = kind; name = name }) p ≡ None → nat_le max_subjects (length p) ≡ false
     → applied p (bare_edit kind name) ≡ Ok (p ++ new_subject kind name None ∷ [])
 unfolding applied added_to
 takes_added p Group name absent room = rw (absent, room) refl
@@ -68,7 +68,7 @@ unfolding applied dropped_in
 takes_drop p id s found number = rw (found, number) refl
 
 takes_rule : (p : List Subject) (id : SubjectId) (at : ℕ) (verdict : Verdict) (pattern : List ℕ) (s : Subject) → find_subject id p ≡ Some s → is_number at (length s.rules + 1) ≡ true
-    → pattern_of pattern ≡ Ok pattern → nat_le 256 (length s.rules) ≡ false
+    → pattern_of pattern ≡ Ok pattern → nat_le max_rules (length s.rules) ≡ false
     → applied p (InsertRule id at verdict pattern) ≡ Ok (with_changed id (with_rule_at (at - 1) (record { verdict = verdict; pattern = pattern })) p)
 unfolding applied inserted_in
 takes_rule p id at verdict pattern s found number reads room = rw (found, number, reads, room) refl
@@ -100,7 +100,7 @@ gone_turned r id s before now w found unused added =
     (λ e. let both : None ≡ Some s = e ∙ found in absurd cc) added
 
 pub added_turned : {E : Type 0} (r : Result (Unit {0}) E) (kind : Kind) (name : List ℕ) (before now : Plan) → WellFormed before.made → find_subject (record { kind = kind; name = name }) before.made ≡ None
-    → length before.made < 1024 → Added r before now (bare_edit kind name) → OnOk r (IsTurned (record { kind = kind; name = name }) (Some (new_subject kind name None)) before now)
+    → length before.made < max_subjects → Added r before now (bare_edit kind name) → OnOk r (IsTurned (record { kind = kind; name = name }) (Some (new_subject kind name None)) before now)
 added_turned r kind name before now w absent room added =
     turned_by r (bare_edit kind name) (record { kind = kind; name = name }) (Some (new_subject kind name None)) before now (before.made ++ new_subject kind name None ∷ []) (of kind) w
     (takes_added before.made kind name absent (grind (arith, nat_tests))) (turns_added (new_subject kind name None) before.made absent)
@@ -159,7 +159,7 @@ longer {X = X} (y ∷ xs) x e = longer xs x (ap tail e)
     tail (z ∷ zs) = zs
 
 pub rule_turned : {E : Type 0} (r : Result (Unit {0}) E) (id : SubjectId) (place at : ℕ) (rule : Rule) (s : Subject) (before now : Plan) → WellFormed before.made → find_subject id before.made ≡ Some s
-    → length s.rules ≡ place → place < 256 → at ≡ place + 1 → pattern_of rule.pattern ≡ Ok rule.pattern → Added r before now (InsertRule id at rule.verdict rule.pattern)
+    → length s.rules ≡ place → place < max_rules → at ≡ place + 1 → pattern_of rule.pattern ≡ Ok rule.pattern → Added r before now (InsertRule id at rule.verdict rule.pattern)
     → OnOk r (IsTurned id (option_map (with_rule_at place rule) (find_subject id before.made)) before now)
 rule_turned r id place at rule s before now w found last room number reads added =
     turned_by r (InsertRule id at rule.verdict rule.pattern) id (option_map (with_rule_at place rule) (find_subject id before.made)) before now (with_changed id (with_rule_at place rule) before.made) refl w
@@ -250,7 +250,7 @@ gone_by r id None before now w found is there unused added = absurd (true≢fals
 gone_by r id (Some s) before now w found is there unused added = gone_turned r id s.now before now w (sym found) (unused w) added
 
 pub rule_by : {E : Type 0} (r : Result (Unit {0}) E) (id : SubjectId) (o : Option (Bor Subject)) {none : Bool} (place : ℕ) (rule : Rule) (before now : Plan) → WellFormed before.made
-    → option_copied o ≡ find_subject id before.made → is_some o ≡ not none → none ≡ false → ((s : Subject) → find_subject id before.made ≡ Some s → length s.rules ≡ place) → place < 256
+    → option_copied o ≡ find_subject id before.made → is_some o ≡ not none → none ≡ false → ((s : Subject) → find_subject id before.made ≡ Some s → length s.rules ≡ place) → place < max_rules
     → pattern_of rule.pattern ≡ Ok rule.pattern → Added r before now (InsertRule id (place + 1) rule.verdict rule.pattern)
     → OnOk r (IsTurned id (option_map (with_rule_at place rule) (find_subject id before.made)) before now)
 rule_by r id None place rule before now w found is there last room reads added = absurd (true≢false (sym (is ∙ ap not there)))

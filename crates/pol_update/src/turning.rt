@@ -6,7 +6,7 @@ ghost use Rattle.std.specs.Option.{option_map};
 ghost use Rattle.pol_names.specs.Secret.{is_secret};
 ghost use Rattle.pol_names.specs.SubjectId.{same_kind, user_id};
 ghost use Rattle.pol_names.specs.declared.subject_id.Kind.TheVariants.{Group};
-ghost use Rattle.pol_text.specs.Policy.{WellFormed, all_of, find_subject, id_of, is_right_subject};
+ghost use Rattle.pol_text.specs.Policy.{WellFormed, all_of, find_subject, id_of, is_right_subject, max_rules, max_subjects};
 ghost use Rattle.pol_text.specs.Change.{with_changed, is_parent, with_parent, with_secret};
 ghost use Rattle.pol_text.specs.Change.{with_priv, with_rule_at, without_rule_at};
 ghost use Rattle.pol_text.specs.Setting.{secret_for};
@@ -129,7 +129,7 @@ impl Plan {
         name: Name,
     ) -> Result<(), AllocError>
         requires absent { find_subject (record { kind = kind; name = name }) self.old.made ≡ None }
-        requires room { length self.old.made < 1024 }
+        requires room { length self.old.made < max_subjects }
         ensures { OnOk result (IsTurned (record { kind = kind; name = name })
             (Some (new_subject kind name None)) self.old self.new) }
     {
@@ -237,7 +237,7 @@ impl Plan {
     ) -> Result<(), AllocError>
         requires last { (subject : SubjectValue) → find_subject id.now self.old.made ≡ Some subject
             → length subject.rules ≡ place }
-        requires room { place < 256 }
+        requires room { place < max_rules }
         ensures { OnOk result (IsTurned id.now
             (option_map (with_rule_at place rule.now) (find_subject id.now self.old.made))
             self.old self.new) }
@@ -264,7 +264,7 @@ impl Plan {
     fn add_rules(&mut self, alloc: Global, id: &SubjectId, rules: &[Rule]) -> Result<(), AllocError>
         requires fresh { (subject : SubjectValue) → find_subject id.now self.old.made ≡ Some subject
             → subject.rules ≡ [] }
-        requires few { length rules.now ≤ 256 }
+        requires few { length rules.now ≤ max_rules }
         ensures { OnOk result (IsTurned id.now
             (option_map (with_rules rules.now) (find_subject id.now self.old.made))
             self.old self.new) }

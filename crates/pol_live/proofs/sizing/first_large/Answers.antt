@@ -3,6 +3,7 @@ use Rattle.std.proofs.lemmas.Option.{slice_get_within, get_or_from_slice_get}
 use Rattle.pol_meaning.specs.Sizes.{AreSmall, IsLarge}
 use Rattle.pol_live.proofs.BuildFacts.{first_large, more_small, not_before}
 use Rattle.pol_live.proofs.sizing.first_large.Goals as goal
+use Rattle.pol_text.specs.Policy.{max_subjects}
 
 pub returns-then-branch : goal.returns-then-branch
 returns-then-branch c =
@@ -34,8 +35,8 @@ bounds-subjects-large c =
 pub offset_bounds-subjects-large : goal.offset_bounds-subjects-large
 offset_bounds-subjects-large c =
     let within = slice_get_within c.args.policy.now c.args.large c.requires.large.0 c.requires.large.1 in
-    let few : length c.args.policy.now ≤ 1024 = c.subjects-subjects.ensures.well_formed.few in
-    let below : c.args.large < 1024 = omega arith in
+    let few : length c.args.policy.now ≤ max_subjects = c.subjects-subjects.ensures.well_formed.few in
+    let below : c.args.large < max_subjects = omega arith in
     search rules
 
 pub returns : goal.returns

@@ -2,7 +2,7 @@ use Rattle.std.proofs.Common.{◌≡◌, ◌<◌, ◌∷◌, ◌++◌, [], true,
 use Rattle.std.proofs.lemmas.List.{map_push}
 use Rattle.pol_names.specs.declared.subject_id.SubjectId.{SubjectId}
 use Rattle.pol_text.specs.declared.subject.Subject.{Subject}
-use Rattle.pol_text.specs.Policy.{WellFormed, find_subject, id_of, all_of, is_right_subject}
+use Rattle.pol_text.specs.Policy.{WellFormed, find_subject, id_of, all_of, is_right_subject, max_subjects}
 use Rattle.pol_text.specs.Change.{has_room_below}
 use Rattle.pol_text.specs.Text.{new_subject}
 use Rattle.pol_text.proofs.Placed.{AreFields}
@@ -28,7 +28,7 @@ invariant_of-self c =
     let p = c.self.inside.subjects in
     let y = new_subject c.args.kind c.args.name c.args.parent in
     let absent : find_subject (id_of y) p ≡ None = ap (find_subject (id_of y)) c.self.view_is ∙ c.requires.absent in
-    let room : length p < 1024 = subst (λ (l : List Subject). length l < 1024) (sym c.self.view_is) c.requires.room in
+    let room : length p < max_subjects = subst (λ (l : List Subject). length l < max_subjects) (sym c.self.view_is) c.requires.room in
     let below : all_of (λ group. has_room_below group p) y.parent ≡ true = subst (λ (l : List Subject). all_of (λ group. has_room_below group l) y.parent ≡ true) (sym c.self.view_is) c.requires.below in
     let right : is_right_subject y ≡ true = ap is_right_subject (sym c.new-subject.ensures.subject) ∙ c.new-subject.ensures.right in
     let well : WellFormed (p ++ c.new-subject.result ∷ []) = subst (λ (s : Subject). WellFormed (p ++ s ∷ [])) (sym c.new-subject.ensures.subject) (kept_add p c.self.invariant.0 y absent room below right) in
