@@ -1,4 +1,4 @@
--- What lies under the lock of a hall, and what one step does to it.
+-- What lies under the lock of a hall, and what one operation does to it.
 use Rattle.std.specs.Prelude.{◌≡◌, ◌<◌, ◌≤◌, ℕ, suc, List, [], ◌∷◌, ◌++◌, length, true, false}
 use Rattle.std.specs.Prelude.{Result, Ok, Err}
 use Rattle.tac_desk.specs.Meaning.{Meaning}
@@ -7,8 +7,8 @@ use Rattle.tac_hall.specs.declared.entry.Entry.{Entry}
 use Rattle.tac_hall.specs.declared.fault.HallFault.{HallFault}
 use Rattle.tac_hall.specs.declared.fault.HallFault.TheVariants.{LogFull, Memory, Closed, NoSeat}
 use Rattle.tac_hall.specs.declared.laws.Called.{Called}
-use Rattle.tac_hall.specs.declared.laws.Step.{Step}
-use Rattle.tac_hall.specs.declared.laws.Step.TheVariants as steps
+use Rattle.tac_hall.specs.declared.laws.Operation.{Operation}
+use Rattle.tac_hall.specs.declared.laws.Operation.TheVariants as operations
 use Rattle.tac_hall.specs.declared.laws.Done.{Done}
 use Rattle.tac_hall.specs.declared.laws.Done.TheVariants as done
 use Rattle.tac_hall.specs.History.{Answers, IsOfKind, is_closed, Legal}
@@ -49,7 +49,7 @@ pub record IsLawful (room : Contents) : Type 0 where
   pub within : length room.log ≤ room.limit
   pub seated : room.seats ≤ most_seats
 
--- ---- a step
+-- ---- an operation
 
 -- a seat is made, under the next number, unless there are as many as there may be
 abbrev pub Sits : Contents → Result ℕ HallFault → Contents → Type 0
@@ -113,12 +113,12 @@ Rotates was (Err Memory) now =
     (is_closed was.log ≡ false) × (was.number < last_segment) × (now ≡ was)
 Rotates was (Err NoSeat) now = ⊥
 
--- what a step does, of any kind
-abbrev pub Does : Contents → Step → Result Done HallFault → Contents → Type 0
-Does was steps.Seat (Ok (done.Seated number)) now = Sits was (Ok number) now
-Does was steps.Seat (Err fault) now = Sits was (Err fault) now
-Does was (steps.Call seat call) (Ok (done.Called called)) now = Calls was seat call (Ok called) now
-Does was (steps.Call seat call) (Err fault) now = Calls was seat call (Err fault) now
-Does was steps.Rotate (Ok (done.Rotated segment)) now = Rotates was (Ok segment) now
-Does was steps.Rotate (Err fault) now = Rotates was (Err fault) now
-Does was step (Ok other) now = ⊥
+-- what an operation does, of any kind
+abbrev pub Does : Contents → Operation → Result Done HallFault → Contents → Type 0
+Does was operations.Seat (Ok (done.Seated number)) now = Sits was (Ok number) now
+Does was operations.Seat (Err fault) now = Sits was (Err fault) now
+Does was (operations.Call seat call) (Ok (done.Called called)) now = Calls was seat call (Ok called) now
+Does was (operations.Call seat call) (Err fault) now = Calls was seat call (Err fault) now
+Does was operations.Rotate (Ok (done.Rotated segment)) now = Rotates was (Ok segment) now
+Does was operations.Rotate (Err fault) now = Rotates was (Err fault) now
+Does was operation (Ok other) now = ⊥

@@ -1,4 +1,4 @@
-//! What lies under the lock of a hall, and the one step that is done while the lock is held.
+//! What lies under the lock of a hall, and the one operation that is done while the lock is held.
 
 ghost use Rattle.std.specs.Prelude.{◌≡◌, ◌≤◌, [], ◌↔◌, true, IsTrue, length};
 ghost use Rattle.tac_desk.specs.Meaning.{Meaning};
@@ -72,7 +72,7 @@ impl<D: Desk> Model for Room<D> {
 
 /// One thing that is done while the lock is held.
 #[derive(Drop)]
-pub enum Step {
+pub enum Operation {
     /// A seat is made.
     Seat,
     /// The seat of this number makes a call.
@@ -81,7 +81,7 @@ pub enum Step {
     Rotate,
 }
 
-/// What a step gives.
+/// What an operation gives.
 #[derive(Drop)]
 pub enum Done {
     /// The number of the new seat.
@@ -202,21 +202,21 @@ impl<D: Desk> Room<D> {
     ///
     /// A seat takes constant time. So does a call, amortised, but for what the desk takes to
     /// answer. A rotation is linear in the policy and the records.
-    pub fn step(&mut self, step: Step) -> Result<Done, HallFault>
-        ensures does { rooms.Does self.old step result self.new }
+    pub fn step(&mut self, operation: Operation) -> Result<Done, HallFault>
+        ensures does { rooms.Does self.old operation result self.new }
         ensures lawful { rooms.IsLawful self.old }
         ensures legal { history.Legal self.new.base self.new.log self.new.meaning }
     {
-        match step {
-            Step::Seat => {
+        match operation {
+            Operation::Seat => {
                 let number = self.sit()?;
                 Ok(Done::Seated(number))
             }
-            Step::Call(seat, call) => {
+            Operation::Call(seat, call) => {
                 let called = self.call(seat, call)?;
                 Ok(Done::Called(called))
             }
-            Step::Rotate => {
+            Operation::Rotate => {
                 let segment = self.rotate()?;
                 Ok(Done::Rotated(segment))
             }

@@ -10,7 +10,7 @@ ghost use Rattle.tac_hall.specs.declared.call.Call.{Call as CallValue};
 use crate::call::{Call, CallAnswer};
 use crate::entry::{Entry, Made, Receipt};
 use crate::fault::HallFault;
-use crate::laws::{Called, Done, Room, Step};
+use crate::laws::{Called, Done, Operation, Room};
 use crate::part::{are_later, end_of_logs, end_of_part};
 use crate::segment::Segment;
 use crate::shared::Shared;
@@ -21,7 +21,7 @@ use std::marker::Model;
 use std::sync::{Mutex, Wait};
 use tac_desk::Desk;
 
-// The step of a call.
+// The operation of a call.
 fn call_from<D: Desk>(
     room: &mut Room<D>,
     number: u32,
@@ -29,29 +29,29 @@ fn call_from<D: Desk>(
 ) -> Result<Called, HallFault>
     ensures { rooms.Calls room.old number call result room.new }
 {
-    match room.step(Step::Call(number, call))? {
+    match room.step(Operation::Call(number, call))? {
         Done::Called(called) => Ok(called),
         Done::Seated(_) | Done::Rotated(_) => unreachable!(),
     }
 }
 
-// The step of a new seat.
+// The operation of a new seat.
 pub(crate) fn sit_in<D: Desk>(room: &mut Room<D>) -> Result<u32, HallFault>
     ensures sits { rooms.Sits room.old result room.new }
     ensures lawful { rooms.IsLawful room.old }
 {
-    match room.step(Step::Seat)? {
+    match room.step(Operation::Seat)? {
         Done::Seated(number) => Ok(number),
         Done::Called(_) | Done::Rotated(_) => unreachable!(),
     }
 }
 
-// The step of a rotation.
+// The operation of a rotation.
 pub(crate) fn rotate_in<D: Desk>(room: &mut Room<D>) -> Result<Segment, HallFault>
     ensures rotates { rooms.Rotates room.old result room.new }
     ensures lawful { rooms.IsLawful room.old }
 {
-    match room.step(Step::Rotate)? {
+    match room.step(Operation::Rotate)? {
         Done::Rotated(segment) => Ok(segment),
         Done::Seated(_) | Done::Called(_) => unreachable!(),
     }
