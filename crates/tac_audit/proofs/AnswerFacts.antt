@@ -7,6 +7,7 @@ use Rattle.std.proofs.lemmas.Bool.{and_parts, and_from}
 use Rattle.std.proofs.lemmas.Bool.Decides.{nat_tests}
 use Rattle.std.proofs.lemmas.Slice.Eq.{bytes_eq-Decides}
 use Rattle.basics.specs.Lines.{lines_of, onto_first, split_at_first}
+use Rattle.tac_audit.specs.declared.event.Typist.{Typist}
 use Rattle.tac_audit.specs.declared.event.Typed.{Typed}
 use Rattle.tac_audit.specs.Masking.{masked, masked_answer, masked_setting, is_setting, text_of, masked_text, most_told, size_told, typed_of, IsToldWhole}
 
@@ -118,14 +119,14 @@ not_over n size h = grind (arith, nat_tests)
 size_none : (size : ℕ) → size ≤ most_told → size_told size ≡ None
 size_none size h = rw (not_over most_told size h) refl
 
-typed_with : List ℕ → List ℕ → Option ℕ → List (List ℕ) → Typed
-typed_with time console size answer = record { time = time; console = console; answer_bytes = size; answer = answer }
+typed_with : List ℕ → Typist → List ℕ → Option ℕ → List (List ℕ) → Typed
+typed_with time typist console size answer = record { time = time; typist = typist; console = console; answer_bytes = size; answer = answer }
 
-pub told_whole : (time line answer : List ℕ) → IsToldWhole time line answer
+pub told_whole : (time : List ℕ) (typist : Typist) (line answer : List ℕ) → IsToldWhole time typist line answer
 unfolding typed_of typed_with
-told_whole time line answer short =
+told_whole time typist line answer short =
     let size : size_told (length (masked_text answer)) ≡ None = size_none (length (masked_text answer)) short in
     let lines : lines_of (take most_told (masked_text answer)) ≡ map masked_answer (lines_of answer) =
     ap lines_of (take_all most_told (masked_text answer) short) ∙ lines_again (map masked_answer (lines_of answer)) (masked_are (lines_of answer) (lines_are answer)) in
-    ap (λ (x : Option ℕ). typed_with time (masked line) x (lines_of (take most_told (masked_text answer)))) size
-    ∙ ap (λ (x : List (List ℕ)). typed_with time (masked line) None x) lines
+    ap (λ (x : Option ℕ). typed_with time typist (masked line) x (lines_of (take most_told (masked_text answer)))) size
+    ∙ ap (λ (x : List (List ℕ)). typed_with time typist (masked line) None x) lines

@@ -18,10 +18,12 @@ use Rattle.tac_audit.specs.declared.event.Why.TheVariants as reasons
 use Rattle.tac_audit.specs.declared.event.Told.{Told}
 use Rattle.tac_audit.specs.declared.event.Told.TheVariants.{Login, Command, Account, Refused}
 use Rattle.tac_audit.specs.declared.event.Event.{Event}
+use Rattle.tac_audit.specs.declared.event.Typist.{Typist}
+use Rattle.tac_audit.specs.declared.event.Typist.TheVariants.{Anyone, Operator}
 use Rattle.tac_audit.specs.declared.event.Typed.{Typed}
 use Rattle.tac_audit.specs.Json.{text_json, optional_json, texts_json, member}
-use Rattle.tac_audit.specs.Event.{status_word, why_word, kind_word, session_digits, asker_json, said_json, type_json, told_json, begun, ended, line_of, size_json, typed_line}
-use Rattle.tac_audit.specs.Apart.{are_bytes, are_texts, is_asker, is_said, is_told, is_size, AreApart, AreTypedApart}
+use Rattle.tac_audit.specs.Event.{status_word, why_word, kind_word, session_digits, asker_json, said_json, type_json, told_json, begun, ended, line_of, typist_json, size_json, typed_line}
+use Rattle.tac_audit.specs.Apart.{are_bytes, are_texts, is_asker, is_said, is_told, is_typist, is_size, AreApart, AreTypedApart}
 use Rattle.tac_audit.proofs.JsonApart.{text_apart, optional_apart, texts_apart, IsNext, next_member, unlike, number_apart, member_apart, hexes_are_bytes, hexes_apart}
 
 -- ---- words
@@ -418,27 +420,43 @@ sizes_apart (Some m) (Some n) v w x y h k same =
     (member_apart (codes "answer_bytes") (decimal m) (decimal n) (member (codes "answer") v ++ x) (member (codes "answer") w ++ y) same) in
     (ap (λ (size : ℕ). Some size) parts.0, parts.1)
 
-typed_parts : (a b : Typed) → a.time ≡ b.time → a.console ≡ b.console → a.answer_bytes ≡ b.answer_bytes → a.answer ≡ b.answer → a ≡ b
-typed_parts a b time console size answer =
+-- who typed, or nobody, before a line
+typists_apart : (a b : Typist) (v w x y : List ℕ) → is_typist a ≡ true → is_typist b ≡ true
+    → typist_json a ++ (member (codes "console") v ++ x) ≡ typist_json b ++ (member (codes "console") w ++ y)
+    → (a ≡ b) × (member (codes "console") v ++ x ≡ member (codes "console") w ++ y)
+unfolding member
+typists_apart Anyone Anyone v w x y h k same = (refl, same)
+typists_apart Anyone (Operator n) v w x y h k same = absurd (unlike 0x63 0x6F refl (ap (λ (l : List ℕ). slice_index l 2) same))
+typists_apart (Operator m) Anyone v w x y h k same = absurd (unlike 0x6F 0x63 refl (ap (λ (l : List ℕ). slice_index l 2) same))
+typists_apart (Operator m) (Operator n) v w x y h k same =
+    let parts = optional_member (codes "operator") m n (member (codes "console") v ++ x) (member (codes "console") w ++ y) h k same in
+    (ap (λ (name : Option (List ℕ)). Operator name) parts.0, parts.1)
+
+typed_parts : (a b : Typed) → a.time ≡ b.time → a.typist ≡ b.typist → a.console ≡ b.console → a.answer_bytes ≡ b.answer_bytes → a.answer ≡ b.answer → a ≡ b
+typed_parts a b time typist console size answer =
     ap (λ (x : List ℕ). record a { time = x }) time
-    ∙ ap (λ (x : List ℕ). record { time = b.time; console = x; answer_bytes = a.answer_bytes; answer = a.answer }) console
-    ∙ ap (λ (x : Option ℕ). record { time = b.time; console = b.console; answer_bytes = x; answer = a.answer }) size
+    ∙ ap (λ (x : Typist). record { time = b.time; typist = x; console = a.console; answer_bytes = a.answer_bytes; answer = a.answer }) typist
+    ∙ ap (λ (x : List ℕ). record { time = b.time; typist = b.typist; console = x; answer_bytes = a.answer_bytes; answer = a.answer }) console
+    ∙ ap (λ (x : Option ℕ). record { time = b.time; typist = b.typist; console = b.console; answer_bytes = x; answer = a.answer }) size
     ∙ ap (λ (x : List (List ℕ)). record b { answer = x }) answer
 
-typed_is : (t : Typed) → typed_line t ≡ begun (Some t.time) ++ (member (codes "console") (text_json t.console) ++ (size_json t.answer_bytes ++ (member (codes "answer") (texts_json t.answer) ++ ended)))
-typed_is t = nest4 (begun (Some t.time)) (member (codes "console") (text_json t.console)) (size_json t.answer_bytes) (member (codes "answer") (texts_json t.answer)) ended
+typed_is : (t : Typed) → typed_line t ≡ begun (Some t.time) ++ (typist_json t.typist ++ (member (codes "console") (text_json t.console) ++ (size_json t.answer_bytes ++ (member (codes "answer") (texts_json t.answer) ++ ended))))
+typed_is t = nest5 (begun (Some t.time)) (typist_json t.typist) (member (codes "console") (text_json t.console)) (size_json t.answer_bytes) (member (codes "answer") (texts_json t.answer)) ended
 
 pub typed_apart : (a b : Typed) → AreTypedApart a b
 typed_apart a b h k same =
-    let h1 = and_parts (are_bytes a.time && are_bytes a.console && is_size a.answer_bytes) (are_texts a.answer) h in
-    let k1 = and_parts (are_bytes b.time && are_bytes b.console && is_size b.answer_bytes) (are_texts b.answer) k in
-    let h2 = and_parts (are_bytes a.time && are_bytes a.console) (is_size a.answer_bytes) h1.0 in
-    let k2 = and_parts (are_bytes b.time && are_bytes b.console) (is_size b.answer_bytes) k1.0 in
-    let h3 = and_parts (are_bytes a.time) (are_bytes a.console) h2.0 in
-    let k3 = and_parts (are_bytes b.time) (are_bytes b.console) k2.0 in
-    let times = begun_apart (Some a.time) (Some b.time) _ _ h3.0 k3.0 (sym (typed_is a) ∙ same ∙ typed_is b) in
+    let h1 = and_parts (are_bytes a.time && is_typist a.typist && are_bytes a.console && is_size a.answer_bytes) (are_texts a.answer) h in
+    let k1 = and_parts (are_bytes b.time && is_typist b.typist && are_bytes b.console && is_size b.answer_bytes) (are_texts b.answer) k in
+    let h2 = and_parts (are_bytes a.time && is_typist a.typist && are_bytes a.console) (is_size a.answer_bytes) h1.0 in
+    let k2 = and_parts (are_bytes b.time && is_typist b.typist && are_bytes b.console) (is_size b.answer_bytes) k1.0 in
+    let h3 = and_parts (are_bytes a.time && is_typist a.typist) (are_bytes a.console) h2.0 in
+    let k3 = and_parts (are_bytes b.time && is_typist b.typist) (are_bytes b.console) k2.0 in
+    let h4 = and_parts (are_bytes a.time) (is_typist a.typist) h3.0 in
+    let k4 = and_parts (are_bytes b.time) (is_typist b.typist) k3.0 in
+    let times = begun_apart (Some a.time) (Some b.time) _ _ h4.0 k4.0 (sym (typed_is a) ∙ same ∙ typed_is b) in
     let time : a.time ≡ b.time = (let both = times.0 in cc) in
-    let consoles = text_member (codes "console") a.console b.console _ _ h3.1 k3.1 times.1 in
+    let typists = typists_apart a.typist b.typist (text_json a.console) (text_json b.console) _ _ h4.1 k4.1 times.1 in
+    let consoles = text_member (codes "console") a.console b.console _ _ h3.1 k3.1 typists.1 in
     let sizes = sizes_apart a.answer_bytes b.answer_bytes (texts_json a.answer) (texts_json b.answer) ended ended h2.1 k2.1 consoles.1 in
     let answers = texts_member (codes "answer") a.answer b.answer ended ended h1.1 k1.1 sizes.1 in
-    typed_parts a b time consoles.0 sizes.0 answers.0
+    typed_parts a b time typists.0 consoles.0 sizes.0 answers.0

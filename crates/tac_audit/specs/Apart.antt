@@ -7,6 +7,8 @@ use Rattle.tac_audit.specs.declared.event.Said.{Said}
 use Rattle.tac_audit.specs.declared.event.Told.{Told}
 use Rattle.tac_audit.specs.declared.event.Told.TheVariants.{Login, Command, Account, Refused}
 use Rattle.tac_audit.specs.declared.event.Event.{Event}
+use Rattle.tac_audit.specs.declared.event.Typist.{Typist}
+use Rattle.tac_audit.specs.declared.event.Typist.TheVariants.{Anyone, Operator}
 use Rattle.tac_audit.specs.declared.event.Typed.{Typed}
 use Rattle.tac_audit.specs.Event.{line_of, typed_line}
 
@@ -43,10 +45,14 @@ is_event event =
 abbrev pub is_size : Option ℕ → Bool
 is_size size = option_map_or (λ size. nat_lt size (2 ^ 64)) size true
 
+abbrev pub is_typist : Typist → Bool
+is_typist Anyone = true
+is_typist (Operator name) = option_map_or are_bytes name true
+
 abbrev pub is_typed : Typed → Bool
 is_typed typed =
-    are_bytes typed.time && are_bytes typed.console && is_size typed.answer_bytes
-    && are_texts typed.answer
+    are_bytes typed.time && is_typist typed.typist && are_bytes typed.console
+    && is_size typed.answer_bytes && are_texts typed.answer
 
 -- events with the same line are the same
 abbrev pub AreApart : Event → Event → Type 0

@@ -15,6 +15,8 @@ use Rattle.tac_audit.specs.declared.event.Why.TheVariants as reasons
 use Rattle.tac_audit.specs.declared.event.Told.{Told}
 use Rattle.tac_audit.specs.declared.event.Told.TheVariants.{Login, Command, Account, Refused}
 use Rattle.tac_audit.specs.declared.event.Event.{Event}
+use Rattle.tac_audit.specs.declared.event.Typist.{Typist}
+use Rattle.tac_audit.specs.declared.event.Typist.TheVariants.{Anyone, Operator}
 use Rattle.tac_audit.specs.declared.event.Typed.{Typed}
 use Rattle.tac_audit.specs.Json.{hex_byte, text_json, optional_json, texts_json, member}
 
@@ -97,6 +99,11 @@ line_of event =
     ++ member (codes "session") (text_json (session_digits event.session))
     ++ told_json event.told ++ ended
 
+-- who typed a line, where operators share the console: null where he says no name
+abbrev pub typist_json : Typist → List ℕ
+typist_json Anyone = []
+typist_json (Operator name) = member (codes "operator") (optional_json name)
+
 -- how many bytes an answer has, where only the first of them are told
 abbrev pub size_json : Option ℕ → List ℕ
 size_json None = []
@@ -105,6 +112,7 @@ size_json (Some size) = member (codes "answer_bytes") (decimal size)
 -- the line of what was typed at the console
 abbrev pub typed_line : Typed → List ℕ
 typed_line typed =
-    begun (Some typed.time) ++ member (codes "console") (text_json typed.console)
+    begun (Some typed.time) ++ typist_json typed.typist
+    ++ member (codes "console") (text_json typed.console)
     ++ size_json typed.answer_bytes
     ++ member (codes "answer") (texts_json typed.answer) ++ ended

@@ -6,6 +6,7 @@ use Rattle.std.specs.List.{list_all, position, flat_map}
 use Rattle.std.specs.Option.{option_and_then, option_map, option_map_or}
 use Rattle.std.specs.Str.{str_eq_ignore_ascii_case}
 use Rattle.basics.specs.Lines.{lines_of, split_at_first}
+use Rattle.tac_audit.specs.declared.event.Typist.{Typist}
 use Rattle.tac_audit.specs.declared.event.Typed.{Typed}
 
 -- ---- lines of the console
@@ -108,23 +109,25 @@ size_told size = if nat_lt most_told size then Some size else None
 
 -- ---- both
 
--- what was typed, and the lines of the first bytes of its answer. Secrets are hidden before it is
+-- what was typed, by whom, and the lines of the first bytes of its answer. Secrets are hidden before it is
 -- cut, so neither the cut nor the size tells how long they are
-unfoldable pub typed_of : List ℕ → List ℕ → List ℕ → Typed
-typed_of time line answer =
+unfoldable pub typed_of : List ℕ → Typist → List ℕ → List ℕ → Typed
+typed_of time typist line answer =
     record {
       time = time;
+      typist = typist;
       console = masked line;
       answer_bytes = size_told (length (masked_text answer));
       answer = lines_of (take most_told (masked_text answer));
     }
 
 -- all lines of a short answer are told
-abbrev pub IsToldWhole : List ℕ → List ℕ → List ℕ → Type 0
-IsToldWhole time line answer =
-    length (masked_text answer) ≤ most_told → typed_of time line answer
+abbrev pub IsToldWhole : List ℕ → Typist → List ℕ → List ℕ → Type 0
+IsToldWhole time typist line answer =
+    length (masked_text answer) ≤ most_told → typed_of time typist line answer
     ≡ record {
       time = time;
+      typist = typist;
       console = masked line;
       answer_bytes = None;
       answer = map masked_answer (lines_of answer);

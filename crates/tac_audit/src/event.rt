@@ -112,11 +112,21 @@ pub struct Event {
     pub told: Told,
 }
 
-/// What was typed at the console, and when.
+/// Who typed a line at the console.
+#[derive(Debug, Drop)]
+pub enum Typist {
+    /// Whoever has its one input: nobody says who that is.
+    Anyone,
+    /// One of the operators who share it, by the name that he says, if he says one.
+    Operator(Option<Bytes>),
+}
+
+/// What was typed at the console, by whom, and when.
 #[derive(Debug, Drop)]
 pub struct Typed {
     /// By RFC 3339.
     pub time: Bytes,
+    pub typist: Typist,
     /// The line, without its secrets.
     pub console: Bytes,
     /// How many bytes its answer has without secrets, where only the first of them are told.

@@ -12,7 +12,7 @@ mod telling;
 mod typing;
 mod witness;
 
-pub use event::{Asker, Event, Said, Status, Told, Typed, Why};
+pub use event::{Asker, Event, Said, Status, Told, Typed, Typist, Why};
 pub use line::{push_event, typed_line};
 pub use logins::{Logins, Noted};
 pub use masking::{masked, masked_answer};

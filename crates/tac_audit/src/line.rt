@@ -9,7 +9,7 @@ ghost use Rattle.tac_audit.specs.declared.event.Told.TheVariants as told;
 ghost use Rattle.tac_audit.specs.declared.event.Event.{Event as EventValue};
 ghost use Rattle.tac_audit.specs.declared.event.Typed.{Typed as TypedValue};
 
-use crate::event::{Asker, Event, Said, Status, Told, Typed, Why};
+use crate::event::{Asker, Event, Said, Status, Told, Typed, Typist, Why};
 use crate::json::{hex_digit, write_list, write_member, write_number, write_optional, write_text};
 use basics::Bytes;
 use std::alloc::{AllocError, Global};
@@ -92,14 +92,14 @@ fn write_said(out: &mut Vec<u8>, said: &Said) -> io::Result<()>
     Ok(())
 }
 
-// The line of a command, where there is one.
-fn write_command_line(out: &mut Vec<u8>, line: &Option<Bytes>) -> Result<(), AllocError>
+// A text, where there is one.
+fn write_owned(out: &mut Vec<u8>, name: &[u8], text: &Option<Bytes>) -> Result<(), AllocError>
     ensures { OnOk result (out.new.items
-        ≡ out.old.items ++ json.member LINE.now (json.optional_json line.now)) }
+        ≡ out.old.items ++ json.member name.now (json.optional_json text.now)) }
 {
-    match line {
-        Some(line) => write_optional(out, LINE, Some(line.as_slice())),
-        None => write_optional(out, LINE, None),
+    match text {
+        Some(text) => write_optional(out, name, Some(text.as_slice())),
+        None => write_optional(out, name, None),
     }
 }
 
@@ -141,7 +141,7 @@ fn write_command(
 {
     write_request(out, b"command", asker)?;
     write_list(out, b"arguments", arguments)?;
-    write_command_line(out, line)?;
+    write_owned(out, LINE, line)?;
     write_said(out, said)
 }
 
@@ -273,10 +273,23 @@ fn write_size(out: &mut Vec<u8>, size: Option<u64>) -> io::Result<()>
     }
 }
 
+const OPERATOR: &[u8] = b"operator";
+
+// Who typed, where operators share the console.
+fn write_typist(out: &mut Vec<u8>, typist: &Typist) -> Result<(), AllocError>
+    ensures { OnOk result (out.new.items ≡ out.old.items ++ lines.typist_json typist.now) }
+{
+    match typist {
+        Typist::Anyone => Ok(()),
+        Typist::Operator(name) => write_owned(out, OPERATOR, name),
+    }
+}
+
 fn write_typed(out: &mut Vec<u8>, typed: &Typed) -> io::Result<()>
     ensures { OnOk result (out.new.items ≡ out.old.items ++ lines.typed_line typed.now) }
 {
     write_begun(out, Some(&typed.time))?;
+    write_typist(out, &typed.typist)?;
     write_member(out, b"console", typed.console.as_slice())?;
     write_size(out, typed.answer_bytes)?;
     write_list(out, b"answer", typed.answer.as_slice())?;

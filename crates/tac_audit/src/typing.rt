@@ -4,8 +4,9 @@ ghost use Rattle.std.specs.Prelude.{◌≡◌, ◌≤◌, ◌+◌, ◌++◌, ℕ
 ghost use Rattle.basics.specs.Lines.{lines_of};
 ghost use Rattle.tac_audit.specs.Masking as words;
 ghost use Rattle.tac_audit.specs.Masking.{IsToldWhole};
+ghost use Rattle.tac_audit.specs.declared.event.Typist.{Typist as TypistValue};
 
-use crate::event::Typed;
+use crate::event::{Typed, Typist};
 use crate::masking::{masked, masked_answer};
 use basics::{Bytes, Lines, Sequence};
 use std::alloc::{AllocError, Global};
@@ -90,23 +91,31 @@ fn texts_of(alloc: Global, text: &[u8]) -> Result<Sequence<Bytes>, AllocError>
     Ok(texts)
 }
 
-/// What was typed at the console, and what it was answered, without secrets: the lines of the
+/// What was typed at the console, by whom, and what it was answered, without secrets: the lines of the
 /// answer's first 4,096 bytes, and how many bytes it has where that is more. The error means that
 /// memory ran out. Linear; an answer takes no more memory than its longest line and these bytes.
 #[tactic(auto, using(crate::proofs::AnswerFacts::told_whole), unfolding(crate::specs::Masking::typed_of))]
-pub fn typed(alloc: Global, time: Bytes, line: &[u8], answer: &[u8]) -> Result<Typed, AllocError>
-    ensures typed { IfOk result (λ typed. typed ≡ words.typed_of time line.now answer.now) }
+pub fn typed(
+    alloc: Global,
+    time: Bytes,
+    typist: Typist,
+    line: &[u8],
+    answer: &[u8],
+) -> Result<Typed, AllocError>
+    ensures typed { IfOk result (λ typed. typed ≡ words.typed_of time typist line.now answer.now) }
     // An answer that is no longer than that is told whole.
-    ensures whole { (time line answer : List ℕ) → IsToldWhole time line answer }
+    ensures whole { (time : List ℕ) (typist : TypistValue) (line answer : List ℕ) →
+        IsToldWhole time typist line answer }
     // Answers that differ only in their secrets are told alike, also where they are cut.
-    ensures hidden { (time line a b : List ℕ) →
+    ensures hidden { (time : List ℕ) (typist : TypistValue) (line a b : List ℕ) →
         map words.masked_answer (lines_of a) ≡ map words.masked_answer (lines_of b) →
-        words.typed_of time line a ≡ words.typed_of time line b }
+        words.typed_of time typist line a ≡ words.typed_of time typist line b }
 {
     let console = masked(alloc, line)?;
     let (front, size) = front_of(alloc, answer)?;
     Ok(Typed {
         time,
+        typist,
         console,
         answer_bytes: size_told(size),
         answer: texts_of(alloc, front.as_slice())?,

@@ -13,6 +13,7 @@ mod log;
 mod moment;
 mod opening;
 mod tail;
+mod typists;
 
 pub use console::ConsoleLog;
 pub use device::DeviceLog;
@@ -22,3 +23,4 @@ pub use log::{Log, Nowhere};
 pub use moment::Moments;
 pub use opening::LogFiles;
 pub use tac_audit::Refused;
+pub use typists::{OneInput, Typists};

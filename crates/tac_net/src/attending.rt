@@ -13,11 +13,11 @@ use tac_audit::Nobody;
 use tac_desk::Desk;
 use tac_forum::{Run, Seat};
 use tac_hall_console::{OperatorFault, Source, operate};
-use tac_journal::{ConsoleLog, Entry, Log, LogFiles};
+use tac_journal::{ConsoleLog, Entry, Log, LogFiles, Typists};
 
 // Operates the console. The log of the server, if one is kept, is told of each line before it is
 // answered.
-fn operate_logged<R, J: Run, D: Desk, L: Log, S: Source, I: Read, O: Write>(
+fn operate_logged<R, J: Run, D: Desk, L: Log, S: Source + Typists, I: Read, O: Write>(
     premises: &Premises<'_, R, J, D, L>,
     source: &S,
     console: Seat<J>,
@@ -33,14 +33,15 @@ where
     let rt = premises.rt;
     let desk = premises.desk;
     if premises.log.is_kept() {
-        let mut witness = ConsoleLog::new(rt.alloc(), rt, Entry::new(rt, premises.log));
+        let log = Entry::new(rt, premises.log);
+        let mut witness = ConsoleLog::new(rt.alloc(), rt, source, log);
         return operate(rt, desk, source, console, &mut witness, input, output);
     }
     operate(rt, desk, source, console, &mut Nobody, input, output)
 }
 
 // Once each worker has a thread, the first line is printed, and then the console is operated.
-fn open_console<R, J: Run, D: Desk, L: Log, S: Source, I: Read, O: Write>(
+fn open_console<R, J: Run, D: Desk, L: Log, S: Source + Typists, I: Read, O: Write>(
     premises: &Premises<'_, R, J, D, L>,
     source: &S,
     console: Seat<J>,
@@ -63,7 +64,7 @@ where
 
 /// The console's part, from its first line to its last. Then all workers are told to end, whatever
 /// they wait for. Nothing is read and no line printed where a worker has no thread.
-pub(crate) fn attend<R, J: Run, D: Desk, L: Log, S: Source, I: Read, O: Write>(
+pub(crate) fn attend<R, J: Run, D: Desk, L: Log, S: Source + Typists, I: Read, O: Write>(
     premises: &Premises<'_, R, J, D, L>,
     source: &S,
     console: Seat<J>,

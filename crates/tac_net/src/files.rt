@@ -5,6 +5,6 @@
 pub struct ServerFiles<'a, L, S> {
     /// The log, which is told of what devices are answered and of each line of the console.
     pub log: &'a L,
-    /// Where the console's `reload` finds a policy.
+    /// Where the console's `reload` finds a policy. It knows too who types there.
     pub source: &'a S,
 }

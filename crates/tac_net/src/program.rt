@@ -27,7 +27,7 @@ use tac_desk::Desk;
 use tac_forum::{EmptyHistory, Run, Seat, SharedDesk};
 use tac_hall::HallFault;
 use tac_hall_console::{OperatorFault, Source};
-use tac_journal::{Log, LogFiles};
+use tac_journal::{Log, LogFiles, Typists};
 
 // The workers, each in a thread of its own; they come back in their order.
 fn serve_places<R, J: Run + Send + Sync, D: Desk + Send, L: Log + Sync>(
@@ -70,7 +70,7 @@ where
 
 // Workers serve in threads of their own, while this one serves the console. Once that has ended,
 // they end.
-fn serve_both<R, J, D: Desk + Send, L: Log + Sync, S: Source, P, C, I: Read, O: Write>(
+fn serve_both<R, J, D: Desk + Send, L: Log + Sync, S: Source + Typists, P, C, I: Read, O: Write>(
     premises: &Premises<'_, R, J, D, L>,
     source: &S,
     places: &mut P,
@@ -147,7 +147,7 @@ where
 }
 
 // Serves a desk of this run, whose history is empty yet.
-fn serve_run<J, R, D: Desk + Send, L: Log + Sync, S: Source, I: Read, O: Write>(
+fn serve_run<J, R, D: Desk + Send, L: Log + Sync, S: Source + Typists, I: Read, O: Write>(
     rt: &R,
     port: &Port,
     history: EmptyHistory,
@@ -229,7 +229,7 @@ where
 /// only once that was told of it ([`DeviceLog`](tac_journal::DeviceLog)), and each line of the
 /// console is told before its answer is printed. Of several faults the console's comes first. There
 /// may be 63 workers: a desk has 64 seats, and the console takes one.
-pub fn serve<R, D: Desk + Send, L: Log + Sync, S: Source, I: Read, O: Write>(
+pub fn serve<R, D: Desk + Send, L: Log + Sync, S: Source + Typists, I: Read, O: Write>(
     rt: &R,
     port: &Port,
     desk: D,

@@ -65,6 +65,11 @@ Adds text was now (Ok is_answer) =
     AddsAt text was.place now.place is_answer × (now.holder ≡ was.holder)
 Adds text was now (Err error) = now ≡ was
 
+-- the name of whose line the console answers now, if he said one
+abbrev pub typist_at : Place → Option (List ℕ)
+typist_at (places.Taken slip) = slip.operator.name
+typist_at place = None
+
 abbrev pub answered_at : Place → Option Operator → Board
 answered_at (places.Taken slip) holder = record {
   place = places.Answered slip;

@@ -156,6 +156,16 @@ impl Board {
         }
     }
 
+    /// The name that the operator said whose line was taken, and has no whole answer yet.
+    pub(crate) fn typist(&self) -> Option<Name>
+        ensures { result ≡ board.typist_at self.now.place }
+    {
+        match &self.place {
+            Place::Taken(slip) => slip.operator.name,
+            _ => None,
+        }
+    }
+
     /// The line that was taken, if one was, has its whole answer now.
     pub(crate) fn finish(&mut self)
         ensures { self.new ≡ board.after_answered self.old }

@@ -4,6 +4,7 @@ ghost use Rattle.std.specs.Prelude.{None};
 
 use crate::board::{Board, Operator, Ruling, Slip};
 use basics::Bytes;
+use pol_names::Name;
 use std::alloc::{AllocError, Global};
 use std::io::{self, Read, Write};
 use std::sync::atomic::{AtomicBool, AtomicU64, Ordering};
@@ -74,6 +75,11 @@ impl Exchange {
             exchange: self,
             beside,
         }
+    }
+
+    /// The name that the operator said whose line the console answers now, if he said one.
+    pub fn typist<R: Wait>(&self, rt: &R) -> Option<Name> {
+        self.board.lock(rt).typist()
     }
 
     /// Hands in a line, and waits for its answer: first until the lines before it are answered.

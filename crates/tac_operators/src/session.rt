@@ -320,6 +320,13 @@ impl<'a, R: Wait + Clock + AllocGlobal> Session<'a, R> {
         };
         let quits = self.listen();
         if self.exchange.is_held_by(self.rt, self.operator.number) {
+            // he may have said his name since
+            let Slip { part, text, .. } = parting;
+            let parting = Slip {
+                operator: self.operator,
+                part,
+                text,
+            };
             // what it is answered is for nobody
             let _ = self.exchange.ask(self.rt, parting);
         }

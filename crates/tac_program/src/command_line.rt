@@ -311,7 +311,7 @@ pub(crate) fn command<'a>(alloc: Global) -> Result<Command<'a>, AllocError> {
         .about(ABOUT)
         .long_about(LONG_ABOUT)
         .after_long_help(AFTER_LONG_HELP)
-        .version("0.8.0")
+        .version("0.9.0")
         .subcommand_required(true);
     let command = with(command, serve(alloc))?;
     let command = with(command, console(alloc))?;

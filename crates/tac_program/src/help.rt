@@ -199,9 +199,9 @@ prompt, until the input ends; or from a file or a pipe, each once the one before
 the first that is refused ends it: the rest isn't sent, and a batch that is open is dropped.
 
 'tacd serve --help' describes the lines and their answers. At a socket there are two more: 'help', and
-'operator NAME', which says who types. This program says that by itself, from SUDO_USER, LOGNAME or
-USER. Eight operators may be there at once. While one of them has a batch open, edits of the others
-are answered by 'busy NAME'; he loses it where he types nothing for a minute.";
+'operator NAME', which tells others and the log who types. This program says that by itself, from
+SUDO_USER, LOGNAME or USER. Eight operators may be there at once. While one of them has a batch open,
+edits of the others are answered by 'busy NAME'; he loses it where he types nothing for a minute.";
 
 pub(crate) const CONSOLE_PATH_HELP: &str = "The server's socket; root and its own user can open it";
 

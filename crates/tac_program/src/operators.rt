@@ -3,16 +3,41 @@
 use crate::options::Options;
 use crate::server::{ended, serve_console};
 use crate::status::Status;
+use basics::Bytes;
+use std::alloc::{AllocError, Global};
 use std::io;
 use std::net::Net;
 use std::rt::Files;
 use std::sync::Wait;
 use std::thread::Threads;
 use std::time::Clock;
+use tac_audit::Typist;
 use tac_desks::LiveDesk;
-use tac_journal::{Journal, LogFiles};
+use tac_journal::{Journal, LogFiles, Typists};
 use tac_net::{Port, ServeFault};
 use tac_operators::{ConsoleHost, Door, Exchange, Patience, attend};
+
+// Those who type at an exchange.
+#[derive(Clone, Copy)]
+struct Operators<'a, H> {
+    host: &'a H,
+    exchange: &'a Exchange,
+}
+
+impl<H: Wait> Typists for Operators<'_, H> {
+    ghost use Rattle.std.specs.Prelude.{◌≡◌, List, ℕ, Option};
+    ghost use Rattle.tac_audit.specs.declared.event.Typist.TheVariants.{Operator};
+
+    ghost names = { λ _ typist. (name : Option (List ℕ)) × (typist ≡ Operator name) };
+
+    fn typist(&self, alloc: Global) -> Result<Typist, AllocError> {
+        let Some(name) = self.exchange.typist(self.host) else {
+            return Ok(Typist::Operator(None));
+        };
+        let name = Bytes::from_slice(alloc, name.as_slice())?;
+        Ok(Typist::Operator(Some(name)))
+    }
+}
 
 // Where operators come in.
 fn door_at<'a, R: Eprint, H: ConsoleHost>(
@@ -51,8 +76,12 @@ where
             Some(desk) => {
                 // what is printed before the first line goes to standard output
                 let output = exchange.output(host, io::writer(rt));
-                let streams = (exchange.input(host), output);
-                serve_console(rt, host, options, desk, journal, port, streams)
+                let typists = Operators {
+                    host,
+                    exchange: &exchange,
+                };
+                let console = (exchange.input(host), output, typists);
+                serve_console(rt, host, options, desk, journal, port, console)
             }
             None => Ok(()),
         }

@@ -12,7 +12,7 @@ use crate::descriptors::warn_of_few;
 use crate::opening::{open_desk, open_secret};
 use crate::operators::serve_operators;
 use crate::options::Options;
-use crate::source::PolicyFile;
+use crate::source::{ConsoleSide, PolicyFile};
 use crate::status::Status;
 use std::io;
 use std::io::{Read, Write};
@@ -22,7 +22,7 @@ use std::sync::Wait;
 use std::thread::Threads;
 use std::time::Clock;
 use tac_desks::LiveDesk;
-use tac_journal::{Journal, LogFiles};
+use tac_journal::{Journal, LogFiles, OneInput, Typists};
 use tac_net::{FillingDesk, Port, ServeFault, ServerFiles, serve};
 use tac_operators::ConsoleHost;
 use tac_tally::RecordLimit;
@@ -102,31 +102,32 @@ where
     }
 }
 
-/// Serves with a console on this input and output, until that ends. Standard error says when records
-/// fill up.
-pub(crate) fn serve_console<R, H, I: Read + Drop, O: Write + Drop>(
+/// Serves with a console on this input and output, at which these type, until that ends. Standard
+/// error says when records fill up.
+pub(crate) fn serve_console<R, H, I: Read + Drop, O: Write + Drop, T: Typists + Drop>(
     rt: &R,
     host: &H,
     options: &Options<'_>,
     desk: LiveDesk,
     journal: &Option<Journal<'_>>,
     port: &Port,
-    streams: (I, O),
+    console: (I, O, T),
 ) -> Result<(), ServeFault>
 where
     R: Files + Print + Eprint,
     H: Threads + Wait + Clock + Sync + AllocGlobal + Eprint + LogFiles + Net,
 {
     let desk = FillingDesk::new(host, desk, options.record_limit);
-    let source = PolicyFile {
+    let (mut input, mut output, typists) = console;
+    let file = PolicyFile {
         host: rt,
         path: options.path,
     };
+    let source = ConsoleSide { file, typists };
     let files = ServerFiles {
         log: journal,
         source: &source,
     };
-    let (mut input, mut output) = streams;
     serve(
         host,
         port,
@@ -168,15 +169,15 @@ where
     }
     let outcome = if options.has_console {
         let input = ConsoleInput::new(rt, rt.reader());
-        let streams = (input, io::writer(rt));
-        serve_console(rt, host, options, desk, &journal, &port, streams)
+        let console = (input, io::writer(rt), OneInput);
+        serve_console(rt, host, options, desk, &journal, &port, console)
     } else {
         let input = NoConsole {
             clock: host,
             port: &port,
         };
-        let streams = (input, io::writer(rt));
-        serve_console(rt, host, options, desk, &journal, &port, streams)
+        let console = (input, io::writer(rt), OneInput);
+        serve_console(rt, host, options, desk, &journal, &port, console)
     };
     ended(rt, outcome)
 }

@@ -6,8 +6,10 @@ use std::alloc::{AllocError, Global};
 use std::fs;
 use std::io::{self, ErrorKind, Read};
 use std::rt::Files;
+use tac_audit::Typist;
 use tac_hall_console::{Source, Unread};
 use tac_io::{InputFault, MAX_INPUT, read_whole};
+use tac_journal::Typists;
 
 /// The file of a policy, which is opened and read each time that its text is asked for.
 #[derive(Drop)]
@@ -57,5 +59,26 @@ impl<R: Files + Eprint> Source for PolicyFile<'_, R> {
             }
             Err(error) => Err(unopened(alloc, path, &error)),
         }
+    }
+}
+
+/// What a console has beside its input and output: the file of its policy, and who types there.
+#[derive(Drop)]
+pub(crate) struct ConsoleSide<'a, R, T> {
+    pub(crate) file: PolicyFile<'a, R>,
+    pub(crate) typists: T,
+}
+
+impl<R: Files + Eprint, T> Source for ConsoleSide<'_, R, T> {
+    fn text(&self, alloc: Global) -> Result<Vec<u8>, Unread> {
+        self.file.text(alloc)
+    }
+}
+
+impl<R, T: Typists> Typists for ConsoleSide<'_, R, T> {
+    ghost names = { λ side typist. T.names side.typists typist };
+
+    fn typist(&self, alloc: Global) -> Result<Typist, AllocError> {
+        self.typists.typist(alloc)
     }
 }

@@ -1,9 +1,11 @@
 //! A source of policies that has what a test says.
 
 use basics::Bytes;
-use std::alloc::Global;
+use std::alloc::{AllocError, Global};
 use std::cell::Cell;
+use tac_audit::Typist;
 use tac_hall_console::{Source, Unread};
+use tac_journal::Typists;
 
 /// What a source gives.
 #[derive(Clone, Copy)]
@@ -35,6 +37,17 @@ impl Shelf {
         let at = self.taken.get();
         self.taken.set(at.saturating_add(1));
         self.given.get(at).copied().unwrap_or(Given::Nothing)
+    }
+}
+
+impl Typists for Shelf {
+    ghost use Rattle.std.specs.Prelude.{◌≡◌};
+    ghost use Rattle.tac_audit.specs.declared.event.Typist.TheVariants.{Anyone};
+
+    ghost names = { λ _ typist. typist ≡ Anyone };
+
+    fn typist(&self, _alloc: Global) -> Result<Typist, AllocError> {
+        Ok(Typist::Anyone)
     }
 }
 

@@ -3,7 +3,7 @@
 use basics::Bytes;
 use std::alloc::{AllocError, Global};
 use std::test::Fail;
-use tac_audit::{typed, typed_line};
+use tac_audit::{Typist, typed, typed_line};
 
 // Adds a text so many times.
 fn push_times(all: &mut Vec<u8>, text: &str, times: usize) -> Result<(), AllocError> {
@@ -30,7 +30,7 @@ fn is_told(
 ) -> Result<bool, AllocError> {
     let time = Bytes::from_slice(alloc, b"t")?;
     let answer = joined(alloc, answer)?;
-    let typed = typed(alloc, time, b"policy", answer.as_slice())?;
+    let typed = typed(alloc, time, Typist::Anyone, b"policy", answer.as_slice())?;
     let found = typed_line(alloc, &typed)?;
     let wanted = joined(alloc, line)?;
     Ok(found.as_slice() == wanted.as_slice())

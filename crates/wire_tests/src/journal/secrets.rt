@@ -1,8 +1,9 @@
 //! Lines of a console, and of its answers, without their secrets.
 
 use basics::Bytes;
+use std::alloc::{AllocError, Global};
 use std::test::Fail;
-use tac_audit::{masked, masked_answer, typed, typed_line};
+use tac_audit::{Typist, masked, masked_answer, typed, typed_line};
 
 // Lines that have a secret, and how they are shown.
 const SECRETS: [(&str, &str); 9] = [
@@ -71,10 +72,33 @@ fn answers(rt: HostRuntime) -> Result<(), Fail> {
 fn both(rt: HostRuntime) -> Result<(), Fail> {
     let time = Bytes::from_slice(rt.alloc(), b"2026-11-25T23:00:00.000Z")?;
     let answer = b"policy 2\nuser bob\nlogin blue \"lake\"\nenable x\npermit .*\n";
-    let typed = typed(rt.alloc(), time, b"login bob blue", answer)?;
+    let typed = typed(rt.alloc(), time, Typist::Anyone, b"login bob blue", answer)?;
     let line = typed_line(rt.alloc(), &typed)?;
     let wanted = "{\"time\":\"2026-11-25T23:00:00.000Z\",\"console\":\"login bob *\",\"answer\":\
         [\"policy 2\",\"user bob\",\"login *\",\"enable *\",\"permit .*\"]}\n";
     assert!(&rt; line.as_slice() == wanted.as_bytes());
+    Ok(())
+}
+
+// Whether the line of `shadow`, with no answer, begins so where this one types it.
+fn is_typed_by(alloc: Global, typist: Typist, begin: &str) -> Result<bool, AllocError> {
+    let time = Bytes::from_slice(alloc, b"t")?;
+    let typed = typed(alloc, time, typist, b"shadow", b"")?;
+    let line = typed_line(alloc, &typed)?;
+    let wanted = format!(in alloc; "{begin},\"console\":\"shadow\",\"answer\":[]}}\n")?;
+    Ok(line.as_slice() == wanted.as_bytes())
+}
+
+#[test]
+fn who_typed(rt: HostRuntime) -> Result<(), Fail> {
+    let alloc = rt.alloc();
+    let anna = Typist::Operator(Some(Bytes::from_slice(alloc, b"anna")?));
+    // a text is escaped as others are
+    let odd = Typist::Operator(Some(Bytes::from_slice(alloc, b"a\"b\n")?));
+    assert!(&rt; is_typed_by(alloc, anna, "{\"time\":\"t\",\"operator\":\"anna\"")?);
+    assert!(&rt; is_typed_by(alloc, odd, "{\"time\":\"t\",\"operator\":\"a\\\"b\\u000a\"")?);
+    let unnamed = Typist::Operator(None);
+    assert!(&rt; is_typed_by(alloc, unnamed, "{\"time\":\"t\",\"operator\":null")?);
+    assert!(&rt; is_typed_by(alloc, Typist::Anyone, "{\"time\":\"t\"")?);
     Ok(())
 }
