@@ -1,12 +1,15 @@
 //! The socket's file, at which operators come in.
 
-use std::fs::{DirBuilder, Permissions};
+use crate::fifo::is_unread;
+use std::fs::{DirBuilder, File, OpenOptions, Permissions};
 use std::io::{ErrorKind, IsTerminal};
 use std::net::{Net, Shutdown};
 use std::os::fd::OwnedFd;
 use std::os::unix::fs::{DirBuilderExt, FileTypeExt, PermissionsExt};
 use std::os::unix::net::{UnixListener, UnixStream};
 use std::rt::Files;
+use std::thread::Threads;
+use std::time::Clock;
 use std::{fs, io};
 
 /// The rights of the folder in which the socket is made: its owner's alone.
@@ -25,6 +28,15 @@ pub trait ConsoleHost {
     /// Removes the file of such a socket.
     fn remove_door(&self, path: &str) -> io::Result<()>;
 
+    /// Whether there is a FIFO at a path.
+    fn is_fifo(&self, path: &str) -> bool;
+
+    /// Opens a FIFO for reading and writing, which waits for nobody.
+    fn open_fifo(&self, path: &str) -> io::Result<File>;
+
+    /// Opens a FIFO for writing, which waits until somebody has it open for reading.
+    fn await_reader(&self, path: &str) -> io::Result<File>;
+
     /// Whether somebody types at standard input.
     fn is_terminal(&self) -> bool;
 }
@@ -36,6 +48,21 @@ impl ConsoleHost for HostRuntime {
 
     fn remove_door(&self, path: &str) -> io::Result<()> {
         fs::remove_file(self, path)
+    }
+
+    fn is_fifo(&self, path: &str) -> bool {
+        match fs::symlink_metadata(self, path) {
+            Ok(metadata) => metadata.file_type().is_fifo(),
+            Err(_) => false,
+        }
+    }
+
+    fn open_fifo(&self, path: &str) -> io::Result<File> {
+        OpenOptions::new().read(true).write(true).open(self, path)
+    }
+
+    fn await_reader(&self, path: &str) -> io::Result<File> {
+        OpenOptions::new().write(true).open(self, path)
     }
 
     fn is_terminal(&self) -> bool {
@@ -92,8 +119,14 @@ pub struct Door<'a> {
 }
 
 impl<'a> Door<'a> {
-    /// Listens at a path ([`ConsoleHost::open_door`]).
-    pub fn open<R: ConsoleHost>(rt: &R, path: &'a str) -> io::Result<Door<'a>> {
+    /// Listens at a path ([`ConsoleHost::open_door`]). A FIFO that nobody reads is taken away first.
+    pub fn open<R>(rt: &R, path: &'a str) -> io::Result<Door<'a>>
+    where
+        R: ConsoleHost + Threads + Clock + Sync,
+    {
+        if rt.is_fifo(path) && is_unread(rt, path)? {
+            rt.remove_door(path)?;
+        }
         let listener = rt.open_door(path)?;
         let shutter = UnixStream::from(OwnedFd::from(listener.try_clone()?));
         Ok(Door {

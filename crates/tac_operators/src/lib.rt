@@ -6,6 +6,7 @@ mod attending;
 mod board;
 mod door;
 mod exchange;
+mod fifo;
 mod lines;
 mod part;
 mod patience;

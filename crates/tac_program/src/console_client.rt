@@ -25,6 +25,9 @@ const REFUSALS: [&[u8]; 5] = [b"refused", b"fault", b"hall", b"unread", b"busy"]
 /// What is said where a session ends before its answer.
 const ENDED: &str = "the server ended the session";
 
+/// What is said where there is a FIFO, as an upgrade leaves it until the server is restarted.
+const OLD: &str = "it is a FIFO, the console of a server before version 0.9.0: restart that first";
+
 const LINE_END: &str = "error: a WORD has the end of a line in it
 
 For more information, try '--help'.";
@@ -267,7 +270,11 @@ where
         Ok(Answered::Well) => Status::Done,
         Ok(Answered::Refused) => Status::Refused,
         Err(error) => {
-            let _ = eprintln!(rt; "tacd: {path}: {error}");
+            if host.is_fifo(path) {
+                let _ = eprintln!(rt; "tacd: {path}: {OLD}");
+            } else {
+                let _ = eprintln!(rt; "tacd: {path}: {error}");
+            }
             Status::of_unopened(error.kind())
         }
     }

@@ -40,11 +40,10 @@ impl<H: Wait> Typists for Operators<'_, H> {
 }
 
 // Where operators come in.
-fn door_at<'a, R: Eprint, H: ConsoleHost>(
-    rt: &R,
-    host: &H,
-    path: &'a str,
-) -> Result<Door<'a>, Status> {
+fn door_at<'a, R: Eprint, H>(rt: &R, host: &H, path: &'a str) -> Result<Door<'a>, Status>
+where
+    H: ConsoleHost + Threads + Clock + Sync,
+{
     match Door::open(host, path) {
         Ok(door) => Ok(door),
         Err(error) => {

@@ -91,6 +91,18 @@ impl<R: ConsoleHost> ConsoleHost for Host<'_, R> {
         self.rt.remove_door(path)
     }
 
+    fn is_fifo(&self, path: &str) -> bool {
+        self.rt.is_fifo(path)
+    }
+
+    fn open_fifo(&self, path: &str) -> io::Result<File> {
+        self.rt.open_fifo(path)
+    }
+
+    fn await_reader(&self, path: &str) -> io::Result<File> {
+        self.rt.await_reader(path)
+    }
+
     fn is_terminal(&self) -> bool {
         self.rt.is_terminal()
     }
