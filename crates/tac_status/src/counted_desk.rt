@@ -1,0 +1,121 @@
+//! A desk that counts what becomes of it.
+
+ghost use Rattle.std.specs.Prelude.{◌≡◌};
+
+use crate::desk_counts::DeskCounts;
+use pol_edit::{BatchFault, Edit, EditFault};
+use pol_meaning::Changes;
+use pol_text::Policy;
+use std::alloc::AllocError;
+use tac_conn::{Answer, Ask};
+use tac_desk::{Desk, Query, QueryFault, Report, State, Thrice};
+use tac_tally::{AtLimit, RecordLimit};
+
+/// Another desk, which is asked and edited as that one is. What it has, and how often it was
+/// changed, is counted where other threads can read it.
+#[derive(Drop)]
+pub struct CountedDesk<'a, D> {
+    desk: D,
+    counts: &'a DeskCounts,
+    limit: RecordLimit,
+    // how many records it keeps
+    records: u64,
+}
+
+// How many records are kept after one more was stored.
+fn after_one_more(limit: RecordLimit, records: u64) -> u64 {
+    let most = limit.most as u64;
+    match limit.at_limit {
+        AtLimit::Forget if records >= most => (most / 2).saturating_add(1),
+        _ => records.saturating_add(1),
+    }
+}
+
+impl<'a, D: Desk> CountedDesk<'a, D> {
+    /// This desk, which has no records yet, and this limit to them. The policy is counted where
+    /// there is memory for a copy of it.
+    pub fn new(desk: D, counts: &'a DeskCounts, limit: RecordLimit) -> CountedDesk<'a, D>
+        ensures { D.meaning result.desk ≡ D.meaning desk }
+    {
+        let mut counted = CountedDesk {
+            desk,
+            counts,
+            limit,
+            records: 0,
+        };
+        counted.see_policy();
+        counted
+    }
+
+    // Counts what the policy has, where there is memory for a copy of it.
+    fn see_policy(&mut self)
+        ensures { D.meaning self.new.desk ≡ D.meaning self.old.desk }
+    {
+        if let Ok(thrice) = self.desk.query(&Query::Policy) {
+            if let Report::Policy(policy) = &*thrice.first {
+                self.counts.see(policy);
+            }
+        }
+    }
+
+    // So many edits were made.
+    fn count_edits(&mut self, edits: usize)
+        ensures { D.meaning self.new.desk ≡ D.meaning self.old.desk }
+    {
+        self.counts.edit(edits as u64);
+        self.see_policy();
+    }
+
+    // A record was stored.
+    fn count_record(&mut self)
+        ensures { self.new.desk ≡ self.old.desk }
+    {
+        self.records = after_one_more(self.limit, self.records);
+        self.counts.keep(self.records);
+    }
+}
+
+impl<D: Desk> Desk for CountedDesk<'_, D> {
+    ghost meaning = { λ desk. D.meaning desk.desk };
+
+    fn ask(&mut self, ask: &Ask) -> Result<Answer, AllocError> {
+        let answered = self.desk.ask(ask);
+        if let Ok(Answer::Stored) = answered {
+            self.count_record();
+        }
+        answered
+    }
+
+    fn edit(&mut self, edit: &Edit) -> Result<Thrice<Changes>, EditFault> {
+        let edited = self.desk.edit(edit);
+        if edited.is_ok() {
+            self.count_edits(1);
+        }
+        edited
+    }
+
+    fn edit_all(&mut self, edits: &[Edit]) -> Result<Thrice<Changes>, BatchFault> {
+        let edited = self.desk.edit_all(edits);
+        if edited.is_ok() {
+            self.count_edits(edits.len());
+        }
+        edited
+    }
+
+    fn load(&mut self, policy: &Policy) -> Result<Thrice<Changes>, EditFault> {
+        let loaded = self.desk.load(policy);
+        if loaded.is_ok() {
+            self.counts.reload();
+            self.counts.see(policy);
+        }
+        loaded
+    }
+
+    fn query(&mut self, query: &Query) -> Result<Thrice<Report>, QueryFault> {
+        self.desk.query(query)
+    }
+
+    fn state(&self) -> Result<State, AllocError> {
+        self.desk.state()
+    }
+}

@@ -1,0 +1,18 @@
+//! How a server is: what of it is counted, and the lines that tell it.
+#![tactic(auto)]
+
+mod connection_counts;
+mod counted_desk;
+mod counts;
+mod desk_counts;
+mod lines;
+mod present;
+mod request_counts;
+
+pub use connection_counts::{ConnectionCounts, Departure, Rejection};
+pub use counted_desk::CountedDesk;
+pub use counts::Counts;
+pub use desk_counts::DeskCounts;
+pub use lines::status_text;
+pub use present::{Present, resident_bytes};
+pub use request_counts::{Request, RequestCounts};

@@ -1,0 +1,175 @@
+//! What devices ask for, by what they are answered.
+
+use crate::counts::Count;
+use tac_audit::Notice;
+use tac_authen::{AuthenReply, AuthenStatus};
+use tac_conn::{Reply, ReplyBody};
+use tac_request::{AcctReply, AcctStatus, AuthorReply, AuthorStatus};
+
+/// The text of a reply to a packet whose body is invalid.
+const BAD_BODY: &[u8] = b"bad body";
+
+/// A request, by its type and its status, or a packet that is refused, by why it is (docs/AUDIT.md).
+#[derive(Clone, Copy, Debug, PartialEq, Eq)]
+pub enum Request {
+    LoginPass,
+    LoginFail,
+    LoginError,
+    CommandPassAdd,
+    CommandFail,
+    AccountSuccess,
+    AccountError,
+    BadBody,
+    BadHeader,
+    UnservedType,
+    /// Without a reply: out of turn, or aborted.
+    Unanswered,
+}
+
+impl Request {
+    /// Those that are answered, in the order in which they are told.
+    pub const ANSWERED: [Request; 7] = [
+        Request::LoginPass,
+        Request::LoginFail,
+        Request::LoginError,
+        Request::CommandPassAdd,
+        Request::CommandFail,
+        Request::AccountSuccess,
+        Request::AccountError,
+    ];
+
+    /// Those that are refused, in the order in which they are told.
+    pub const REFUSED: [Request; 4] = [
+        Request::BadBody,
+        Request::BadHeader,
+        Request::UnservedType,
+        Request::Unanswered,
+    ];
+
+    /// How it is told.
+    pub fn labels(self) -> &'static str {
+        match self {
+            Request::LoginPass => "type=\"login\",status=\"PASS\"",
+            Request::LoginFail => "type=\"login\",status=\"FAIL\"",
+            Request::LoginError => "type=\"login\",status=\"ERROR\"",
+            Request::CommandPassAdd => "type=\"command\",status=\"PASS_ADD\"",
+            Request::CommandFail => "type=\"command\",status=\"FAIL\"",
+            Request::AccountSuccess => "type=\"account\",status=\"SUCCESS\"",
+            Request::AccountError => "type=\"account\",status=\"ERROR\"",
+            Request::BadBody => "why=\"bad_body\"",
+            Request::BadHeader => "why=\"bad_header\"",
+            Request::UnservedType => "why=\"unserved_type\"",
+            Request::Unanswered => "why=\"unanswered\"",
+        }
+    }
+}
+
+// A login at its last reply; none while it goes on.
+fn login_of(reply: &AuthenReply) -> Option<Request> {
+    match reply.status {
+        AuthenStatus::PASS => Some(Request::LoginPass),
+        AuthenStatus::FAIL => Some(Request::LoginFail),
+        AuthenStatus::ERROR if reply.msg.as_slice() == BAD_BODY => Some(Request::BadBody),
+        AuthenStatus::ERROR => Some(Request::LoginError),
+        _ => None,
+    }
+}
+
+fn command_of(reply: &AuthorReply) -> Request {
+    match reply.status {
+        AuthorStatus::PASS_ADD => Request::CommandPassAdd,
+        AuthorStatus::FAIL => Request::CommandFail,
+        // no other reply of authorisation is an ERROR
+        _ => Request::BadBody,
+    }
+}
+
+fn account_of(reply: &AcctReply) -> Request {
+    match reply.status {
+        AcctStatus::SUCCESS => Request::AccountSuccess,
+        _ if reply.msg.as_slice() == BAD_BODY => Request::BadBody,
+        _ => Request::AccountError,
+    }
+}
+
+fn answered_by(reply: &Reply) -> Option<Request> {
+    match &reply.body {
+        ReplyBody::Authentication(reply) => login_of(reply),
+        ReplyBody::Authorisation(reply) => Some(command_of(reply)),
+        ReplyBody::Accounting(reply) => Some(account_of(reply)),
+        ReplyBody::Empty => Some(Request::UnservedType),
+    }
+}
+
+impl Request {
+    /// What a witness of a connection is told of; none of a question for a name or a password.
+    pub fn of(notice: &Notice) -> Option<Request> {
+        match notice {
+            Notice::Packet(_, Some(reply)) => answered_by(reply),
+            Notice::Packet(_, None) => Some(Request::Unanswered),
+            Notice::BadHeader(_) => Some(Request::BadHeader),
+        }
+    }
+}
+
+/// The requests since a server began.
+#[derive(Drop)]
+pub struct RequestCounts {
+    login_pass: Count,
+    login_fail: Count,
+    login_error: Count,
+    command_pass_add: Count,
+    command_fail: Count,
+    account_success: Count,
+    account_error: Count,
+    bad_body: Count,
+    bad_header: Count,
+    unserved_type: Count,
+    unanswered: Count,
+}
+
+impl RequestCounts {
+    pub(crate) fn new() -> RequestCounts {
+        RequestCounts {
+            login_pass: Count::new(),
+            login_fail: Count::new(),
+            login_error: Count::new(),
+            command_pass_add: Count::new(),
+            command_fail: Count::new(),
+            account_success: Count::new(),
+            account_error: Count::new(),
+            bad_body: Count::new(),
+            bad_header: Count::new(),
+            unserved_type: Count::new(),
+            unanswered: Count::new(),
+        }
+    }
+
+    fn count(&self, request: Request) -> &Count {
+        match request {
+            Request::LoginPass => &self.login_pass,
+            Request::LoginFail => &self.login_fail,
+            Request::LoginError => &self.login_error,
+            Request::CommandPassAdd => &self.command_pass_add,
+            Request::CommandFail => &self.command_fail,
+            Request::AccountSuccess => &self.account_success,
+            Request::AccountError => &self.account_error,
+            Request::BadBody => &self.bad_body,
+            Request::BadHeader => &self.bad_header,
+            Request::UnservedType => &self.unserved_type,
+            Request::Unanswered => &self.unanswered,
+        }
+    }
+
+    /// A witness of a connection was told this, and its log, if there is one, took it.
+    pub fn note(&self, notice: &Notice) {
+        if let Some(request) = Request::of(notice) {
+            self.count(request).add(1);
+        }
+    }
+
+    /// How many there were of these.
+    pub fn of(&self, request: Request) -> u64 {
+        self.count(request).get()
+    }
+}
