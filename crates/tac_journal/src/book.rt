@@ -6,6 +6,7 @@ use crate::tail::{Tail, Untaken};
 use brief_lock::take;
 use std::fs::File;
 use std::io;
+use std::sync::atomic::{AtomicBool, Ordering};
 use std::sync::{Mutex, Wait};
 use std::time::{Clock, Duration, Instant};
 use tac_audit::Refused;
@@ -31,6 +32,8 @@ pub(crate) struct Book {
 pub(crate) struct Place<'a> {
     pub(crate) path: &'a str,
     pub(crate) disk: Option<Disk>,
+    /// Whether it was last said that the file takes no lines. Who reads that waits for nobody.
+    pub(crate) is_failing: AtomicBool,
 }
 
 // Whether the file is to be opened again: its path may be another's by now.
@@ -98,6 +101,7 @@ impl Place<'_> {
             );
         }
         book.complained = Some(book.appends);
+        self.is_failing.store(true, Ordering::SeqCst);
     }
 
     // Says that the file takes lines again, where the lines of an append count that came after it
@@ -110,6 +114,7 @@ impl Place<'_> {
             let path = self.path;
             let _ = eprintln!(host; "tacd: {path}: it takes lines again");
             book.complained = None;
+            self.is_failing.store(false, Ordering::SeqCst);
         }
     }
 

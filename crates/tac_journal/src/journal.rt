@@ -8,6 +8,7 @@ use crate::log::Log;
 use crate::opening::LogFiles;
 use brief_lock::take;
 use std::io;
+use std::sync::atomic::{AtomicBool, Ordering};
 use std::sync::{Mutex, Wait};
 use std::time::Clock;
 use tac_audit::Refused;
@@ -31,12 +32,21 @@ impl<'a> Journal<'a> {
         H: Clock + LogFiles,
     {
         let disk = if syncs { Some(Disk::new()) } else { None };
-        let place = Place { path, disk };
+        let place = Place {
+            path,
+            disk,
+            is_failing: AtomicBool::new(false),
+        };
         let book = place.open(host)?;
         Ok(Journal {
             place,
             book: Mutex::new(book),
         })
+    }
+
+    /// Whether it takes lines, as far as the last append tells. It waits for nobody who appends.
+    pub fn takes_lines(&self) -> bool {
+        !self.place.is_failing.load(Ordering::SeqCst)
     }
 }
 
