@@ -6,6 +6,8 @@ use Rattle.std.proofs.Crossing.{crosses}
 use Rattle.std.specs.contracts.net.tcp.TcpListener as TcpListener
 use Rattle.tac_hall.proofs.Crossing.{Key-sync}
 use Rattle.tac_census.proofs.census.Census.TheSendSync as census
+use Rattle.tac_status.proofs.counts.Counts.TheSendSync as counts
+use Rattle.tac_status.specs.contracts.counts.Counts as Counts
 use Rattle.tac_net.specs.contracts.intake.Arrival as Arrival
 use Rattle.tac_net.specs.contracts.intake.Inbox as Inbox
 use Rattle.tac_net.specs.contracts.intake.Intake as Intake
@@ -36,3 +38,6 @@ Inbox-sync = search (Arrival-send, crosses, sendable) depth 60 fits 20000
 
 pub Intake-sync : IsSync Intake.the_row
 Intake-sync = search (Inbox-sync, census.the_send, crosses, sendable) depth 60 fits 20000
+
+pub Counts-sync : IsSync Counts.the_row
+Counts-sync = search (counts.the_sync, crosses, sendable) depth 60

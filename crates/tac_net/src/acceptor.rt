@@ -5,6 +5,7 @@ use crate::pause::Pause;
 use mio::net::TcpListener;
 use std::io::ErrorKind;
 use std::sync::Wait;
+use tac_status::ConnectionCounts;
 
 /// How many connections are accepted in a row for other workers.
 const MOST_AT_ONCE: usize = 64;
@@ -77,11 +78,17 @@ impl Acceptor {
     }
 
     // Accepts one, which may be another worker's or be closed.
-    fn accept<R: Wait>(&mut self, rt: &R, intake: &Intake, now: Option<u64>) -> Option<Arrival> {
+    fn accept<R: Wait>(
+        &mut self,
+        rt: &R,
+        intake: &Intake,
+        counts: &ConnectionCounts,
+        now: Option<u64>,
+    ) -> Option<Arrival> {
         match self.listener.accept() {
             Ok((stream, address)) => {
                 self.pause = Pause::first();
-                intake.place(rt, Arrival { stream, address })
+                intake.place(rt, counts, Arrival { stream, address })
             }
             Err(error) => {
                 self.failed(error.kind(), now);
@@ -96,13 +103,14 @@ impl Acceptor {
         &mut self,
         rt: &R,
         intake: &Intake,
+        counts: &ConnectionCounts,
         now: Option<u64>,
     ) -> Option<Arrival> {
         for _ in 0..MOST_AT_ONCE {
             if self.opens_in(now) != Some(0) {
                 return None;
             }
-            if let Some(arrival) = self.accept(rt, intake, now) {
+            if let Some(arrival) = self.accept(rt, intake, counts, now) {
                 return Some(arrival);
             }
         }

@@ -1,5 +1,7 @@
 //! The files of a server.
 
+use tac_status::Counts;
+
 /// What a server writes and reads beside its connections and its console.
 #[derive(Clone, Copy)]
 pub struct ServerFiles<'a, L, S> {
@@ -7,4 +9,6 @@ pub struct ServerFiles<'a, L, S> {
     pub log: &'a L,
     /// Where the console's `reload` finds a policy. It knows too who types there.
     pub source: &'a S,
+    /// What counts its connections and their requests.
+    pub counts: &'a Counts,
 }

@@ -12,7 +12,8 @@ use std::mem::swap;
 use std::net::{IpAddr, SocketAddr};
 use std::sync::atomic::{AtomicU32, AtomicU64, Ordering};
 use std::sync::{Mutex, Wait};
-use tac_census::{Caps, Census};
+use tac_census::{Caps, Census, Refusal};
+use tac_status::{ConnectionCounts, Departure, Rejection};
 
 /// A connection that was accepted: its stream, and the address of its device.
 #[derive(Drop)]
@@ -129,7 +130,13 @@ impl Intake {
 
     // Hands a connection to this worker, for which it was counted. It comes back where that is the
     // first one, who accepted it.
-    fn hand<R: Wait>(&self, rt: &R, at: usize, arrival: Arrival) -> Option<Arrival> {
+    fn hand<R: Wait>(
+        &self,
+        rt: &R,
+        counts: &ConnectionCounts,
+        at: usize,
+        arrival: Arrival,
+    ) -> Option<Arrival> {
         if at == 0 {
             return Some(arrival);
         }
@@ -140,21 +147,45 @@ impl Intake {
         };
         if !is_handed {
             self.leave(rt, at, address);
+            counts.end(Departure::Memory);
         }
         None
     }
 
+    // The worker for one more connection from this address, for which it is counted.
+    fn admit<R: Wait>(&self, rt: &R, address: IpAddr) -> Result<(usize, &Inbox), Rejection> {
+        let Some(at) = self.idlest() else {
+            return Err(Rejection::Served);
+        };
+        let Some(inbox) = self.inboxes.get(at) else {
+            return Err(Rejection::Served);
+        };
+        match take(rt, &self.census).admit(address) {
+            Ok(()) => Ok((at, inbox)),
+            Err(Refusal::Full) => Err(Rejection::AtOnce),
+            Err(Refusal::AddressFull) => Err(Rejection::PerAddress),
+            Err(Refusal::Memory) => Err(Rejection::Memory),
+        }
+    }
+
     /// Finds a worker for a connection that the first one accepted. It comes back where that is the
     /// first one's own. Else it is that worker's, or is closed where there are too many.
-    pub(crate) fn place<R: Wait>(&self, rt: &R, arrival: Arrival) -> Option<Arrival> {
-        let at = self.idlest()?;
-        let inbox = self.inboxes.get(at)?;
-        let address = arrival.address.ip();
-        if take(rt, &self.census).admit(address).is_err() {
-            return None;
-        }
+    pub(crate) fn place<R: Wait>(
+        &self,
+        rt: &R,
+        counts: &ConnectionCounts,
+        arrival: Arrival,
+    ) -> Option<Arrival> {
+        let (at, inbox) = match self.admit(rt, arrival.address.ip()) {
+            Ok(place) => place,
+            Err(why) => {
+                counts.reject(why);
+                return None;
+            }
+        };
+        counts.accept();
         inbox.count();
-        let own = self.hand(rt, at, arrival);
+        let own = self.hand(rt, counts, at, arrival);
         // at last, since a worker may end once nothing more is to come
         if self.left.fetch_sub(1, Ordering::SeqCst) == 1 {
             self.wake_all();

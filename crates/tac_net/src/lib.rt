@@ -3,6 +3,7 @@
 
 mod acceptor;
 mod attending;
+mod departing;
 mod ending;
 mod fault;
 mod files;

@@ -46,12 +46,18 @@ fn beyond_free(held: u64) -> u64 {
 pub struct PacketShare<'a> {
     memory: &'a PacketMemory,
     held: u64,
+    // whether there was once no memory for more
+    lacks: bool,
 }
 
 impl<'a> PacketShare<'a> {
     /// Nothing.
     pub fn new(memory: &'a PacketMemory) -> PacketShare<'a> {
-        PacketShare { memory, held: 0 }
+        PacketShare {
+            memory,
+            held: 0,
+            lacks: false,
+        }
     }
 
     /// So many bytes more. The answer is whether there was memory for them; else it stays as it is.
@@ -59,10 +65,16 @@ impl<'a> PacketShare<'a> {
         let held = self.held.saturating_add(bytes as u64);
         let more = beyond_free(held).saturating_sub(beyond_free(self.held));
         if more > 0 && !self.memory.take(more) {
+            self.lacks = true;
             return false;
         }
         self.held = held;
         true
+    }
+
+    /// Whether there was once no memory for more.
+    pub fn lacks(&self) -> bool {
+        self.lacks
     }
 
     /// Nothing any more.
@@ -77,7 +89,11 @@ impl<'a> PacketShare<'a> {
 
 impl Drop for PacketShare<'_> {
     fn drop(self) {
-        let PacketShare { memory, held } = self;
+        let PacketShare {
+            memory,
+            held,
+            lacks: _,
+        } = self;
         let taken = beyond_free(held);
         if taken > 0 {
             memory.give_back(taken);

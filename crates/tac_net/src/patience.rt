@@ -69,6 +69,13 @@ impl Patience {
         }
     }
 
+    /// Whether a reply waits to be taken.
+    pub fn has_untaken(self) -> bool
+        ensures { result ≡ is_some self.waits }
+    {
+        self.waits.is_some()
+    }
+
     // For how long the device is borne with, in milliseconds; for ever where there is none.
     fn allowed(self, idle: Idle, asks: bool) -> Option<u64>
         ensures { result ≡ patience.allowed self idle asks }

@@ -6,6 +6,7 @@ use crate::settings::Settings;
 use crate::vigil::Vigil;
 use tac_desk::Desk;
 use tac_forum::{Run, SharedDesk};
+use tac_status::Counts;
 
 /// What the threads of a server share.
 #[derive(Clone, Copy)]
@@ -17,4 +18,5 @@ pub(crate) struct Premises<'a, R, J: Run, D: Desk, L> {
     pub(crate) vigil: &'a Vigil,
     pub(crate) intake: &'a Intake,
     pub(crate) log: &'a L,
+    pub(crate) counts: &'a Counts,
 }

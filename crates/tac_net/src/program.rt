@@ -49,6 +49,7 @@ where
         vigil,
         intake,
         log,
+        counts,
     } = *premises;
     let work = |place: Place<J>| -> Seat<J>
         ensures { HasServed J.opening settings.entry.now.key (L.keeping log.entry.now)
@@ -62,6 +63,7 @@ where
             vigil,
             intake,
             log,
+            counts,
         };
         work(&premises, place)
     };
@@ -105,6 +107,7 @@ where
         vigil,
         intake,
         log,
+        counts,
     } = *premises;
     let mut serving = || -> Result<Vec<Seat<J>>, AllocError>
         requires { IsSome (P.item places.now) }
@@ -123,6 +126,7 @@ where
                     vigil,
                     intake,
                     log,
+                    counts,
                 };
                 let served = serve_places(&premises, places);
                 port.leave();
@@ -189,6 +193,7 @@ where
         vigil: &vigil,
         intake: &intake,
         log: files.log,
+        counts: files.counts,
     };
     let (served, attended) = serve_both(
         &premises,

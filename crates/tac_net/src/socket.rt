@@ -84,6 +84,16 @@ impl<'a, S, C: Clock> Socket<'a, S, C> {
         self.address
     }
 
+    /// Whether a read found no packet memory.
+    pub fn lacks_memory(&self) -> bool {
+        self.share.lacks()
+    }
+
+    /// Whether a reply waits to be taken.
+    pub fn has_untaken(&self) -> bool {
+        self.patience.has_untaken()
+    }
+
     /// Whether its device is given up by now. Its last reply asked for a name or a password, or
     /// not.
     pub fn is_over(&self, idle: Idle, asks: bool, now: Option<u64>) -> bool {

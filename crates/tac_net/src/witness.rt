@@ -13,12 +13,15 @@ use tac_audit::{Notice, Refused, Witness};
 use tac_authen::AuthenStatus;
 use tac_conn::{Reply, ReplyBody};
 use tac_journal::{DeviceLog, Entry, Log, LogFiles, Moments};
+use tac_status::RequestCounts;
 
 /// Who is told of the packets of one connection, each before its reply is sent: the auditor's log,
-/// where one is kept. It knows whether the last reply asked for something that a person types.
+/// where one is kept. What that takes is counted. It knows whether the last reply asked for something
+/// that a person types.
 #[derive(Drop)]
 pub(crate) struct DeviceWitness<'a, R, L> {
     log: Option<DeviceLog<'a, R, Entry<'a, R, L>>>,
+    counts: &'a RequestCounts,
     asks: bool,
 }
 
@@ -54,6 +57,7 @@ where
     pub(crate) fn new(
         rt: &'a R,
         log: &'a L,
+        counts: &'a RequestCounts,
         moments: &'a Moments,
         address: SocketAddr,
     ) -> Result<DeviceWitness<'a, R, L>, AllocError>
@@ -63,6 +67,7 @@ where
         if !log.is_kept() {
             return Ok(DeviceWitness {
                 log: None,
+                counts,
                 asks: false,
             });
         }
@@ -70,6 +75,7 @@ where
         let log = DeviceLog::new(rt.alloc(), rt, moments, Entry::new(rt, log), device);
         Ok(DeviceWitness {
             log: Some(log),
+            counts,
             asks: false,
         })
     }
@@ -94,6 +100,7 @@ where
         if let Some(log) = &mut self.log {
             log.tell(notice)?;
         }
+        self.counts.note(notice);
         self.asks = asks_after(notice, self.asks);
         Ok(())
     }

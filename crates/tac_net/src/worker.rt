@@ -4,6 +4,7 @@ ghost use Rattle.std.specs.Prelude.{◌≡◌};
 ghost use Rattle.tac_net.specs.Connections.{HasServed};
 
 use crate::acceptor::Acceptor;
+use crate::departing::{Parting, departure};
 use crate::intake::Arrival;
 use crate::poller::{CALLED, Poller, WOKEN};
 use crate::premises::Premises;
@@ -13,12 +14,14 @@ use mio::event::Event;
 use mio::net::TcpStream;
 use std::marker::Model;
 use std::mem::replace;
+use std::net::IpAddr;
 use std::sync::Wait;
 use std::time::{Clock, Duration};
 use tac_desk::Desk;
 use tac_forum::{Run, Seat};
 use tac_journal::{Log, LogFiles, Moments};
 use tac_loop::{Stop, Switchboard};
+use tac_status::Departure;
 use tac_worker::{CHUNK, Chunk, DeskCaller, OpenGate, Terms};
 
 /// How many steps of one connection are made before others have theirs: 16 packets, each with its
@@ -128,15 +131,26 @@ where
         }
     }
 
+    // A connection from this address is gone.
+    fn leave(&self, address: IpAddr, why: Departure) {
+        let Premises {
+            rt,
+            intake,
+            counts,
+            ..
+        } = *self.premises;
+        intake.leave(rt, self.at, address);
+        counts.connections.end(why);
+    }
+
     // Lets go of a connection, if there is one of this key.
-    fn remove(&mut self, key: usize)
+    fn remove(&mut self, key: usize, parting: Parting)
         ensures { self.new ≡ self.old }
     {
         if let Some(line) = self.board.remove(key) {
-            let address = line.socket().address();
-            self.premises
-                .intake
-                .leave(self.premises.rt, self.at, address);
+            let socket = line.socket();
+            let why = departure(parting, socket);
+            self.leave(socket.address(), why);
         }
     }
 
@@ -145,7 +159,7 @@ where
         ensures { self.new ≡ self.old }
     {
         if let Err(_) = self.busy.push(key) {
-            self.remove(key);
+            self.remove(key, Parting::Memory);
         }
     }
 
@@ -155,17 +169,17 @@ where
         ensures { self.new ≡ self.old }
     {
         self.visits.next();
-        match self
+        let stop = self
             .board
-            .serve(key, &terms_of(self.premises), &mut self.chunk, STEPS)
-        {
+            .serve(key, &terms_of(self.premises), &mut self.chunk, STEPS);
+        match stop {
             Stop::Busy => {
                 self.keep_busy(key);
                 false
             }
             Stop::Full => true,
             Stop::Ended(_) | Stop::Broken => {
-                self.remove(key);
+                self.remove(key, Parting::Left(stop));
                 false
             }
             Stop::Idle | Stop::Absent => false,
@@ -181,7 +195,7 @@ where
             return;
         };
         if let Err(_) = poller.register(line.socket().stream(), key, is_full) {
-            self.remove(key);
+            self.remove(key, Parting::Unwatched);
         }
     }
 
@@ -193,7 +207,7 @@ where
             return;
         };
         if let Err(_) = poller.register_writing(line.socket().stream(), key) {
-            self.remove(key);
+            self.remove(key, Parting::Unwatched);
         }
     }
 
@@ -215,10 +229,12 @@ where
             rt,
             intake,
             log,
+            counts,
             ..
         } = *self.premises;
         let Arrival { stream, address } = arrival;
-        let Ok(witness) = DeviceWitness::new(rt, log, self.moments, address) else {
+        let Ok(witness) = DeviceWitness::new(rt, log, &counts.requests, self.moments, address)
+        else {
             return None;
         };
         let memory = intake.packet_memory();
@@ -243,10 +259,7 @@ where
                 let is_full = self.go(key);
                 self.register(poller, key, is_full);
             }
-            None => self
-                .premises
-                .intake
-                .leave(self.premises.rt, self.at, address),
+            None => self.leave(address, Departure::Memory),
         }
     }
 
@@ -311,9 +324,14 @@ where
     fn accepted(&mut self, now: Option<u64>) -> Option<Arrival>
         ensures { self.new ≡ self.old }
     {
-        let Premises { rt, intake, .. } = *self.premises;
+        let Premises {
+            rt,
+            intake,
+            counts,
+            ..
+        } = *self.premises;
         match &mut self.acceptor {
-            Some(acceptor) => acceptor.next(rt, intake, now),
+            Some(acceptor) => acceptor.next(rt, intake, &counts.connections, now),
             None => None,
         }
     }
@@ -330,14 +348,14 @@ where
         }
     }
 
-    // The keys of the connections whose devices are to be given up, or of some of them where memory
-    // is out.
-    fn over(&self, now: Option<u64>) -> Vec<usize> {
+    // The keys of the connections whose devices are to be given up, and whether their last replies
+    // ask for text; or of some of them where memory is out.
+    fn over(&self, now: Option<u64>) -> Vec<(usize, bool)> {
         let idle = self.premises.settings.idle;
         let mut keys = Vec::new(self.premises.rt.alloc());
         for (key, line) in self.board.lines() {
             let asks = line.link().witness().asks();
-            if line.socket().is_over(idle, asks, now) && keys.push(key).is_err() {
+            if line.socket().is_over(idle, asks, now) && keys.push((key, asks)).is_err() {
                 return keys;
             }
         }
@@ -353,8 +371,8 @@ where
             return;
         }
         self.swept = moment;
-        'keys: for key in self.over(now) {
-            self.remove(key);
+        'keys: for (key, asks) in self.over(now) {
+            self.remove(key, Parting::GivenUp { asks });
         }
     }
 

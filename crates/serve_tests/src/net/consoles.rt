@@ -17,6 +17,7 @@ use tac_desks::PlainDesk;
 use tac_forum::Limits;
 use tac_journal::{Log, LogFiles, Refused};
 use tac_net::{Idle, Port, ServeFault, ServerFiles, Settings, serve};
+use tac_status::Counts;
 
 /// What an operator does, and how many workers his server has.
 #[derive(Clone, Copy)]
@@ -258,9 +259,11 @@ where
         appends: AtomicU64::new(0),
     };
     let shelf = Shelf::new(&[]);
+    let counts = Counts::new();
     let files = ServerFiles {
         log: &log,
         source: &shelf,
+        counts: &counts,
     };
     let ended = serve(rt, port, desk, settings, &files, operator, &mut screen);
     Ok((ended, screen.taken.as_slice() == wanted.as_bytes()))
