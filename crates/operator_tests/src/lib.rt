@@ -3,3 +3,5 @@
 
 #[cfg(test)]
 mod operators;
+#[cfg(test)]
+mod status;

@@ -1,5 +1,7 @@
 //! Operators at the socket of a console that answers each line with itself.
 
+use basics::Bytes;
+use std::alloc::{AllocError, Global};
 use std::env::temp_dir;
 use std::io::{BufRead, BufReader, Read, Write};
 use std::net::{Net, TcpListener, TcpStream};
@@ -9,12 +11,21 @@ use std::test::Fail;
 use std::thread::{Threads, join_mut};
 use std::time::{Clock, Duration};
 use std::{fs, io, process};
-use tac_operators::{ConsoleHost, Door, Exchange, Patience, attend};
+use tac_operators::{ConsoleHost, Door, Exchange, Patience, Status, attend};
 
 /// How long an operator may be silent in these tests, in milliseconds: with a batch, and without.
 const HOLDING: u64 = 400;
 
 const IDLE: u64 = 1200;
+
+/// Who tells nothing of the server.
+struct Silent;
+
+impl Status for Silent {
+    fn text(&self, _alloc: Global, _operators: u64) -> Result<Bytes, AllocError> {
+        Err(AllocError)
+    }
+}
 
 // Answers each line with itself, until `quit`.
 fn echo<R: Wait + AllocGlobal>(rt: &R, exchange: &Exchange) -> io::Result<()> {
@@ -35,7 +46,7 @@ fn echo<R: Wait + AllocGlobal>(rt: &R, exchange: &Exchange) -> io::Result<()> {
 }
 
 // Types a line, or none, and compares what is answered.
-fn hears(stream: &UnixStream, typed: &str, answer: &str) -> Result<(), Fail> {
+pub(crate) fn hears(stream: &UnixStream, typed: &str, answer: &str) -> Result<(), Fail> {
     let mut stream = stream;
     stream.write_all(typed.as_bytes())?;
     let mut heard = [0; 64];
@@ -73,7 +84,8 @@ where
     hears(&second, "drop group ops 1\ndrop", "drop group ops 1\n\n")?;
     has_ended(&second)?;
     let third = UnixStream::connect(rt, path)?;
-    hears(&third, "quit\n", "ready\n\nok\n\n")?;
+    hears(&third, "status\n", "ready\n\nrefused 12 Memory\n\n")?;
+    hears(&third, "quit\n", "ok\n\n")?;
     has_ended(&third)
 }
 
@@ -92,7 +104,7 @@ where
     let mut talking = || -> Result<(), Fail> { talk(rt, path) };
     let mut attending = || -> bool {
         let mut console = || -> io::Result<()> { echo(rt, &exchange) };
-        let (end, parting) = attend(rt, &door, &exchange, patience, &mut console);
+        let (end, parting) = attend(rt, &door, &exchange, &Silent, patience, &mut console);
         let ended_well = matches!(end, Some(Ok(())));
         parting.tell(ended_well);
         ended_well

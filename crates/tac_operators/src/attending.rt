@@ -4,6 +4,7 @@ use crate::door::{ConsoleHost, Door};
 use crate::exchange::Exchange;
 use crate::patience::Patience;
 use crate::session::{Session, turn_away, wait_briefly};
+use crate::status::Status;
 use basics::Bytes;
 use std::alloc::AllocError;
 use std::io::Write;
@@ -14,7 +15,7 @@ use std::thread::{Threads, join_mut, map_indices, sleep};
 use std::time::{Clock, Duration};
 
 /// How many operators there may be at once.
-const OPERATORS: u64 = 8;
+pub(crate) const OPERATORS: u64 = 8;
 
 /// How many threads take them in: one more, which turns away who is one too many.
 const THREADS: usize = 9;
@@ -51,9 +52,10 @@ impl Parting {
 }
 
 // Serves an operator, unless there are too many. Whether he stops the server.
-fn receive<R: Wait + Clock + AllocGlobal>(
+fn receive<R: Wait + Clock + AllocGlobal, S: Status>(
     rt: &R,
     exchange: &Exchange,
+    status: &S,
     present: &AtomicU64,
     patience: Patience,
     number: usize,
@@ -61,7 +63,7 @@ fn receive<R: Wait + Clock + AllocGlobal>(
 ) -> bool {
     wait_briefly(stream);
     let quits = if present.fetch_add(1, Ordering::SeqCst) < OPERATORS {
-        Session::new(rt, exchange, stream, patience, number).serve()
+        Session::new(rt, exchange, (status, present), stream, patience, number).serve()
     } else {
         turn_away(stream);
         false
@@ -71,10 +73,11 @@ fn receive<R: Wait + Clock + AllocGlobal>(
 }
 
 // Serves one operator after another, until the console ends. The stream of who stopped it.
-fn receive_all<R: Wait + Clock + AllocGlobal>(
+fn receive_all<R: Wait + Clock + AllocGlobal, S: Status>(
     rt: &R,
     door: &Door<'_>,
     exchange: &Exchange,
+    status: &S,
     present: &AtomicU64,
     patience: Patience,
     number: usize,
@@ -87,7 +90,7 @@ fn receive_all<R: Wait + Clock + AllocGlobal>(
         }
         match came {
             Ok(stream) => {
-                if receive(rt, exchange, present, patience, number, &stream) {
+                if receive(rt, exchange, status, present, patience, number, &stream) {
                     return Some(stream);
                 }
             }
@@ -99,13 +102,15 @@ fn receive_all<R: Wait + Clock + AllocGlobal>(
 
 /// Lets operators in at a door, and runs the console that answers them in this thread: it reads the
 /// exchange's input and writes to its output. They come and go while it runs, eight at a time, and
-/// their lines are its input in the order in which they are taken. Once it has ended the door is
-/// closed, and nobody waits for an operator. No console is run, and its end is none, where a thread
-/// can't be made.
-pub fn attend<R, F: FnMut() -> T, T>(
+/// their lines are its input in the order in which they are taken, but for those that a session
+/// answers by itself: of these `status` is answered by what is handed in. Once it has ended the
+/// door is closed, and nobody waits for an operator. No console is run, and its end is none, where
+/// a thread can't be made.
+pub fn attend<R, S: Status + Sync, F: FnMut() -> T, T>(
     rt: &R,
     door: &Door<'_>,
     exchange: &Exchange,
+    status: &S,
     patience: Patience,
     console: &mut F,
 ) -> (Option<T>, Parting)
@@ -117,7 +122,7 @@ where
     let present = &present;
     let mut receiving = || -> Result<Vec<Option<UnixStream>>, AllocError> {
         let receive = |number: usize| -> Option<UnixStream> {
-            receive_all(rt, door, exchange, present, patience, number)
+            receive_all(rt, door, exchange, status, present, patience, number)
         };
         map_indices(rt, rt.alloc(), THREADS, &receive)
     };

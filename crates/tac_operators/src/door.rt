@@ -2,7 +2,7 @@
 
 use crate::fifo::is_unread;
 use std::fs::{DirBuilder, File, OpenOptions, Permissions};
-use std::io::{ErrorKind, IsTerminal};
+use std::io::{ErrorKind, IsTerminal, Read};
 use std::net::{Net, Shutdown};
 use std::os::fd::OwnedFd;
 use std::os::unix::fs::{DirBuilderExt, FileTypeExt, PermissionsExt};
@@ -39,6 +39,10 @@ pub trait ConsoleHost {
 
     /// Whether somebody types at standard input.
     fn is_terminal(&self) -> bool;
+
+    /// What the system tells of this process, as the beginning of /proc/self/status, and how many
+    /// bytes that are.
+    fn process_status(&self, into: &mut [u8]) -> io::Result<usize>;
 }
 
 impl ConsoleHost for HostRuntime {
@@ -67,6 +71,11 @@ impl ConsoleHost for HostRuntime {
 
     fn is_terminal(&self) -> bool {
         self.stdin().is_terminal()
+    }
+
+    fn process_status(&self, into: &mut [u8]) -> io::Result<usize> {
+        let mut file = fs::open(self, "/proc/self/status")?;
+        file.read(into)
     }
 }
 

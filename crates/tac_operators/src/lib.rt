@@ -11,8 +11,10 @@ mod lines;
 mod part;
 mod patience;
 mod session;
+mod status;
 
 pub use attending::{Parting, attend};
 pub use door::{ConsoleHost, Door};
 pub use exchange::{Exchange, ExchangeInput, ExchangeOutput};
 pub use patience::Patience;
+pub use status::Status;

@@ -1,16 +1,19 @@
 //! One operator at the socket: his lines, and what each of them is answered.
 
+use crate::attending::OPERATORS;
 use crate::board::{Operator, Slip};
 use crate::exchange::{Exchange, Reply};
 use crate::lines::Begun;
 use crate::part::Part;
 use crate::patience::Patience;
+use crate::status::Status;
 use basics::{Bytes, split_once};
 use pol_names::Name;
 use std::alloc::AllocError;
 use std::io::{ErrorKind, Read, Write};
 use std::os::unix::net::UnixStream;
 use std::sync::Wait;
+use std::sync::atomic::{AtomicU64, Ordering};
 use std::time::{Clock, Duration};
 
 /// How many bytes are read at once.
@@ -33,6 +36,7 @@ begin | commit | abandon   edits between them are made all or none
 reload                     the policy's file is read again
 rotate                     ends the present segment of the history
 operator NAME              who types, which others are told
+status                     how the server is, as Prometheus reads it
 quit                       the server stops
 A SUBJECT is 'user NAME' or 'group NAME'. An edit counts from the next packet on.
 'tacd serve --help' says more.
@@ -70,9 +74,12 @@ enum Came {
 
 /// One operator at the socket.
 #[derive(Drop)]
-pub(crate) struct Session<'a, R> {
+pub(crate) struct Session<'a, R, S> {
     rt: &'a R,
     exchange: &'a Exchange,
+    status: &'a S,
+    // how many operators there are
+    present: &'a AtomicU64,
     stream: &'a UnixStream,
     patience: Patience,
     operator: Operator,
@@ -112,19 +119,23 @@ pub(crate) fn turn_away(stream: &UnixStream) {
     let _ = writer.write(b"\n");
 }
 
-impl<'a, R: Wait + Clock + AllocGlobal> Session<'a, R> {
-    /// That of an operator who comes in. No other session has this number.
+impl<'a, R: Wait + Clock + AllocGlobal, S: Status> Session<'a, R, S> {
+    /// That of an operator who comes in, with what tells how the server is and how many of them
+    /// there are. No other session has this number.
     pub(crate) fn new(
         rt: &'a R,
         exchange: &'a Exchange,
+        (status, present): (&'a S, &'a AtomicU64),
         stream: &'a UnixStream,
         patience: Patience,
         number: usize,
-    ) -> Session<'a, R> {
+    ) -> Session<'a, R, S> {
         let operator = Operator { number, name: None };
         Session {
             rt,
             exchange,
+            status,
+            present,
             stream,
             patience,
             operator,
@@ -227,6 +238,16 @@ impl<'a, R: Wait + Clock + AllocGlobal> Session<'a, R> {
         }
     }
 
+    // Tells how the server is. The console isn't asked: it may be building a policy.
+    fn tell_status(&self) -> Went {
+        // one who is turned away is none of them
+        let operators = self.present.load(Ordering::SeqCst).min(OPERATORS);
+        match self.status.text(self.rt.alloc(), operators) {
+            Ok(text) => self.tell(text.as_slice()),
+            Err(_) => self.tell(NO_MEMORY),
+        }
+    }
+
     // Asks the console.
     fn ask(&self, part: Part, line: &[u8]) -> Went {
         let Ok(slip) = slip(self.rt, self.operator, part, line) else {
@@ -243,6 +264,9 @@ impl<'a, R: Wait + Clock + AllocGlobal> Session<'a, R> {
     fn answer(&mut self, line: &[u8]) -> Went {
         if line == b"help".as_slice() {
             return self.tell(HELP);
+        }
+        if line == b"status".as_slice() {
+            return self.tell_status();
         }
         if let Some(name) = line.strip_prefix(b"operator ".as_slice()) {
             return self.name(name);

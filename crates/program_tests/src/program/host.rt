@@ -106,4 +106,8 @@ impl<R: ConsoleHost> ConsoleHost for Host<'_, R> {
     fn is_terminal(&self) -> bool {
         self.rt.is_terminal()
     }
+
+    fn process_status(&self, into: &mut [u8]) -> io::Result<usize> {
+        self.rt.process_status(into)
+    }
 }
