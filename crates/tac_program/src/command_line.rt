@@ -305,13 +305,16 @@ fn with<'a>(
     command.subcommand(subcommand?)
 }
 
+/// The version of the program.
+pub(crate) const VERSION: &str = "0.9.0";
+
 /// What the program's command line may be.
 pub(crate) fn command<'a>(alloc: Global) -> Result<Command<'a>, AllocError> {
     let command = Command::new(alloc, "tacd")
         .about(ABOUT)
         .long_about(LONG_ABOUT)
         .after_long_help(AFTER_LONG_HELP)
-        .version("0.9.0")
+        .version(VERSION)
         .subcommand_required(true);
     let command = with(command, serve(alloc))?;
     let command = with(command, console(alloc))?;

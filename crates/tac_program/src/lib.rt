@@ -4,6 +4,7 @@
 
 mod command_line;
 mod complaint;
+mod condition;
 mod console;
 mod console_client;
 mod descriptors;

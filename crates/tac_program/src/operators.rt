@@ -1,5 +1,6 @@
 //! A server whose console is typed at a socket.
 
+use crate::condition::Condition;
 use crate::options::Options;
 use crate::server::{ended, serve_console};
 use crate::status::Status;
@@ -85,7 +86,9 @@ where
             None => Ok(()),
         }
     };
-    let (end, parting) = attend(host, &door, &exchange, Patience::usual(), &mut console);
+    let condition = Condition::new(host, options, journal);
+    let patience = Patience::usual();
+    let (end, parting) = attend(host, &door, &exchange, &condition, patience, &mut console);
     let outcome = end.unwrap_or(Err(ServeFault::Threads));
     parting.tell(outcome.is_ok());
     ended(rt, outcome)

@@ -20,6 +20,7 @@ use tac_desks::MAX_RECORDS;
 use tac_forum::Limits;
 use tac_io::{InputFault, read_whole};
 use tac_net::{Idle, Settings};
+use tac_status::Counts;
 use tac_tally::RecordLimit;
 use tac_wire::Key;
 
@@ -58,6 +59,8 @@ pub(crate) struct Options<'a> {
     pub(crate) has_console: bool,
     /// The socket at which operators type, if there is one.
     pub(crate) console: Option<&'a str>,
+    /// What is counted of the server that serves so.
+    pub(crate) counts: Counts,
 }
 
 // The key of a word of the command line. What is said of it doesn't show it.
@@ -219,6 +222,7 @@ impl<'a> Options<'a> {
                 syncs: matches.get_flag(SYNC),
                 has_console: !matches.get_flag(NO_CONSOLE),
                 console: matches.get_str(CONSOLE),
+                counts: Counts::new(),
             }),
             _ => Err(Status::BadCommandLine),
         }

@@ -25,6 +25,7 @@ use tac_desks::LiveDesk;
 use tac_journal::{Journal, LogFiles, OneInput, Typists};
 use tac_net::{FillingDesk, Port, ServeFault, ServerFiles, serve};
 use tac_operators::ConsoleHost;
+use tac_status::CountedDesk;
 use tac_tally::RecordLimit;
 
 // The desk of the policy in a file, which keeps records as the limit says. The error here and below
@@ -117,6 +118,7 @@ where
     R: Files + Print + Eprint,
     H: Threads + Wait + Clock + Sync + AllocGlobal + Eprint + LogFiles + Net,
 {
+    let desk = CountedDesk::new(desk, &options.counts.desk, options.record_limit);
     let desk = FillingDesk::new(host, desk, options.record_limit);
     let (mut input, mut output, typists) = console;
     let file = PolicyFile {
@@ -127,6 +129,7 @@ where
     let files = ServerFiles {
         log: journal,
         source: &source,
+        counts: &options.counts,
     };
     serve(
         host,

@@ -1,0 +1,86 @@
+//! How the server is, as its operators are told.
+
+use crate::command_line::VERSION;
+use crate::options::Options;
+use basics::Bytes;
+use std::alloc::{AllocError, Global};
+use std::time::{Clock, Duration};
+use tac_journal::Journal;
+use tac_operators::{ConsoleHost, Status};
+use tac_status::{Counts, Present, resident_bytes, status_text};
+
+/// How many bytes of /proc/self/status are looked at.
+const GLANCE: usize = 4_096;
+
+/// What tells how a server is. It asks neither the desk nor the log: it reads what these counted.
+#[derive(Drop)]
+pub(crate) struct Condition<'a, H> {
+    host: &'a H,
+    counts: &'a Counts,
+    journal: &'a Option<Journal<'a>>,
+    workers: u32,
+    connections_limit: u32,
+    records_limit: u64,
+    // when it began
+    began: Option<Duration>,
+}
+
+impl<'a, H: Clock> Condition<'a, H> {
+    /// That of a server that begins now, by these options.
+    pub(crate) fn new(
+        host: &'a H,
+        options: &'a Options<'_>,
+        journal: &'a Option<Journal<'a>>,
+    ) -> Condition<'a, H> {
+        Condition {
+            host,
+            counts: &options.counts,
+            journal,
+            workers: options.settings.workers,
+            connections_limit: options.settings.connections_at_once,
+            records_limit: options.record_limit.most as u64,
+            began: host.monotonic().ok(),
+        }
+    }
+
+    // For how many seconds it has served; 0 where the clock can't be read.
+    fn uptime(&self) -> u64 {
+        match (self.began, self.host.monotonic()) {
+            (Some(began), Ok(now)) => now.saturating_sub(began).as_secs(),
+            _ => 0,
+        }
+    }
+}
+
+// How many bytes of memory the process has.
+fn memory<H: ConsoleHost>(host: &H) -> u64 {
+    let mut text = [0; GLANCE];
+    match host.process_status(&mut text) {
+        Ok(n) => resident_bytes(text.split_at(n.min(GLANCE)).0),
+        Err(_) => 0,
+    }
+}
+
+impl<H: Clock + ConsoleHost> Status for Condition<'_, H> {
+    fn text(&self, alloc: Global, operators: u64) -> Result<Bytes, AllocError> {
+        let log_takes_lines = match self.journal {
+            Some(journal) => journal.takes_lines(),
+            None => false,
+        };
+        let present = Present {
+            version: VERSION,
+            uptime: self.uptime(),
+            memory: memory(self.host),
+            workers: self.workers,
+            connections_limit: self.connections_limit,
+            records_limit: self.records_limit,
+            has_log: self.journal.is_some(),
+            log_takes_lines,
+            operators,
+        };
+        match status_text(alloc, self.counts, &present) {
+            Ok(text) => Ok(Bytes::from(text)),
+            Err(_) => Err(AllocError),
+        }
+    }
+}
