@@ -3,6 +3,7 @@
 
 mod clients;
 mod consoles;
+mod counted;
 mod filling;
 mod gates;
 mod patience;

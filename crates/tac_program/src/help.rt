@@ -198,10 +198,11 @@ The words of a line are joined by blanks. Without a WORD, lines are read: from a
 prompt, until the input ends; or from a file or a pipe, each once the one before is answered. There
 the first that is refused ends it: the rest isn't sent, and a batch that is open is dropped.
 
-'tacd serve --help' describes the lines and their answers. At a socket there are two more: 'help', and
-'operator NAME', which tells others and the log who types. This program says that by itself, from
-SUDO_USER, LOGNAME or USER. Eight operators may be there at once. While one of them has a batch open,
-edits of the others are answered by 'busy NAME'; he loses it where he types nothing for a minute.";
+'tacd serve --help' describes the lines and their answers. At a socket there are three more: 'help';
+'status', which tells how the server is, as lines that Prometheus reads; and 'operator NAME', which
+tells others and the log who types. This program says that by itself, from SUDO_USER, LOGNAME or
+USER. Eight operators may be there at once. While one of them has a batch open, edits of the others
+are answered by 'busy NAME'; he loses it where he types nothing for a minute.";
 
 pub(crate) const CONSOLE_PATH_HELP: &str = "The server's socket; root and its own user can open it";
 

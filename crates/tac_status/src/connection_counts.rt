@@ -183,7 +183,8 @@ pub struct ConnectionCounts {
 }
 
 impl ConnectionCounts {
-    pub(crate) fn new() -> ConnectionCounts {
+    /// Those of a server that begins.
+    pub fn new() -> ConnectionCounts {
         ConnectionCounts {
             accepted: Count::new(),
             open: Count::new(),
