@@ -4,9 +4,9 @@ ghost use Rattle.std.specs.Prelude.{◌≡◌, IfOk};
 ghost use Rattle.tac_journal.specs.Console.{line_typed};
 ghost use Rattle.tac_journal.specs.Logged.{IsLogged};
 
-use crate::entry::{Append, log_lines};
 use crate::moment::now;
 use crate::typists::Typists;
+use crate::writer::{Append, log_lines};
 use basics::Bytes;
 use std::alloc::{AllocError, Global};
 use std::time::Clock;

@@ -7,9 +7,9 @@ ghost use Rattle.tac_audit.specs.Witness.{AreTold};
 ghost use Rattle.tac_audit.specs.declared.notice.Notice.{Notice as NoticeValue};
 ghost use Rattle.tac_journal.specs.Device.{HasLines, HasLinesButLast, IsNoted};
 
-use crate::entry::{Append, log_lines};
 use crate::lines::line_of;
 use crate::moment::Moments;
+use crate::writer::{Append, log_lines};
 use basics::Bytes;
 use std::alloc::Global;
 use std::time::Clock;

@@ -2,9 +2,9 @@
 
 ghost use Rattle.tac_journal.specs.Log.{somewhere};
 
-use crate::book::{Book, Place};
 use crate::disk::Disk;
 use crate::log::Log;
+use crate::open_file::{OpenFile, Place};
 use crate::opening::LogFiles;
 use brief_lock::take;
 use std::io;
@@ -20,7 +20,7 @@ use tac_audit::Refused;
 #[derive(Drop)]
 pub struct Journal<'a> {
     place: Place<'a>,
-    book: Mutex<Book>,
+    open_file: Mutex<OpenFile>,
 }
 
 impl<'a> Journal<'a> {
@@ -37,10 +37,10 @@ impl<'a> Journal<'a> {
             disk,
             is_failing: AtomicBool::new(false),
         };
-        let book = place.open(host)?;
+        let open_file = place.open(host)?;
         Ok(Journal {
             place,
-            book: Mutex::new(book),
+            open_file: Mutex::new(open_file),
         })
     }
 
@@ -64,9 +64,11 @@ impl Log for Journal<'_> {
         if lines.is_empty() {
             return Ok(());
         }
-        let number = self.place.append(host, &mut take(host, &self.book), lines)?;
+        let number = self
+            .place
+            .append(host, &mut take(host, &self.open_file), lines)?;
         match &self.place.disk {
-            Some(disk) => self.place.send(host, disk, &self.book, number),
+            Some(disk) => self.place.send(host, disk, &self.open_file, number),
             None => Ok(()),
         }
     }

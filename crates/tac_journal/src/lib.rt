@@ -2,25 +2,25 @@
 //! console tells what happens there.
 #![tactic(auto)]
 
-mod book;
 mod console;
 mod device;
 mod disk;
-mod entry;
 mod journal;
 mod lines;
 mod log;
 mod moment;
+mod open_file;
 mod opening;
 mod tail;
 mod typists;
+mod writer;
 
 pub use console::ConsoleLog;
 pub use device::DeviceLog;
-pub use entry::{Append, Entry};
 pub use journal::Journal;
 pub use log::{Log, Nowhere};
 pub use moment::Moments;
 pub use opening::LogFiles;
 pub use tac_audit::Refused;
 pub use typists::{OneInput, Typists};
+pub use writer::{Append, LogWriter};

@@ -2,7 +2,7 @@
 use Rattle.std.specs.Prelude.{◌≡◌, ℕ, List, Option, Some, None}
 use Rattle.tac_audit.specs.declared.notice.Notice.{Notice}
 use Rattle.tac_journal.specs.declared.device.DeviceLog.{DeviceLog}
-use Rattle.tac_journal.specs.declared.entry.Entry.{Entry}
+use Rattle.tac_journal.specs.declared.writer.LogWriter.{LogWriter}
 use Rattle.tac_journal.specs.Device as device
 use Rattle.tac_journal.specs.Log.{Keeping}
 use Rattle.tac_net.specs.declared.witness.DeviceWitness.{DeviceWitness}
@@ -26,22 +26,22 @@ RefusesBy refuses was notice now = ⊥
 
 module _ {R L : Type 0} (keeping : L → Keeping) where
   -- it took these lines by one append, or refused them
-  abbrev pub EntryTakes : Entry R L → List ℕ → Entry R L → Type 0
-  EntryTakes was lines now = (now ≡ was) × (keeping was.log.now).took lines
+  abbrev pub WriterTakes : LogWriter R L → List ℕ → LogWriter R L → Type 0
+  WriterTakes was lines now = (now ≡ was) × (keeping was.log.now).took lines
 
-  abbrev pub EntryRefuses : Entry R L → List ℕ → Entry R L → Type 0
-  EntryRefuses was lines now = now ≡ was
+  abbrev pub WriterRefuses : LogWriter R L → List ℕ → LogWriter R L → Type 0
+  WriterRefuses was lines now = now ≡ was
 
-  abbrev pub place_of : DeviceLog R (Entry R L) → device.Place (Entry R L)
+  abbrev pub place_of : DeviceLog R (LogWriter R L) → device.Place (LogWriter R L)
   place_of log = record { device = log.device; logins = log.logins; log = log.log }
 
   -- the witness of a connection took this notice, or refused it, by its log
   abbrev pub Takes : DeviceWitness R L → Notice → DeviceWitness R L → Type 0
   Takes was notice now =
-      TakesBy (λ was notice now. device.Takes EntryTakes (place_of was) notice (place_of now))
+      TakesBy (λ was notice now. device.Takes WriterTakes (place_of was) notice (place_of now))
       was.log notice now.log
 
   abbrev pub Refuses : DeviceWitness R L → Notice → DeviceWitness R L → Type 0
   Refuses was notice now =
-      RefusesBy (λ was notice now. device.Refuses EntryRefuses (place_of was) notice (place_of now))
+      RefusesBy (λ was notice now. device.Refuses WriterRefuses (place_of was) notice (place_of now))
       was.log notice now.log

@@ -13,7 +13,7 @@ use tac_audit::Nobody;
 use tac_desk::Desk;
 use tac_forum::{Run, Seat};
 use tac_hall_console::{OperatorFault, Source, operate};
-use tac_journal::{ConsoleLog, Entry, Log, LogFiles, Typists};
+use tac_journal::{ConsoleLog, Log, LogFiles, LogWriter, Typists};
 
 // Operates the console. The log of the server, if one is kept, is told of each line before it is
 // answered.
@@ -33,7 +33,7 @@ where
     let rt = premises.rt;
     let desk = premises.desk;
     if premises.log.is_kept() {
-        let log = Entry::new(rt, premises.log);
+        let log = LogWriter::new(rt, premises.log);
         let mut witness = ConsoleLog::new(rt.alloc(), rt, source, log);
         return operate(rt, desk, source, console, &mut witness, input, output);
     }

@@ -12,7 +12,7 @@ use std::time::Clock;
 use tac_audit::{Notice, Refused, Witness};
 use tac_authen::AuthenStatus;
 use tac_conn::{Reply, ReplyBody};
-use tac_journal::{DeviceLog, Entry, Log, LogFiles, Moments};
+use tac_journal::{DeviceLog, Log, LogFiles, LogWriter, Moments};
 use tac_status::RequestCounts;
 
 /// Who is told of the packets of one connection, each before its reply is sent: the auditor's log,
@@ -20,7 +20,7 @@ use tac_status::RequestCounts;
 /// that a person types.
 #[derive(Drop)]
 pub(crate) struct DeviceWitness<'a, R, L> {
-    log: Option<DeviceLog<'a, R, Entry<'a, R, L>>>,
+    log: Option<DeviceLog<'a, R, LogWriter<'a, R, L>>>,
     counts: &'a RequestCounts,
     asks: bool,
 }
@@ -72,7 +72,7 @@ where
             });
         }
         let device = device_of(rt.alloc(), address)?;
-        let log = DeviceLog::new(rt.alloc(), rt, moments, Entry::new(rt, log), device);
+        let log = DeviceLog::new(rt.alloc(), rt, moments, LogWriter::new(rt, log), device);
         Ok(DeviceWitness {
             log: Some(log),
             counts,

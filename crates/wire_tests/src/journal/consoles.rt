@@ -11,7 +11,7 @@ use std::sync::Wait;
 use std::test::Fail;
 use std::time::Clock;
 use tac_audit::{Typing, Witness};
-use tac_journal::{ConsoleLog, Entry, Log, LogFiles, OneInput, Refused};
+use tac_journal::{ConsoleLog, Log, LogFiles, LogWriter, OneInput, Refused};
 
 // What a log and an output took, one after another.
 #[derive(Drop)]
@@ -154,7 +154,7 @@ fn converses<R: Abort + Wait + Clock + AllocGlobal + Eprint + LogFiles>(
 ) -> Result<(), Fail> {
     let course = Course::new(rt.alloc());
     let book = Book::new(&course, is_full);
-    let mut log = ConsoleLog::new(rt.alloc(), rt, &OneInput, Entry::new(rt, &book));
+    let mut log = ConsoleLog::new(rt.alloc(), rt, &OneInput, LogWriter::new(rt, &book));
     let mut screen = Screen { course: &course };
     answers_each(
         rt,
@@ -236,7 +236,7 @@ fn each_line_by_one_write(rt: HostRuntime) -> Result<(), Fail> {
     let alloc = rt.alloc();
     let course = Course::new(alloc);
     let book = Book::new(&course, false);
-    let mut log = ConsoleLog::new(alloc, &rt, &OneInput, Entry::new(&rt, &book));
+    let mut log = ConsoleLog::new(alloc, &rt, &OneInput, LogWriter::new(&rt, &book));
     let long = repeated(alloc, "user 1234567890\n", 257)?;
     for (line, answer) in [("policy", POLICY), ("records", long.as_str()), ("quit", "")] {
         assert!(&rt; is_taken(alloc, &mut log, line, answer)?, "{line:?}");

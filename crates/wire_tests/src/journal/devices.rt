@@ -18,7 +18,7 @@ use std::test::Fail;
 use std::thread::{Threads, join, yield_now};
 use std::time::Clock;
 use tac_audit::{Notice, Witness};
-use tac_journal::{DeviceLog, Entry, Journal, Log, LogFiles, Moments, Refused};
+use tac_journal::{DeviceLog, Journal, Log, LogFiles, LogWriter, Moments, Refused};
 
 // A log of which a test reads the lines.
 #[derive(Drop)]
@@ -109,7 +109,7 @@ where
     let alloc = host.alloc();
     let name = Bytes::from_slice(alloc, b"d")?;
     let moments = Moments::new();
-    let mut log = DeviceLog::new(alloc, host, &moments, Entry::new(host, log), name);
+    let mut log = DeviceLog::new(alloc, host, &moments, LogWriter::new(host, log), name);
     exchange(&mut log, notice, answers)?;
     if let Some(pause) = pause {
         host.pass(pause);

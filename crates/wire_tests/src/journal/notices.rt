@@ -15,7 +15,7 @@ use std::sync::Wait;
 use std::test::Fail;
 use std::time::{Clock, Duration};
 use tac_audit::{Notice, Witness};
-use tac_journal::{DeviceLog, Entry, Log, LogFiles, Moments, Refused};
+use tac_journal::{DeviceLog, Log, LogFiles, LogWriter, Moments, Refused};
 
 // A log that takes so many appends, and no more.
 #[derive(Drop)]
@@ -178,7 +178,7 @@ where
     let few = Few::of(alloc, lines);
     let moments = Moments::new();
     let name = Bytes::from_slice(alloc, b"d")?;
-    let mut log = DeviceLog::new(alloc, clock, &moments, Entry::new(&host, &few), name);
+    let mut log = DeviceLog::new(alloc, clock, &moments, LogWriter::new(&host, &few), name);
     comes_each(alloc, &mut log, &few, told, packets)
 }
 

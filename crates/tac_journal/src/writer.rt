@@ -27,24 +27,24 @@ pub trait Append {
 
 /// A log that threads share, as one of them appends to it.
 #[derive(Drop)]
-pub struct Entry<'a, H, L> {
+pub struct LogWriter<'a, H, L> {
     host: &'a H,
     log: &'a L,
 }
 
-impl<'a, H, L: Log> Entry<'a, H, L>
+impl<'a, H, L: Log> LogWriter<'a, H, L>
 where
     H: Wait + Clock + Eprint + LogFiles,
 {
     /// This log, whose file, clock and standard error are the host's.
-    pub fn new(host: &'a H, log: &'a L) -> Entry<'a, H, L>
+    pub fn new(host: &'a H, log: &'a L) -> LogWriter<'a, H, L>
         ensures { result.log.now ≡ log.now }
     {
-        Entry { host, log }
+        LogWriter { host, log }
     }
 }
 
-impl<H, L: Log> Append for Entry<'_, H, L>
+impl<H, L: Log> Append for LogWriter<'_, H, L>
 where
     H: Wait + Clock + Eprint + LogFiles,
 {

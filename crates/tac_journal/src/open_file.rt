@@ -16,7 +16,7 @@ const FRESH: u64 = 500;
 
 /// A file as it is open now.
 #[derive(Drop)]
-pub(crate) struct Book {
+pub(crate) struct OpenFile {
     tail: Tail<File>,
     // when it was opened; nothing where no clock said so
     opened: Option<Instant>,
@@ -49,8 +49,8 @@ fn is_stale<C: Clock>(clock: &C, opened: Option<Instant>) -> bool {
 
 impl Place<'_> {
     /// Opens the file.
-    pub(crate) fn open<H: Clock + LogFiles>(&self, host: &H) -> io::Result<Book> {
-        Ok(Book {
+    pub(crate) fn open<H: Clock + LogFiles>(&self, host: &H) -> io::Result<OpenFile> {
+        Ok(OpenFile {
             tail: open(host, self.path)?,
             opened: Instant::now(host).ok(),
             complained: None,
@@ -59,82 +59,87 @@ impl Place<'_> {
     }
 
     // Sends what a file took to the disk before another takes its place.
-    fn leave<H: Wait + LogFiles>(&self, host: &H, book: &Book) -> io::Result<()> {
+    fn leave<H: Wait + LogFiles>(&self, host: &H, open_file: &OpenFile) -> io::Result<()> {
         let Some(disk) = &self.disk else {
             return Ok(());
         };
-        let sent = host.sync_log(&book.tail.file);
-        disk.settle(host, book.appends, sent.is_ok());
+        let sent = host.sync_log(&open_file.tail.file);
+        disk.settle(host, open_file.appends, sent.is_ok());
         sent
     }
 
     // Opens the file again.
-    fn reopen<H>(&self, host: &H, book: &mut Book) -> io::Result<()>
+    fn reopen<H>(&self, host: &H, open_file: &mut OpenFile) -> io::Result<()>
     where
         H: Wait + Clock + LogFiles,
     {
         let tail = open(host, self.path)?;
-        self.leave(host, book)?;
-        book.tail = tail;
-        book.opened = Instant::now(host).ok();
+        self.leave(host, open_file)?;
+        open_file.tail = tail;
+        open_file.opened = Instant::now(host).ok();
         Ok(())
     }
 
     // Appends lines, to the file that is at the path now.
-    fn write<H>(&self, host: &H, book: &mut Book, lines: &[u8]) -> Result<(), Untaken>
+    fn write<H>(&self, host: &H, open_file: &mut OpenFile, lines: &[u8]) -> Result<(), Untaken>
     where
         H: Wait + Clock + LogFiles,
     {
-        if is_stale(host, book.opened) {
-            self.reopen(host, book).map_err(Untaken::Failed)?;
+        if is_stale(host, open_file.opened) {
+            self.reopen(host, open_file).map_err(Untaken::Failed)?;
         }
-        book.tail.append(lines)
+        open_file.tail.append(lines)
     }
 
     // Says on standard error that the file takes no lines, once until it takes some again. It
     // doesn't matter whether that can be written.
-    fn complain<H: Eprint>(&self, host: &H, book: &mut Book, why: &Untaken) {
-        if book.complained.is_none() {
+    fn complain<H: Eprint>(&self, host: &H, open_file: &mut OpenFile, why: &Untaken) {
+        if open_file.complained.is_none() {
             let path = self.path;
             let _ = eprintln!(host;
                 "tacd: {path}: {why}; requests aren't answered until it takes lines"
             );
         }
-        book.complained = Some(book.appends);
+        open_file.complained = Some(open_file.appends);
         self.is_failing.store(true, Ordering::SeqCst);
     }
 
     // Says that the file takes lines again, where the lines of an append count that came after it
     // last took none.
-    fn relent<H: Eprint>(&self, host: &H, book: &mut Book, number: u64) {
-        let Some(before) = book.complained else {
+    fn relent<H: Eprint>(&self, host: &H, open_file: &mut OpenFile, number: u64) {
+        let Some(before) = open_file.complained else {
             return;
         };
         if number > before {
             let path = self.path;
             let _ = eprintln!(host; "tacd: {path}: it takes lines again");
-            book.complained = None;
+            open_file.complained = None;
             self.is_failing.store(false, Ordering::SeqCst);
         }
     }
 
     /// Appends lines, and answers the number of the append. The lines count at once, or where the
     /// file is sent to the disk once that is [done](Place::send).
-    pub(crate) fn append<H>(&self, host: &H, book: &mut Book, lines: &[u8]) -> Result<u64, Refused>
+    pub(crate) fn append<H>(
+        &self,
+        host: &H,
+        open_file: &mut OpenFile,
+        lines: &[u8],
+    ) -> Result<u64, Refused>
     where
         H: Wait + Clock + Eprint + LogFiles,
     {
-        match self.write(host, book, lines) {
+        match self.write(host, open_file, lines) {
             Ok(()) => {
-                let number = book.appends.saturating_add(1);
-                book.appends = number;
+                let number = open_file.appends.saturating_add(1);
+                open_file.appends = number;
                 if self.disk.is_none() {
-                    self.relent(host, book, number);
+                    self.relent(host, open_file, number);
                 }
                 Ok(number)
             }
             Err(why) => {
-                self.complain(host, book, &why);
+                self.complain(host, open_file, &why);
                 Err(Refused)
             }
         }
@@ -142,27 +147,27 @@ impl Place<'_> {
 
     // Sends the file as it is now to the disk. Others append to it meanwhile, and the system tells
     // a fault once: so it may be of their lines too, and none counts that was appended by then.
-    fn send_all<H>(&self, host: &H, disk: &Disk, book: &Mutex<Book>)
+    fn send_all<H>(&self, host: &H, disk: &Disk, open_file: &Mutex<OpenFile>)
     where
         H: Wait + Eprint + LogFiles,
     {
         let (file, appends) = {
-            let book = take(host, book);
-            (book.tail.file.try_clone(), book.appends)
+            let open_file = take(host, open_file);
+            (open_file.tail.file.try_clone(), open_file.appends)
         };
         let sent = match file {
             Ok(file) => host.sync_log(&file),
             Err(error) => Err(error),
         };
-        let mut book = take(host, book);
+        let mut open_file = take(host, open_file);
         match sent {
             Ok(()) => {
                 disk.settle(host, appends, true);
-                self.relent(host, &mut book, appends);
+                self.relent(host, &mut open_file, appends);
             }
             Err(error) => {
-                disk.settle(host, book.appends, false);
-                self.complain(host, &mut book, &Untaken::Failed(error));
+                disk.settle(host, open_file.appends, false);
+                self.complain(host, &mut open_file, &Untaken::Failed(error));
             }
         }
     }
@@ -173,7 +178,7 @@ impl Place<'_> {
         &self,
         host: &H,
         disk: &Disk,
-        book: &Mutex<Book>,
+        open_file: &Mutex<OpenFile>,
         number: u64,
     ) -> Result<(), Refused>
     where
@@ -181,7 +186,7 @@ impl Place<'_> {
     {
         let _sending = disk.sending.lock(host);
         if disk.fate(host, number) == Fate::Open {
-            self.send_all(host, disk, book);
+            self.send_all(host, disk, open_file);
         }
         disk.fate(host, number).counts()
     }
