@@ -7,6 +7,10 @@ use std::thread::sleep;
 use std::time::{Clock, Duration};
 use tac_net::Port;
 
+/// What is said where a console has no lines, as where a unit gives none.
+const ENDED_AT_ONCE: &str = "tacd: the console's input ended at once, so the server stops: give it \
+    --console PATH, or --no-console";
+
 /// What is typed at a console. Where it ends at once, standard error says so: it has no lines then,
 /// as `/dev/null`, and the server stops.
 #[derive(Drop)]
@@ -33,9 +37,7 @@ impl<R: Eprint, I: Read> Read for ConsoleInput<'_, R, I> {
         let n = self.input.read(buf)?;
         if n == 0 && !self.has_begun {
             // It doesn't matter whether this could be written.
-            let _ = eprintln!(self.rt;
-                "tacd: the console's input ended at once, so the server stops"
-            );
+            let _ = eprintln!(self.rt; "{ENDED_AT_ONCE}");
         }
         self.has_begun = true;
         Ok(n)

@@ -128,7 +128,8 @@ fn serves_a_console(rt: HostRuntime) -> Result<(), Fail> {
     let answers =
         "permitted by group ops rule 1\nok\nuser bob now denies: show run\nrefused 1 BadEdit\n";
     let unwritten = "tacd: the output could not be written\n";
-    let ended = "tacd: the console's input ended at once, so the server stops\n";
+    let ended = "tacd: the console's input ended at once, so the server stops: give it \
+        --console PATH, or --no-console\n";
     serves(&rt, "", "", true, 0, "", ended)?;
     serves(&rt, "", "quit", true, 0, "", "")?;
     serves(&rt, "", "\n", true, 0, "refused 1 BadEdit\n", "")?;
