@@ -128,7 +128,8 @@ Standard output has 'listening PORT' first, and then what the console's lines ar
 error says so where too few files may be open for so many connections, as by 'ulimit -n'.
 
 Signals aren't seen: SIGTERM ends the server, and SIGHUP too. To run it in the background or in a
-container, give --console PATH, where operators type by 'tacd console PATH', or --no-console.
+container, give --console PATH, where operators type by 'tacd console PATH', or --no-console. The
+package's service has --console /run/tacd/console; further options stand in /etc/default/tacd.
 
 Lines of the console, where a SUBJECT is 'user NAME' or 'group NAME':
   policy               the policy as it is now
