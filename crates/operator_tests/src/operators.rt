@@ -1,4 +1,4 @@
-//! Operators at the socket of a console that answers each line with itself.
+//! Operators at the socket of a console that answers each line with itself, or with who typed it.
 
 use basics::Bytes;
 use std::alloc::{AllocError, Global};
@@ -27,7 +27,16 @@ impl Status for Silent {
     }
 }
 
-// Answers each line with itself, until `quit`.
+// Writes the name of who typed the line that is answered now.
+fn tell_typist<R: Wait, W: Write>(rt: &R, exchange: &Exchange, output: &mut W) -> io::Result<()> {
+    match exchange.typist(rt) {
+        Some(name) => output.write_all(name.as_slice())?,
+        None => output.write_all(b"nobody")?,
+    }
+    output.write_all(b"\n")
+}
+
+// Answers each line with itself, until `quit`, and the line `who` with who typed it.
 fn echo<R: Wait + AllocGlobal>(rt: &R, exchange: &Exchange) -> io::Result<()> {
     let alloc = rt.alloc();
     let mut input = BufReader::new(alloc, exchange.input(rt))?;
@@ -40,7 +49,11 @@ fn echo<R: Wait + AllocGlobal>(rt: &R, exchange: &Exchange) -> io::Result<()> {
         if line.as_slice() == b"quit\n".as_slice() {
             return Ok(());
         }
-        output.write_all(line.as_slice())?;
+        if line.as_slice() == b"who\n".as_slice() {
+            tell_typist(rt, exchange, &mut output)?;
+        } else {
+            output.write_all(line.as_slice())?;
+        }
     }
     Ok(())
 }
@@ -73,12 +86,16 @@ where
     R: Net<Listener = TcpListener, Stream = TcpStream>,
 {
     let first = UnixStream::connect(rt, path)?;
-    hears(&first, "operator anna\nbegin\n", "ready\n\nok\n\nbegin\n\n")?;
+    hears(
+        &first,
+        "who\noperator anna\nbegin\nwho\n",
+        "ready\n\nnobody\n\nok\n\nbegin\n\nanna\n\n",
+    )?;
     let second = UnixStream::connect(rt, path)?;
     hears(
         &second,
-        "drop group ops 1\nshadow\n",
-        "ready\n\nbusy anna\n\nshadow\n\n",
+        "drop group ops 1\nwho\noperator ben\nwho\n",
+        "ready\n\nbusy anna\n\nnobody\n\nok\n\nben\n\n",
     )?;
     has_ended(&first)?;
     hears(&second, "drop group ops 1\ndrop", "drop group ops 1\n\n")?;

@@ -113,12 +113,21 @@ pub struct Event {
 }
 
 /// Who typed a line at the console.
-#[derive(Debug, Drop)]
+#[derive(Debug)]
 pub enum Typist {
     /// Whoever has its one input: nobody says who that is.
     Anyone,
     /// One of the operators who share it, by the name that he says, if he says one.
     Operator(Option<Bytes>),
+}
+
+impl Drop for Typist {
+    fn drop(self) {
+        match self {
+            Typist::Anyone => {}
+            Typist::Operator(_) => {}
+        }
+    }
 }
 
 /// What was typed at the console, by whom, and when.
