@@ -1,0 +1,174 @@
+//! A desk that hands its policy over whenever that is another one.
+
+ghost use Rattle.std.specs.Prelude.{◌≡◌, ◌↔◌, false, Ok, Err, IsOk, IsTrue, IfOk, OnOk, OnErr};
+ghost use Rattle.pol_edit.specs.Applying.{is_memory};
+ghost use Rattle.pol_edit.specs.Batches.{ran_out};
+ghost use Rattle.pol_meaning.specs.Memory.{UnlessMemory};
+ghost use Rattle.tac_conn.specs.Ask.{kind_of_ask, kind_of_answer};
+ghost use Rattle.tac_conn.specs.declared.ask.Answer.TheVariants as answers;
+ghost use Rattle.tac_desk.specs.Asking.{asked, stores, Passes};
+ghost use Rattle.tac_desk.specs.Editing as editing;
+ghost use Rattle.tac_desk.specs.Reporting as reporting;
+ghost use Rattle.tac_desk.specs.declared.query.QueryFault.TheVariants.{NoSuch};
+ghost use Rattle.tac_keep.specs.Kept.{IsHandedOver};
+ghost use Rattle.tac_keep.specs.declared.tray.Wanted.TheVariants as wanted;
+
+use crate::printing::printed;
+use crate::tray::{HandOver, Wanted};
+use pol_edit::{BatchFault, Edit, EditFault};
+use pol_meaning::Changes;
+use pol_text::Policy;
+use std::alloc::{AllocError, Global};
+use tac_conn::{Answer, Ask};
+use tac_desk::{Desk, Query, QueryFault, Report, State, Thrice};
+
+/// Another desk, which is asked and edited as that one is. After each accepted edit it hands over
+/// what its policy is printed as, within the call, so that is the policy at this place of the
+/// history; and after an accepted load that nothing is to be kept. Where there is no memory to
+/// print the policy it hands over that, and tries again at the next question.
+#[derive(Drop)]
+pub struct KeptDesk<'a, T, D> {
+    alloc: Global,
+    tray: &'a T,
+    desk: D,
+    // whether the policy could not be printed when it was handed over
+    is_unprinted: bool,
+}
+
+impl<'a, T: HandOver, D: Desk> KeptDesk<'a, T, D> {
+    /// This desk, of whose policy nothing is handed over yet.
+    pub fn new(alloc: Global, tray: &'a T, desk: D) -> KeptDesk<'a, T, D>
+        ensures desk { result.desk ≡ «desk» }
+        ensures tray { result.tray.now ≡ tray.now }
+    {
+        KeptDesk {
+            alloc,
+            tray,
+            desk,
+            is_unprinted: false,
+        }
+    }
+
+    // Hands the present policy over, or that it could not be printed.
+    fn hand_over(&mut self)
+        ensures handed { IsHandedOver (T.was_told self.old.tray.now)
+            (D.meaning self.old.desk).policy }
+        ensures desk { D.meaning self.new.desk ≡ D.meaning self.old.desk }
+        ensures tray { self.new.tray.now ≡ self.old.tray.now }
+    {
+        match printed(self.alloc, &mut self.desk) {
+            Ok(text) => {
+                self.is_unprinted = false;
+                self.tray.hand_over(Wanted::Text(text));
+            }
+            Err(_) => {
+                self.is_unprinted = true;
+                self.tray.hand_over(Wanted::Unprinted);
+            }
+        }
+    }
+
+    // Hands the present policy over, if there is memory to print it by now.
+    fn hand_over_late(&mut self)
+        ensures desk { D.meaning self.new.desk ≡ D.meaning self.old.desk }
+        ensures tray { self.new.tray.now ≡ self.old.tray.now }
+    {
+        if let Ok(text) = printed(self.alloc, &mut self.desk) {
+            self.is_unprinted = false;
+            self.tray.hand_over(Wanted::Text(text));
+        }
+    }
+}
+
+impl<T: HandOver, D: Desk> Desk for KeptDesk<'_, T, D> {
+    ghost meaning = { λ desk. D.meaning desk.desk };
+
+    fn ask(&mut self, ask: &Ask) -> Result<Answer, AllocError>
+        ensures answer { IfOk result (λ answer.
+            answer ≡ (asked (D.meaning self.old.desk) ask.now).answer) }
+        ensures after { OnOk result
+            (D.meaning self.new.desk ≡ (asked (D.meaning self.old.desk) ask.now).meaning) }
+        ensures kind { IfOk result (λ answer. kind_of_answer answer ≡ kind_of_ask ask.now) }
+        ensures passes { (result ≡ Ok answers.Pass) ↔ Passes (D.meaning self.old.desk) ask.now }
+        ensures sure { stores (D.meaning self.old.desk) ask.now ≡ false → IsOk result }
+        ensures err { OnErr result (D.meaning self.new.desk ≡ D.meaning self.old.desk) }
+    {
+        self.desk.ask(ask)
+    }
+
+    fn edit(&mut self, edit: &Edit) -> Result<Thrice<Changes>, EditFault>
+        ensures found { UnlessMemory is_memory result (editing.Edits (D.meaning self.old.desk)
+            edit.now result (D.meaning self.new.desk)) }
+        ensures only { UnlessMemory is_memory result (editing.IsOnly (D.meaning self.old.desk)
+            edit.now result (D.meaning self.new.desk)) }
+        ensures err { OnErr result (D.meaning self.new.desk ≡ D.meaning self.old.desk) }
+
+        // The policy with the edit is handed over.
+        ensures handed { OnOk result (IsHandedOver (T.was_told self.old.tray.now)
+            (D.meaning self.new.desk).policy) }
+    {
+        let edited = self.desk.edit(edit);
+        if edited.is_ok() {
+            self.hand_over();
+        }
+        edited
+    }
+
+    fn edit_all(&mut self, edits: &[Edit]) -> Result<Thrice<Changes>, BatchFault>
+        ensures found { UnlessMemory ran_out result (editing.EditsAll (D.meaning self.old.desk)
+            edits.now result (D.meaning self.new.desk)) }
+        ensures only { UnlessMemory ran_out result (editing.IsOnlyAll (D.meaning self.old.desk)
+            edits.now result (D.meaning self.new.desk)) }
+        ensures err { OnErr result (D.meaning self.new.desk ≡ D.meaning self.old.desk) }
+
+        // The policy with all of the edits is handed over.
+        ensures handed { OnOk result (IsHandedOver (T.was_told self.old.tray.now)
+            (D.meaning self.new.desk).policy) }
+    {
+        let edited = self.desk.edit_all(edits);
+        if edited.is_ok() {
+            self.hand_over();
+        }
+        edited
+    }
+
+    fn load(&mut self, policy: &Policy) -> Result<Thrice<Changes>, EditFault>
+        ensures found { UnlessMemory is_memory result (editing.Loads (D.meaning self.old.desk)
+            policy.now result (D.meaning self.new.desk)) }
+        ensures only { UnlessMemory is_memory result
+            (editing.IsOnlyLoaded (D.meaning self.old.desk)
+            policy.now result (D.meaning self.new.desk)) }
+        ensures err { OnErr result (D.meaning self.new.desk ≡ D.meaning self.old.desk) }
+
+        // A policy that was loaded is kept elsewhere.
+        ensures handed { OnOk result (T.was_told self.old.tray.now wanted.Nothing) }
+    {
+        let loaded = self.desk.load(policy);
+        if loaded.is_ok() {
+            self.is_unprinted = false;
+            self.tray.hand_over(Wanted::Nothing);
+        }
+        loaded
+    }
+
+    fn query(&mut self, query: &Query) -> Result<Thrice<Report>, QueryFault>
+        ensures found { UnlessMemory reporting.is_memory result
+            (reporting.Reports (D.meaning self.old.desk) query.now result) }
+        ensures only { UnlessMemory reporting.is_memory result
+            (reporting.IsOnly (D.meaning self.old.desk) query.now result) }
+        ensures kind { IfOk result (λ report.
+            IsTrue (reporting.is_report_to query.now report)) }
+        ensures sure { reporting.Reports (D.meaning self.old.desk) query.now (Err NoSuch) →
+            result ≡ Err NoSuch }
+        ensures after { D.meaning self.new.desk ≡ D.meaning self.old.desk }
+    {
+        if self.is_unprinted {
+            self.hand_over_late();
+        }
+        self.desk.query(query)
+    }
+
+    fn state(&self) -> Result<State, AllocError> {
+        self.desk.state()
+    }
+}

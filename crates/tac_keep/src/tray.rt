@@ -1,0 +1,71 @@
+//! What is to be kept, and where a desk hands it over.
+
+use basics::Bytes;
+use std::sync::Mutex;
+
+/// What a store is to hold.
+#[derive(PartialEq, Eq)]
+pub enum Wanted {
+    /// The printed form of a policy that was edited.
+    Text(Bytes),
+    /// Nothing, since the policy is the one that was loaded.
+    Nothing,
+    /// The printed form of a policy that was edited, for which there was no memory.
+    Unprinted,
+}
+
+// By hand, so that a proof of an owner has one call at each exit, not a drop of each field.
+impl Drop for Wanted {
+    fn drop(self) {
+        match self {
+            Wanted::Text(_) => {}
+            Wanted::Nothing => {}
+            Wanted::Unprinted => {}
+        }
+    }
+}
+
+/// Who is told what is to be kept, each time that this is another.
+pub trait HandOver {
+    ghost use Rattle.tac_keep.specs.declared.tray.Wanted.{Wanted as WantedValue};
+
+    /// It was told this.
+    ghost was_told: { Self → WantedValue → Type 0 };
+
+    /// Tells it. What it was told before no longer counts.
+    fn hand_over(&self, wanted: Wanted)
+        ensures { was_told self.now wanted };
+}
+
+/// Where the newest lies until the console takes it. A desk is edited by the calls of its console
+/// alone, so one thread comes here, and the lock is always free.
+#[derive(Drop)]
+pub struct Tray {
+    newest: Mutex<Option<Wanted>>,
+}
+
+impl Tray {
+    /// Nothing lies there.
+    pub fn new() -> Tray {
+        Tray {
+            newest: Mutex::new(None),
+        }
+    }
+
+    /// Takes what lies there.
+    pub(crate) fn take(&self) -> Option<Wanted> {
+        let mut newest = self.newest.try_lock()?;
+        newest.take()
+    }
+}
+
+impl HandOver for Tray {
+    // what lies behind a lock is in no contract
+    ghost was_told = { λ _ _. Unit {0} };
+
+    fn hand_over(&self, wanted: Wanted) {
+        if let Some(mut newest) = self.newest.try_lock() {
+            *newest = Some(wanted);
+        }
+    }
+}
