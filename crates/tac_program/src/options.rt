@@ -7,8 +7,9 @@ ghost use Rattle.std.specs.Prelude.{◌≡◌};
 ghost use Rattle.tac_program.specs.Opening as opening;
 
 use crate::command_line::{
-    ADDRESS, CONNECTIONS, CONNECTIONS_AT_ONCE, CONSOLE, FILE, IDLE, KEEP_RECORDS, KEY, KEY_FILE,
-    LOG, LOGIN_IDLE, NO_CONSOLE, PACKET_MEMORY, PER_ADDRESS, PORT, ROTATE_AT, SYNC, WORKERS,
+    ADDRESS, CONNECTIONS, CONNECTIONS_AT_ONCE, CONSOLE, FILE, IDLE, KEEP_EDITS, KEEP_RECORDS, KEY,
+    KEY_FILE, LOG, LOGIN_IDLE, NO_CONSOLE, PACKET_MEMORY, PER_ADDRESS, PORT, ROTATE_AT, SYNC,
+    WORKERS,
 };
 use crate::opening::open_secret;
 use crate::status::Status;
@@ -59,6 +60,8 @@ pub(crate) struct Options<'a> {
     pub(crate) has_console: bool,
     /// The socket at which operators type, if there is one.
     pub(crate) console: Option<&'a str>,
+    /// The file that has the policy with the edits that were made there, if they are kept.
+    pub(crate) kept: Option<&'a str>,
     /// What is counted of the server that serves so.
     pub(crate) counts: Counts,
 }
@@ -222,6 +225,7 @@ impl<'a> Options<'a> {
                 syncs: matches.get_flag(SYNC),
                 has_console: !matches.get_flag(NO_CONSOLE),
                 console: matches.get_str(CONSOLE),
+                kept: matches.get_str(KEEP_EDITS),
                 counts: Counts::new(),
             }),
             _ => Err(Status::BadCommandLine),
