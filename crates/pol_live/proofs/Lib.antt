@@ -12,3 +12,4 @@ pub mod KeeperFacts
 pub mod PreparedFacts
 pub mod ReplaceFacts
 pub mod RiseFacts
+pub mod StayingFacts

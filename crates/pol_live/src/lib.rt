@@ -14,6 +14,7 @@ mod prepared;
 mod reusing;
 mod shared;
 mod sizing;
+mod staying;
 mod touching;
 
 pub use along::{ChainRule, rules_along};

@@ -18,6 +18,7 @@ ghost use Rattle.pol_meaning.specs.Memory.{UnlessMemory};
 
 use crate::fault::BuildFault;
 use crate::live::Live;
+use crate::staying::sharing;
 use crate::touching::{has_on_chain, touched_between, touched_by};
 use basics::{Sequence, StructuralEq};
 use pol_automaton::{Decider, Meter};
@@ -76,7 +77,8 @@ impl Live {
     {
         let before = self.policy().copy(alloc)?;
         let touched = touched_between(alloc, self.policy(), &policy)?;
-        let after = self.renewed(alloc, &touched, policy, meter)?;
+        let shared = sharing(alloc, self.policy(), &touched, policy)?;
+        let after = self.renewed(alloc, &touched, shared, meter)?;
         Ok(Prepared {
             before,
             after,
@@ -87,12 +89,13 @@ impl Live {
     /// Makes another policy ready to take the place of this one, and changes nothing. Refused where
     /// one of its subjects has too many residuals, with the first such subject in its order.
     /// Automata that stay right are shared with it: where a subject is new, or has other rules than
-    /// before or another group, those along the chains with it are built, and its own. So it costs
-    /// what the edits between the two policies would.
+    /// before or another group, those along the chains with it are built, and its own. Patterns of
+    /// subjects whose rules stayed the same are shared too. So it costs what the edits between the
+    /// two policies would, and so does dropping this one once the other has its place.
     ///
     /// Beside these automata it takes a copy of the present policy, two look-ups for each subject
-    /// and a comparison of its rules, and for each subject on each chain a comparison of names with
-    /// each subject that differs: some ten million comparisons at most.
+    /// and for each rule, a comparison of each subject's rules, and for each subject on each chain
+    /// a comparison of names with each subject that differs: some ten million comparisons at most.
     pub fn prepare_policy(
         &self,
         alloc: Global,

@@ -73,23 +73,17 @@ pub(crate) fn touched_by(alloc: Global, edits: &[Edit]) -> Result<Touched, Alloc
     Ok(Touched { all, rewritten })
 }
 
-// Whether the subject was there with these rules.
-fn had_rules(before: &Policy, subject: &Subject) -> bool
-    ensures { result ≡ renewing.had_rules before.now subject.now }
+// Whether the subject was there with these rules, and whether in this group too.
+fn was(before: &Policy, subject: &Subject) -> (bool, bool)
+    ensures rules { result.0 ≡ renewing.had_rules before.now subject.now }
+    ensures alike { result.1 ≡ renewing.was_alike before.now subject.now }
 {
     match before.find(&subject.id()) {
-        Some(was) => was.rules == subject.rules,
-        None => false,
-    }
-}
-
-// Whether it was there with these rules and in this group.
-fn was_alike(before: &Policy, subject: &Subject) -> bool
-    ensures { result ≡ renewing.was_alike before.now subject.now }
-{
-    match before.find(&subject.id()) {
-        Some(was) => was.rules == subject.rules && was.parent == subject.parent,
-        None => false,
+        Some(was) => {
+            let had_rules = was.rules == subject.rules;
+            (had_rules, had_rules && was.parent == subject.parent)
+        }
+        None => (false, false),
     }
 }
 
@@ -100,7 +94,7 @@ fn unless(passed: bool, subject: &Subject) -> Option<SubjectId>
     if passed { None } else { Some(subject.id()) }
 }
 
-/// The subjects that another policy touches. Takes two look-ups for each of its subjects, and a
+/// The subjects that another policy touches. Takes a look-up for each of its subjects, and a
 /// comparison of its rules.
 pub(crate) fn touched_between(
     alloc: Global,
@@ -114,8 +108,9 @@ pub(crate) fn touched_between(
     let mut all = Sequence::new(alloc);
     let mut rewritten = Sequence::new(alloc);
     for subject in after.subjects() {
-        add(&mut all, unless(was_alike(before, subject), subject))?;
-        add(&mut rewritten, unless(had_rules(before, subject), subject))?;
+        let (had_rules, was_alike) = was(before, subject);
+        add(&mut all, unless(was_alike, subject))?;
+        add(&mut rewritten, unless(had_rules, subject))?;
     }
     Ok(Touched { all, rewritten })
 }
