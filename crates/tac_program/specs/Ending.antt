@@ -2,10 +2,10 @@
 use Rattle.std.specs.Prelude.{Result, Ok, Err}
 use Rattle.tac_io.specs.declared.answering.AnswerFault.{AnswerFault}
 use Rattle.tac_io.specs.declared.answering.AnswerFault.TheVariants as answers
-use Rattle.tac_check.specs.declared.checking.CheckEnd.{CheckEnd}
-use Rattle.tac_check.specs.declared.checking.CheckEnd.TheVariants as checks
-use Rattle.tac_lint.specs.declared.linting.LintEnd.{LintEnd}
-use Rattle.tac_lint.specs.declared.linting.LintEnd.TheVariants as lints
+use Rattle.tac_review.specs.declared.checking.CheckEnd.{CheckEnd}
+use Rattle.tac_review.specs.declared.checking.CheckEnd.TheVariants as checks
+use Rattle.tac_review.specs.declared.linting.LintEnd.{LintEnd}
+use Rattle.tac_review.specs.declared.linting.LintEnd.TheVariants as lints
 use Rattle.tac_review.specs.declared.task.ReviewEnd.{ReviewEnd}
 use Rattle.tac_review.specs.declared.task.ReviewEnd.TheVariants as reviews
 use Rattle.tac_review.specs.declared.task.ReviewFault.{ReviewFault}

@@ -10,8 +10,8 @@ use Rattle.tac_tally.specs.declared.limit.RecordLimit.{RecordLimit}
 use Rattle.tac_desk.specs.Meaning.{max_records}
 use Rattle.tac_desks.specs.Metered.{Metered}
 use Rattle.tac_desks.specs.Opening.{Opens}
-use Rattle.tac_check.specs.Check.{IsCheckOf}
-use Rattle.tac_check.specs.declared.checking.CheckEnd.TheVariants.{Refused}
+use Rattle.tac_review.specs.Check.{IsCheckOf}
+use Rattle.tac_review.specs.declared.checking.CheckEnd.TheVariants.{Refused}
 
 -- a server that is told how many records to keep keeps the latest; else the first that come are kept,
 -- and no more

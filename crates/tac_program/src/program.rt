@@ -22,11 +22,10 @@ use std::sync::Wait;
 use std::thread::Threads;
 use std::time::Clock;
 use std::{env, io, thread};
-use tac_check::{CheckEnd, check};
 use tac_journal::LogFiles;
 use tac_keep::KeepFiles;
-use tac_lint::lint;
 use tac_operators::ConsoleHost;
+use tac_review::{CheckEnd, check, lint};
 
 // The policy comes from a file, and what is found goes to standard output.
 fn check_policy<R: Files + Print + Eprint + AllocGlobal>(rt: &R, path: &str) -> Status {

@@ -6,11 +6,9 @@ ghost use Rattle.tac_program.specs.Ending.{status_of_review, status_of_serving};
 
 use clap::error::ErrorKind;
 use std::io::ErrorKind as IoErrorKind;
-use tac_check::CheckEnd;
 use tac_io::{AnswerFault, InputFault};
-use tac_lint::LintEnd;
 use tac_net::ServeFault;
-use tac_review::{ReviewEnd, ReviewFault};
+use tac_review::{CheckEnd, LintEnd, ReviewEnd, ReviewFault};
 use tac_server::{ReplayEnd, ReplayFault};
 
 /// How a run of the program ended, with the number that its caller sees.

@@ -1,3 +1,6 @@
+mod Counting
+mod CheckFacts
+mod LintFacts
 pub mod OnlyFacts
 pub mod TableFacts
 pub mod ReadingFacts

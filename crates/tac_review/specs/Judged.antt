@@ -4,8 +4,8 @@ use Rattle.pol_text.specs.Text.{policy_of}
 use Rattle.pol_text.specs.declared.subject.Subject.{Subject}
 use Rattle.pol_text.specs.declared.fault.PolicyFault.{PolicyFault}
 use Rattle.pol_meaning.specs.Sizes.{IsSmall}
-use Rattle.tac_check.specs.Check.{IsCheckOf}
-use Rattle.tac_check.specs.declared.checking.CheckEnd.TheVariants.{Refused}
+use Rattle.tac_review.specs.Check.{IsCheckOf}
+use Rattle.tac_review.specs.declared.checking.CheckEnd.TheVariants.{Refused}
 
 -- a policy that may stand; or the line that its check prints, where it is refused
 abbrev pub JudgesOf : Result (List Subject) PolicyFault → Result (List Subject) (List ℕ) → Type 0

@@ -1,3 +1,5 @@
+pub mod Check
+pub mod Lint
 pub mod Judged
 pub mod Asking
 pub mod Tables

@@ -1,14 +1,21 @@
-//! The review of policies: what a new policy changes against an old one, by which edits it is made
-//! of that, and what a policy decides of lines, from bytes to bytes.
+//! What is said of policies, from bytes to bytes: the check of one, what in it was probably not
+//! meant, what a new one changes and by which edits it is made, and what one decides of lines.
 #![tactic(auto)]
 
 mod asking;
+mod check_output;
+mod checking;
 mod judging;
+mod lint_output;
+mod linting;
 mod loading;
-mod output;
+mod review_output;
 mod reviewing;
 mod table;
 mod task;
 
+pub use checking::{CheckEnd, check};
+pub use linting::{LintEnd, lint};
 pub use reviewing::review;
+pub use tac_io::AnswerFault as CheckFault;
 pub use task::{Input, Review, ReviewEnd, ReviewFault, Table};

@@ -7,7 +7,7 @@ ghost use Rattle.tac_io.specs.Answering.{IsWorked};
 ghost use Rattle.tac_review.specs.Review.{IsRight, Reviews};
 ghost use Rattle.tac_review.specs.Reading.{AreAnswered, IsNotRead};
 
-use crate::output::output;
+use crate::review_output::output;
 use crate::task::{Input, Review, ReviewEnd, ReviewFault};
 use std::alloc::Global;
 use std::io::{Read, Write};

@@ -4,8 +4,7 @@ use crate::review::inputs::reviews;
 use std::alloc::AllocError;
 use std::process::Abort;
 use std::test::Fail;
-use tac_lint::{LintEnd, lint};
-use tac_review::Review;
+use tac_review::{LintEnd, Review, lint};
 
 // The lint of a text ends so. What it prints is written.
 fn writes<R: Abort + AllocGlobal>(

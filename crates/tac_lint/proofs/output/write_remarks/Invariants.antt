@@ -1,6 +1,0 @@
-use Rattle.std.proofs.Common.{◌≡◌, ◌++◌, take}
-use Rattle.tac_lint.specs.Lint.{remarks_text}
-use Rattle.tac_lint.proofs.output.write_remarks.Given as goal
-
-abbrev pub invariant-remarks : goal.invariant-remarks
-invariant-remarks l = l.out.items ≡ l.fn.out.items ++ remarks_text (take l.remark-index l.remarks)

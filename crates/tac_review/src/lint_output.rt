@@ -1,0 +1,111 @@
+//! What is told of a text, and how that ends.
+
+ghost use Rattle.std.specs.Prelude.{◌≡◌, ◌++◌, Ok, IfOk, OnOk};
+ghost use Rattle.tac_review.specs.Lint as lints;
+
+use crate::linting::LintEnd;
+use basics::Sequence;
+use pol_automaton::Meter;
+use pol_lint::{Remark, policy_remarks, size_faults, text_faults};
+use pol_live::{BuildFault, Live};
+use pol_report::shadows;
+use pol_text::{Policy, PolicyFault};
+use std::alloc::{AllocError, Global};
+use std::io;
+use std::io::Write;
+
+fn write_remark(out: &mut Vec<u8>, remark: &Remark) -> io::Result<()>
+    ensures { OnOk result (out.new.items ≡ out.old.items ++ lints.remark_line remark.now) }
+{
+    let Remark {
+        line,
+        column,
+        finding,
+    } = *remark;
+    writeln!(out, "line {line} column {column}: {finding}")
+}
+
+fn write_remarks(out: &mut Vec<u8>, remarks: &[Remark]) -> io::Result<()>
+    ensures { OnOk result (out.new.items ≡ out.old.items ++ lints.remarks_text remarks.now) }
+{
+    'remarks: for remark in remarks {
+        write_remark(out, remark)?;
+    }
+    Ok(())
+}
+
+// The lines of what is told.
+fn text_of(alloc: Global, remarks: &Sequence<Remark>) -> Result<Vec<u8>, AllocError>
+    ensures { IfOk result (λ text. text.items ≡ lints.remarks_text remarks.now) }
+{
+    let mut text = Vec::new(alloc);
+    match write_remarks(&mut text, remarks.as_slice()) {
+        Ok(()) => Ok(text),
+        Err(_) => Err(AllocError),
+    }
+}
+
+// What is printed of a policy that may stand, and how that ends.
+fn ended(alloc: Global, remarks: &Sequence<Remark>) -> Result<(Vec<u8>, LintEnd), AllocError>
+    ensures { IfOk result (λ output. (output.0.items ≡ lints.remarks_text remarks.now)
+        × (output.1 ≡ lints.end_of remarks.now)) }
+{
+    let printed = text_of(alloc, remarks)?;
+    if remarks.is_empty() {
+        return Ok((printed, LintEnd::Quiet));
+    }
+    Ok((printed, LintEnd::Told))
+}
+
+// What is told of a policy that may stand.
+fn told(alloc: Global, text: &[u8], live: &Live) -> Result<(Vec<u8>, LintEnd), AllocError>
+    ensures { IfOk result (λ output.
+        lints.IsOnly (lints.Remarks text.now live.now) output.0.items output.1) }
+{
+    let rows = shadows(alloc, live)?;
+    let remarks = policy_remarks(alloc, text, live.policy(), rows.as_slice())?;
+    ended(alloc, &remarks)
+}
+
+// What is told of a policy that may not stand.
+fn refused(alloc: Global, remarks: &Sequence<Remark>) -> Result<(Vec<u8>, LintEnd), AllocError>
+    ensures { IfOk result (λ output. (output.0.items ≡ lints.remarks_text remarks.now)
+        × (output.1 ≡ LintEnd.Refused)) }
+{
+    let printed = text_of(alloc, remarks)?;
+    Ok((printed, LintEnd::Refused))
+}
+
+// What is told of a text that says this policy.
+fn output_of_policy(
+    alloc: Global,
+    text: &[u8],
+    policy: Policy,
+) -> Result<(Vec<u8>, LintEnd), AllocError>
+    ensures { IfOk result (λ output.
+        lints.IsOnly (lints.IsLintOf text.now (Ok policy)) output.0.items output.1) }
+{
+    let mut meter = Meter::new();
+    match Live::build(alloc, policy, &mut meter) {
+        Ok(live) => told(alloc, text, &live),
+        Err(BuildFault::TooManyStates(subject)) => {
+            let remarks = size_faults(alloc, text, &subject)?;
+            refused(alloc, &remarks)
+        }
+        Err(BuildFault::Memory) => Err(AllocError),
+    }
+}
+
+/// What is told of a text, and how that ends.
+pub(crate) fn output(alloc: Global, text: &[u8]) -> Result<(Vec<u8>, LintEnd), AllocError>
+    ensures { IfOk result (λ output. lints.IsOnlyLint text.now output.0.items output.1) }
+{
+    match Policy::read(alloc, text) {
+        Ok(policy) => output_of_policy(alloc, text, policy),
+        Err(PolicyFault::Refused { line, refusal }) => {
+            let remarks = text_faults(alloc, text, line, refusal)?;
+            refused(alloc, &remarks)
+        }
+        Err(PolicyFault::Memory) => Err(AllocError),
+    }
+}
