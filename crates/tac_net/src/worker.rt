@@ -97,6 +97,17 @@ fn terms_of<'a, R: AllocGlobal, J: Run, D: Desk, L>(
     }
 }
 
+// A connection from this address, which this worker had, is gone.
+fn leave<R: Wait, J: Run, D: Desk, L>(
+    premises: &Premises<'_, R, J, D, L>,
+    at: usize,
+    address: IpAddr,
+    why: Departure,
+) {
+    premises.intake.leave(premises.rt, at, address);
+    premises.counts.connections.end(why);
+}
+
 impl<'a, R, J: Run, D: Desk, L: Log> Worker<'a, R, J, D, L>
 where
     R: Wait + Clock + AllocGlobal + Eprint + LogFiles,
@@ -131,18 +142,6 @@ where
         }
     }
 
-    // A connection from this address is gone.
-    fn leave(&self, address: IpAddr, why: Departure) {
-        let Premises {
-            rt,
-            intake,
-            counts,
-            ..
-        } = *self.premises;
-        intake.leave(rt, self.at, address);
-        counts.connections.end(why);
-    }
-
     // Lets go of a connection, if there is one of this key.
     fn remove(&mut self, key: usize, parting: Parting)
         ensures { self.new ≡ self.old }
@@ -150,7 +149,7 @@ where
         if let Some(line) = self.board.remove(key) {
             let socket = line.socket();
             let why = departure(parting, socket);
-            self.leave(socket.address(), why);
+            leave(self.premises, self.at, socket.address(), why);
         }
     }
 
@@ -259,7 +258,7 @@ where
                 let is_full = self.go(key);
                 self.register(poller, key, is_full);
             }
-            None => self.leave(address, Departure::Memory),
+            None => leave(self.premises, self.at, address, Departure::Memory),
         }
     }
 
