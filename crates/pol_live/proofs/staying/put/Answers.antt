@@ -8,6 +8,6 @@ pub insert_rule-requires : goal.insert_rule-requires
 insert_rule-requires c =
     may_insert c.args.id.now c.args.policy.now c.args.at c.args.rule c.requires.well_formed c.requires.there c.remove_rule.new.self c.remove_rule.ensures.changed
 
-pub returns-clause : goal.returns-clause
-returns-clause c =
+pub returns : goal.returns
+returns c =
     put_same c.args.id.now c.args.policy.now c.args.at c.args.rule c.requires.well_formed c.requires.there c.remove_rule.new.self c.insert_rule.new.self c.remove_rule.ensures.changed c.in_ok-insert_rule.ensures.ok

@@ -14,4 +14,4 @@ put-requires-clause-there c =
     let lt : i < length rules = rw (← c.as_slice-rule-items.ensures) c.loop-at-test.true in
     let at : get_or rules i rule ≡ rule = rw (← c.as_slice-rule-items.ensures) (sym c.rule-item.is) in
     let here : slice_get rules i ≡ Some rule = slice_get_read rules (length rules) i rule refl lt (sym at) in
-    rw (c.loop-at.invariant, c.id.ensures, c.in_ok-copy.ensures) (rule_there _ rules i rule c.requires.same here)
+    rw (c.loop-at.invariant, c.id-id.ensures, c.in_ok-copy.ensures) (rule_there _ rules i rule c.requires.same here)

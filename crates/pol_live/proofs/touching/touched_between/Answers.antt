@@ -18,7 +18,7 @@ loop-subject-preserved c =
     let passed = λ (b : Bool). if b then None else Some (id_of subject) in
     record {
       all = listed_on (λ (s : Subject). if was_alike before s then None else Some (id_of s)) c.loop-subject.all c.add.new.subjects i after subject lt at
-          (c.in_ok-add.ensures ∙ ap (λ o. c.loop-subject.all ++ cons_option o []) (c.unless.ensures ∙ ap passed c.was.ensures.alike)) c.loop-subject.invariant.all;
+          (c.in_ok-add.ensures ∙ ap (λ o. c.loop-subject.all ++ cons_option o []) (c.unless.ensures ∙ ap passed c.was-had_rules.ensures.alike)) c.loop-subject.invariant.all;
       rewritten = listed_on (λ (s : Subject). if had_rules before s then None else Some (id_of s)) c.loop-subject.rewritten c.add-in-loop-subject.new.subjects i after subject lt at
-          (c.in_ok-add-2.ensures ∙ ap (λ o. c.loop-subject.rewritten ++ cons_option o []) (c.unless-in-loop-subject.ensures ∙ ap passed c.was.ensures.rules)) c.loop-subject.invariant.rewritten;
+          (c.in_ok-add-2.ensures ∙ ap (λ o. c.loop-subject.rewritten ++ cons_option o []) (c.unless-in-loop-subject.ensures ∙ ap passed c.was-had_rules.ensures.rules)) c.loop-subject.invariant.rewritten;
     }
