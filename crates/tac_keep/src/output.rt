@@ -117,11 +117,13 @@ impl<R: Eprint, S: Store, N: Write, W: Write> Write for KeptOutput<'_, R, S, N, 
         let is_new = look(self.tray, &mut self.keeper);
         match send_kept(&mut self.keeper, &mut self.answers, buf) {
             Ok(taken) => {
+                self.tray.note(true);
                 self.complaint.relent();
                 Ok(taken)
             }
             Err(Untold::Unwritten(error)) => Err(error),
             Err(Untold::NotKept(why)) => {
+                self.tray.note(false);
                 self.complaint.complain(&why);
                 if is_new {
                     note(&mut self.notes, &why);

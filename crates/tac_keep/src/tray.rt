@@ -2,6 +2,7 @@
 
 use basics::Bytes;
 use std::sync::Mutex;
+use std::sync::atomic::{AtomicBool, Ordering};
 
 /// What a store is to hold.
 #[derive(PartialEq, Eq)]
@@ -38,18 +39,42 @@ pub trait HandOver {
 }
 
 /// Where the newest lies until the console takes it. A desk is edited by the calls of its console
-/// alone, so one thread comes here, and the lock is always free.
+/// alone, so one thread comes here, and the lock is always free. Other threads may ask how it is.
 #[derive(Drop)]
 pub struct Tray {
     newest: Mutex<Option<Wanted>>,
+    has_edits: AtomicBool,
+    is_kept: AtomicBool,
 }
 
 impl Tray {
-    /// Nothing lies there.
+    /// Nothing lies there, all is kept, and the policy that is served has no edits.
     pub fn new() -> Tray {
         Tray {
             newest: Mutex::new(None),
+            has_edits: AtomicBool::new(false),
+            is_kept: AtomicBool::new(true),
         }
+    }
+
+    /// The policy that is served at first has edits that were kept.
+    pub fn begin_with_edits(&self) {
+        self.has_edits.store(true, Ordering::Relaxed);
+    }
+
+    /// Whether the policy that is served has edits since it was loaded.
+    pub fn has_edits(&self) -> bool {
+        self.has_edits.load(Ordering::Relaxed)
+    }
+
+    /// Whether the store held what it was to hold when it was last looked at.
+    pub fn is_kept(&self) -> bool {
+        self.is_kept.load(Ordering::Relaxed)
+    }
+
+    // Whether it holds that now.
+    pub(crate) fn note(&self, is_kept: bool) {
+        self.is_kept.store(is_kept, Ordering::Relaxed);
     }
 
     /// Takes what lies there.
@@ -64,6 +89,11 @@ impl HandOver for Tray {
     ghost was_told = { λ _ _. Unit {0} };
 
     fn hand_over(&self, wanted: Wanted) {
+        let has_edits = match &wanted {
+            Wanted::Nothing => false,
+            Wanted::Text(_) | Wanted::Unprinted => true,
+        };
+        self.has_edits.store(has_edits, Ordering::Relaxed);
         if let Some(mut newest) = self.newest.try_lock() {
             *newest = Some(wanted);
         }

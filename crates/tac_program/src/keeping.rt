@@ -12,7 +12,7 @@ use std::thread::Threads;
 use std::time::Clock;
 use tac_desks::LiveDesk;
 use tac_journal::{Journal, LogFiles};
-use tac_keep::{Complaint, KeepFiles, KeptDesk, KeptFile, KeptOutput, Tray};
+use tac_keep::{Complaint, KeepFiles, KeptDesk, KeptFile, KeptOutput};
 use tac_net::{Port, ServeFault};
 use tac_operators::Exchange;
 
@@ -40,6 +40,7 @@ pub(crate) fn first_file<'a, R: Eprint, H: KeepFiles>(
 pub(crate) fn tell_of_edits<R: Eprint>(rt: &R, options: &Options<'_>, first: &str) {
     let file = options.path;
     if first != file {
+        options.tray.begin_with_edits();
         let _ = eprintln!(rt;
             "tacd: {first}: served in place of {file}, since it has edits of the console; \
              'reload' takes that again"
@@ -69,12 +70,12 @@ where
         let console = (exchange.input(host), answers, typists);
         return serve_console(rt, host, options, desk, journal, port, console);
     };
-    let tray = Tray::new();
-    let desk = KeptDesk::new(host.alloc(), &tray, desk);
+    let tray = &options.tray;
+    let desk = KeptDesk::new(host.alloc(), tray, desk);
     let store = KeptFile::new(host, path);
     let complaint = Complaint::new(host, path);
     let notes = exchange.output(host, io::writer(rt));
-    let output = KeptOutput::new(&tray, store, complaint, notes, answers);
+    let output = KeptOutput::new(tray, store, complaint, notes, answers);
     let console = (exchange.input(host), output, typists);
     serve_desk(rt, host, options, desk, journal, port, console)
 }

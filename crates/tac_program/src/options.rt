@@ -20,6 +20,7 @@ use std::rt::Files;
 use tac_desks::MAX_RECORDS;
 use tac_forum::Limits;
 use tac_io::{InputFault, read_whole};
+use tac_keep::Tray;
 use tac_net::{Idle, Settings};
 use tac_status::Counts;
 use tac_tally::RecordLimit;
@@ -64,6 +65,8 @@ pub(crate) struct Options<'a> {
     pub(crate) kept: Option<&'a str>,
     /// What is counted of the server that serves so.
     pub(crate) counts: Counts,
+    /// Where its edits lie until they are kept.
+    pub(crate) tray: Tray,
 }
 
 // The key of a word of the command line. What is said of it doesn't show it.
@@ -227,6 +230,7 @@ impl<'a> Options<'a> {
                 console: matches.get_str(CONSOLE),
                 kept: matches.get_str(KEEP_EDITS),
                 counts: Counts::new(),
+                tray: Tray::new(),
             }),
             _ => Err(Status::BadCommandLine),
         }
