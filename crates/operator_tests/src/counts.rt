@@ -114,13 +114,13 @@ fn all_lines_are_told(rt: HostRuntime) -> Result<(), Fail> {
 
 // The numbers of a server's connections, each beside what is counted there alone.
 fn has_counted<R: Abort>(rt: &R, counts: &ConnectionCounts, wanted: [u64; 4]) {
-    let mut ended = 0;
+    let mut ended = 0_u64;
     for departure in Departure::ALL {
-        ended += counts.ended(departure);
+        ended = ended.saturating_add(counts.ended(departure));
     }
-    let mut rejected = 0;
+    let mut rejected = 0_u64;
     for rejection in Rejection::ALL {
-        rejected += counts.rejected(rejection);
+        rejected = rejected.saturating_add(counts.rejected(rejection));
     }
     let told = [counts.accepted(), counts.open(), ended, rejected];
     assert_eq!(rt; told, wanted);
@@ -131,19 +131,20 @@ fn has_counted<R: Abort>(rt: &R, counts: &ConnectionCounts, wanted: [u64; 4]) {
 fn each_connection_counts_once(rt: HostRuntime) -> Result<(), Fail> {
     let counts = ConnectionCounts::new();
     has_counted(&rt, &counts, [0, 0, 0, 0]);
-    let mut many = 0;
+    let mut many = 0_u64;
     for departure in Departure::ALL {
         counts.accept();
-        has_counted(&rt, &counts, [many + 1, 1, many, 0]);
+        let accepted = many.saturating_add(1);
+        has_counted(&rt, &counts, [accepted, 1, many, 0]);
         counts.end(departure);
-        many += 1;
+        many = accepted;
         has_counted(&rt, &counts, [many, 0, many, 0]);
         assert_eq!(rt; counts.ended(departure), 1, "{departure:?}");
     }
-    let mut rejected = 0;
+    let mut rejected = 0_u64;
     for rejection in Rejection::ALL {
         counts.reject(rejection);
-        rejected += 1;
+        rejected = rejected.saturating_add(1);
         has_counted(&rt, &counts, [many, 0, many, rejected]);
         assert_eq!(rt; counts.rejected(rejection), 1, "{rejection:?}");
     }
