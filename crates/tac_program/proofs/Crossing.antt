@@ -1,5 +1,5 @@
 -- The desk of a server may be handed to another thread.
-use denote.Param.Send.{IsSend, sendable}
+use denote.Param.Send.{IsSend, IsSync, sendable}
 use Rattle.std.proofs.Crossing.{crosses}
 use Rattle.pol_automaton.specs.contracts.meter.Meter as Meter
 use Rattle.pol_live.specs.contracts.live.Live as Live
@@ -8,6 +8,9 @@ use Rattle.tac_tally.proofs.book.Book.TheSendSync as book
 use Rattle.tac_desks.specs.contracts.live_desk.LiveDesk as LiveDesk
 use Rattle.tac_desks.proofs.remembering.Remembered.TheSendSync as remembered
 use Rattle.tac_hall.proofs.Crossing.{Policy-send}
+use Rattle.tac_status.proofs.desk_counts.DeskCounts.TheSendSync as desk_counts
+use Rattle.tac_status.specs.contracts.desk_counts.DeskCounts as DeskCounts
+use Rattle.tac_tally.specs.contracts.limit.RecordLimit as RecordLimit
 
 Live-field : IsSend Live.the_field.row
 Live-field = search (Policy-send, crosses, sendable) depth 60 fits 20000
@@ -21,3 +24,9 @@ Book-field = search (book.the_send, sendable) depth 60
 pub LiveDesk-send : IsSend LiveDesk.the_row
 LiveDesk-send =
     search (Live-field, Meter-field, Book-field, remembered.the_field_send, sendable) depth 60
+
+pub DeskCounts-sync : IsSync DeskCounts.the_row
+DeskCounts-sync = search (desk_counts.the_sync, crosses, sendable) depth 60
+
+pub RecordLimit-send : IsSend RecordLimit.the_row
+RecordLimit-send = search (crosses, sendable) depth 60

@@ -9,7 +9,6 @@ mod console;
 mod console_client;
 mod descriptors;
 mod help;
-mod keeping;
 mod opening;
 mod operators;
 mod options;

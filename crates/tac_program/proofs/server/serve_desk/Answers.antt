@@ -1,9 +1,0 @@
-use denote.Param.Send.{sendable}
-use Rattle.std.proofs.Crossing.{crosses}
-use Rattle.tac_net.proofs.filling.FillingDesk.TheSendSync as filling
-use Rattle.tac_status.proofs.counted_desk.CountedDesk.TheSendSync as counted
-use Rattle.tac_status.proofs.desk_counts.DeskCounts.TheSendSync as desk_counts
-use Rattle.tac_program.proofs.server.serve_desk.Goals as goal
-
-pub serve-requires-send-D : goal.serve-requires-send-D
-serve-requires-send-D g c κs within = search (filling.the_send, counted.the_send, desk_counts.the_sync, c.type_bounds.sync-H, c.type_bounds.send-D, crosses, sendable) depth 60 fits 20000
