@@ -1,5 +1,5 @@
 -- What is handed over of a policy, and an answer that is told once a store holds that
--- (docs/SERVE.md, "Edits that last").
+-- (docs/PROVED.md, "Edits that outlive a server").
 use Rattle.std.specs.Prelude.{◌≡◌, ◌⊎◌, ℕ, List, take, Option, Some, None, Result, Ok, Err}
 use Rattle.std.specs.Io.KnownBytes.{Appends, Keeps}
 use Rattle.pol_text.specs.Text.{text_of}
