@@ -109,9 +109,9 @@ impl BufRead for Typed<'_> {
 }
 
 /// A runtime with these words, one blank between them, of which `~` is a blank within a word, this
-/// input, and this text in the file `policy`, which has others later. The first line of the file `key` is a key that ends in
-/// a blank. It may have 20,000 files open. For `no-memory` there is no memory, and there is no
-/// other file.
+/// input, and this text in the file `policy`, which has others later. The first line of the file
+/// `key` is a key that ends in a blank. It may have 20,000 files open. For `no-memory` there is no
+/// memory, and there is no other file.
 #[derive(Drop)]
 pub(crate) struct Fake<'a> {
     pub(crate) alloc: Global,

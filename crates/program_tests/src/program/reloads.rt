@@ -16,8 +16,9 @@ use tac_operators::ConsoleHost;
 use tac_program::run;
 
 // Bob asks for `show version`, under the key `k `.
-const ASK: &str =
-    "c00201040000000100000036d7cc6454be5ba68bc9f210f557d7ae8b726b5381a695029602c4b878ff8e59e05e4fc5c65065c4c62f3074105889424c197670190298";
+const ASK: &str = "c00201040000000100000036\
+    d7cc6454be5ba68bc9f210f557d7ae8b726b5381a695029602c4b878ff8e\
+    59e05e4fc5c65065c4c62f3074105889424c197670190298";
 
 // He is permitted.
 const PERMITTED: &[u8] = b"\xc0\x02\x02\x04\0\0\0\x01\0\0\0\x06\xd5\x49\x91\x26\x37\xdb";
