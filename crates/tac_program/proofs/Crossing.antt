@@ -1,5 +1,6 @@
 -- The desk of a server may be handed to another thread.
-use denote.Param.Send.{IsSend, IsSync, sendable}
+use denote.Param.Send.{IsSend, sendable}
+use denote.Ref.{NamedLft}
 use Rattle.std.proofs.Crossing.{crosses}
 use Rattle.pol_automaton.specs.contracts.meter.Meter as Meter
 use Rattle.pol_live.specs.contracts.live.Live as Live
@@ -8,9 +9,12 @@ use Rattle.tac_tally.proofs.book.Book.TheSendSync as book
 use Rattle.tac_desks.specs.contracts.live_desk.LiveDesk as LiveDesk
 use Rattle.tac_desks.proofs.remembering.Remembered.TheSendSync as remembered
 use Rattle.tac_hall.proofs.Crossing.{Policy-send}
-use Rattle.tac_status.proofs.desk_counts.DeskCounts.TheSendSync as desk_counts
-use Rattle.tac_status.specs.contracts.desk_counts.DeskCounts as DeskCounts
-use Rattle.tac_tally.specs.contracts.limit.RecordLimit as RecordLimit
+use Rattle.tac_keep.proofs.Crossing.{Tray-sync}
+use Rattle.tac_keep.proofs.desk.KeptDesk.TheSendSync as kept
+use Rattle.tac_keep.specs.contracts.desk.KeptDesk as KeptDesk
+use Rattle.tac_keep.specs.contracts.tray.Tray as Tray
+use Rattle.tac_status.proofs.counted_desk.CountedDesk.TheSendSync as counted
+use Rattle.tac_status.specs.contracts.counted_desk.CountedDesk as CountedDesk
 
 Live-field : IsSend Live.the_field.row
 Live-field = search (Policy-send, crosses, sendable) depth 60 fits 20000
@@ -25,8 +29,9 @@ pub LiveDesk-send : IsSend LiveDesk.the_row
 LiveDesk-send =
     search (Live-field, Meter-field, Book-field, remembered.the_field_send, sendable) depth 60
 
-pub DeskCounts-sync : IsSync DeskCounts.the_row
-DeskCounts-sync = search (desk_counts.the_sync, crosses, sendable) depth 60
-
-pub RecordLimit-send : IsSend RecordLimit.the_row
-RecordLimit-send = search (crosses, sendable) depth 60
+-- one whose edits are kept; `search` breaks off at the types written out
+pub CountedKept-send : (κ κ' : NamedLft)
+    → IsSend (CountedDesk.the_row κ (KeptDesk.the_row κ' Tray.the_row LiveDesk.the_row))
+CountedKept-send κ κ' =
+    counted.the_send κ (KeptDesk.the_row κ' Tray.the_row LiveDesk.the_row)
+    (kept.the_send κ' Tray.the_row LiveDesk.the_row LiveDesk-send Tray-sync)

@@ -5,14 +5,14 @@ use crate::help::{
     CHECK_AFTER_LONG_HELP, CHECK_LONG_ABOUT, CONNECTIONS_HELP, CONSOLE_ABOUT, CONSOLE_AFTER_HELP,
     CONSOLE_AFTER_LONG_HELP, CONSOLE_LONG_ABOUT, CONSOLE_OPTION_HELP, CONSOLE_PATH_HELP,
     DIFF_ABOUT, DIFF_AFTER_HELP, DIFF_AFTER_LONG_HELP, DIFF_LONG_ABOUT, EDITS_HELP, EXIT_CODE_HELP,
-    FILE_HELP, IDLE_HELP, KEEP_RECORDS_HELP, KEY_FILE_HELP, KEY_HELP, LINE_HELP, LINT_ABOUT,
-    LINT_AFTER_HELP, LINT_AFTER_LONG_HELP, LINT_LONG_ABOUT, LOG_HELP, LOGIN_IDLE_HELP, LONG_ABOUT,
-    NEW_HELP, NO_CONSOLE_HELP, OLD_HELP, PACKET_MEMORY_HELP, PER_ADDRESS_HELP, PORT_HELP,
-    REPLAY_ABOUT, REPLAY_AFTER_HELP, REPLAY_AFTER_LONG_HELP, REPLAY_LOG_HELP, REPLAY_LONG_ABOUT,
-    ROTATE_AT_HELP, SERVE_ABOUT, SERVE_AFTER_HELP, SERVE_AFTER_LONG_HELP, SERVE_LONG_ABOUT,
-    SYNC_HELP, TEST_ABOUT, TEST_AFTER_HELP, TEST_AFTER_LONG_HELP, TEST_LONG_ABOUT, TIME_HELP,
-    USER_HELP, WHY_ABOUT, WHY_AFTER_HELP, WHY_AFTER_LONG_HELP, WHY_LONG_ABOUT, WORD_HELP,
-    WORKERS_HELP,
+    FILE_HELP, IDLE_HELP, KEEP_EDITS_HELP, KEEP_RECORDS_HELP, KEY_FILE_HELP, KEY_HELP, LINE_HELP,
+    LINT_ABOUT, LINT_AFTER_HELP, LINT_AFTER_LONG_HELP, LINT_LONG_ABOUT, LOG_HELP, LOGIN_IDLE_HELP,
+    LONG_ABOUT, NEW_HELP, NO_CONSOLE_HELP, OLD_HELP, PACKET_MEMORY_HELP, PER_ADDRESS_HELP,
+    PORT_HELP, REPLAY_ABOUT, REPLAY_AFTER_HELP, REPLAY_AFTER_LONG_HELP, REPLAY_LOG_HELP,
+    REPLAY_LONG_ABOUT, ROTATE_AT_HELP, SERVE_ABOUT, SERVE_AFTER_HELP, SERVE_AFTER_LONG_HELP,
+    SERVE_LONG_ABOUT, SYNC_HELP, TEST_ABOUT, TEST_AFTER_HELP, TEST_AFTER_LONG_HELP,
+    TEST_LONG_ABOUT, TIME_HELP, USER_HELP, WHY_ABOUT, WHY_AFTER_HELP, WHY_AFTER_LONG_HELP,
+    WHY_LONG_ABOUT, WORD_HELP, WORKERS_HELP,
 };
 use clap::{Arg, ArgAction, ArgGroup, Command, value_parser};
 use std::alloc::{AllocError, Global};
@@ -103,7 +103,10 @@ const SECRET: &str = "secret";
 /// The socket at which operators type.
 pub(crate) const CONSOLE: &str = "console";
 
-/// The same of a client, and the words that it types.
+/// The file that has the policy with the edits that were made there.
+pub(crate) const KEEP_EDITS: &str = "keep-edits";
+
+/// The socket of a client's server, and the words that the client types.
 pub(crate) const CONSOLE_PATH: &str = "PATH";
 
 pub(crate) const WORD: &str = "WORD";
@@ -181,6 +184,7 @@ fn with_options<'a>(alloc: Global, command: Command<'a>) -> Result<Command<'a>, 
         .arg(text(alloc, LOG, "PATH", LOG_HELP))?
         .arg(flag(alloc, SYNC, SYNC_HELP).requires_arg(LOG)?)?
         .arg(text(alloc, CONSOLE, "PATH", CONSOLE_OPTION_HELP))?
+        .arg(text(alloc, KEEP_EDITS, "PATH", KEEP_EDITS_HELP).requires_arg(CONSOLE)?)?
         .arg(flag(alloc, NO_CONSOLE, NO_CONSOLE_HELP).conflicts_with(CONSOLE)?)?
         .arg(number(alloc, ROTATE_AT, "N", (1, 65_536), ROTATE_AT_HELP).default_value("32768"))?
         .arg(number(alloc, CONNECTIONS, "N", connections, CONNECTIONS_HELP).default_value(

@@ -4,8 +4,10 @@ use crate::command_line::VERSION;
 use crate::options::Options;
 use basics::Bytes;
 use std::alloc::{AllocError, Global};
+use std::io::{self, Write};
 use std::time::{Clock, Duration};
 use tac_journal::Journal;
+use tac_keep::Tray;
 use tac_operators::{ConsoleHost, Status};
 use tac_status::{Counts, Present, resident_bytes, status_text};
 
@@ -17,6 +19,8 @@ const GLANCE: usize = 4_096;
 pub(crate) struct Condition<'a, H> {
     host: &'a H,
     counts: &'a Counts,
+    tray: &'a Tray,
+    keeps_edits: bool,
     journal: &'a Option<Journal<'a>>,
     workers: u32,
     connections_limit: u32,
@@ -35,6 +39,8 @@ impl<'a, H: Clock> Condition<'a, H> {
         Condition {
             host,
             counts: &options.counts,
+            tray: &options.tray,
+            keeps_edits: options.kept.is_some(),
             journal,
             workers: options.settings.workers,
             connections_limit: options.settings.connections_at_once,
@@ -49,6 +55,31 @@ impl<'a, H: Clock> Condition<'a, H> {
             (Some(began), Ok(now)) => now.saturating_sub(began).as_secs(),
             _ => 0,
         }
+    }
+
+    // The lines that tell of edits that last.
+    fn write_edits(&self, out: &mut Vec<u8>) -> io::Result<()> {
+        let is_kept = self.keeps_edits && self.tray.is_kept();
+        let told = [
+            (
+                "tacd_keeps_edits",
+                "1 where a file keeps edits.",
+                self.keeps_edits,
+            ),
+            ("tacd_edits_kept", "1 where it has all of them.", is_kept),
+            (
+                "tacd_serves_edits",
+                "1 where it is served.",
+                self.tray.has_edits(),
+            ),
+        ];
+        for (name, help, holds) in told {
+            let number = u8::from(holds);
+            writeln!(out, "# HELP {name} {help}")?;
+            writeln!(out, "# TYPE {name} gauge")?;
+            writeln!(out, "{name} {number}")?;
+        }
+        Ok(())
     }
 }
 
@@ -78,8 +109,11 @@ impl<H: Clock + ConsoleHost> Status for Condition<'_, H> {
             log_takes_lines,
             operators,
         };
-        match status_text(alloc, self.counts, &present) {
-            Ok(text) => Ok(Bytes::from(text)),
+        let Ok(mut text) = status_text(alloc, self.counts, &present) else {
+            return Err(AllocError);
+        };
+        match self.write_edits(&mut text) {
+            Ok(()) => Ok(Bytes::from(text)),
             Err(_) => Err(AllocError),
         }
     }

@@ -22,6 +22,9 @@ const PAUSE: u64 = 250;
 /// What an answer begins with whose line wasn't obeyed.
 const REFUSALS: [&[u8]; 5] = [b"refused", b"fault", b"hall", b"unread", b"busy"];
 
+/// What comes before the answer to an edit that was made and isn't kept.
+const UNKEPT: &[u8] = b"not kept: ";
+
 /// What is said where a session ends before its answer.
 const ENDED: &str = "the server ended the session";
 
@@ -46,7 +49,20 @@ struct Session {
 #[derive(Clone, Copy, PartialEq, Eq)]
 enum Answered {
     Well,
+    /// Its edits were made, but a restart would lose them.
+    Unkept,
     Refused,
+}
+
+impl Answered {
+    // What is to be told of this line and those before.
+    fn after(self, before: Answered) -> Answered {
+        match (self, before) {
+            (Answered::Refused, _) | (_, Answered::Refused) => Answered::Refused,
+            (Answered::Unkept, _) | (_, Answered::Unkept) => Answered::Unkept,
+            (Answered::Well, Answered::Well) => Answered::Well,
+        }
+    }
 }
 
 fn is_refusal(line: &[u8]) -> bool {
@@ -80,11 +96,14 @@ impl Session {
             if !self.next_line()? {
                 return Ok(answered);
             }
-            if is_first && is_refusal(self.line.as_slice()) {
+            let is_note = is_first && self.line.starts_with(UNKEPT);
+            if is_note {
+                answered = Answered::Unkept;
+            } else if is_first && is_refusal(self.line.as_slice()) {
                 answered = Answered::Refused;
                 first.extend_from_slice(self.line.as_slice())?;
             }
-            is_first = false;
+            is_first = is_first && is_note;
             writer.write_all(self.line.as_slice())?;
         }
         Ok(answered)
@@ -188,19 +207,21 @@ where
     let mut input = BufReader::new(rt.alloc(), rt.reader())?;
     let mut line = Vec::new(rt.alloc());
     let mut first = Vec::new(rt.alloc());
+    let mut answered = Answered::Well;
     for number in 1..u64::MAX {
         if !read_line(&mut input, &mut line)? {
             break;
         }
-        if ask(rt, session, line.as_slice(), &mut first)? == Answered::Refused {
+        answered = ask(rt, session, line.as_slice(), &mut first)?.after(answered);
+        if answered == Answered::Refused {
             tell_unsent(rt, number, first.as_slice());
-            return Ok(Answered::Refused);
+            break;
         }
         if line.as_slice() == b"quit".as_slice() {
             break;
         }
     }
-    Ok(Answered::Well)
+    Ok(answered)
 }
 
 // The lines that are typed at a terminal, of which empty ones are passed over.
@@ -222,9 +243,7 @@ where
         if line.is_empty() {
             continue;
         }
-        if ask(rt, session, line.as_slice(), &mut first)? == Answered::Refused {
-            answered = Answered::Refused;
-        }
+        answered = ask(rt, session, line.as_slice(), &mut first)?.after(answered);
         if line.as_slice() == b"quit".as_slice() {
             return Ok(answered);
         }
@@ -269,6 +288,7 @@ where
     match talk(rt, host, path, words) {
         Ok(Answered::Well) => Status::Done,
         Ok(Answered::Refused) => Status::Refused,
+        Ok(Answered::Unkept) => Status::Differs,
         Err(error) => {
             if host.is_fifo(path) {
                 let _ = eprintln!(rt; "tacd: {path}: {OLD}");

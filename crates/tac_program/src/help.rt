@@ -57,7 +57,8 @@ socket.
 
 The policy is read from a file, and again where 'reload' is typed at the console. There it is
 edited, and an edit counts from the next packet on. Edits and accounting records are kept in memory,
-and are gone when the server ends; but where --log names a file, that keeps a line of JSON for each
+and are gone when the server ends. But where --keep-edits names a file, that has the policy with the
+edits, and is served after a restart; and where --log names one, that keeps a line of JSON for each
 request and for each line of the console. A request is answered only once its line is in the file.
 
 The key is 1 to 128 printable ASCII characters. Give it by --key-file: a key on the command line can
@@ -111,6 +112,9 @@ pub(crate) const NO_CONSOLE_HELP: &str =
 pub(crate) const CONSOLE_OPTION_HELP: &str =
     "The socket at which operators type by 'tacd console'; standard input isn't read then";
 
+pub(crate) const KEEP_EDITS_HELP: &str =
+    "Keep the policy with the edits of the console in this file, which a restart serves in place of FILE";
+
 pub(crate) const SERVE_AFTER_HELP: &str = "Example:
   tacd serve --port 49 --key-file tacd.key campus.policy
 
@@ -158,6 +162,11 @@ and have changed nothing. A file that is refused is told as by 'tacd check', and
 read by 'unread' and why.
 A line that the server doesn't take is answered by 'hall' and why.
 
+With --keep-edits PATH, an edit is on the disk before it is answered: PATH has the policy with all
+edits, as 'policy' prints it. Where the disk doesn't take it, 'not kept: ' and why comes before the
+answer, the edit counts all the same, and it is tried again before each later answer. Where PATH is
+there at a start, it is served in place of FILE. 'reload' takes FILE again, and removes PATH.
+
 Lines of a policy:
   policy 2             the first line, if it is there: patterns may count, as '{1,3}'
   any number of these:",
@@ -181,12 +190,13 @@ Example:
 
 Exit status:
   0  the server was stopped
-  1  the policy is refused, and why was printed, as by 'tacd check'
+  1  the policy is refused, or that of --keep-edits is, and why was printed, as by 'tacd check'
   2  the command line or the key is wrong
   3  memory ran out, a thread could not be made, or too few files may be open
-  4  a file could not be read, that of --log could not be opened, the port could not be had, the
-     console could not be read, or the output could not be written, or 'close refused' was printed:
-     a worker or the console had no place in the history"
+  4  a file could not be read, that of --log could not be opened, what is at the path of
+     --keep-edits is no regular file or is FILE, the port could not be had, the console could not be
+     read, or the output could not be written, or 'close refused' was printed: a worker or the
+     console had no place in the history"
 );
 
 pub(crate) const CONSOLE_ABOUT: &str = "Types at the console of a server that has --console";
@@ -233,7 +243,8 @@ Exit status:
   2  the command line is wrong
   3  memory ran out
   4  no server is at PATH, all of its places are taken, it ended the session, or reading or writing
-     failed";
+     failed
+  5  an answer began with 'not kept', and none as at 1: an edit was made, and a restart would lose it";
 
 pub(crate) const CHECK_ABOUT: &str = "Reads a policy, and prints which of its rules decide nothing";
 

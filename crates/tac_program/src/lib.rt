@@ -9,6 +9,7 @@ mod console;
 mod console_client;
 mod descriptors;
 mod help;
+mod keeping;
 mod opening;
 mod operators;
 mod options;

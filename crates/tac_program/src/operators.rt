@@ -1,12 +1,12 @@
 //! A server whose console is typed at a socket.
 
 use crate::condition::Condition;
+use crate::keeping::serve_exchange;
 use crate::options::Options;
-use crate::server::{ended, serve_console};
+use crate::server::ended;
 use crate::status::Status;
 use basics::Bytes;
 use std::alloc::{AllocError, Global};
-use std::io;
 use std::net::Net;
 use std::rt::Files;
 use std::sync::Wait;
@@ -15,14 +15,15 @@ use std::time::Clock;
 use tac_audit::Typist;
 use tac_desks::LiveDesk;
 use tac_journal::{Journal, LogFiles, Typists};
+use tac_keep::KeepFiles;
 use tac_net::{Port, ServeFault};
 use tac_operators::{ConsoleHost, Door, Exchange, Patience, attend};
 
-// Those who type at an exchange.
+/// Those who type at an exchange.
 #[derive(Clone, Copy)]
-struct Operators<'a, H> {
-    host: &'a H,
-    exchange: &'a Exchange,
+pub(crate) struct Operators<'a, H> {
+    pub(crate) host: &'a H,
+    pub(crate) exchange: &'a Exchange,
 }
 
 impl<H: Wait> Typists for Operators<'_, H> {
@@ -67,22 +68,14 @@ pub(crate) fn serve_operators<R, H>(
 where
     R: Files + Print + Eprint,
     H: Threads + Wait + Clock + Sync + AllocGlobal + Eprint + LogFiles + Net + ConsoleHost,
+    H: KeepFiles,
 {
     let door = door_at(rt, host, path)?;
     let exchange = Exchange::new(host.alloc());
     let mut desk = Some(desk);
     let mut console = || -> Result<(), ServeFault> {
         match desk.take() {
-            Some(desk) => {
-                // what is printed before the first line goes to standard output
-                let output = exchange.output(host, io::writer(rt));
-                let typists = Operators {
-                    host,
-                    exchange: &exchange,
-                };
-                let console = (exchange.input(host), output, typists);
-                serve_console(rt, host, options, desk, journal, port, console)
-            }
+            Some(desk) => serve_exchange(rt, host, options, desk, journal, port, &exchange),
             None => Ok(()),
         }
     };

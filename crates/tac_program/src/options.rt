@@ -7,8 +7,9 @@ ghost use Rattle.std.specs.Prelude.{◌≡◌};
 ghost use Rattle.tac_program.specs.Opening as opening;
 
 use crate::command_line::{
-    ADDRESS, CONNECTIONS, CONNECTIONS_AT_ONCE, CONSOLE, FILE, IDLE, KEEP_RECORDS, KEY, KEY_FILE,
-    LOG, LOGIN_IDLE, NO_CONSOLE, PACKET_MEMORY, PER_ADDRESS, PORT, ROTATE_AT, SYNC, WORKERS,
+    ADDRESS, CONNECTIONS, CONNECTIONS_AT_ONCE, CONSOLE, FILE, IDLE, KEEP_EDITS, KEEP_RECORDS, KEY,
+    KEY_FILE, LOG, LOGIN_IDLE, NO_CONSOLE, PACKET_MEMORY, PER_ADDRESS, PORT, ROTATE_AT, SYNC,
+    WORKERS,
 };
 use crate::opening::open_secret;
 use crate::status::Status;
@@ -19,6 +20,7 @@ use std::rt::Files;
 use tac_desks::MAX_RECORDS;
 use tac_forum::Limits;
 use tac_io::{InputFault, read_whole};
+use tac_keep::Tray;
 use tac_net::{Idle, Settings};
 use tac_status::Counts;
 use tac_tally::RecordLimit;
@@ -59,8 +61,12 @@ pub(crate) struct Options<'a> {
     pub(crate) has_console: bool,
     /// The socket at which operators type, if there is one.
     pub(crate) console: Option<&'a str>,
+    /// The file that has the policy with the edits that were made there, if they are kept.
+    pub(crate) kept: Option<&'a str>,
     /// What is counted of the server that serves so.
     pub(crate) counts: Counts,
+    /// Where its edits lie until they are kept.
+    pub(crate) tray: Tray,
 }
 
 // The key of a word of the command line. What is said of it doesn't show it.
@@ -222,7 +228,9 @@ impl<'a> Options<'a> {
                 syncs: matches.get_flag(SYNC),
                 has_console: !matches.get_flag(NO_CONSOLE),
                 console: matches.get_str(CONSOLE),
+                kept: matches.get_str(KEEP_EDITS),
                 counts: Counts::new(),
+                tray: Tray::new(),
             }),
             _ => Err(Status::BadCommandLine),
         }

@@ -23,6 +23,7 @@ use std::thread::Threads;
 use std::time::Clock;
 use std::{env, io, thread};
 use tac_journal::LogFiles;
+use tac_keep::KeepFiles;
 use tac_operators::ConsoleHost;
 use tac_review::{CheckEnd, check, lint};
 
@@ -88,7 +89,7 @@ fn processors<H: Threads>(host: &H) -> usize {
 fn serve_clients<R, H>(rt: &R, host: &H, matches: &ArgMatches<'_>) -> Status
 where
     R: Files + Input + Print + Eprint + AllocGlobal,
-    H: Threads + Wait + Clock + Sync + AllocGlobal + Eprint + LogFiles + ConsoleHost,
+    H: Threads + Wait + Clock + Sync + AllocGlobal + Eprint + LogFiles + ConsoleHost + KeepFiles,
     H: Net<Listener = TcpListener, Stream = TcpStream>,
 {
     let outcome = match Options::read(rt, matches, processors(host)) {
@@ -128,7 +129,7 @@ where
 fn carry_out<R, H>(rt: &R, host: &H, matches: &ArgMatches<'_>) -> Status
 where
     R: Env + Files + Input + Print + Eprint + AllocGlobal,
-    H: Threads + Wait + Clock + Sync + AllocGlobal + Eprint + LogFiles + ConsoleHost,
+    H: Threads + Wait + Clock + Sync + AllocGlobal + Eprint + LogFiles + ConsoleHost + KeepFiles,
     H: Net<Listener = TcpListener, Stream = TcpStream>,
 {
     if let Some(options) = matches.subcommand_matches(SERVE) {
@@ -146,7 +147,7 @@ where
 fn obey<R, H>(rt: &R, host: &H, words: &[String]) -> Status
 where
     R: Env + Files + Input + Print + Eprint + AllocGlobal,
-    H: Threads + Wait + Clock + Sync + AllocGlobal + Eprint + LogFiles + ConsoleHost,
+    H: Threads + Wait + Clock + Sync + AllocGlobal + Eprint + LogFiles + ConsoleHost + KeepFiles,
     H: Net<Listener = TcpListener, Stream = TcpStream>,
 {
     match parse(rt.alloc(), words) {
@@ -164,7 +165,7 @@ fn words_of<R: Env + AllocGlobal>(rt: &R) -> io::Result<Vec<String>> {
 pub fn run<R, H>(rt: &R, host: &H) -> ExitCode
 where
     R: Env + Files + Input + Print + Eprint + AllocGlobal,
-    H: Threads + Wait + Clock + Sync + AllocGlobal + Eprint + LogFiles + ConsoleHost,
+    H: Threads + Wait + Clock + Sync + AllocGlobal + Eprint + LogFiles + ConsoleHost + KeepFiles,
     H: Net<Listener = TcpListener, Stream = TcpStream>,
 {
     let status = match words_of(rt) {

@@ -9,6 +9,7 @@ ghost use Rattle.tac_program.specs.Ending.{end_of_serving};
 use crate::complaint::{complain, name_lint};
 use crate::console::{ConsoleInput, NoConsole};
 use crate::descriptors::warn_of_few;
+use crate::keeping::{first_file, tell_of_edits};
 use crate::opening::{open_desk, open_secret};
 use crate::operators::serve_operators;
 use crate::options::Options;
@@ -21,8 +22,10 @@ use std::rt::Files;
 use std::sync::Wait;
 use std::thread::Threads;
 use std::time::Clock;
+use tac_desk::Desk;
 use tac_desks::LiveDesk;
 use tac_journal::{Journal, LogFiles, OneInput, Typists};
+use tac_keep::KeepFiles;
 use tac_net::{FillingDesk, Port, ServeFault, ServerFiles, serve};
 use tac_operators::ConsoleHost;
 use tac_status::CountedDesk;
@@ -103,13 +106,24 @@ where
     }
 }
 
-/// Serves with a console on this input and output, at which these type, until that ends. Standard
-/// error says when records fill up.
-pub(crate) fn serve_console<R, H, I: Read + Drop, O: Write + Drop, T: Typists + Drop>(
+/// A desk whose edits and records are counted. Standard error says when its records fill up.
+pub(crate) fn watched<'a, H: Eprint, D: Desk>(
+    host: &'a H,
+    options: &'a Options<'_>,
+    desk: D,
+) -> FillingDesk<'a, H, CountedDesk<'a, D>>
+    ensures { D.meaning result.desk.desk ≡ D.meaning desk }
+{
+    let desk = CountedDesk::new(desk, &options.counts.desk, options.record_limit);
+    FillingDesk::new(host, desk, options.record_limit)
+}
+
+/// Serves a desk with a console on this input and output, at which these type, until that ends.
+pub(crate) fn serve_desk<R, H, D: Desk + Send, I: Read + Drop, O: Write + Drop, T: Typists + Drop>(
     rt: &R,
     host: &H,
     options: &Options<'_>,
-    desk: LiveDesk,
+    desk: D,
     journal: &Option<Journal<'_>>,
     port: &Port,
     console: (I, O, T),
@@ -118,8 +132,6 @@ where
     R: Files + Print + Eprint,
     H: Threads + Wait + Clock + Sync + AllocGlobal + Eprint + LogFiles + Net,
 {
-    let desk = CountedDesk::new(desk, &options.counts.desk, options.record_limit);
-    let desk = FillingDesk::new(host, desk, options.record_limit);
     let (mut input, mut output, typists) = console;
     let file = PolicyFile {
         host: rt,
@@ -142,6 +154,24 @@ where
     )
 }
 
+/// The same of the desk of a file, whose edits aren't kept.
+pub(crate) fn serve_console<R, H, I: Read + Drop, O: Write + Drop, T: Typists + Drop>(
+    rt: &R,
+    host: &H,
+    options: &Options<'_>,
+    desk: LiveDesk,
+    journal: &Option<Journal<'_>>,
+    port: &Port,
+    console: (I, O, T),
+) -> Result<(), ServeFault>
+where
+    R: Files + Print + Eprint,
+    H: Threads + Wait + Clock + Sync + AllocGlobal + Eprint + LogFiles + Net,
+{
+    let desk = watched(host, options, desk);
+    serve_desk(rt, host, options, desk, journal, port, console)
+}
+
 // Says why a server ended, unless it was stopped. The error is the status to end with.
 pub(crate) fn ended<R: Eprint>(rt: &R, outcome: Result<(), ServeFault>) -> Result<(), Status>
     ensures { result ≡ end_of_serving outcome }
@@ -161,9 +191,14 @@ pub(crate) fn serve_by<R, H>(rt: &R, host: &H, options: &Options<'_>) -> Result<
 where
     R: Files + Input + Print + Eprint + AllocGlobal,
     H: Threads + Wait + Clock + Sync + AllocGlobal + Eprint + LogFiles + Net + ConsoleHost,
-    H: Net<Listener = TcpListener, Stream = TcpStream>,
+    H: KeepFiles + Net<Listener = TcpListener, Stream = TcpStream>,
 {
-    let desk = desk_of_file(rt, options.record_limit, options.path)?;
+    let first = first_file(rt, host, options)?;
+    let desk = desk_of_file(rt, options.record_limit, first)?;
+    if first != options.path {
+        options.tray.begin_with_edits();
+        tell_of_edits(rt, options.path, first);
+    }
     let journal = journal_of(rt, host, options)?;
     let port = port_at(rt, host, options.address)?;
     warn_of_few(rt, &options.settings);

@@ -27,7 +27,7 @@ pub(crate) enum Status {
     /// be closed.
     Failed = 4,
     /// Someone gains or loses a line by the new policy, or it takes edits; or a lint told
-    /// something.
+    /// something; or an edit was made at a console, and isn't kept.
     Differs = 5,
 }
 

@@ -13,6 +13,7 @@ use std::test::Fail;
 use std::thread::{Threads, join, sleep};
 use std::time::{Clock, Duration, Instant};
 use tac_journal::LogFiles;
+use tac_keep::KeepFiles;
 use tac_operators::ConsoleHost;
 use tac_program::run;
 
@@ -369,7 +370,7 @@ fn visit_it<R>(
     visit: Visit,
 ) -> (bool, ExitCode)
 where
-    R: Threads + Wait + Clock + Sync + AllocGlobal + LogFiles + ConsoleHost + Eprint,
+    R: Threads + Wait + Clock + Sync + AllocGlobal + LogFiles + ConsoleHost + KeepFiles + Eprint,
     R: Net<Listener = TcpListener, Stream = TcpStream>,
 {
     join(
@@ -394,7 +395,7 @@ fn serves<R>(
     printed: &str,
 ) -> bool
 where
-    R: Threads + Wait + Clock + Sync + AllocGlobal + LogFiles + ConsoleHost + Eprint,
+    R: Threads + Wait + Clock + Sync + AllocGlobal + LogFiles + ConsoleHost + KeepFiles + Eprint,
     R: Net<Listener = TcpListener, Stream = TcpStream>,
 {
     let is_over = AtomicBool::new(false);
@@ -414,7 +415,7 @@ fn operated<R>(
     answers: &str,
 ) -> Result<(), Fail>
 where
-    R: Threads + Wait + Clock + Sync + AllocGlobal + LogFiles + ConsoleHost + Eprint,
+    R: Threads + Wait + Clock + Sync + AllocGlobal + LogFiles + ConsoleHost + KeepFiles + Eprint,
     R: Net<Listener = TcpListener, Stream = TcpStream>,
 {
     let port = address.port();
@@ -429,7 +430,7 @@ where
 // The same at any port of this host, where the operator only quits.
 fn visited<R>(rt: &R, options: &str, host: [u8; 4], visit: Visit) -> Result<(), Fail>
 where
-    R: Threads + Wait + Clock + Sync + AllocGlobal + LogFiles + ConsoleHost + Eprint,
+    R: Threads + Wait + Clock + Sync + AllocGlobal + LogFiles + ConsoleHost + KeepFiles + Eprint,
     R: Net<Listener = TcpListener, Stream = TcpStream>,
 {
     let port = free_port(rt)?;
@@ -508,7 +509,7 @@ fn kept(alloc: Global, first: u32, last: u32) -> Result<String, Fail> {
 // The server with these options takes so many records, and keeps them from this number on.
 fn keeps<R>(rt: &R, options: &str, count: u32, first: u32) -> Result<(), Fail>
 where
-    R: Threads + Wait + Clock + Sync + AllocGlobal + LogFiles + ConsoleHost + Eprint,
+    R: Threads + Wait + Clock + Sync + AllocGlobal + LogFiles + ConsoleHost + KeepFiles + Eprint,
     R: Net<Listener = TcpListener, Stream = TcpStream>,
 {
     let port = free_port(rt)?;

@@ -11,6 +11,7 @@ use std::sync::atomic::{AtomicU64, Ordering};
 use std::thread::Threads;
 use std::time::{Clock, Duration};
 use tac_journal::LogFiles;
+use tac_keep::KeepFiles;
 use tac_operators::ConsoleHost;
 
 /// A host like this one.
@@ -109,5 +110,19 @@ impl<R: ConsoleHost> ConsoleHost for Host<'_, R> {
 
     fn process_status(&self, into: &mut [u8]) -> io::Result<usize> {
         self.rt.process_status(into)
+    }
+}
+
+impl<R: KeepFiles> KeepFiles for Host<'_, R> {
+    fn find_file(&self, path: &str, other: &str) -> io::Result<bool> {
+        self.rt.find_file(path, other)
+    }
+
+    fn replace_file(&self, path: &str, bytes: &[u8]) -> io::Result<()> {
+        self.rt.replace_file(path, bytes)
+    }
+
+    fn unlink_file(&self, path: &str) -> io::Result<()> {
+        self.rt.unlink_file(path)
     }
 }

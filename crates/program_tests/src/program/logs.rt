@@ -16,6 +16,7 @@ use std::test::Fail;
 use std::thread::{Threads, join};
 use std::time::Clock;
 use tac_journal::LogFiles;
+use tac_keep::KeepFiles;
 use tac_operators::ConsoleHost;
 use tac_program::run;
 
@@ -84,7 +85,7 @@ where
 // made. The ports, and the status.
 fn served<R>(rt: &R, words: &str, syncs: &AtomicU64, address: SocketAddr) -> ((u64, u64), ExitCode)
 where
-    R: Threads + Wait + Clock + Sync + AllocGlobal + LogFiles + ConsoleHost + Eprint,
+    R: Threads + Wait + Clock + Sync + AllocGlobal + LogFiles + ConsoleHost + KeepFiles + Eprint,
     R: Net<Listener = TcpListener, Stream = TcpStream>,
 {
     let is_over = AtomicBool::new(false);
@@ -132,6 +133,7 @@ where
         + AllocGlobal
         + LogFiles
         + ConsoleHost
+        + KeepFiles
         + Eprint
         + Files,
     R: Net<Listener = TcpListener, Stream = TcpStream>,
@@ -187,7 +189,7 @@ const SCRIPT_LINES: &str =
 // The status of the program, by these words and with the script as its input.
 fn played<R>(rt: &R, words: &str) -> ExitCode
 where
-    R: Threads + Wait + Clock + Sync + AllocGlobal + LogFiles + ConsoleHost + Eprint,
+    R: Threads + Wait + Clock + Sync + AllocGlobal + LogFiles + ConsoleHost + KeepFiles + Eprint,
     R: Net<Listener = TcpListener, Stream = TcpStream>,
 {
     let (is_over, syncs) = (AtomicBool::new(true), AtomicU64::new(0));

@@ -12,6 +12,7 @@ use std::test::Fail;
 use std::thread::{Threads, join, sleep};
 use std::time::{Clock, Duration};
 use tac_journal::LogFiles;
+use tac_keep::KeepFiles;
 use tac_operators::ConsoleHost;
 use tac_program::run;
 
@@ -101,7 +102,7 @@ fn asked<R>(
     flags: &[AtomicBool; 2],
 ) -> (bool, ExitCode)
 where
-    R: Threads + Wait + Clock + Sync + AllocGlobal + LogFiles + ConsoleHost + Eprint,
+    R: Threads + Wait + Clock + Sync + AllocGlobal + LogFiles + ConsoleHost + KeepFiles + Eprint,
     R: Net<Listener = TcpListener, Stream = TcpStream>,
 {
     let [first, then] = flags;

@@ -9,6 +9,7 @@ use std::test::Fail;
 use std::thread::Threads;
 use std::time::Clock;
 use tac_journal::LogFiles;
+use tac_keep::KeepFiles;
 use tac_operators::ConsoleHost;
 use tac_program::run;
 
@@ -32,6 +33,7 @@ where
         + AllocGlobal
         + LogFiles
         + ConsoleHost
+        + KeepFiles
         + Eprint
         + Net<Listener = TcpListener, Stream = TcpStream>,
 {
@@ -60,6 +62,7 @@ where
         + AllocGlobal
         + LogFiles
         + ConsoleHost
+        + KeepFiles
         + Eprint
         + Net<Listener = TcpListener, Stream = TcpStream>,
 {
@@ -90,6 +93,7 @@ where
         + AllocGlobal
         + LogFiles
         + ConsoleHost
+        + KeepFiles
         + Eprint
         + Net<Listener = TcpListener, Stream = TcpStream>,
 {
@@ -180,6 +184,21 @@ fn serves_with_no_log(rt: HostRuntime) -> Result<(), Fail> {
         ends(&rt, words.as_str(), "", true, 4, "", complained.as_str());
         let fault = "fault line 1 1 BadLine\n";
         ends(&rt, words.as_str(), "x", true, 1, fault, LINT_SAYS_MORE);
+    }
+    Ok(())
+}
+
+// What is there in place of the file of `--keep-edits` would be lost. It is said before anything of
+// the policy.
+#[test]
+fn serves_with_nowhere_for_edits(rt: HostRuntime) -> Result<(), Fail> {
+    for path in ["/", "/dev/null"] {
+        let words = format!(in rt.alloc();
+            "tacd serve --port 1 --key k --console /nowhere/c --keep-edits {path} policy"
+        )?;
+        let complained = format!(in rt.alloc(); "tacd: {path}: it is no regular file\n")?;
+        ends(&rt, words.as_str(), "", true, 4, "", complained.as_str());
+        ends(&rt, words.as_str(), "x", true, 4, "", complained.as_str());
     }
     Ok(())
 }
