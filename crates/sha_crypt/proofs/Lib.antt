@@ -1,3 +1,4 @@
 mod Sameness
 mod SaltFacts
-mod TextFacts
+pub mod TextFacts
+pub mod SymbolFacts

@@ -1,3 +1,4 @@
 pub mod Crypt
 pub mod HashText
 pub mod Passing
+pub mod SameHash

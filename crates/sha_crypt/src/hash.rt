@@ -1,7 +1,7 @@
 //! The text that keeps a password, and whether a password passes for it.
 
-ghost use Rattle.std.specs.Prelude.{◌≡◌, ◌≤◌, ℕ, List, length, drop, IsTrue, IfSome, Some, None};
-ghost use Rattle.std.specs.Prelude.{if◌then◌else◌};
+ghost use Rattle.std.specs.Prelude.{◌≡◌, ◌≤◌, ◌↔◌, ℕ, List, length, drop, IsTrue, IfSome, Some};
+ghost use Rattle.std.specs.Prelude.{None, if◌then◌else◌};
 ghost use Rattle.std.specs.List.{list_all};
 ghost use Rattle.basics.specs.Lines.{split_at_first};
 ghost use Rattle.sha_crypt.specs.HashText as words;
@@ -18,7 +18,7 @@ use std::marker::Model;
 
 /// What a text of SHA-crypt keeps of a password: the rounds, if it names them, a salt and a digest.
 /// No password is in it, but who has it can try passwords: it doesn't print itself.
-#[derive(Clone, Copy, PartialEq, Eq)]
+#[derive(Clone, Copy)]
 pub struct Hash {
     rounds: Option<u32>,
     // zeros follow the salt's bytes
@@ -49,6 +49,30 @@ impl Model for Hash {
       salt_size = length hash.salt;
       symbols = hash.symbols;
     } };
+}
+
+// Not derived, so that contracts compare the hashes and not the zeros after a salt.
+impl PartialEq for Hash {
+    ghost use Rattle.std.specs.Cmp.{decided, partial_equiv_from_equiv};
+    ghost use Rattle.sha_crypt.specs.SameHash.{same_hash, same_hash-Decides};
+
+    ghost eq = { same_hash };
+
+    ghost laws = { partial_equiv_from_equiv (decided same_hash same_hash-Decides) };
+
+    fn eq(&self, other: &Hash) -> bool
+        ensures eq { result ≡ same_hash self.now other.now }
+        ensures same { IsTrue result ↔ (self.now ≡ other.now) }
+    {
+        self.rounds == other.rounds && self.salt() == other.salt() && self.symbols == other.symbols
+    }
+}
+
+impl Eq for Hash {
+    ghost use Rattle.std.specs.Cmp.{decided};
+    ghost use Rattle.sha_crypt.specs.SameHash.{same_hash, same_hash-Decides};
+
+    ghost laws = { decided same_hash same_hash-Decides };
 }
 
 // The parts of a text, be they right or not.
