@@ -2,3 +2,4 @@ pub mod Name
 pub mod Secret
 pub mod SubjectId
 pub mod Decision
+pub mod Kept

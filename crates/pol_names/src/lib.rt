@@ -9,5 +9,6 @@ mod subject_id;
 
 pub use decision::{By, Decision, Verdict};
 pub use name::Name;
-pub use secret::{Credential, Secret};
+pub use secret::{ClearSecret, Credential, Secret};
+pub use sha_crypt::Hash;
 pub use subject_id::{Kind, SubjectId};
