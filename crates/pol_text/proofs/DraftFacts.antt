@@ -2,7 +2,7 @@
 use Rattle.std.proofs.Common.{◌≡◌, ℕ, ◌+◌, Bool, true, false, cond, ◌||◌, List, [], ◌∷◌, ◌++◌, length, map, nat_le, Option, Some, Result, Ok, Err, is_some, refl, sym, ap, ◌∙◌}
 use Rattle.std.specs.List.{list_any}
 use Rattle.std.proofs.lemmas.List.{map-append}
-use Rattle.pol_pattern.specs.declared.version.Version.{Version}
+use Rattle.pol_text.specs.declared.version.TextVersion.{TextVersion as Version}
 use Rattle.pol_names.specs.declared.subject_id.Kind.{Kind}
 use Rattle.pol_names.specs.declared.subject_id.SubjectId.{SubjectId}
 use Rattle.pol_text.specs.declared.subject.Subject.{Subject}

@@ -4,7 +4,7 @@ use Rattle.std.proofs.lemmas.List.{take_more, map-append}
 use Rattle.pol_text.specs.declared.subject.Rule.{Rule}
 use Rattle.pol_text.specs.declared.subject.Subject.{Subject}
 use Rattle.pol_names.specs.Decision.{verdict_word}
-use Rattle.pol_text.specs.Text.{text_of_lines, version_line, policy_lines, subject_lines, rule_line}
+use Rattle.pol_text.specs.Text.{text_of_lines, policy_lines, subject_lines, rule_line}
 
 pub text_of_lines-append : (a b : List (List ℕ)) → text_of_lines (a ++ b) ≡ text_of_lines a ++ text_of_lines b
 text_of_lines-append [] b = refl
@@ -29,13 +29,13 @@ rules_more start text next front back rules i rule lt is was told f b =
     let step : take (i + 1) rules ≡ take i rules ++ rule ∷ [] = take_more rules i rule lt ∙ ap (λ (r : Rule). take i rules ++ r ∷ []) (sym is) in
     rw (step, map-append rule_line (take i rules) (rule ∷ [])) (line_more start text next (map rule_line (take i rules)) (rule_line rule ∷ []) was line)
 
-pub subjects_more : (text next : List ℕ) (subjects : List Subject) (i : ℕ) (subject : Subject) → i < length subjects → subject ≡ get_or subjects i subject
-    → text ≡ text_of_lines (version_line ∷ policy_lines (take i subjects)) → next ≡ text ++ text_of_lines (subject_lines subject)
-    → next ≡ text_of_lines (version_line ∷ policy_lines (take (i + 1) subjects))
-subjects_more text next subjects i subject lt is was told =
+pub subjects_more : (first text next : List ℕ) (subjects : List Subject) (i : ℕ) (subject : Subject) → i < length subjects → subject ≡ get_or subjects i subject
+    → text ≡ text_of_lines (first ∷ policy_lines (take i subjects)) → next ≡ text ++ text_of_lines (subject_lines subject)
+    → next ≡ text_of_lines (first ∷ policy_lines (take (i + 1) subjects))
+subjects_more first text next subjects i subject lt is was told =
     let step : take (i + 1) subjects ≡ take i subjects ++ subject ∷ [] = take_more subjects i subject lt ∙ ap (λ (s : Subject). take i subjects ++ s ∷ []) (sym is) in
     let last : policy_lines (subject ∷ []) ≡ subject_lines subject = simp append_nil_lines in
-    rw (step, policy_lines-append (take i subjects) (subject ∷ []), last) (line_more [] text next (version_line ∷ policy_lines (take i subjects)) (subject_lines subject) was told)
+    rw (step, policy_lines-append (take i subjects) (subject ∷ []), last) (line_more [] text next (first ∷ policy_lines (take i subjects)) (subject_lines subject) was told)
   where
     append_nil_lines : (lines : List (List ℕ)) → lines ++ [] ≡ lines
     append_nil_lines [] = refl

@@ -9,18 +9,22 @@ use Rattle.basics.specs.Lines.{split_at_first, lines_of, without_leading_spaces}
 use Rattle.basics.specs.Number.{digits_after}
 use Rattle.pol_names.specs.Name.{is_name}
 use Rattle.pol_names.specs.Secret.{is_secret}
+use Rattle.sha_crypt.specs.HashText.{HashParts, is_hash, hash_text}
+use Rattle.sha_crypt.proofs.TextFacts.{again}
+use Rattle.pol_names.specs.declared.secret.Secret.TheVariants.{Clear, Hashed}
 use Rattle.pol_names.specs.SubjectId.{kind_word}
 use Rattle.pol_names.specs.Decision.{verdict_word}
 use Rattle.pol_names.specs.declared.subject_id.Kind.{Kind}
 use Rattle.pol_names.specs.declared.subject_id.Kind.TheVariants.{Group, User}
 use Rattle.pol_names.specs.declared.decision.Verdict.{Verdict}
 use Rattle.pol_names.specs.declared.decision.Verdict.TheVariants.{Permit, Deny}
-use Rattle.pol_pattern.specs.declared.version.Version.{Version}
+use Rattle.pol_text.specs.declared.version.TextVersion.{TextVersion as Version}
 use Rattle.pol_text.specs.declared.subject.Subject.{Subject}
 use Rattle.pol_text.specs.declared.fault.PolicyRefusal.{PolicyRefusal}
 use Rattle.pol_text.specs.Policy.{find_subject, all_of, max_subjects}
-use Rattle.pol_text.specs.Text.{◌>>=◌, Draft, subjects_of, is_field, heading, new_subject, with_subject, after_first, split_last, with_present, with_login, with_enable, level_of, with_priv, with_rule, with_words, is_blank, with_trimmed, with_line, with_lines, policy_of, body_of}
-use Rattle.pol_text.specs.Spelling.{Sets, login, enable, level, rule, Adds, begins, sets, Extends, meaningful, Spells}
+use Rattle.pol_text.specs.Text.{◌>>=◌, Draft, subjects_of, is_field, heading, new_subject, with_subject, after_first, split_last, with_present, with_login, with_enable, with_login_hash, with_enable_hash, level_of, with_priv, with_rule, with_words, is_blank, with_trimmed, with_line, with_lines, policy_of, body_of}
+use Rattle.pol_text.specs.Versions.{has_hashes}
+use Rattle.pol_text.specs.Spelling.{Sets, login, enable, login_hash, enable_hash, level, rule, Adds, begins, sets, Extends, meaningful, Spells}
 use Rattle.pol_text.proofs.SettingFacts.{and_left, and_right, rule_read}
 use Rattle.pol_text.proofs.DraftFacts.{split_last-push, present_is}
 use Rattle.pol_text.proofs.RightFacts.{split_back, subjects-push}
@@ -55,6 +59,14 @@ login_line version number text draft = refl
 enable_line : (version : Version) (number : ℕ) (text : List ℕ) (draft : Draft) → with_trimmed version number (codes "enable " ++ text) draft ≡ with_present (with_enable text) draft
 unfolding with_trimmed with_words
 enable_line version number text draft = refl
+
+login_hash_line : (version : Version) (number : ℕ) (text : List ℕ) (draft : Draft) → has_hashes version ≡ true → with_trimmed version number (codes "login-hash " ++ text) draft ≡ with_present (with_login_hash text) draft
+unfolding with_trimmed with_words
+login_hash_line version number text draft third = rw third refl
+
+enable_hash_line : (version : Version) (number : ℕ) (text : List ℕ) (draft : Draft) → has_hashes version ≡ true → with_trimmed version number (codes "enable-hash " ++ text) draft ≡ with_present (with_enable_hash text) draft
+unfolding with_trimmed with_words
+enable_hash_line version number text draft third = rw third refl
 
 level_line : (version : Version) (number : ℕ) (text : List ℕ) (draft : Draft) → is_field text ≡ true → with_trimmed version number (codes "priv " ++ text) draft ≡ with_present (with_priv text) draft
 unfolding with_trimmed with_words
@@ -96,11 +108,17 @@ module _ (version : Version) (number at : ℕ) (front : Draft) (old new : Subjec
   changed : (change : Subject → Result Subject PolicyRefusal) → change old ≡ Ok new → with_present change (front ++ (at, old) ∷ []) ≡ Ok (front ++ (at, new) ∷ [])
   changed change h = present_is change front at old ∙ rw h refl
 
-  logged : (text : List ℕ) → is_secret text ≡ true → old.kind ≡ User → old.login ≡ None → with_login text old ≡ Ok (record old { login = Some text })
+  logged : (text : List ℕ) → is_secret text ≡ true → old.kind ≡ User → old.login ≡ None → with_login text old ≡ Ok (record old { login = Some (Clear text) })
   logged text right user none = rw (user, none, right) refl
 
-  enabled : (text : List ℕ) → is_secret text ≡ true → old.kind ≡ User → old.enable ≡ None → with_enable text old ≡ Ok (record old { enable = Some text })
+  enabled : (text : List ℕ) → is_secret text ≡ true → old.kind ≡ User → old.enable ≡ None → with_enable text old ≡ Ok (record old { enable = Some (Clear text) })
   enabled text right user none = rw (user, none, right) refl
+
+  logged_hash : (hash : HashParts) → is_hash hash ≡ true → old.kind ≡ User → old.login ≡ None → with_login_hash (hash_text hash) old ≡ Ok (record old { login = Some (Hashed hash) })
+  logged_hash hash right user none = rw (user, none, again hash right) refl
+
+  enabled_hash : (hash : HashParts) → is_hash hash ≡ true → old.kind ≡ User → old.enable ≡ None → with_enable_hash (hash_text hash) old ≡ Ok (record old { enable = Some (Hashed hash) })
+  enabled_hash hash right user none = rw (user, none, again hash right) refl
 
   levelled : (text : List ℕ) (n : ℕ) → level_of text ≡ Some n → old.priv_lvl ≡ None → with_priv text old ≡ Ok (record old { priv_lvl = Some n })
   levelled text n right none = rw (none, right) refl
@@ -110,6 +128,10 @@ module _ (version : Version) (number at : ℕ) (front : Draft) (old new : Subjec
       subst Goes (sym spelled) (login_line version number text (front ++ (at, old) ∷ []) ∙ changed (with_login text) (logged text right user none ∙ sym (ap (λ (s : Subject). Ok s) is)))
   set_read line (enable text right spelled user none is) =
       subst Goes (sym spelled) (enable_line version number text (front ++ (at, old) ∷ []) ∙ changed (with_enable text) (enabled text right user none ∙ sym (ap (λ (s : Subject). Ok s) is)))
+  set_read line (login_hash hash third right spelled user none is) =
+      subst Goes (sym spelled) (login_hash_line version number (hash_text hash) (front ++ (at, old) ∷ []) third ∙ changed (with_login_hash (hash_text hash)) (logged_hash hash right user none ∙ sym (ap (λ (s : Subject). Ok s) is)))
+  set_read line (enable_hash hash third right spelled user none is) =
+      subst Goes (sym spelled) (enable_hash_line version number (hash_text hash) (front ++ (at, old) ∷ []) third ∙ changed (with_enable_hash (hash_text hash)) (enabled_hash hash right user none ∙ sym (ap (λ (s : Subject). Ok s) is)))
   set_read line (level text n right spelled none is) =
       subst Goes (sym spelled) (level_line version number text (front ++ (at, old) ∷ []) (level_field text n right) ∙ changed (with_priv text) (levelled text n right none ∙ sym (ap (λ (s : Subject). Ok s) is)))
   set_read line (rule verdict text pattern right spelled room is) =

@@ -6,9 +6,9 @@ use Rattle.std.specs.Str.{bytes_eq}
 use Rattle.basics.specs.Symbol.{is_text}
 use Rattle.basics.specs.Lines.{lines_of, onto_first, split_at_first, without_leading_spaces}
 use Rattle.pol_text.specs.Policy.{has_parent, ends_within}
-use Rattle.pol_text.specs.Text.{◌>>=◌, Draft, subjects_of, heading, is_blank, new_subject, with_subject, split_last, after_first, with_present, with_login, with_enable, with_priv, with_rule, with_words, with_trimmed, with_line, with_lines, at_line, checked, with_right_chains, policy_of, IsUnlessMemory, version_line, Body, body_of, with_body}
-use Rattle.pol_pattern.specs.declared.version.Version.{Version}
-use Rattle.pol_pattern.specs.declared.version.Version.TheVariants.{One, Two}
+use Rattle.pol_text.specs.Text.{◌>>=◌, Draft, subjects_of, heading, is_blank, new_subject, with_subject, split_last, after_first, with_present, with_login, with_enable, with_login_hash, with_enable_hash, with_priv, with_rule, with_words, with_trimmed, with_line, with_lines, at_line, checked, with_right_chains, policy_of, IsUnlessMemory, version_line, third_line, Body, body_of, with_body}
+use Rattle.pol_text.specs.declared.version.TextVersion.{TextVersion as Version}
+use Rattle.pol_text.specs.declared.version.TextVersion.TheVariants.{One, Two, Three}
 use Rattle.pol_names.specs.declared.subject_id.Kind.{Kind}
 use Rattle.pol_names.specs.declared.subject_id.Kind.TheVariants.{Group, User}
 use Rattle.pol_names.specs.declared.decision.Verdict.TheVariants.{Permit, Deny}
@@ -80,10 +80,12 @@ words_keep version n word rest draft h =
     let user = keeps_then (n + 1) (heading rest (split_at_first 32 rest)) (λ ids. with_subject n User ids.0 ids.1 draft) (λ ids. subject_keeps n User ids.0 ids.1 draft h) in
     let login = present_keeps (n + 1) (with_login rest) draft h in
     let enable = present_keeps (n + 1) (with_enable rest) draft h in
+    let login_hash = present_keeps (n + 1) (with_login_hash rest) draft h in
+    let enable_hash = present_keeps (n + 1) (with_enable_hash rest) draft h in
     let level = present_keeps (n + 1) (with_priv rest) draft h in
     let permit = present_keeps (n + 1) (with_rule version Permit rest) draft h in
     let deny = present_keeps (n + 1) (with_rule version Deny rest) draft h in
-    search (keeps_if, group, user, login, enable, level, permit, deny) depth 12
+    search (keeps_if, group, user, login, enable, login_hash, enable_hash, level, permit, deny) depth 16
 
 trimmed_keeps : (version : Version) (n : ℕ) (line : List ℕ) (draft : Draft) → AllBefore (n + 1) draft → Keeps (n + 1) (with_trimmed version n line draft)
 unfolding with_trimmed
@@ -173,15 +175,16 @@ few_lines [] = omega arith
 few_lines (byte ∷ bytes) = omega (arith, lines_few (eqb byte 10) byte (length bytes) (lines_of bytes) (few_lines bytes))
 
 -- a line that says the version counts
-body_if : (b : Bool) (line : List ℕ) (lines : List (List ℕ)) (body : Body)
-    → body ≡ (if b then record { version = Two; number = 2; lines = lines } else record { version = One; number = 1; lines = line ∷ lines })
+body_if : (b c : Bool) (line : List ℕ) (lines : List (List ℕ)) (body : Body)
+    → body ≡ (if b then record { version = Two; number = 2; lines = lines } else if c then record { version = Three; number = 2; lines = lines } else record { version = One; number = 1; lines = line ∷ lines })
     → body.number + length body.lines ≡ 1 + length (line ∷ lines)
-body_if true line lines body e = rw e (omega arith)
-body_if false line lines body e = rw e refl
+body_if true c line lines body e = rw e (omega arith)
+body_if false true line lines body e = rw e (omega arith)
+body_if false false line lines body e = rw e refl
 
 body_long : (lines : List (List ℕ)) → (body_of lines).number + length (body_of lines).lines ≡ 1 + length lines
 body_long [] = refl
-body_long (line ∷ lines) = body_if (bytes_eq line version_line) line lines (body_of (line ∷ lines)) refl
+body_long (line ∷ lines) = body_if (bytes_eq line version_line) (bytes_eq line third_line) line lines (body_of (line ∷ lines)) refl
 
 policy_bounded : (text : List ℕ) → Bounded Any (1 + length (lines_of text)) (policy_of text)
 unfolding policy_of

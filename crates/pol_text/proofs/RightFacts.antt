@@ -9,7 +9,7 @@ use Rattle.std.proofs.lemmas.List.{map-append, length-map}
 use Rattle.std.proofs.lemmas.List.Folds.{list_all-append, list_any-append}
 use Rattle.basics.specs.Symbol.{is_text}
 use Rattle.basics.specs.Lines.{split_at_first, lines_of, without_leading_spaces}
-use Rattle.pol_pattern.specs.declared.version.Version.{Version}
+use Rattle.pol_text.specs.declared.version.TextVersion.{TextVersion as Version}
 use Rattle.pol_names.specs.declared.subject_id.Kind.{Kind}
 use Rattle.pol_names.specs.declared.subject_id.Kind.TheVariants.{Group, User}
 use Rattle.pol_names.specs.declared.decision.Verdict.TheVariants.{Permit, Deny}
@@ -22,8 +22,9 @@ use Rattle.pol_text.specs.Draft.{RightDraft}
 use Rattle.pol_names.specs.Name.{is_name, name_of}
 use Rattle.pol_names.specs.SubjectId.{same_kind, same_id}
 use Rattle.pol_text.specs.Policy.{id_of, find_subject, all_distinct, all_of, is_right_subject, has_parent, ends_within, WellFormed, max_subjects}
-use Rattle.pol_text.specs.Text.{◌>>=◌, Draft, subjects_of, named, is_field, with_parent, heading, new_subject, with_subject, after_first, split_last, with_present, with_login, with_enable, with_priv, with_rule, with_words, is_blank, with_trimmed, with_line, at_line, with_lines, checked, with_right_chains, body_of, with_body, policy_of}
-use Rattle.pol_text.proofs.SettingFacts.{and_left, and_right, right_parts, right_whole, Kept, login_kept, enable_kept, priv_kept, rule_kept}
+use Rattle.pol_text.specs.Text.{◌>>=◌, Draft, subjects_of, named, is_field, with_parent, heading, new_subject, with_subject, after_first, split_last, with_present, with_login, with_enable, with_login_hash, with_enable_hash, with_priv, with_rule, with_words, is_blank, with_trimmed, with_line, at_line, with_lines, checked, with_right_chains, body_of, with_body, policy_of}
+use Rattle.pol_text.specs.Versions.{has_hashes}
+use Rattle.pol_text.proofs.SettingFacts.{and_left, and_right, right_parts, right_whole, Kept, login_kept, enable_kept, login_hash_kept, enable_hash_kept, priv_kept, rule_kept}
 
 -- ---- steps that go well
 
@@ -207,9 +208,11 @@ words_right version number word rest draft next r h =
     either_ok (bytes_eq word (codes "user")) _ _ next (λ k. begun_right number User rest draft next r k) (λ k.
     either_ok (bytes_eq word (codes "login")) _ _ next (λ k. present_right (with_login rest) draft next (login_kept rest) r k) (λ k.
     either_ok (bytes_eq word (codes "enable")) _ _ next (λ k. present_right (with_enable rest) draft next (enable_kept rest) r k) (λ k.
+    either_ok (bytes_eq word (codes "login-hash") && has_hashes version) _ _ next (λ k. present_right (with_login_hash rest) draft next (login_hash_kept rest) r k) (λ k.
+    either_ok (bytes_eq word (codes "enable-hash") && has_hashes version) _ _ next (λ k. present_right (with_enable_hash rest) draft next (enable_hash_kept rest) r k) (λ k.
     either_ok (bytes_eq word (codes "priv")) _ _ next (λ k. present_right (with_priv rest) draft next (priv_kept rest) r (first_ok (is_field rest) _ BadLine next k).1) (λ k.
     either_ok (bytes_eq word (codes "permit")) _ _ next (λ k. present_right (with_rule version Permit rest) draft next (rule_kept version Permit rest) r k) (λ k.
-    present_right (with_rule version Deny rest) draft next (rule_kept version Deny rest) r (first_ok (bytes_eq word (codes "deny")) _ BadLine next k).1) k) k) k) k) k) h
+    present_right (with_rule version Deny rest) draft next (rule_kept version Deny rest) r (first_ok (bytes_eq word (codes "deny")) _ BadLine next k).1) k) k) k) k) k) k) k) h
 
 trimmed_right : (version : Version) (number : ℕ) (line : List ℕ) (draft next : Draft) → RightDraft draft → with_trimmed version number line draft ≡ Ok next → RightDraft next
 unfolding with_trimmed

@@ -4,14 +4,14 @@ use Rattle.std.specs.List.{list_all}
 use Rattle.std.proofs.lemmas.Bool.{and_parts}
 use Rattle.pol_text.specs.declared.subject.Subject.{Subject}
 use Rattle.pol_names.specs.Name.{is_name}
-use Rattle.pol_names.specs.Secret.{is_secret}
+use Rattle.pol_names.specs.Kept.{is_right_secret}
 use Rattle.pol_text.specs.Policy.{all_of, is_right_rule, has_right_secrets, is_right_subject, max_rules}
 
 pub record Right (s : Subject) : Type 0 where
   pub name : is_name s.name ≡ true
   pub parent : all_of is_name s.parent ≡ true
-  pub login : all_of is_secret s.login ≡ true
-  pub enable : all_of is_secret s.enable ≡ true
+  pub login : all_of is_right_secret s.login ≡ true
+  pub enable : all_of is_right_secret s.enable ≡ true
   pub secrets : has_right_secrets s ≡ true
   pub level : all_of (λ level. nat_le level 15) s.priv_lvl ≡ true
   pub few : nat_le (length s.rules) max_rules ≡ true
@@ -35,10 +35,10 @@ all_parts a b c d e f g h pa pb pc pd pe pf pg ph = rw (pa, pb, pc, pd, pe, pf, 
 
 pub right_parts : (s : Subject) → is_right_subject s ≡ true → Right s
 right_parts s all =
-    let parts = eight_parts (is_name s.name) (all_of is_name s.parent) (all_of is_secret s.login) (all_of is_secret s.enable) (has_right_secrets s) (all_of (λ level. nat_le level 15) s.priv_lvl) (nat_le (length s.rules) max_rules) (list_all is_right_rule s.rules) all in
+    let parts = eight_parts (is_name s.name) (all_of is_name s.parent) (all_of is_right_secret s.login) (all_of is_right_secret s.enable) (has_right_secrets s) (all_of (λ level. nat_le level 15) s.priv_lvl) (nat_le (length s.rules) max_rules) (list_all is_right_rule s.rules) all in
     record { name = parts.0; parent = parts.1; login = parts.2; enable = parts.3; secrets = parts.4; level = parts.5; few = parts.6; rules = parts.7 }
 
 pub right_from : (s : Subject) → Right s → is_right_subject s ≡ true
 right_from s r =
-    all_parts (is_name s.name) (all_of is_name s.parent) (all_of is_secret s.login) (all_of is_secret s.enable) (has_right_secrets s) (all_of (λ level. nat_le level 15) s.priv_lvl) (nat_le (length s.rules) max_rules) (list_all is_right_rule s.rules)
+    all_parts (is_name s.name) (all_of is_name s.parent) (all_of is_right_secret s.login) (all_of is_right_secret s.enable) (has_right_secrets s) (all_of (λ level. nat_le level 15) s.priv_lvl) (nat_le (length s.rules) max_rules) (list_all is_right_rule s.rules)
     r.name r.parent r.login r.enable r.secrets r.level r.few r.rules

@@ -1,5 +1,5 @@
 -- What was printed is read as the same policy.
-use Rattle.std.proofs.Common.{◌≡◌, ℕ, suc, ◌+◌, Bool, true, false, not, eqb, ◌||◌, List, [], ◌∷◌, ◌++◌, length, map, find, codes, nat_le, Option, None, Some, Ok, is_some, refl, sym, ap, ◌∙◌, arith, ◌<◌, ◌≤◌, length-append, append-nil, append_assoc}
+use Rattle.std.proofs.Common.{◌≡◌, if◌then◌else◌, ℕ, suc, ◌+◌, Bool, true, false, not, eqb, ◌||◌, List, [], ◌∷◌, ◌++◌, length, map, find, codes, nat_le, Option, None, Some, Ok, is_some, refl, sym, ap, ◌∙◌, arith, ◌<◌, ◌≤◌, length-append, append-nil, append_assoc}
 use Rattle.std.specs.List.{list_all, list_any}
 use Rattle.std.specs.Option.{option_map_or}
 use Rattle.std.specs.Result.{is_ok}
@@ -10,8 +10,8 @@ use Rattle.std.proofs.lemmas.List.Folds.{list_all-append, list_any-append}
 use Rattle.basics.specs.Symbol.{is_text, is_symbol}
 use Rattle.basics.specs.Lines.{split_at_first, lines_of, onto_first}
 use Rattle.pol_pattern.specs.Reading.{pattern_of}
-use Rattle.pol_pattern.specs.declared.version.Version.{Version}
-use Rattle.pol_pattern.specs.declared.version.Version.TheVariants.{Two}
+use Rattle.pol_text.specs.declared.version.TextVersion.{TextVersion as Version}
+use Rattle.pol_text.specs.declared.version.TextVersion.TheVariants.{Two, Three}
 use Rattle.pol_names.specs.declared.subject_id.Kind.{Kind}
 use Rattle.pol_names.specs.declared.subject_id.Kind.TheVariants.{Group, User}
 use Rattle.pol_names.specs.declared.decision.Verdict.{Verdict}
@@ -23,11 +23,18 @@ use Rattle.pol_text.specs.declared.fault.PolicyRefusal.{PolicyRefusal}
 use Rattle.pol_text.specs.declared.fault.PolicyRefusal.TheVariants.{BadLine, NoSuchParent, Cycle, TooDeep}
 use Rattle.pol_names.specs.Name.{is_name, is_name_byte}
 use Rattle.pol_names.specs.Secret.{is_secret}
+use Rattle.sha_crypt.specs.HashText.{hash_text}
+use Rattle.sha_crypt.proofs.TextFacts.{again}
+use Rattle.sha_crypt.proofs.SymbolFacts.{hash_is_text}
+use Rattle.pol_names.specs.Kept.{is_right_secret, secret_line}
+use Rattle.pol_names.specs.declared.secret.Credential.TheVariants.{Login, Enable}
+use Rattle.pol_names.specs.declared.secret.Secret.{Secret}
+use Rattle.pol_names.specs.declared.secret.Secret.TheVariants.{Clear, Hashed}
 use Rattle.pol_names.specs.SubjectId.{same_kind, same_id}
 use Rattle.pol_text.specs.Policy.{id_of, find_subject, all_distinct, all_of, is_right_rule, is_right_subject, has_parent, ends_within, WellFormed, max_rules, max_subjects}
 use Rattle.pol_names.specs.SubjectId.{kind_word}
 use Rattle.pol_names.specs.Decision.{verdict_word}
-use Rattle.pol_text.specs.Text.{◌>>=◌, Draft, subjects_of, named, is_field, with_parent, heading, new_subject, with_subject, with_present, with_login, with_enable, with_priv, with_rule, with_words, with_trimmed, with_line, at_line, with_lines, checked, with_right_chains, policy_of, heading_line, line_for, rule_line, subject_lines, policy_lines, text_of_lines, text_of}
+use Rattle.pol_text.specs.Text.{◌>>=◌, Draft, subjects_of, named, is_field, with_parent, heading, new_subject, with_subject, with_present, with_login, with_enable, with_login_hash, with_enable_hash, pattern_in, is_hashed, needs_third, version_line, third_line, with_priv, with_rule, with_words, with_trimmed, with_line, at_line, with_lines, checked, with_right_chains, policy_of, heading_line, line_for, rule_line, subject_lines, policy_lines, text_of_lines, text_of}
 use Rattle.pol_text.proofs.SettingFacts.{and_left, and_right, and_both, right_parts, rule_read}
 use Rattle.pol_text.proofs.DraftFacts.{present_is}
 use Rattle.pol_text.proofs.RightFacts.{bind_ok, first_ok, placed_ok, any_is, id_same, or_false, subjects-push}
@@ -58,22 +65,27 @@ read_text version number (line ∷ lines) draft next h =
     let q = first_ok (is_text line) _ BadLine p.0 (placed_ok number (with_line version number line draft) p.0 p.1) in
     and_both _ _ q.0 (read_text version (number + 1) lines p.0 next p.2)
 
+-- the version of a text that is printed, by whether it needs the third
+abbrev version_of : Bool → Version
+version_of true = Three
+version_of false = Two
+
 -- ---- lines one after another
 
-one_line : (number : ℕ) (line : List ℕ) (draft next : Draft) → with_line Two number line draft ≡ Ok next → with_lines Two number (line ∷ []) draft ≡ Ok next
+one_line : (b : Bool) (number : ℕ) (line : List ℕ) (draft next : Draft) → with_line (version_of b) number line draft ≡ Ok next → with_lines (version_of b) number (line ∷ []) draft ≡ Ok next
 unfolding with_lines
-one_line number line draft next h = rw h refl
+one_line b number line draft next h = rw h refl
 
-both : (number : ℕ) (a b : List (List ℕ)) (draft next last : Draft) → with_lines Two number a draft ≡ Ok next → with_lines Two (number + length a) b next ≡ Ok last → with_lines Two number (a ++ b) draft ≡ Ok last
+both : (b : Bool) (number : ℕ) (a c : List (List ℕ)) (draft next last : Draft) → with_lines (version_of b) number a draft ≡ Ok next → with_lines (version_of b) (number + length a) c next ≡ Ok last → with_lines (version_of b) number (a ++ c) draft ≡ Ok last
 unfolding with_lines
-both number [] b draft next last h k =
+both b number [] c draft next last h k =
     let same : draft ≡ next = cc in
     let none : number + 0 ≡ number = omega arith in
     rw same (rw none at k)
-both number (line ∷ a) b draft next last h k =
-    let p = bind_ok (at_line number (with_line Two number line draft)) _ next h in
+both b number (line ∷ a) c draft next last h k =
+    let p = bind_ok (at_line number (with_line (version_of b) number line draft)) _ next h in
     let more : number + suc (length a) ≡ number + 1 + length a = omega arith in
-    rw p.1 (both (number + 1) a b p.0 next last p.2 (rw more at k))
+    rw p.1 (both b (number + 1) a c p.0 next last p.2 (rw more at k))
 
 -- ---- names
 
@@ -105,15 +117,15 @@ named_is name h = rw h refl
 
 -- ---- the line that begins a subject
 
-group_line : (number : ℕ) (rest : List ℕ) (draft : Draft) → is_text rest ≡ true
-    → with_line Two number (codes "group " ++ rest) draft ≡ (heading rest (split_at_first 32 rest) >>= λ ids. with_subject number Group ids.0 ids.1 draft)
+group_line : (b : Bool) (number : ℕ) (rest : List ℕ) (draft : Draft) → is_text rest ≡ true
+    → with_line (version_of b) number (codes "group " ++ rest) draft ≡ (heading rest (split_at_first 32 rest) >>= λ ids. with_subject number Group ids.0 ids.1 draft)
 unfolding with_line with_trimmed with_words
-group_line number rest draft h = rw h refl
+group_line b number rest draft h = rw h refl
 
-user_line : (number : ℕ) (rest : List ℕ) (draft : Draft) → is_text rest ≡ true
-    → with_line Two number (codes "user " ++ rest) draft ≡ (heading rest (split_at_first 32 rest) >>= λ ids. with_subject number User ids.0 ids.1 draft)
+user_line : (b : Bool) (number : ℕ) (rest : List ℕ) (draft : Draft) → is_text rest ≡ true
+    → with_line (version_of b) number (codes "user " ++ rest) draft ≡ (heading rest (split_at_first 32 rest) >>= λ ids. with_subject number User ids.0 ids.1 draft)
 unfolding with_line with_trimmed with_words
-user_line number rest draft h = rw h refl
+user_line b number rest draft h = rw h refl
 
 abbrev pub after_name : Option (List ℕ) → List ℕ
 after_name parent = option_map_or (λ parent. codes " in " ++ parent) parent []
@@ -137,114 +149,144 @@ subject_new number kind name parent draft none room =
     let test : nat_le max_subjects (length draft) ≡ false = grind (arith, nat_tests) in
     rw (none, test) refl
 
-begun : (number : ℕ) (kind : Kind) (name : List ℕ) (parent : Option (List ℕ)) (draft : Draft) → is_name name ≡ true → all_of is_name parent ≡ true
+begun : (b : Bool) (number : ℕ) (kind : Kind) (name : List ℕ) (parent : Option (List ℕ)) (draft : Draft) → is_name name ≡ true → all_of is_name parent ≡ true
     → is_some (find_subject (record { kind = kind; name = name }) (subjects_of draft)) ≡ false → length draft < max_subjects
-    → with_line Two number (kind_word kind ++ name ++ after_name parent) draft ≡ Ok (draft ++ (number, new_subject kind name parent) ∷ [])
-begun number Group name parent draft h k none room =
-    group_line number (name ++ after_name parent) draft (heading_text name parent h k) ∙ rw (heading_is name parent h k) (subject_new number Group name parent draft none room)
-begun number User name parent draft h k none room =
-    user_line number (name ++ after_name parent) draft (heading_text name parent h k) ∙ rw (heading_is name parent h k) (subject_new number User name parent draft none room)
+    → with_line (version_of b) number (kind_word kind ++ name ++ after_name parent) draft ≡ Ok (draft ++ (number, new_subject kind name parent) ∷ [])
+begun b number Group name parent draft h k none room =
+    group_line b number (name ++ after_name parent) draft (heading_text name parent h k) ∙ rw (heading_is name parent h k) (subject_new number Group name parent draft none room)
+begun b number User name parent draft h k none room =
+    user_line b number (name ++ after_name parent) draft (heading_text name parent h k) ∙ rw (heading_is name parent h k) (subject_new number User name parent draft none room)
 
 -- ---- settings
 
-login_line : (number : ℕ) (text : List ℕ) (draft : Draft) → is_text text ≡ true → with_line Two number (codes "login " ++ text) draft ≡ with_present (with_login text) draft
+login_line : (b : Bool) (number : ℕ) (text : List ℕ) (draft : Draft) → is_text text ≡ true → with_line (version_of b) number (codes "login " ++ text) draft ≡ with_present (with_login text) draft
 unfolding with_line with_trimmed with_words
-login_line number text draft h = rw h refl
+login_line b number text draft h = rw h refl
 
-enable_line : (number : ℕ) (text : List ℕ) (draft : Draft) → is_text text ≡ true → with_line Two number (codes "enable " ++ text) draft ≡ with_present (with_enable text) draft
+enable_line : (b : Bool) (number : ℕ) (text : List ℕ) (draft : Draft) → is_text text ≡ true → with_line (version_of b) number (codes "enable " ++ text) draft ≡ with_present (with_enable text) draft
 unfolding with_line with_trimmed with_words
-enable_line number text draft h = rw h refl
+enable_line b number text draft h = rw h refl
 
-priv_line : (number : ℕ) (text : List ℕ) (draft : Draft) → is_text text ≡ true → is_field text ≡ true → with_line Two number (codes "priv " ++ text) draft ≡ with_present (with_priv text) draft
+priv_line : (b : Bool) (number : ℕ) (text : List ℕ) (draft : Draft) → is_text text ≡ true → is_field text ≡ true → with_line (version_of b) number (codes "priv " ++ text) draft ≡ with_present (with_priv text) draft
 unfolding with_line with_trimmed with_words
-priv_line number text draft h k = rw (h, k) refl
+priv_line b number text draft h k = rw (h, k) refl
 
-verdict_line : (number : ℕ) (verdict : Verdict) (text : List ℕ) (draft : Draft) → is_text text ≡ true → with_line Two number (verdict_word verdict ++ text) draft ≡ with_present (with_rule Two verdict text) draft
+verdict_line : (b : Bool) (number : ℕ) (verdict : Verdict) (text : List ℕ) (draft : Draft) → is_text text ≡ true → with_line (version_of b) number (verdict_word verdict ++ text) draft ≡ with_present (with_rule (version_of b) verdict text) draft
 unfolding with_line with_trimmed with_words
-verdict_line number Permit text draft h = rw h refl
-verdict_line number Deny text draft h = rw h refl
+verdict_line b number Permit text draft h = rw h refl
+verdict_line b number Deny text draft h = rw h refl
 
-abbrev made : Kind → List ℕ → Option (List ℕ) → Option (List ℕ) → Option (List ℕ) → Option ℕ → List Rule → Subject
+-- in a text that is printed patterns are of version 2
+pattern_modern : (b : Bool) (text : List ℕ) → pattern_in (version_of b) text ≡ pattern_of text
+pattern_modern true text = refl
+pattern_modern false text = refl
+
+login_hash_line : (b : Bool) (number : ℕ) (text : List ℕ) (draft : Draft) → b ≡ true → is_text text ≡ true → with_line (version_of b) number (codes "login-hash " ++ text) draft ≡ with_present (with_login_hash text) draft
+unfolding with_line with_trimmed with_words
+login_hash_line true number text draft third h = rw h refl
+login_hash_line false number text draft third h = absurd cc
+
+enable_hash_line : (b : Bool) (number : ℕ) (text : List ℕ) (draft : Draft) → b ≡ true → is_text text ≡ true → with_line (version_of b) number (codes "enable-hash " ++ text) draft ≡ with_present (with_enable_hash text) draft
+unfolding with_line with_trimmed with_words
+enable_hash_line true number text draft third h = rw h refl
+enable_hash_line false number text draft third h = absurd cc
+
+abbrev made : Kind → List ℕ → Option (List ℕ) → Option Secret → Option Secret → Option ℕ → List Rule → Subject
 made kind name parent login enable level rules =
     record { kind = kind; name = name; parent = parent; login = login; enable = enable; priv_lvl = level; rules = rules }
 
 secret_text : (secret : List ℕ) → is_secret secret ≡ true → is_text secret ≡ true
 secret_text secret h = and_right _ _ h
 
-module _ (number at : ℕ) (front : Draft) (name : List ℕ) (parent : Option (List ℕ)) where
+module _ (b : Bool) (number at : ℕ) (front : Draft) (name : List ℕ) (parent : Option (List ℕ)) where
   abbrev with_last : Subject → Draft
   with_last subject = front ++ (at, subject) ∷ []
 
-  logged : (kind : Kind) (login enable : Option (List ℕ)) → all_of is_secret login ≡ true → (same_kind kind User || not (is_some login || is_some enable)) ≡ true
-      → with_lines Two number (line_for (λ secret. codes "login " ++ secret) login) (with_last (made kind name parent None None None [])) ≡ Ok (with_last (made kind name parent login None None []))
+  logged : (kind : Kind) (login enable : Option Secret) → (is_hashed login ≡ true → b ≡ true) → all_of is_right_secret login ≡ true → (same_kind kind User || not (is_some login || is_some enable)) ≡ true
+      → with_lines (version_of b) number (line_for (secret_line Login) login) (with_last (made kind name parent None None None [])) ≡ Ok (with_last (made kind name parent login None None []))
   unfolding with_lines
-  logged kind None enable right user = refl
-  logged Group (Some secret) enable right user = absurd cc
-  logged User (Some secret) enable right user =
-      one_line number (codes "login " ++ secret) (with_last (made User name parent None None None [])) (with_last (made User name parent (Some secret) None None []))
-      (login_line number secret (with_last (made User name parent None None None [])) (secret_text secret right)
+  logged kind None enable fits right user = refl
+  logged Group (Some secret) enable fits right user = absurd cc
+  logged User (Some (Clear secret)) enable fits right user =
+      one_line b number (codes "login " ++ secret) (with_last (made User name parent None None None [])) (with_last (made User name parent (Some (Clear secret)) None None []))
+      (login_line b number secret (with_last (made User name parent None None None [])) (secret_text secret right)
       ∙ present_is (with_login secret) front at (made User name parent None None None []) ∙ rw right refl)
+  logged User (Some (Hashed hash)) enable fits right user =
+      one_line b number (codes "login-hash " ++ hash_text hash) (with_last (made User name parent None None None [])) (with_last (made User name parent (Some (Hashed hash)) None None []))
+      (login_hash_line b number (hash_text hash) (with_last (made User name parent None None None [])) (fits refl) (hash_is_text hash right)
+      ∙ present_is (with_login_hash (hash_text hash)) front at (made User name parent None None None []) ∙ rw (again hash right) refl)
 
-  enabled : (kind : Kind) (login enable : Option (List ℕ)) → all_of is_secret enable ≡ true → (same_kind kind User || not (is_some login || is_some enable)) ≡ true
-      → with_lines Two number (line_for (λ secret. codes "enable " ++ secret) enable) (with_last (made kind name parent login None None [])) ≡ Ok (with_last (made kind name parent login enable None []))
+  enabled : (kind : Kind) (login enable : Option Secret) → (is_hashed enable ≡ true → b ≡ true) → all_of is_right_secret enable ≡ true → (same_kind kind User || not (is_some login || is_some enable)) ≡ true
+      → with_lines (version_of b) number (line_for (secret_line Enable) enable) (with_last (made kind name parent login None None [])) ≡ Ok (with_last (made kind name parent login enable None []))
   unfolding with_lines
-  enabled kind login None right user = refl
-  enabled Group None (Some secret) right user = absurd cc
-  enabled Group (Some login) (Some secret) right user = absurd cc
-  enabled User login (Some secret) right user =
-      one_line number (codes "enable " ++ secret) (with_last (made User name parent login None None [])) (with_last (made User name parent login (Some secret) None []))
-      (enable_line number secret (with_last (made User name parent login None None [])) (secret_text secret right)
+  enabled kind login None fits right user = refl
+  enabled Group None (Some secret) fits right user = absurd cc
+  enabled Group (Some login) (Some secret) fits right user = absurd cc
+  enabled User login (Some (Clear secret)) fits right user =
+      one_line b number (codes "enable " ++ secret) (with_last (made User name parent login None None [])) (with_last (made User name parent login (Some (Clear secret)) None []))
+      (enable_line b number secret (with_last (made User name parent login None None [])) (secret_text secret right)
       ∙ present_is (with_enable secret) front at (made User name parent login None None []) ∙ rw right refl)
+  enabled User login (Some (Hashed hash)) fits right user =
+      one_line b number (codes "enable-hash " ++ hash_text hash) (with_last (made User name parent login None None [])) (with_last (made User name parent login (Some (Hashed hash)) None []))
+      (enable_hash_line b number (hash_text hash) (with_last (made User name parent login None None [])) (fits refl) (hash_is_text hash right)
+      ∙ present_is (with_enable_hash (hash_text hash)) front at (made User name parent login None None []) ∙ rw (again hash right) refl)
 
-  levelled : (kind : Kind) (login enable : Option (List ℕ)) (level : Option ℕ) → all_of (λ level. nat_le level 15) level ≡ true
-      → with_lines Two number (line_for (λ level. codes "priv " ++ decimal level) level) (with_last (made kind name parent login enable None [])) ≡ Ok (with_last (made kind name parent login enable level []))
+  levelled : (kind : Kind) (login enable : Option Secret) (level : Option ℕ) → all_of (λ level. nat_le level 15) level ≡ true
+      → with_lines (version_of b) number (line_for (λ level. codes "priv " ++ decimal level) level) (with_last (made kind name parent login enable None [])) ≡ Ok (with_last (made kind name parent login enable level []))
   unfolding with_lines
   levelled kind login enable None right = refl
   levelled kind login enable (Some level) right =
       let r = level_read level right in
-      one_line number (codes "priv " ++ decimal level) (with_last (made kind name parent login enable None [])) (with_last (made kind name parent login enable (Some level) []))
-      (priv_line number (decimal level) (with_last (made kind name parent login enable None [])) r.text r.field
+      one_line b number (codes "priv " ++ decimal level) (with_last (made kind name parent login enable None [])) (with_last (made kind name parent login enable (Some level) []))
+      (priv_line b number (decimal level) (with_last (made kind name parent login enable None [])) r.text r.field
       ∙ present_is (with_priv (decimal level)) front at (made kind name parent login enable None []) ∙ rw r.read refl)
 
-  ruled : (kind : Kind) (login enable : Option (List ℕ)) (level : Option ℕ) (verdict : Verdict) (pattern : List ℕ) (done : List Rule) → is_ok (pattern_of pattern) ≡ true → length done < max_rules
-      → with_line Two number (verdict_word verdict ++ pattern) (with_last (made kind name parent login enable level done))
+  ruled : (kind : Kind) (login enable : Option Secret) (level : Option ℕ) (verdict : Verdict) (pattern : List ℕ) (done : List Rule) → is_ok (pattern_of pattern) ≡ true → length done < max_rules
+      → with_line (version_of b) number (verdict_word verdict ++ pattern) (with_last (made kind name parent login enable level done))
       ≡ Ok (with_last (made kind name parent login enable level (done ++ record { verdict = verdict; pattern = pattern } ∷ [])))
   ruled kind login enable level verdict pattern done right room =
       let test : nat_le max_rules (length done) ≡ false = grind (arith, nat_tests) in
-      verdict_line number verdict pattern (with_last (made kind name parent login enable level done)) (pattern_text pattern right)
-      ∙ present_is (with_rule Two verdict pattern) front at (made kind name parent login enable level done)
-      ∙ rw (rule_read Two verdict pattern pattern (made kind name parent login enable level done) (pattern_same pattern right), test) refl
+      verdict_line b number verdict pattern (with_last (made kind name parent login enable level done)) (pattern_text pattern right)
+      ∙ present_is (with_rule (version_of b) verdict pattern) front at (made kind name parent login enable level done)
+      ∙ rw (rule_read (version_of b) verdict pattern pattern (made kind name parent login enable level done) (pattern_modern b pattern ∙ pattern_same pattern right), test) refl
 
-all_ruled : (number at : ℕ) (front : Draft) (name : List ℕ) (parent : Option (List ℕ)) (kind : Kind) (login enable : Option (List ℕ)) (level : Option ℕ) (done rules : List Rule)
+all_ruled : (b : Bool) (number at : ℕ) (front : Draft) (name : List ℕ) (parent : Option (List ℕ)) (kind : Kind) (login enable : Option Secret) (level : Option ℕ) (done rules : List Rule)
     → list_all is_right_rule rules ≡ true → length done + length rules ≤ max_rules
-    → with_lines Two number (map rule_line rules) (front ++ (at, made kind name parent login enable level done) ∷ []) ≡ Ok (front ++ (at, made kind name parent login enable level (done ++ rules)) ∷ [])
+    → with_lines (version_of b) number (map rule_line rules) (front ++ (at, made kind name parent login enable level done) ∷ []) ≡ Ok (front ++ (at, made kind name parent login enable level (done ++ rules)) ∷ [])
 unfolding with_lines
-all_ruled number at front name parent kind login enable level done [] right room =
+all_ruled b number at front name parent kind login enable level done [] right room =
     let whole : done ++ [] ≡ done = rules-nil done in rw whole refl
   where
     rules-nil : (rules : List Rule) → rules ++ [] ≡ rules
     rules-nil [] = refl
     rules-nil (rule ∷ rules) = ap (λ (rest : List Rule). rule ∷ rest) (rules-nil rules)
-all_ruled number at front name parent kind login enable level done (rule ∷ rules) right room =
+all_ruled b number at front name parent kind login enable level done (rule ∷ rules) right room =
     let lengths = length-append done (rule ∷ []) in
     let few : length done < max_rules = omega arith in
-    let step = ruled number at front name parent kind login enable level rule.verdict rule.pattern done (and_left (is_right_rule rule) _ right) few in
+    let step = ruled b number at front name parent kind login enable level rule.verdict rule.pattern done (and_left (is_right_rule rule) _ right) few in
     let moved : (done ++ rule ∷ []) ++ rules ≡ done ++ rule ∷ rules = append_assoc done (rule ∷ []) rules in
-    rw step (all_ruled (number + 1) at front name parent kind login enable level (done ++ rule ∷ []) rules (and_right (is_right_rule rule) _ right) (omega arith)
+    rw step (all_ruled b (number + 1) at front name parent kind login enable level (done ++ rule ∷ []) rules (and_right (is_right_rule rule) _ right) (omega arith)
     ∙ ap (λ (rules : List Rule). Ok (front ++ (at, made kind name parent login enable level rules) ∷ [])) moved)
 
 -- ---- a subject
 
-subject_read : (number : ℕ) (draft : Draft) (subject : Subject) → is_right_subject subject ≡ true → is_some (find_subject (id_of subject) (subjects_of draft)) ≡ false → length draft < max_subjects
-    → with_lines Two number (subject_lines subject) draft ≡ Ok (draft ++ (number, subject) ∷ [])
-subject_read number draft subject right none room =
+or_left : (a c : Bool) → a ≡ true → (a || c) ≡ true
+or_left a c h = rw h refl
+
+or_right : (a c : Bool) → c ≡ true → (a || c) ≡ true
+or_right true c h = refl
+or_right false c h = h
+
+subject_read : (b : Bool) (number : ℕ) (draft : Draft) (subject : Subject) → (needs_third subject ≡ true → b ≡ true) → is_right_subject subject ≡ true → is_some (find_subject (id_of subject) (subjects_of draft)) ≡ false → length draft < max_subjects
+    → with_lines (version_of b) number (subject_lines subject) draft ≡ Ok (draft ++ (number, subject) ∷ [])
+subject_read b number draft subject fits right none room =
     let r = right_parts subject right in
     let kind = subject.kind in
     let name = subject.name in
     let parent = subject.parent in
     let heading = heading_line subject in
-    let login = line_for (λ (secret : List ℕ). codes "login " ++ secret) subject.login in
-    let enable = line_for (λ (secret : List ℕ). codes "enable " ++ secret) subject.enable in
+    let login = line_for (secret_line Login) subject.login in
+    let enable = line_for (secret_line Enable) subject.enable in
     let level = line_for (λ (level : ℕ). codes "priv " ++ decimal level) subject.priv_lvl in
     let rules = map rule_line subject.rules in
     let d0 = draft ++ (number, made kind name parent None None None []) ∷ [] in
@@ -252,12 +294,12 @@ subject_read number draft subject right none room =
     let d2 = draft ++ (number, made kind name parent subject.login subject.enable None []) ∷ [] in
     let d3 = draft ++ (number, made kind name parent subject.login subject.enable subject.priv_lvl []) ∷ [] in
     let few : 0 + length subject.rules ≤ max_rules = let test = r.few in grind (arith, nat_tests) in
-    let h0 = one_line number heading draft d0 (begun number kind name parent draft r.name r.parent none room) in
-    let h1 = both number (heading ∷ []) login draft d0 d1 h0 (logged (number + 1) number draft name parent kind subject.login subject.enable r.login r.secrets) in
-    let h2 = both number (heading ∷ login) enable draft d1 d2 h1 (enabled (number + length (heading ∷ login)) number draft name parent kind subject.login subject.enable r.enable r.secrets) in
-    let h3 = both number (heading ∷ (login ++ enable)) level draft d2 d3 h2 (levelled (number + length (heading ∷ (login ++ enable))) number draft name parent kind subject.login subject.enable subject.priv_lvl r.level) in
-    both number (heading ∷ (login ++ enable ++ level)) rules draft d3 (draft ++ (number, subject) ∷ []) h3
-    (all_ruled (number + length (heading ∷ (login ++ enable ++ level))) number draft name parent kind subject.login subject.enable subject.priv_lvl [] subject.rules r.rules few)
+    let h0 = one_line b number heading draft d0 (begun b number kind name parent draft r.name r.parent none room) in
+    let h1 = both b number (heading ∷ []) login draft d0 d1 h0 (logged b (number + 1) number draft name parent kind subject.login subject.enable (λ e. fits (or_left _ _ e)) r.login r.secrets) in
+    let h2 = both b number (heading ∷ login) enable draft d1 d2 h1 (enabled b (number + length (heading ∷ login)) number draft name parent kind subject.login subject.enable (λ e. fits (or_right _ _ e)) r.enable r.secrets) in
+    let h3 = both b number (heading ∷ (login ++ enable)) level draft d2 d3 h2 (levelled b (number + length (heading ∷ (login ++ enable))) number draft name parent kind subject.login subject.enable subject.priv_lvl r.level) in
+    both b number (heading ∷ (login ++ enable ++ level)) rules draft d3 (draft ++ (number, subject) ∷ []) h3
+    (all_ruled b (number + length (heading ∷ (login ++ enable ++ level))) number draft name parent kind subject.login subject.enable subject.priv_lvl [] subject.rules r.rules few)
 
 -- ---- a policy
 
@@ -284,26 +326,26 @@ apart (x ∷ before) after id h =
     not_is true k = sym k
     not_is false k = refl
 
-policy_read : (number : ℕ) (draft : Draft) (policy : List Subject) → list_all is_right_subject policy ≡ true → all_distinct (map id_of (subjects_of draft ++ policy)) ≡ true
-    → length draft + length policy ≤ max_subjects → with_lines Two number (policy_lines policy) draft ≡ Ok (draft ++ numbered number policy)
+policy_read : (b : Bool) (number : ℕ) (draft : Draft) (policy : List Subject) → (list_any needs_third policy ≡ true → b ≡ true) → list_all is_right_subject policy ≡ true → all_distinct (map id_of (subjects_of draft ++ policy)) ≡ true
+    → length draft + length policy ≤ max_subjects → with_lines (version_of b) number (policy_lines policy) draft ≡ Ok (draft ++ numbered number policy)
 unfolding with_lines numbered
-policy_read number draft [] right distinct few = let whole : draft ++ [] ≡ draft = draft-nil draft in rw whole refl
+policy_read b number draft [] fits right distinct few = let whole : draft ++ [] ≡ draft = draft-nil draft in rw whole refl
   where
     draft-nil : (draft : Draft) → draft ++ [] ≡ draft
     draft-nil [] = refl
     draft-nil (entry ∷ rest) = ap (λ (more : Draft). entry ∷ more) (draft-nil rest)
-policy_read number draft (subject ∷ rest) right distinct few =
+policy_read b number draft (subject ∷ rest) fits right distinct few =
     let next = draft ++ (number, subject) ∷ [] in
     let after = number + length (subject_lines subject) in
     let split = map-append id_of (subjects_of draft) (subject ∷ rest) in
     let none = sym (any_is (id_of subject) (subjects_of draft)) ∙ apart (map id_of (subjects_of draft)) (map id_of rest) (id_of subject) (sym (ap all_distinct split) ∙ distinct) in
     let room : length draft < max_subjects = omega arith in
-    let one = subject_read number draft subject (and_left (is_right_subject subject) _ right) none room in
+    let one = subject_read b number draft subject (λ e. fits (or_left _ _ e)) (and_left (is_right_subject subject) _ right) none room in
     let same : subjects_of next ++ rest ≡ subjects_of draft ++ subject ∷ rest = ap (λ (s : List Subject). s ++ rest) (subjects-push draft number subject) ∙ append_assoc (subjects_of draft) (subject ∷ []) rest in
     let still : all_distinct (map id_of (subjects_of next ++ rest)) ≡ true = ap (λ (s : List Subject). all_distinct (map id_of s)) same ∙ distinct in
     let sizes = length-append draft ((number, subject) ∷ []) in
-    both number (subject_lines subject) (policy_lines rest) draft next (draft ++ (number, subject) ∷ numbered after rest) one
-    (policy_read after next rest (and_right (is_right_subject subject) _ right) still (omega arith)
+    both b number (subject_lines subject) (policy_lines rest) draft next (draft ++ (number, subject) ∷ numbered after rest) one
+    (policy_read b after next rest (λ e. fits (or_right _ _ e)) (and_right (is_right_subject subject) _ right) still (omega arith)
     ∙ ap (λ (d : Draft). Ok d) (append_assoc draft ((number, subject) ∷ []) (numbered after rest)))
 
 -- ---- chains
@@ -334,8 +376,16 @@ chains_read draft policy is has within =
 -- what a well-formed policy's text says is the policy
 pub read_again : (policy : List Subject) → WellFormed policy → policy_of (text_of policy) ≡ Ok policy
 unfolding policy_of text_of
-read_again policy well =
-    let few = well.few in
-    let read = policy_read 2 [] policy well.right well.distinct (omega arith) in
-    let lines = lines_of-text (policy_lines policy) (read_text Two 2 (policy_lines policy) [] (numbered 2 policy) read) in
-    rw (lines, read) (chains_read (numbered 2 policy) policy (subjects-numbered 2 policy) well.parents well.short)
+read_again policy well = by (list_any needs_third policy) refl
+  where
+    by : (b : Bool) → list_any needs_third policy ≡ b → policy_of (text_of_lines ((if b then third_line else version_line) ∷ policy_lines policy)) ≡ Ok policy
+    by true e =
+        let few = well.few in
+        let read = policy_read true 2 [] policy (λ h. refl) well.right well.distinct (omega arith) in
+        let lines = lines_of-text (policy_lines policy) (read_text Three 2 (policy_lines policy) [] (numbered 2 policy) read) in
+        rw (lines, read) (chains_read (numbered 2 policy) policy (subjects-numbered 2 policy) well.parents well.short)
+    by false e =
+        let few = well.few in
+        let read = policy_read false 2 [] policy (λ h. sym e ∙ h) well.right well.distinct (omega arith) in
+        let lines = lines_of-text (policy_lines policy) (read_text Two 2 (policy_lines policy) [] (numbered 2 policy) read) in
+        rw (lines, read) (chains_read (numbered 2 policy) policy (subjects-numbered 2 policy) well.parents well.short)

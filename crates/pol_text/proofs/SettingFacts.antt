@@ -8,8 +8,8 @@ use Rattle.std.proofs.lemmas.List.Folds.{list_all-append}
 use Rattle.basics.specs.Number.{number_of}
 use Rattle.pol_pattern.specs.Upgrading.{upgraded}
 use Rattle.pol_pattern.specs.Reading.{reading_by, reading, pattern_of, pattern_of_old}
-use Rattle.pol_pattern.specs.declared.version.Version.{Version}
-use Rattle.pol_pattern.specs.declared.version.Version.TheVariants.{One, Two}
+use Rattle.pol_text.specs.declared.version.TextVersion.{TextVersion as Version}
+use Rattle.pol_text.specs.declared.version.TextVersion.TheVariants.{One, Two, Three}
 use Rattle.pol_pattern.specs.Flat.{Terms}
 use Rattle.pol_pattern.specs.declared.fault.PatternFault.{PatternFault}
 use Rattle.pol_names.specs.declared.secret.Credential.TheVariants.{Login, Enable}
@@ -23,11 +23,18 @@ use Rattle.pol_text.specs.Draft.{LineMakes}
 use Rattle.pol_text.specs.declared.setting.Setting.{Setting}
 use Rattle.pol_text.specs.declared.setting.Setting.TheVariants as settings
 use Rattle.pol_names.specs.Name.{is_name}
+use Rattle.std.specs.Option.{option_map}
+use Rattle.pol_pattern.specs.declared.version.Version.TheVariants as grammar
+use Rattle.pol_names.specs.declared.secret.Secret.{Secret}
+use Rattle.pol_names.specs.declared.secret.Secret.TheVariants.{Clear, Hashed}
 use Rattle.pol_names.specs.Secret.{is_secret, secret_of}
+use Rattle.sha_crypt.specs.HashText.{HashParts, hash_of}
+use Rattle.sha_crypt.proofs.TextFacts.{found}
+use Rattle.pol_names.specs.Kept.{is_right_secret}
 use Rattle.pol_names.specs.SubjectId.{same_kind}
 use Rattle.pol_text.specs.Policy.{id_of, all_of, is_right_rule, has_right_secrets, is_right_subject, max_rules}
 use Rattle.pol_text.specs.Setting.{changed_by}
-use Rattle.pol_text.specs.Text.{set_once, with_login, with_enable, with_priv, with_rule, level_of, pattern_in}
+use Rattle.pol_text.specs.Text.{set_once, with_login, with_enable, with_login_hash, with_enable_hash, with_priv, with_rule, level_of, pattern_in}
 
 -- ---- tests
 
@@ -46,8 +53,8 @@ and_both a b h k = rw (h, k) refl
 pub record Right (subject : Subject) : Type 0 where
   pub name : is_name subject.name ≡ true
   pub parent : all_of is_name subject.parent ≡ true
-  pub login : all_of is_secret subject.login ≡ true
-  pub enable : all_of is_secret subject.enable ≡ true
+  pub login : all_of is_right_secret subject.login ≡ true
+  pub enable : all_of is_right_secret subject.enable ≡ true
   pub secrets : has_right_secrets subject ≡ true
   pub level : all_of (λ level. nat_le level 15) subject.priv_lvl ≡ true
   pub few : nat_le (length subject.rules) max_rules ≡ true
@@ -91,6 +98,14 @@ secret_right text secret h = by (is_secret text) refl h
     by true e k = let same : text ≡ secret = cc in rw (← same) e
     by false e k = absurd cc
 
+clear_right : (text : List ℕ) (secret : Secret) (read : Option (List ℕ)) → secret_of text ≡ read → option_map Clear read ≡ Some secret → is_right_secret secret ≡ true
+clear_right text secret None e h = absurd cc
+clear_right text secret (Some kept) e h = let same : Clear kept ≡ secret = cc in rw (← same) (secret_right text kept e)
+
+hashed_right : (text : List ℕ) (secret : Secret) (read : Option HashParts) → hash_of text ≡ read → option_map Hashed read ≡ Some secret → is_right_secret secret ≡ true
+hashed_right text secret None e h = absurd cc
+hashed_right text secret (Some hash) e h = let same : Hashed hash ≡ secret = cc in rw (← same) (found text (Some hash) (sym e)).0
+
 level_right : (text : List ℕ) (level : ℕ) → level_of text ≡ Some level → nat_le level 15 ≡ true
 level_right text level h = by (number_of 4 text) h
   where
@@ -117,15 +132,16 @@ new_right text pattern h = by (reading text) refl h
 -- of an old one too, as its new source is read
 old_right : (text pattern : List ℕ) → pattern_of_old text ≡ Ok pattern → is_ok (pattern_of pattern) ≡ true
 unfolding pattern_of_old
-old_right text pattern h = by (reading_by One text) refl h
+old_right text pattern h = by (reading_by grammar.One text) refl h
   where
-    by : (r : Result Terms PatternFault) → reading_by One text ≡ r → pattern_of_old text ≡ Ok pattern → is_ok (pattern_of pattern) ≡ true
+    by : (r : Result Terms PatternFault) → reading_by grammar.One text ≡ r → pattern_of_old text ≡ Ok pattern → is_ok (pattern_of pattern) ≡ true
     by (Ok flat) e k = new_right (upgraded text) pattern (rw e at k)
     by (Err fault) e k = let none = rw e at k in absurd cc
 
 pub pattern_right : (version : Version) (text pattern : List ℕ) → pattern_in version text ≡ Ok pattern → is_ok (pattern_of pattern) ≡ true
 pattern_right One text pattern h = old_right text pattern h
 pattern_right Two text pattern h = new_right text pattern h
+pattern_right Three text pattern h = new_right text pattern h
 
 -- ---- what a change keeps
 
@@ -141,17 +157,17 @@ pub login_kept : (text : List ℕ) (subject next : Subject) → with_login text 
 login_kept text subject next h = by subject.kind refl h
   where
     by : (k : Kind) → subject.kind ≡ k
-        → cond (same_kind k Group) (Err BadLine) (set_once subject.login (secret_of text) (λ secret. record subject { login = Some secret })) ≡ Ok next
+        → cond (same_kind k Group) (Err BadLine) (set_once subject.login (option_map Clear (secret_of text)) (λ secret. record subject { login = Some secret })) ≡ Ok next
         → Kept subject next
     by Group e k = absurd cc
     by User e k =
-        let m = set_made subject.login (secret_of text) (λ secret. record subject { login = Some secret }) next k in
+        let m = set_made subject.login (option_map Clear (secret_of text)) (λ secret. record subject { login = Some secret }) next k in
         record {
           same = ap id_of m.2;
           right = λ (r : Right subject). let made : Right (record subject { login = Some m.0 }) = record {
             name = r.name;
             parent = r.parent;
-            login = secret_right text m.0 m.1;
+            login = clear_right text m.0 (secret_of text) refl m.1;
             enable = r.enable;
             secrets = user_secrets (record subject { login = Some m.0 }) e;
             level = r.level;
@@ -164,18 +180,64 @@ pub enable_kept : (text : List ℕ) (subject next : Subject) → with_enable tex
 enable_kept text subject next h = by subject.kind refl h
   where
     by : (k : Kind) → subject.kind ≡ k
-        → cond (same_kind k Group) (Err BadLine) (set_once subject.enable (secret_of text) (λ secret. record subject { enable = Some secret })) ≡ Ok next
+        → cond (same_kind k Group) (Err BadLine) (set_once subject.enable (option_map Clear (secret_of text)) (λ secret. record subject { enable = Some secret })) ≡ Ok next
         → Kept subject next
     by Group e k = absurd cc
     by User e k =
-        let m = set_made subject.enable (secret_of text) (λ secret. record subject { enable = Some secret }) next k in
+        let m = set_made subject.enable (option_map Clear (secret_of text)) (λ secret. record subject { enable = Some secret }) next k in
         record {
           same = ap id_of m.2;
           right = λ (r : Right subject). let made : Right (record subject { enable = Some m.0 }) = record {
             name = r.name;
             parent = r.parent;
             login = r.login;
-            enable = secret_right text m.0 m.1;
+            enable = clear_right text m.0 (secret_of text) refl m.1;
+            secrets = user_secrets (record subject { enable = Some m.0 }) e;
+            level = r.level;
+            few = r.few;
+            rules = r.rules;
+          } in rw m.2 made;
+        }
+
+pub login_hash_kept : (text : List ℕ) (subject next : Subject) → with_login_hash text subject ≡ Ok next → Kept subject next
+login_hash_kept text subject next h = by subject.kind refl h
+  where
+    by : (k : Kind) → subject.kind ≡ k
+        → cond (same_kind k Group) (Err BadLine) (set_once subject.login (option_map Hashed (hash_of text)) (λ secret. record subject { login = Some secret })) ≡ Ok next
+        → Kept subject next
+    by Group e k = absurd cc
+    by User e k =
+        let m = set_made subject.login (option_map Hashed (hash_of text)) (λ secret. record subject { login = Some secret }) next k in
+        record {
+          same = ap id_of m.2;
+          right = λ (r : Right subject). let made : Right (record subject { login = Some m.0 }) = record {
+            name = r.name;
+            parent = r.parent;
+            login = hashed_right text m.0 (hash_of text) refl m.1;
+            enable = r.enable;
+            secrets = user_secrets (record subject { login = Some m.0 }) e;
+            level = r.level;
+            few = r.few;
+            rules = r.rules;
+          } in rw m.2 made;
+        }
+
+pub enable_hash_kept : (text : List ℕ) (subject next : Subject) → with_enable_hash text subject ≡ Ok next → Kept subject next
+enable_hash_kept text subject next h = by subject.kind refl h
+  where
+    by : (k : Kind) → subject.kind ≡ k
+        → cond (same_kind k Group) (Err BadLine) (set_once subject.enable (option_map Hashed (hash_of text)) (λ secret. record subject { enable = Some secret })) ≡ Ok next
+        → Kept subject next
+    by Group e k = absurd cc
+    by User e k =
+        let m = set_made subject.enable (option_map Hashed (hash_of text)) (λ secret. record subject { enable = Some secret }) next k in
+        record {
+          same = ap id_of m.2;
+          right = λ (r : Right subject). let made : Right (record subject { enable = Some m.0 }) = record {
+            name = r.name;
+            parent = r.parent;
+            login = r.login;
+            enable = hashed_right text m.0 (hash_of text) refl m.1;
             secrets = user_secrets (record subject { enable = Some m.0 }) e;
             level = r.level;
             few = r.few;
@@ -240,6 +302,8 @@ rule_kept version verdict text subject next h = by (pattern_in version text) ref
 pub change_kept : (setting : Setting) (subject next : Subject) → changed_by setting subject ≡ Ok next → Kept subject next
 change_kept (settings.Secret Login text) subject next h = login_kept text.now subject next h
 change_kept (settings.Secret Enable text) subject next h = enable_kept text.now subject next h
+change_kept (settings.Hash Login text) subject next h = login_hash_kept text.now subject next h
+change_kept (settings.Hash Enable text) subject next h = enable_hash_kept text.now subject next h
 change_kept (settings.Priv text) subject next h = priv_kept text.now subject next h
 change_kept (settings.Rule version verdict text) subject next h = rule_kept version verdict text.now subject next h
 

@@ -8,10 +8,15 @@ use Rattle.std.proofs.lemmas.List.{length-map}
 use Rattle.std.proofs.lemmas.Slice.Eq.{bytes_eq-Decides}
 use Rattle.basics.specs.Symbol.{is_text}
 use Rattle.basics.specs.Lines.{split_at_first, lines_of, without_leading_spaces}
-use Rattle.pol_pattern.specs.declared.version.Version.{Version}
+use Rattle.pol_text.specs.declared.version.TextVersion.{TextVersion as Version}
 use Rattle.pol_pattern.specs.declared.fault.PatternFault.{PatternFault}
 use Rattle.pol_names.specs.Name.{is_name, name_of}
+use Rattle.std.specs.Option.{option_map}
 use Rattle.pol_names.specs.Secret.{is_secret, secret_of}
+use Rattle.sha_crypt.specs.HashText.{HashParts, is_hash, hash_text, hash_of}
+use Rattle.sha_crypt.proofs.TextFacts.{found}
+use Rattle.pol_names.specs.declared.secret.Secret.{Secret}
+use Rattle.pol_names.specs.declared.secret.Secret.TheVariants.{Clear, Hashed}
 use Rattle.pol_names.specs.SubjectId.{same_kind, kind_word}
 use Rattle.pol_names.specs.Decision.{verdict_word}
 use Rattle.pol_names.specs.declared.subject_id.Kind.{Kind}
@@ -22,9 +27,10 @@ use Rattle.pol_text.specs.declared.subject.Subject.{Subject}
 use Rattle.pol_text.specs.declared.fault.PolicyRefusal.{PolicyRefusal}
 use Rattle.pol_text.specs.declared.fault.PolicyRefusal.TheVariants.{BadLine, BadName, Repeated, Limit, NoSubject}
 use Rattle.pol_text.specs.Policy.{find_subject, max_rules, max_subjects}
-use Rattle.pol_text.specs.Text.{◌>>=◌, Draft, subjects_of, named, is_field, with_parent, heading, new_subject, with_subject, split_last, with_present, set_once, with_login, with_enable, level_of, with_priv, with_rule, with_words, is_blank, with_trimmed, with_line, at_line, with_lines, with_right_chains, policy_of, pattern_in, body_of, with_body}
-use Rattle.pol_text.specs.Spelling.{Sets, login, enable, level, rule, Adds, begins, sets, Extends, meaningful, Spells}
-use Rattle.pol_text.proofs.SettingFacts.{and_left, rule_read, rule_refused}
+use Rattle.pol_text.specs.Text.{◌>>=◌, Draft, subjects_of, named, is_field, with_parent, heading, new_subject, with_subject, split_last, with_present, set_once, with_login, with_enable, with_login_hash, with_enable_hash, level_of, with_priv, with_rule, with_words, is_blank, with_trimmed, with_line, at_line, with_lines, with_right_chains, policy_of, pattern_in, body_of, with_body}
+use Rattle.pol_text.specs.Versions.{has_hashes}
+use Rattle.pol_text.specs.Spelling.{Sets, login, enable, login_hash, enable_hash, level, rule, Adds, begins, sets, Extends, meaningful, Spells}
+use Rattle.pol_text.proofs.SettingFacts.{and_left, and_right, rule_read, rule_refused}
 use Rattle.pol_text.proofs.RightFacts.{bind_ok, some_of, first_ok, second_ok, placed_ok, heading_right, split_back, subjects-push, chains_same, read_well_formed}
 use Rattle.pol_text.proofs.RoundFacts.{after_name, read_text}
 
@@ -122,25 +128,59 @@ secret_same text secret h = by (is_secret text) refl h
     by true e k = (e, cc)
     by false e k = absurd cc
 
+clear_same : (text : List ℕ) (secret : Secret) → option_map Clear (secret_of text) ≡ Some secret → (is_secret text ≡ true) × (secret ≡ Clear text)
+clear_same text secret h = by (is_secret text) refl h
+  where
+    by : (b : Bool) → is_secret text ≡ b → option_map Clear (cond b (Some text) None) ≡ Some secret → (is_secret text ≡ true) × (secret ≡ Clear text)
+    by true e k = (e, cc)
+    by false e k = absurd cc
+
+hashed_same : (text : List ℕ) (secret : Secret) → option_map Hashed (hash_of text) ≡ Some secret → (hash : HashParts) × (is_hash hash ≡ true) × (text ≡ hash_text hash) × (secret ≡ Hashed hash)
+hashed_same text secret h = by (hash_of text) refl h
+  where
+    by : (read : Option HashParts) → hash_of text ≡ read → option_map Hashed read ≡ Some secret → (hash : HashParts) × (is_hash hash ≡ true) × (text ≡ hash_text hash) × (secret ≡ Hashed hash)
+    by None e k = absurd cc
+    by (Some hash) e k = let is = found text (Some hash) (sym e) in (hash, is.0, is.1, cc)
+
 login_sets : (version : Version) (line text : List ℕ) (old new : Subject) → line ≡ codes "login " ++ text → with_login text old ≡ Ok new → Sets version old line new
 login_sets version line text old new spelled h = by old.kind refl h
   where
-    by : (k : Kind) → old.kind ≡ k → cond (same_kind k Group) (Err BadLine) (set_once old.login (secret_of text) (λ secret. record old { login = Some secret })) ≡ Ok new → Sets version old line new
+    by : (k : Kind) → old.kind ≡ k → cond (same_kind k Group) (Err BadLine) (set_once old.login (option_map Clear (secret_of text)) (λ secret. record old { login = Some secret })) ≡ Ok new → Sets version old line new
     by Group e k = absurd cc
     by User e k =
-        let m = once old.login (secret_of text) (λ secret. record old { login = Some secret }) new k in
-        let s = secret_same text m.1.0 m.1.1 in
-        login text s.0 spelled e m.0 (m.1.2 ∙ ap (λ (secret : List ℕ). record old { login = Some secret }) s.1)
+        let m = once old.login (option_map Clear (secret_of text)) (λ secret. record old { login = Some secret }) new k in
+        let s = clear_same text m.1.0 m.1.1 in
+        login text s.0 spelled e m.0 (m.1.2 ∙ ap (λ (secret : Secret). record old { login = Some secret }) s.1)
 
 enable_sets : (version : Version) (line text : List ℕ) (old new : Subject) → line ≡ codes "enable " ++ text → with_enable text old ≡ Ok new → Sets version old line new
 enable_sets version line text old new spelled h = by old.kind refl h
   where
-    by : (k : Kind) → old.kind ≡ k → cond (same_kind k Group) (Err BadLine) (set_once old.enable (secret_of text) (λ secret. record old { enable = Some secret })) ≡ Ok new → Sets version old line new
+    by : (k : Kind) → old.kind ≡ k → cond (same_kind k Group) (Err BadLine) (set_once old.enable (option_map Clear (secret_of text)) (λ secret. record old { enable = Some secret })) ≡ Ok new → Sets version old line new
     by Group e k = absurd cc
     by User e k =
-        let m = once old.enable (secret_of text) (λ secret. record old { enable = Some secret }) new k in
-        let s = secret_same text m.1.0 m.1.1 in
-        enable text s.0 spelled e m.0 (m.1.2 ∙ ap (λ (secret : List ℕ). record old { enable = Some secret }) s.1)
+        let m = once old.enable (option_map Clear (secret_of text)) (λ secret. record old { enable = Some secret }) new k in
+        let s = clear_same text m.1.0 m.1.1 in
+        enable text s.0 spelled e m.0 (m.1.2 ∙ ap (λ (secret : Secret). record old { enable = Some secret }) s.1)
+
+login_hash_sets : (version : Version) (line text : List ℕ) (old new : Subject) → has_hashes version ≡ true → line ≡ codes "login-hash " ++ text → with_login_hash text old ≡ Ok new → Sets version old line new
+login_hash_sets version line text old new third spelled h = by old.kind refl h
+  where
+    by : (k : Kind) → old.kind ≡ k → cond (same_kind k Group) (Err BadLine) (set_once old.login (option_map Hashed (hash_of text)) (λ secret. record old { login = Some secret })) ≡ Ok new → Sets version old line new
+    by Group e k = absurd cc
+    by User e k =
+        let m = once old.login (option_map Hashed (hash_of text)) (λ secret. record old { login = Some secret }) new k in
+        let s = hashed_same text m.1.0 m.1.1 in
+        login_hash s.0 third s.1 (spelled ∙ ap (λ (t : List ℕ). codes "login-hash " ++ t) s.2) e m.0 (m.1.2 ∙ ap (λ (secret : Secret). record old { login = Some secret }) s.3)
+
+enable_hash_sets : (version : Version) (line text : List ℕ) (old new : Subject) → has_hashes version ≡ true → line ≡ codes "enable-hash " ++ text → with_enable_hash text old ≡ Ok new → Sets version old line new
+enable_hash_sets version line text old new third spelled h = by old.kind refl h
+  where
+    by : (k : Kind) → old.kind ≡ k → cond (same_kind k Group) (Err BadLine) (set_once old.enable (option_map Hashed (hash_of text)) (λ secret. record old { enable = Some secret })) ≡ Ok new → Sets version old line new
+    by Group e k = absurd cc
+    by User e k =
+        let m = once old.enable (option_map Hashed (hash_of text)) (λ secret. record old { enable = Some secret }) new k in
+        let s = hashed_same text m.1.0 m.1.1 in
+        enable_hash s.0 third s.1 (spelled ∙ ap (λ (t : List ℕ). codes "enable-hash " ++ t) s.2) e m.0 (m.1.2 ∙ ap (λ (secret : Secret). record old { enable = Some secret }) s.3)
 
 level_sets : (version : Version) (line text : List ℕ) (old new : Subject) → line ≡ codes "priv " ++ text → with_priv text old ≡ Ok new → Sets version old line new
 level_sets version line text old new spelled h =
@@ -182,10 +222,12 @@ words_add version number word rest draft next h =
     either (bytes_eq word (codes "user")) _ _ next (λ w k. begun_adds version number User (word ++ 32 ∷ rest) rest draft next (ap (after_word rest) (word_is word (codes "user") w)) k) (λ k.
     either (bytes_eq word (codes "login")) _ _ next (λ w k. set_adds version (word ++ 32 ∷ rest) (with_login rest) draft next (λ old new. login_sets version (word ++ 32 ∷ rest) rest old new (ap (after_word rest) (word_is word (codes "login") w))) k) (λ k.
     either (bytes_eq word (codes "enable")) _ _ next (λ w k. set_adds version (word ++ 32 ∷ rest) (with_enable rest) draft next (λ old new. enable_sets version (word ++ 32 ∷ rest) rest old new (ap (after_word rest) (word_is word (codes "enable") w))) k) (λ k.
+    either (bytes_eq word (codes "login-hash") && has_hashes version) _ _ next (λ w k. set_adds version (word ++ 32 ∷ rest) (with_login_hash rest) draft next (λ old new. login_hash_sets version (word ++ 32 ∷ rest) rest old new (and_right (bytes_eq word (codes "login-hash")) _ w) (ap (after_word rest) (word_is word (codes "login-hash") (and_left _ _ w)))) k) (λ k.
+    either (bytes_eq word (codes "enable-hash") && has_hashes version) _ _ next (λ w k. set_adds version (word ++ 32 ∷ rest) (with_enable_hash rest) draft next (λ old new. enable_hash_sets version (word ++ 32 ∷ rest) rest old new (and_right (bytes_eq word (codes "enable-hash")) _ w) (ap (after_word rest) (word_is word (codes "enable-hash") (and_left _ _ w)))) k) (λ k.
     either (bytes_eq word (codes "priv")) _ _ next (λ w k. set_adds version (word ++ 32 ∷ rest) (with_priv rest) draft next (λ old new. level_sets version (word ++ 32 ∷ rest) rest old new (ap (after_word rest) (word_is word (codes "priv") w))) (first_ok (is_field rest) _ BadLine next k).1) (λ k.
     either (bytes_eq word (codes "permit")) _ _ next (λ w k. set_adds version (word ++ 32 ∷ rest) (with_rule version Permit rest) draft next (λ old new. rule_sets version Permit (word ++ 32 ∷ rest) rest old new (ap (after_word rest) (word_is word (codes "permit") w))) k) (λ k.
     let q = first_ok (bytes_eq word (codes "deny")) _ BadLine next k in
-    set_adds version (word ++ 32 ∷ rest) (with_rule version Deny rest) draft next (λ old new. rule_sets version Deny (word ++ 32 ∷ rest) rest old new (ap (after_word rest) (word_is word (codes "deny") q.0))) q.1) k) k) k) k) k) h
+    set_adds version (word ++ 32 ∷ rest) (with_rule version Deny rest) draft next (λ old new. rule_sets version Deny (word ++ 32 ∷ rest) rest old new (ap (after_word rest) (word_is word (codes "deny") q.0))) q.1) k) k) k) k) k) k) k) h
 
 trimmed_adds : (version : Version) (number : ℕ) (line : List ℕ) (draft next : Draft) → is_blank line ≡ false → with_trimmed version number line draft ≡ Ok next → Adds version (subjects_of draft) line (subjects_of next)
 unfolding with_trimmed

@@ -7,6 +7,7 @@ use Rattle.std.specs.Str.{bytes_eq}
 use Rattle.pol_names.specs.SubjectId.{same_id, group_id}
 use Rattle.pol_text.specs.Policy.{id_of, find_subject, ends_within, max_chain}
 use Rattle.pol_names.specs.declared.secret.Credential.{Credential}
+use Rattle.pol_names.specs.declared.secret.Secret.{Secret}
 use Rattle.pol_names.specs.declared.secret.Credential.TheVariants.{Login, Enable}
 use Rattle.pol_names.specs.declared.subject_id.SubjectId.{SubjectId}
 use Rattle.pol_text.specs.declared.subject.Rule.{Rule}
@@ -45,7 +46,7 @@ chain_fault policy =
 abbrev pub with_parent : Option (List ℕ) → Subject → Subject
 with_parent parent subject = record subject { parent = parent }
 
-abbrev pub with_secret : Credential → Option (List ℕ) → Subject → Subject
+abbrev pub with_secret : Credential → Option Secret → Subject → Subject
 with_secret Login secret subject = record subject { login = secret }
 with_secret Enable secret subject = record subject { enable = secret }
 

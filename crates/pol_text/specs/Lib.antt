@@ -11,3 +11,4 @@ pub mod Spelling
 pub mod FaultText
 pub mod Draft
 pub mod Setting
+pub mod Versions

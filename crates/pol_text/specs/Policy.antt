@@ -9,7 +9,7 @@ use Rattle.std.specs.List.{list_any, list_all}
 use Rattle.pol_pattern.specs.Reading.{pattern_of}
 use Rattle.pol_pattern.specs.Matching.{matches}
 use Rattle.pol_names.specs.Name.{is_name}
-use Rattle.pol_names.specs.Secret.{is_secret}
+use Rattle.pol_names.specs.Kept.{is_right_secret}
 use Rattle.pol_names.specs.SubjectId.{same_kind, same_id, group_id, user_id}
 use Rattle.pol_names.specs.declared.subject_id.Kind.TheVariants.{User}
 use Rattle.pol_names.specs.declared.decision.Verdict.TheVariants.{Deny}
@@ -178,8 +178,8 @@ has_right_secrets subject =
 
 abbrev pub is_right_subject : Subject → Bool
 is_right_subject subject =
-    is_name subject.name && all_of is_name subject.parent && all_of is_secret subject.login
-    && all_of is_secret subject.enable
+    is_name subject.name && all_of is_name subject.parent && all_of is_right_secret subject.login
+    && all_of is_right_secret subject.enable
     && has_right_secrets subject && all_of (λ level. nat_le level max_level) subject.priv_lvl
     && nat_le (length subject.rules) max_rules && list_all is_right_rule subject.rules
 

@@ -13,6 +13,8 @@ use Rattle.pol_names.specs.declared.subject_id.Kind.{Kind}
 use Rattle.pol_names.specs.declared.subject_id.Kind.TheVariants.{Group, User}
 use Rattle.pol_names.specs.declared.decision.Verdict.{Verdict}
 use Rattle.pol_names.specs.declared.decision.Verdict.TheVariants.{Permit, Deny}
+use Rattle.pol_names.specs.declared.secret.Secret.{Secret}
+use Rattle.pol_names.specs.Kept.{same_secret, same_secret-Decides}
 use Rattle.pol_text.specs.declared.subject.Rule.{Rule}
 use Rattle.pol_text.specs.declared.subject.Subject.{Subject}
 
@@ -28,7 +30,7 @@ same_rule a b = same_verdict a.verdict b.verdict && bytes_eq a.pattern b.pattern
 abbrev pub same_subject : Subject → Subject → Bool
 same_subject a b =
     same_kind a.kind b.kind && (bytes_eq a.name b.name && (option_eq bytes_eq a.parent b.parent
-    && (option_eq bytes_eq a.login b.login && (option_eq bytes_eq a.enable b.enable
+    && (option_eq same_secret a.login b.login && (option_eq same_secret a.enable b.enable
     && (option_eq (λ m n. m == n) a.priv_lvl b.priv_lvl && pointwise same_rule a.rules b.rules)))))
 
 -- ---- the tests tell
@@ -76,7 +78,7 @@ AreSame a b =
     × ((a.login ≡ b.login)
     × ((a.enable ≡ b.enable) × ((a.priv_lvl ≡ b.priv_lvl) × (a.rules ≡ b.rules))))))
 
-abbrev of_parts : Kind → List ℕ → Option (List ℕ) → Option (List ℕ) → Option (List ℕ) → Option ℕ
+abbrev of_parts : Kind → List ℕ → Option (List ℕ) → Option Secret → Option Secret → Option ℕ
     → List Rule → Subject
 of_parts kind name parent login enable level rules =
     record {
@@ -95,9 +97,9 @@ made_so a b (kind, (name, (parent, (login, (enable, (level, rules)))))) =
     ∙ ap (λ (x : List ℕ). of_parts b.kind x a.parent a.login a.enable a.priv_lvl a.rules) name
     ∙ ap (λ (x : Option (List ℕ)).
     of_parts b.kind b.name x a.login a.enable a.priv_lvl a.rules) parent
-    ∙ ap (λ (x : Option (List ℕ)).
+    ∙ ap (λ (x : Option Secret).
     of_parts b.kind b.name b.parent x a.enable a.priv_lvl a.rules) login
-    ∙ ap (λ (x : Option (List ℕ)).
+    ∙ ap (λ (x : Option Secret).
     of_parts b.kind b.name b.parent b.login x a.priv_lvl a.rules) enable
     ∙ ap (λ (x : Option ℕ). of_parts b.kind b.name b.parent b.login b.enable x a.rules) level
     ∙ ap (λ (x : List Rule). of_parts b.kind b.name b.parent b.login b.enable b.priv_lvl x) rules
@@ -130,8 +132,8 @@ same_subject-Decides a b =
     (Decides-and _ _ (same_kind-Decides a.kind b.kind)
     (Decides-and _ _ (bytes_eq-Decides a.name b.name)
     (Decides-and _ _ (option-Decides bytes_eq bytes_eq-Decides a.parent b.parent)
-    (Decides-and _ _ (option-Decides bytes_eq bytes_eq-Decides a.login b.login)
-    (Decides-and _ _ (option-Decides bytes_eq bytes_eq-Decides a.enable b.enable)
+    (Decides-and _ _ (option-Decides same_secret same_secret-Decides a.login b.login)
+    (Decides-and _ _ (option-Decides same_secret same_secret-Decides a.enable b.enable)
     (Decides-and _ _ (option-Decides (λ m n. m == n) unsigned_Decides a.priv_lvl b.priv_lvl)
     (slice_eq-Decides same_rule-Decides a.rules b.rules
     (pointwise same_rule a.rules b.rules) refl)))))))

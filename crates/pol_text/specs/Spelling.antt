@@ -16,26 +16,35 @@ use Rattle.basics.specs.Lines.{without_leading_spaces, lines_of}
 use Rattle.pol_names.specs.Name.{is_name}
 use Rattle.pol_names.specs.Decision.{verdict_word}
 use Rattle.pol_names.specs.Secret.{is_secret}
+use Rattle.sha_crypt.specs.HashText.{HashParts, is_hash, hash_text}
+use Rattle.pol_names.specs.declared.secret.Secret.TheVariants.{Clear, Hashed}
 use Rattle.pol_names.specs.declared.secret.Credential.TheVariants.{Login, Enable}
 use Rattle.pol_names.specs.declared.subject_id.Kind.{Kind}
 use Rattle.pol_names.specs.declared.subject_id.Kind.TheVariants.{User}
 use Rattle.pol_names.specs.declared.decision.Verdict.{Verdict}
-use Rattle.pol_pattern.specs.declared.version.Version.{Version}
+use Rattle.pol_text.specs.declared.version.TextVersion.{TextVersion as Version}
 use Rattle.pol_text.specs.declared.subject.Subject.{Subject}
 use Rattle.pol_text.specs.Policy.{find_subject, has_parent, ends_within, all_of, max_subjects}
 use Rattle.pol_text.specs.Policy.{max_rules, max_chain}
 use Rattle.pol_text.specs.Change.{with_secret, with_priv}
 use Rattle.pol_text.specs.Text.{new_subject, heading_line, level_of, is_blank, pattern_in, Body}
 use Rattle.pol_text.specs.Text.{body_of}
+use Rattle.pol_text.specs.Versions.{has_hashes}
 
 -- the line makes of the last subject this one: each setting once, and not too many rules
 pub data Sets (version : Version) (old : Subject) (line : List ℕ) (new : Subject) : Type 0 where
   login : (text : List ℕ) → IsTrue (is_secret text) → line ≡ codes "login " ++ text
-      → old.kind ≡ User → old.login ≡ None → new ≡ with_secret Login (Some text) old
+      → old.kind ≡ User → old.login ≡ None → new ≡ with_secret Login (Some (Clear text)) old
       → Sets version old line new
   enable : (text : List ℕ) → IsTrue (is_secret text) → line ≡ codes "enable " ++ text
-      → old.kind ≡ User → old.enable ≡ None → new ≡ with_secret Enable (Some text) old
+      → old.kind ≡ User → old.enable ≡ None → new ≡ with_secret Enable (Some (Clear text)) old
       → Sets version old line new
+  login_hash : (hash : HashParts) → IsTrue (has_hashes version) → IsTrue (is_hash hash)
+      → line ≡ codes "login-hash " ++ hash_text hash → old.kind ≡ User → old.login ≡ None
+      → new ≡ with_secret Login (Some (Hashed hash)) old → Sets version old line new
+  enable_hash : (hash : HashParts) → IsTrue (has_hashes version) → IsTrue (is_hash hash)
+      → line ≡ codes "enable-hash " ++ hash_text hash → old.kind ≡ User → old.enable ≡ None
+      → new ≡ with_secret Enable (Some (Hashed hash)) old → Sets version old line new
   level : (digits : List ℕ) (n : ℕ) → level_of digits ≡ Some n → line ≡ codes "priv " ++ digits
       → old.priv_lvl ≡ None → new ≡ with_priv (Some n) old → Sets version old line new
   rule : (verdict : Verdict) (text pattern : List ℕ) → pattern_in version text ≡ Ok pattern

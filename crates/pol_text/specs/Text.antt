@@ -1,23 +1,30 @@
 -- The text of a policy: which policy its lines make, or the first refusal and its line
--- (docs/POLICY.md). It is of version 2 if its first line says so, else of version 1, and the
--- versions differ in the grammar of patterns alone.
+-- (docs/POLICY.md). It is of version 2 or 3 if its first line says so, else of version 1. Version 1
+-- has another grammar of patterns, and version 3 alone has hashes.
 use Rattle.std.specs.Prelude.{◌≡◌, ℕ, ◌+◌, List, [], ◌∷◌, ◌++◌, length, map, find, codes, Bool}
-use Rattle.std.specs.Prelude.{true, not, ◌&&◌, nat_le, nat_eq, is_some, ok_or, Option, Some, None}
-use Rattle.std.specs.Prelude.{Result, Ok, Err, if◌then◌else◌}
-use Rattle.std.specs.Option.{option_and_then, option_map_or}
+use Rattle.std.specs.Prelude.{true, false, not, ◌&&◌, ◌||◌, nat_le, nat_eq, is_some, ok_or}
+use Rattle.std.specs.Prelude.{Option, Some, None, Result, Ok, Err, if◌then◌else◌}
+use Rattle.std.specs.Option.{option_and_then, option_map, option_map_or}
+use Rattle.std.specs.List.{list_any}
 use Rattle.std.specs.Str.{bytes_eq}
 use Rattle.std.specs.Fmt.{decimal}
 use Rattle.basics.specs.Symbol.{is_text}
 use Rattle.basics.specs.Lines.{split_at_first, without_leading_spaces, lines_of}
 use Rattle.basics.specs.Number.{number_of}
 use Rattle.pol_pattern.specs.Reading.{pattern_of, pattern_of_old}
-use Rattle.pol_pattern.specs.declared.version.Version.{Version}
-use Rattle.pol_pattern.specs.declared.version.Version.TheVariants.{One, Two}
+use Rattle.pol_text.specs.declared.version.TextVersion.{TextVersion as Version}
+use Rattle.pol_text.specs.declared.version.TextVersion.TheVariants.{One, Two, Three}
 use Rattle.pol_pattern.specs.declared.fault.PatternFault.{PatternFault}
 use Rattle.pol_names.specs.Name.{name_of}
 use Rattle.pol_names.specs.Secret.{secret_of}
+use Rattle.sha_crypt.specs.HashText.{hash_of}
+use Rattle.pol_names.specs.Kept.{secret_line}
+use Rattle.pol_names.specs.declared.secret.Credential.TheVariants.{Login, Enable}
+use Rattle.pol_names.specs.declared.secret.Secret.{Secret}
+use Rattle.pol_names.specs.declared.secret.Secret.TheVariants.{Clear, Hashed}
 use Rattle.pol_names.specs.SubjectId.{same_kind, kind_word}
 use Rattle.pol_names.specs.Decision.{verdict_word}
+use Rattle.pol_text.specs.Versions.{has_hashes}
 use Rattle.pol_text.specs.Policy.{find_subject, has_parent, ends_within, max_subjects, max_rules}
 use Rattle.pol_text.specs.Policy.{max_chain, max_level}
 use Rattle.pol_names.specs.declared.subject_id.Kind.{Kind}
@@ -120,12 +127,25 @@ set_once None (Some value) change = Ok (change value)
 abbrev pub with_login : List ℕ → Subject → Result Subject PolicyRefusal
 with_login text subject =
     if same_kind subject.kind Group then Err BadLine
-    else set_once subject.login (secret_of text) (λ secret. record subject { login = Some secret })
+    else set_once subject.login (option_map Clear (secret_of text))
+    (λ secret. record subject { login = Some secret })
 
 abbrev pub with_enable : List ℕ → Subject → Result Subject PolicyRefusal
 with_enable text subject =
     if same_kind subject.kind Group then Err BadLine
-    else set_once subject.enable (secret_of text)
+    else set_once subject.enable (option_map Clear (secret_of text))
+    (λ secret. record subject { enable = Some secret })
+
+abbrev pub with_login_hash : List ℕ → Subject → Result Subject PolicyRefusal
+with_login_hash text subject =
+    if same_kind subject.kind Group then Err BadLine
+    else set_once subject.login (option_map Hashed (hash_of text))
+    (λ secret. record subject { login = Some secret })
+
+abbrev pub with_enable_hash : List ℕ → Subject → Result Subject PolicyRefusal
+with_enable_hash text subject =
+    if same_kind subject.kind Group then Err BadLine
+    else set_once subject.enable (option_map Hashed (hash_of text))
     (λ secret. record subject { enable = Some secret })
 
 -- 1 to 4 digits
@@ -138,10 +158,12 @@ abbrev pub with_priv : List ℕ → Subject → Result Subject PolicyRefusal
 with_priv text subject =
     set_once subject.priv_lvl (level_of text) (λ level. record subject { priv_lvl = Some level })
 
--- the pattern that a text of this version spells; a pattern's own source is of version 2
+-- the pattern that a rule of a text of this version spells: version 3 has the patterns of version
+-- 2, of which a pattern's own source is
 abbrev pub pattern_in : Version → List ℕ → Result (List ℕ) PatternFault
 pattern_in One text = pattern_of_old text
 pattern_in Two text = pattern_of text
+pattern_in Three text = pattern_of text
 
 abbrev pub pattern_read : Version → List ℕ → Result (List ℕ) PolicyRefusal
 pattern_read version text = refusing (pattern_in version text)
@@ -173,6 +195,10 @@ with_words version number word rest draft =
     >>= λ ids. with_subject number User ids.0 ids.1 draft)
     else if bytes_eq word (codes "login") then with_present (with_login rest) draft
     else if bytes_eq word (codes "enable") then with_present (with_enable rest) draft
+    else if bytes_eq word (codes "login-hash") && has_hashes version
+    then with_present (with_login_hash rest) draft
+    else if bytes_eq word (codes "enable-hash") && has_hashes version
+    then with_present (with_enable_hash rest) draft
     else if bytes_eq word (codes "priv")
     then (if is_field rest then with_present (with_priv rest) draft else Err BadLine)
     else if bytes_eq word (codes "permit") then with_present (with_rule version Permit rest) draft
@@ -214,18 +240,24 @@ with_lines version number (line ∷ lines) draft =
 abbrev pub version_line : List ℕ
 version_line = codes "policy 2"
 
+-- and of one of version 3
+abbrev pub third_line : List ℕ
+third_line = codes "policy 3"
+
 -- lines that say a policy, the number of the first, and their version
 pub record Body : Type 0 where
   pub version : Version
   pub number : ℕ
   pub lines : List (List ℕ)
 
--- the lines of a text without the one that says version 2, which counts
+-- the lines of a text without the one that says its version, which counts
 abbrev pub body_of : List (List ℕ) → Body
 body_of [] = record { version = One; number = 1; lines = [] }
 body_of (line ∷ lines) =
     if bytes_eq line version_line
     then record { version = Two; number = 2; lines = lines }
+    else if bytes_eq line third_line
+    then record { version = Three; number = 2; lines = lines }
     else record { version = One; number = 1; lines = line ∷ lines }
 
 abbrev pub with_body : Body → Result Draft PolicyFault
@@ -265,11 +297,11 @@ line_for line (Some value) = line value ∷ []
 abbrev pub rule_line : Rule → List ℕ
 rule_line rule = verdict_word rule.verdict ++ rule.pattern
 
--- its line, then `login`, `enable`, `priv` where set, then its rules
+-- its line, then its secrets and its level where set, then its rules
 abbrev pub subject_lines : Subject → List (List ℕ)
 subject_lines subject =
-    heading_line subject ∷ (line_for (λ secret. codes "login " ++ secret) subject.login
-    ++ line_for (λ secret. codes "enable " ++ secret) subject.enable
+    heading_line subject ∷ (line_for (secret_line Login) subject.login
+    ++ line_for (secret_line Enable) subject.enable
     ++ line_for (λ level. codes "priv " ++ decimal level) subject.priv_lvl
     ++ map rule_line subject.rules)
 
@@ -282,9 +314,21 @@ abbrev pub text_of_lines : List (List ℕ) → List ℕ
 text_of_lines [] = []
 text_of_lines (line ∷ lines) = line ++ 10 ∷ text_of_lines lines
 
--- it is of version 2, also that of the empty policy
+abbrev pub is_hashed : Option Secret → Bool
+is_hashed None = false
+is_hashed (Some (Clear text)) = false
+is_hashed (Some (Hashed hash)) = true
+
+-- whether a subject has what only version 3 can say
+abbrev pub needs_third : Subject → Bool
+needs_third subject = is_hashed subject.login || is_hashed subject.enable
+
+-- the first line of the least version that can say the policy
+abbrev pub first_line : List Subject → List ℕ
+first_line policy = if list_any needs_third policy then third_line else version_line
+
 unfoldable pub text_of : List Subject → List ℕ
-text_of policy = text_of_lines (version_line ∷ policy_lines policy)
+text_of policy = text_of_lines (first_line policy ∷ policy_lines policy)
 
 -- ---- what a function returned, against what was wanted
 

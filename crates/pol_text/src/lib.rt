@@ -13,9 +13,13 @@ mod queries;
 mod reading;
 mod setting;
 mod subject;
+mod version;
 
 pub use fault::{ChainFault, PolicyFault, PolicyRefusal};
-pub use pol_names::{By, Credential, Decision, Kind, Name, Secret, SubjectId, Verdict};
+pub use pol_names::{
+    By, ClearSecret, Credential, Decision, Hash, Kind, Name, Secret, SubjectId, Verdict,
+};
 pub use policy::Policy;
 pub use reading::body_of;
 pub use subject::{Rule, Subject};
+pub use version::TextVersion;

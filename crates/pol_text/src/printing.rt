@@ -2,13 +2,17 @@
 
 ghost use Rattle.std.specs.Prelude.{◌≡◌, Ok, ◌++◌, ◌∷◌, [], codes, map, IfOk, OnOk};
 ghost use Rattle.std.specs.Fmt.{decimal};
+ghost use Rattle.std.specs.List.{list_any};
+ghost use Rattle.pol_names.specs.Kept.{secret_line};
 ghost use Rattle.pol_text.specs.Text.{heading_line, line_for, rule_line, subject_lines};
 ghost use Rattle.pol_text.specs.Text.{text_of_lines, text_of, policy_of};
+ghost use Rattle.pol_text.specs.Text.{is_hashed as hashed_test, needs_third as third_test};
+ghost use Rattle.pol_text.specs.Text.{first_line as first_wanted};
 
 use crate::policy::Policy;
 use crate::subject::{Rule, Subject};
 use basics::Bytes;
-use pol_names::Secret;
+use pol_names::{Credential, Secret};
 use std::alloc::{AllocError, Global};
 
 // Two parts of a line, and LF.
@@ -38,13 +42,37 @@ fn print_heading(text: &mut Bytes, subject: &Subject) -> Result<(), AllocError>
     }
 }
 
-// A secret's line, if it is set.
-fn print_secret(text: &mut Bytes, word: &[u8], secret: &Option<Secret>) -> Result<(), AllocError>
+// A secret's line.
+fn print_one(text: &mut Bytes, credential: Credential, secret: &Secret) -> Result<(), AllocError>
     ensures { OnOk result (text.new
-        ≡ text.old ++ text_of_lines (line_for (λ secret. word.now ++ secret) secret.now)) }
+        ≡ text.old ++ text_of_lines (secret_line credential secret.now ∷ [])) }
 {
     match secret {
-        Some(secret) => print_line(text, word, secret.as_slice()),
+        Secret::Clear(secret) => {
+            print_line(text, credential.keyword().as_bytes(), secret.as_slice())
+        }
+        Secret::Hashed(hash) => {
+            let spelled = hash.text();
+            print_line(
+                text,
+                credential.hash_keyword().as_bytes(),
+                spelled.as_slice(),
+            )
+        }
+    }
+}
+
+// A secret's line, if it is set.
+fn print_secret(
+    text: &mut Bytes,
+    credential: Credential,
+    secret: &Option<Secret>,
+) -> Result<(), AllocError>
+    ensures { OnOk result (text.new
+        ≡ text.old ++ text_of_lines (line_for (secret_line credential) secret.now)) }
+{
+    match secret {
+        Some(secret) => print_one(text, credential, secret),
         None => Ok(()),
     }
 }
@@ -81,16 +109,46 @@ fn print_subject(alloc: Global, text: &mut Bytes, subject: &Subject) -> Result<(
     ensures { OnOk result (text.new ≡ text.old ++ text_of_lines (subject_lines subject.now)) }
 {
     print_heading(text, subject)?;
-    print_secret(text, b"login ", &subject.login)?;
-    print_secret(text, b"enable ", &subject.enable)?;
+    print_secret(text, Credential::Login, &subject.login)?;
+    print_secret(text, Credential::Enable, &subject.enable)?;
     print_level(alloc, text, subject.priv_lvl)?;
     print_rules(text, subject.rules.as_slice())
 }
 
+// Whether it is a hash.
+fn is_hashed(secret: &Option<Secret>) -> bool
+    ensures { result ≡ hashed_test secret.now }
+{
+    matches!(secret, Some(Secret::Hashed(_)))
+}
+
+// Whether the subject has what only version 3 can say.
+fn needs_third(subject: &Subject) -> bool
+    ensures { result ≡ third_test subject.now }
+{
+    is_hashed(&subject.login) || is_hashed(&subject.enable)
+}
+
+fn any_needs_third(subjects: &[Subject]) -> bool
+    ensures { result ≡ list_any third_test subjects.now }
+{
+    subjects.iter().any(|subject| needs_third(subject))
+}
+
+// The first line of the least version that can say these subjects.
+fn first_line(subjects: &[Subject]) -> &'static [u8]
+    ensures { result.now ≡ first_wanted subjects.now }
+{
+    if any_needs_third(subjects) {
+        return b"policy 3";
+    }
+    b"policy 2"
+}
+
 impl Policy {
-    /// The policy's text in its printed form, of version 2: the line that says so, and then every
-    /// subject in order, with its settings and its rules, one line each. The error means that
-    /// memory ran out.
+    /// The policy's text in its printed form: the line that says its version, and then every
+    /// subject in order, with its settings and its rules, one line each. It is of version 3 if
+    /// some secret is a hash, else of version 2. The error means that memory ran out.
     #[tactic(auto, unfolding(crate::specs::Text::text_of))]
     pub fn print(&self, alloc: Global) -> Result<Bytes, AllocError>
         ensures text { IfOk result (λ text. text ≡ text_of self.now) }
@@ -100,7 +158,7 @@ impl Policy {
     {
         let all = self.subjects();
         let mut text = Bytes::new(alloc);
-        print_line(&mut text, b"policy 2", b"")?;
+        print_line(&mut text, first_line(all), b"")?;
         'subjects: for subject in all {
             print_subject(alloc, &mut text, subject)?;
         }

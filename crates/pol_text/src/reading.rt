@@ -20,9 +20,9 @@ use crate::draft::Draft;
 use crate::fault::{LineFault, PolicyFault, PolicyRefusal};
 use crate::policy::Policy;
 use crate::setting::Setting;
+use crate::version::TextVersion;
 use basics::{Lines, is_text, split_once, without_leading_spaces};
 use pol_names::{Credential, Kind, Name, Verdict};
-use pol_pattern::Version;
 use std::alloc::Global;
 
 fn named(text: &[u8]) -> Result<Name, PolicyRefusal>
@@ -86,7 +86,7 @@ fn add_subject(
 
 // What a line of this first word sets; nothing for a word that begins no such line.
 #[tactic(auto, unfolding(crate::specs::Text::with_words))]
-fn setting_of<'a>(version: Version, word: &[u8], rest: &'a [u8]) -> Option<Setting<'a>>
+fn setting_of<'a>(version: TextVersion, word: &[u8], rest: &'a [u8]) -> Option<Setting<'a>>
     requires group { bytes_eq word.now (codes "group") ≡ false }
     requires user { bytes_eq word.now (codes "user") ≡ false }
     ensures { (number : ℕ) (draft : DraftValue) →
@@ -97,6 +97,12 @@ fn setting_of<'a>(version: Version, word: &[u8], rest: &'a [u8]) -> Option<Setti
     }
     if word == b"enable".as_slice() {
         return Some(Setting::Secret(Credential::Enable, rest));
+    }
+    if word == b"login-hash".as_slice() && version.has_hashes() {
+        return Some(Setting::Hash(Credential::Login, rest));
+    }
+    if word == b"enable-hash".as_slice() && version.has_hashes() {
+        return Some(Setting::Hash(Credential::Enable, rest));
     }
     if word == b"priv".as_slice() {
         return if is_field(rest) {
@@ -119,7 +125,7 @@ fn setting_of<'a>(version: Version, word: &[u8], rest: &'a [u8]) -> Option<Setti
 fn add_words(
     alloc: Global,
     draft: &mut Draft,
-    version: Version,
+    version: TextVersion,
     number: usize,
     word: &[u8],
     rest: &[u8],
@@ -142,7 +148,7 @@ fn add_words(
 fn add_trimmed(
     alloc: Global,
     draft: &mut Draft,
-    version: Version,
+    version: TextVersion,
     number: usize,
     line: &[u8],
 ) -> Result<(), LineFault>
@@ -162,7 +168,7 @@ fn add_trimmed(
 fn add_line(
     alloc: Global,
     draft: &mut Draft,
-    version: Version,
+    version: TextVersion,
     number: usize,
     line: &[u8],
 ) -> Result<(), LineFault>
@@ -183,16 +189,17 @@ fn at_line(line: usize, fault: LineFault) -> PolicyFault
     }
 }
 
-/// The version of a policy's text, and its lines but for the one that says version 2: a text is of
-/// version 2 if its first line is exactly `policy 2`.
-pub fn body_of(text: &[u8]) -> (Version, Lines<'_>)
+/// The version of a policy's text, and its lines but for the one that says the version: a text is
+/// of version 2 if its first line is exactly `policy 2`, and of version 3 if it is `policy 3`.
+pub fn body_of(text: &[u8]) -> (TextVersion, Lines<'_>)
     ensures { let body = body_wanted (lines_of text.now) in (result.0 ≡ body.version)
         × (result.1.number ≡ body.number) × (result.1.lines ≡ body.lines) }
 {
     let mut lines = Lines::new(text);
     match lines.take_line() {
-        Some((_, line)) if line == b"policy 2".as_slice() => (Version::Two, lines),
-        _ => (Version::One, Lines::new(text)),
+        Some((_, line)) if line == b"policy 2".as_slice() => (TextVersion::Two, lines),
+        Some((_, line)) if line == b"policy 3".as_slice() => (TextVersion::Three, lines),
+        _ => (TextVersion::One, Lines::new(text)),
     }
 }
 

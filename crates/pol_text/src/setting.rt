@@ -8,24 +8,29 @@ ghost use Rattle.pol_names.specs.declared.subject_id.Kind.TheVariants.{Group};
 ghost use Rattle.pol_text.specs.Draft.{LineGives, LineMakes};
 ghost use Rattle.pol_names.specs.SubjectId.{same_kind};
 ghost use Rattle.pol_names.specs.Secret.{secret_of};
-ghost use Rattle.pol_text.specs.Setting.{changed_by, secret_given};
+ghost use Rattle.sha_crypt.specs.HashText.{hash_of};
+ghost use Rattle.std.specs.Option.{option_map};
+ghost use Rattle.pol_names.specs.declared.secret.Secret.TheVariants.{Clear, Hashed};
+ghost use Rattle.pol_text.specs.Setting.{changed_by, secret_given, hash_given};
 ghost use Rattle.pol_text.specs.Text.{level_of, pattern_read, with_priv as priv_set};
 ghost use Rattle.pol_text.specs.Text.{with_rule as rule_added, pattern_in as pattern_wanted};
 
 use crate::fault::{LineFault, PolicyRefusal};
 use crate::policy::Policy;
 use crate::subject::{Rule, Subject};
+use crate::version::TextVersion;
 use basics::read_number;
-use pol_names::{Credential, Kind, Secret, Verdict};
-use pol_pattern::{Pattern, PatternFault, Version};
+use pol_names::{ClearSecret, Credential, Hash, Kind, Secret, Verdict};
+use pol_pattern::{Pattern, PatternFault};
 use std::alloc::Global;
 
 /// A line of a subject, after its first word.
 #[derive(Clone, Copy)]
 pub(crate) enum Setting<'a> {
     Secret(Credential, &'a [u8]),
+    Hash(Credential, &'a [u8]),
     Priv(&'a [u8]),
-    Rule(Version, Verdict, &'a [u8]),
+    Rule(TextVersion, Verdict, &'a [u8]),
 }
 
 impl<'a> Setting<'a> {
@@ -36,6 +41,7 @@ impl<'a> Setting<'a> {
     {
         match self {
             Setting::Secret(credential, text) => add_secret(alloc, subject, credential, text),
+            Setting::Hash(credential, text) => add_hash(alloc, subject, credential, text),
             Setting::Priv(text) => add_priv(subject, text),
             Setting::Rule(version, verdict, text) => {
                 add_rule(alloc, subject, version, verdict, text)
@@ -45,10 +51,10 @@ impl<'a> Setting<'a> {
 }
 
 fn secret(alloc: Global, text: &[u8]) -> Result<Secret, LineFault>
-    ensures { LineGives result (ok_or (secret_of text.now) BadValue) }
+    ensures { LineGives result (ok_or (option_map Clear (secret_of text.now)) BadValue) }
 {
-    match Secret::read(alloc, text)? {
-        Some(secret) => Ok(secret),
+    match ClearSecret::read(alloc, text)? {
+        Some(secret) => Ok(Secret::Clear(secret)),
         None => Err(LineFault::Refused(PolicyRefusal::BadValue)),
     }
 }
@@ -81,6 +87,26 @@ fn add_secret(
     Ok(())
 }
 
+fn add_hash(
+    alloc: Global,
+    subject: &mut Subject,
+    credential: Credential,
+    text: &[u8],
+) -> Result<(), LineFault>
+    ensures made { LineMakes result subject.new (hash_given credential text.now subject.old) }
+    ensures err { OnErr result (subject.new ≡ subject.old) }
+{
+    refuse_group(subject.kind)?;
+    if subject.has_secret(credential) {
+        return Err(LineFault::Refused(PolicyRefusal::Repeated));
+    }
+    let Some(hash) = Hash::read(text) else {
+        return Err(LineFault::Refused(PolicyRefusal::BadValue));
+    };
+    subject.set_secret(credential, Some(Secret::Hashed(hash)));
+    Ok(())
+}
+
 // A level of 1 to 4 digits, up to 15.
 fn level(text: &[u8]) -> Option<u8>
     ensures { result ≡ level_of text.now }
@@ -107,17 +133,17 @@ fn add_priv(subject: &mut Subject, text: &[u8]) -> Result<(), LineFault>
 }
 
 // The pattern that a text of this version spells.
-fn pattern_in(alloc: Global, version: Version, text: &[u8]) -> Result<Pattern, PatternFault>
+fn pattern_in(alloc: Global, version: TextVersion, text: &[u8]) -> Result<Pattern, PatternFault>
     ensures { GivesUnlessMemory is_memory (λ p. p) result (pattern_wanted version text.now) }
 {
     match version {
-        Version::One => Pattern::read_v1(alloc, text),
-        Version::Two => Pattern::read(alloc, text),
+        TextVersion::One => Pattern::read_v1(alloc, text),
+        TextVersion::Two | TextVersion::Three => Pattern::read(alloc, text),
     }
 }
 
 // A rule's pattern.
-fn pattern(alloc: Global, version: Version, text: &[u8]) -> Result<Pattern, LineFault>
+fn pattern(alloc: Global, version: TextVersion, text: &[u8]) -> Result<Pattern, LineFault>
     ensures { LineGives result (pattern_read version text.now) }
 {
     match pattern_in(alloc, version, text) {
@@ -131,7 +157,7 @@ fn pattern(alloc: Global, version: Version, text: &[u8]) -> Result<Pattern, Line
 fn add_rule(
     alloc: Global,
     subject: &mut Subject,
-    version: Version,
+    version: TextVersion,
     verdict: Verdict,
     text: &[u8],
 ) -> Result<(), LineFault>

@@ -1,7 +1,7 @@
 //! Groups and users, and what decides.
 
 ghost use Rattle.std.specs.Prelude.{◌≡◌, ◌≤◌, length, is_some, IsTrue, IfOk, OnOk, OnErr};
-ghost use Rattle.pol_names.specs.Secret.{is_secret};
+ghost use Rattle.pol_names.specs.Kept.{is_right_secret};
 ghost use Rattle.pol_names.specs.SubjectId.{kind_word};
 ghost use Rattle.pol_names.specs.SubjectId.{group_id, user_id};
 ghost use Rattle.pol_text.specs.Policy.{id_of, all_of, is_right_rule, is_right_subject, max_rules};
@@ -164,7 +164,7 @@ impl Subject {
     /// Gives the user another secret, or none. Its type says that a secret is valid.
     pub(crate) fn set_secret(&mut self, credential: Credential, secret: Option<Secret>)
         ensures changed { self.new ≡ with_secret credential secret self.old }
-        ensures right { IsTrue (all_of is_secret secret) }
+        ensures right { IsTrue (all_of is_right_secret secret) }
     {
         match credential {
             Credential::Login => self.login = secret,

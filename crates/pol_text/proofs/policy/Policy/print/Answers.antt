@@ -1,10 +1,11 @@
+use Rattle.pol_text.specs.Text.{first_line}
 use Rattle.pol_text.proofs.PrintFacts.{subjects_more}
 use Rattle.pol_text.proofs.RoundFacts.{read_again}
 use Rattle.pol_text.proofs.policy.Policy.print.Goals as goal
 
 pub subjects-preserved : goal.subjects-preserved
 subjects-preserved c =
-    subjects_more c.subjects.text c.print_subject.new.text c.subjects-all.result.now c.subjects.subject-index c.subject-item.result
+    subjects_more (first_line c.subjects-all.result.now) c.subjects.text c.print_subject.new.text c.subjects-all.result.now c.subjects.subject-index c.subject-item.result
     c.subjects-test.true c.subject-item.is c.subjects.invariant c.in_ok-print_subject.ensures
 
 pub returns-in_err-print_subject-clause-again : goal.returns-in_err-print_subject-clause-again

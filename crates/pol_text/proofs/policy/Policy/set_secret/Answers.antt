@@ -1,5 +1,6 @@
 use Rattle.std.proofs.Common.{◌≡◌, Option, List, ℕ, true, refl}
-use Rattle.pol_names.specs.Secret.{is_secret}
+use Rattle.pol_names.specs.Kept.{is_right_secret}
+use Rattle.pol_names.specs.declared.secret.Secret.{Secret}
 use Rattle.pol_names.specs.declared.secret.Credential.{Credential}
 use Rattle.pol_names.specs.declared.secret.Credential.TheVariants.{Login, Enable}
 use Rattle.pol_names.specs.declared.subject_id.Kind.TheVariants.{User}
@@ -15,15 +16,15 @@ pub returns-in_default-clause-changed : goal.returns-in_default-clause-changed
 returns-in_default-clause-changed c =
     not_missing c.args.id.now c.args.self.now c.self.inside.subjects c.self.view_is c.in_default.ensures.found c.requires.there
 
-same_name : (credential : Credential) (secret : Option (List ℕ)) (t : Subject) → id_of (with_secret credential secret t) ≡ id_of t
+same_name : (credential : Credential) (secret : Option Secret) (t : Subject) → id_of (with_secret credential secret t) ≡ id_of t
 same_name Login secret t = refl
 same_name Enable secret t = refl
 
-same_parent : (credential : Credential) (secret : Option (List ℕ)) (t : Subject) → (with_secret credential secret t).parent ≡ t.parent
+same_parent : (credential : Credential) (secret : Option Secret) (t : Subject) → (with_secret credential secret t).parent ≡ t.parent
 same_parent Login secret t = refl
 same_parent Enable secret t = refl
 
-module _ {id : SubjectId} {now p : List Subject} {keys : List SubjectId} {i : ℕ} {s : Subject} (h : Placed id now p keys i s) (secret : Option (List ℕ)) (right : all_of is_secret secret ≡ true) (user : id.kind ≡ User) where
+module _ {id : SubjectId} {now p : List Subject} {keys : List SubjectId} {i : ℕ} {s : Subject} (h : Placed id now p keys i s) (secret : Option Secret) (right : all_of is_right_secret secret ≡ true) (user : id.kind ≡ User) where
   still_right : (credential : Credential) → Right (with_secret credential secret s)
   still_right Login =
       let r = right_now h in
