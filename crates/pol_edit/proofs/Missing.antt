@@ -12,9 +12,8 @@ use Rattle.pol_text.specs.declared.fault.ChainFault.{ChainFault}
 use Rattle.pol_text.specs.declared.fault.ChainFault.TheVariants as chains
 use Rattle.pol_edit.specs.Applying.{◌>>=◌, applied, is_missing, is_number, unless_chain, pattern_read, added_to, removed_from, moved_in, set_in, inserted_in, dropped_in, shifted_in}
 use Rattle.pol_edit.specs.Batches.{IsFirstMissing, applied_all, of_edit}
-use Rattle.pol_edit.specs.declared.batching.BatchFault.{BatchFault}
 use Rattle.pol_edit.specs.declared.edit.Edit.{Edit}
-use Rattle.pol_edit.specs.declared.edit.Edit.TheVariants.{AddGroup, AddUser, Remove, SetParent, SetLogin, SetEnable, SetPriv, InsertRule, RemoveRule, MoveRule}
+use Rattle.pol_edit.specs.declared.edit.Edit.TheVariants.{AddGroup, AddUser, Remove, SetParent, SetLogin, SetEnable, SetHash, SetPriv, InsertRule, RemoveRule, MoveRule}
 use Rattle.pol_edit.specs.declared.fault.EditFault.{EditFault}
 use Rattle.pol_edit.specs.declared.fault.EditFault.TheVariants as faults
 
@@ -101,6 +100,7 @@ missing policy (Remove subject) = of_subject _ _ (λ s. other_if _ (never _ used
 missing policy (SetParent subject parent) = of_both _ _ _ (other_chain _ _)
 missing policy (SetLogin user secret) = of_subject _ _ (λ s. other_if _ (made _) (never _ value))
 missing policy (SetEnable user secret) = of_subject _ _ (λ s. other_if _ (made _) (never _ value))
+missing policy (SetHash user credential hash) = of_subject _ _ (λ s. other_if _ (made _) (never _ value))
 missing policy (SetPriv subject level) = of_subject _ _ (λ s. other_if _ (made _) (never _ value))
 missing policy (InsertRule subject at verdict pattern) =
     of_subject (find_subject subject policy) (inserted policy subject at verdict pattern)

@@ -3,14 +3,16 @@ use Rattle.std.proofs.Common.{◌≡◌, ℕ, List, [], ◌∷◌, ◌++◌, Opt
 use Rattle.std.specs.Option.{option_map}
 use Rattle.pol_names.specs.Name.{name_of}
 use Rattle.pol_names.specs.Decision.{verdict_word}
+use Rattle.pol_names.specs.declared.secret.Credential.{Credential}
+use Rattle.pol_names.specs.declared.secret.Credential.TheVariants.{Login, Enable}
 use Rattle.pol_names.specs.declared.subject_id.Kind.{Kind}
 use Rattle.pol_names.specs.declared.subject_id.Kind.TheVariants.{Group, User}
 use Rattle.pol_names.specs.declared.decision.Verdict.{Verdict}
 use Rattle.pol_names.specs.declared.decision.Verdict.TheVariants.{Permit, Deny}
 use Rattle.pol_names.specs.declared.subject_id.SubjectId.{SubjectId}
 use Rattle.pol_edit.specs.declared.edit.Edit.{Edit}
-use Rattle.pol_edit.specs.declared.edit.Edit.TheVariants.{AddGroup, AddUser, Remove, SetParent, SetLogin, SetEnable, SetPriv, InsertRule, RemoveRule, MoveRule}
-use Rattle.pol_edit.specs.EditText.{◌>>=◌, parted, subject_of, subject_before, parent_of_text, add_edit, add_of, move_of, secret_for, clear_of, priv_of, insert_of, drop_of, shift_of, edit_by, edit_of}
+use Rattle.pol_edit.specs.declared.edit.Edit.TheVariants.{AddGroup, AddUser, Remove, SetParent, SetLogin, SetEnable, SetHash, SetPriv, InsertRule, RemoveRule, MoveRule}
+use Rattle.pol_edit.specs.EditText.{◌>>=◌, parted, subject_of, subject_before, parent_of_text, add_edit, add_of, move_of, secret_for, hash_for, clear_of, priv_of, insert_of, drop_of, shift_of, edit_by, edit_of}
 use Rattle.pol_names.specs.SubjectId.{subject_text}
 use Rattle.pol_edit.specs.Spelling.{IsName, IsParent, SpellsNumber, parent_text, SpellsWords, Spells}
 use Rattle.pol_edit.proofs.Spaces.{joined_4, joined_6, joined_7, split_whole, split_front, name_spaceless, number_spaceless}
@@ -64,6 +66,10 @@ secret_back : (setting : List ℕ → Option (List ℕ) → Edit) (user text : L
 unfolding secret_for
 secret_back setting user text right = rw (append_assoc user (codes " ") text, name_front user text right, named user right) refl
 
+hash_back : (credential : Credential) (user text : List ℕ) → IsName user → hash_for credential (user ++ 32 ∷ text) ≡ Some (SetHash user credential text)
+unfolding hash_for
+hash_back credential user text right = rw (name_front user text right, named user right) refl
+
 clear_login : (user : List ℕ) → IsName user → clear_of (codes "login " ++ user) ≡ Some (SetLogin user None)
 unfolding clear_of
 clear_login user right = rw (named user right) refl
@@ -116,6 +122,10 @@ words_back line (SetLogin user (Some text)) h = rw h.0 (secret_back SetLogin use
 words_back line (SetLogin user None) h = rw h.0 (clear_login user h.1)
 words_back line (SetEnable user (Some text)) h = rw h.0 (secret_back SetEnable user text h.1)
 words_back line (SetEnable user None) h = rw h.0 (clear_enable user h.1)
+words_back line (SetHash user Login text) h =
+    ap by_words (h.0 ∙ joined_4 (codes "login-hash ") user (codes " ") text) ∙ hash_back Login user text h.1
+words_back line (SetHash user Enable text) h =
+    ap by_words (h.0 ∙ joined_4 (codes "enable-hash ") user (codes " ") text) ∙ hash_back Enable user text h.1
 words_back line (SetPriv subject (Some level)) h =
     ap by_words (h.1 ∙ joined_4 (codes "priv ") (subject_text subject) (codes " ") h.0) ∙ priv_back subject h.0 level h.2 h.3
 words_back line (SetPriv subject None) h = rw h.0 (clear_priv subject h.1)

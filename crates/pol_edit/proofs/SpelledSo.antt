@@ -7,14 +7,17 @@ use Rattle.basics.specs.Symbol.{is_text}
 use Rattle.pol_names.specs.Name.{is_name, name_of}
 use Rattle.pol_names.specs.SubjectId.{kind_word, subject_text}
 use Rattle.pol_names.specs.Decision.{verdict_word}
+use Rattle.pol_names.specs.Secret.{hash_word}
+use Rattle.pol_names.specs.declared.secret.Credential.{Credential}
+use Rattle.pol_names.specs.declared.secret.Credential.TheVariants.{Login, Enable}
 use Rattle.pol_names.specs.declared.subject_id.Kind.{Kind}
 use Rattle.pol_names.specs.declared.subject_id.Kind.TheVariants.{Group, User}
 use Rattle.pol_names.specs.declared.decision.Verdict.{Verdict}
 use Rattle.pol_names.specs.declared.decision.Verdict.TheVariants.{Permit, Deny}
 use Rattle.pol_names.specs.declared.subject_id.SubjectId.{SubjectId}
 use Rattle.pol_edit.specs.declared.edit.Edit.{Edit}
-use Rattle.pol_edit.specs.declared.edit.Edit.TheVariants.{Remove, SetParent, SetLogin, SetEnable, SetPriv, InsertRule, RemoveRule, MoveRule}
-use Rattle.pol_edit.specs.EditText.{◌>>=◌, parted, kind_of, verdict_of, count_of, subject_of, subject_before, parent_of_text, add_edit, added, add_of, move_of, secret_for, clear_of, priv_of, insert_of, drop_of, shift_of, edit_by, edit_of}
+use Rattle.pol_edit.specs.declared.edit.Edit.TheVariants.{Remove, SetParent, SetLogin, SetEnable, SetHash, SetPriv, InsertRule, RemoveRule, MoveRule}
+use Rattle.pol_edit.specs.EditText.{◌>>=◌, parted, kind_of, verdict_of, count_of, subject_of, subject_before, parent_of_text, add_edit, added, add_of, move_of, secret_for, hash_for, clear_of, priv_of, insert_of, drop_of, shift_of, edit_by, edit_of}
 use Rattle.pol_edit.specs.Spelling.{IsName, IsParent, parent_text, SpellsWords, Spells}
 use Rattle.pol_edit.proofs.Spaces.{joined_4, joined_6, joined_7, parts_joined}
 
@@ -187,6 +190,17 @@ enable_found rest edit e =
     let found = secret_found SetEnable rest edit e in
     respell _ (codes "enable " ++ (found.0 ++ codes " " ++ found.1)) edit (SetEnable found.0 (Some found.1)) (ap (λ (t : List ℕ). codes "enable " ++ t) found.2) found.4 (refl, found.3)
 
+hash_found : (credential : Credential) (rest : List ℕ) (edit : Edit) → hash_for credential rest ≡ Some edit → SpellsWords (hash_word credential ++ rest) edit
+unfolding hash_for
+hash_found credential rest edit e =
+    let parts = bound (parted rest) _ edit e in
+    let joined = parted_at rest parts.0 parts.1 in
+    let user = mapped (name_of parts.0.0) (λ user. SetHash user credential parts.0.1) edit parts.2 in
+    let named = name_found parts.0.0 user.0 user.1 in
+    respell _ (hash_word credential ++ (user.0 ++ 32 ∷ parts.0.1)) edit (SetHash user.0 credential parts.0.1)
+    (ap (λ (t : List ℕ). hash_word credential ++ t) (joined ∙ ap (λ (w : List ℕ). w ++ 32 ∷ parts.0.1) named.0))
+    user.2 (sym (joined_4 (hash_word credential) user.0 (codes " ") parts.0.1), named.1)
+
 clear_found : (rest : List ℕ) (edit : Edit) → clear_of rest ≡ Some edit → SpellsWords (codes "clear " ++ rest) edit
 unfolding clear_of
 clear_found rest edit e =
@@ -275,12 +289,14 @@ words_found word rest edit e =
     (λ e. on (codes "move") (move_of rest) _ e (move_found rest edit)
     (λ e. on (codes "login") (secret_for SetLogin rest) _ e (login_found rest edit)
     (λ e. on (codes "enable") (secret_for SetEnable rest) _ e (enable_found rest edit)
+    (λ e. on (codes "login-hash") (hash_for Login rest) _ e (hash_found Login rest edit)
+    (λ e. on (codes "enable-hash") (hash_for Enable rest) _ e (hash_found Enable rest edit)
     (λ e. on (codes "clear") (clear_of rest) _ e (clear_found rest edit)
     (λ e. on (codes "priv") (priv_of rest) _ e (priv_found rest edit)
     (λ e. on (codes "insert") (insert_of rest) _ e (insert_found rest edit)
     (λ e. on (codes "drop") (drop_of rest) _ e (drop_found rest edit)
     (λ e. on (codes "shift") (shift_of rest) None e (shift_found rest edit)
-    (λ none. absurd cc))))))))))
+    (λ none. absurd cc))))))))))))
   where
     on : (wanted : List ℕ) (x y : Option Edit) → cond (bytes_eq word wanted) x y ≡ Some edit
         → (x ≡ Some edit → SpellsWords (wanted ++ 32 ∷ rest) edit) → (y ≡ Some edit → SpellsWords (word ++ 32 ∷ rest) edit) → SpellsWords (word ++ 32 ∷ rest) edit

@@ -2,11 +2,12 @@
 use Rattle.std.specs.Prelude.{◌≡◌, ℕ, ◌+◌, ◌-◌, nat_le, List, [], ◌∷◌, ◌++◌, length, Bool, true}
 use Rattle.std.specs.Prelude.{false, not, ◌&&◌, ◌||◌, is_some, Option, Some, None, Result, Ok, Err}
 use Rattle.std.specs.Prelude.{ok_or, if◌then◌else◌}
-use Rattle.std.specs.Option.{option_map_or}
+use Rattle.std.specs.Option.{option_map, option_map_or}
 use Rattle.std.specs.Result.{is_ok}
 use Rattle.basics.specs.Memory.{Except}
 use Rattle.pol_pattern.specs.Reading.{pattern_of}
 use Rattle.pol_pattern.specs.declared.fault.PatternFault.{PatternFault}
+use Rattle.sha_crypt.specs.HashText.{hash_of}
 use Rattle.pol_names.specs.Secret.{is_secret}
 use Rattle.pol_names.specs.SubjectId.{same_kind, group_id, user_id}
 use Rattle.pol_text.specs.Policy.{find_subject, all_of, max_subjects, max_rules, max_level}
@@ -15,6 +16,7 @@ use Rattle.pol_text.specs.Change.{with_changed, without, is_parent, has_room_bel
 use Rattle.pol_text.specs.Change.{with_parent, with_secret, with_priv, with_rule_at}
 use Rattle.pol_text.specs.Change.{without_rule_at, with_rule_moved}
 use Rattle.pol_names.specs.declared.secret.Credential.TheVariants.{Login, Enable}
+use Rattle.pol_names.specs.declared.secret.Secret.TheVariants.{Clear, Hashed}
 use Rattle.pol_names.specs.declared.subject_id.Kind.{Kind}
 use Rattle.pol_names.specs.declared.subject_id.Kind.TheVariants.{Group, User}
 use Rattle.pol_names.specs.declared.decision.Verdict.{Verdict}
@@ -25,7 +27,7 @@ use Rattle.pol_text.specs.declared.fault.ChainFault.TheVariants as chains
 use Rattle.pol_edit.specs.declared.edit.Edit.{Edit}
 use Rattle.pol_edit.specs.declared.edit.Edit.TheVariants.{AddGroup, AddUser, Remove, SetParent}
 use Rattle.pol_edit.specs.declared.edit.Edit.TheVariants.{SetLogin, SetEnable, SetPriv, InsertRule}
-use Rattle.pol_edit.specs.declared.edit.Edit.TheVariants.{RemoveRule, MoveRule}
+use Rattle.pol_edit.specs.declared.edit.Edit.TheVariants.{SetHash, RemoveRule, MoveRule}
 use Rattle.pol_edit.specs.declared.fault.EditFault.{EditFault}
 use Rattle.pol_edit.specs.declared.fault.EditFault.TheVariants as faults
 
@@ -113,9 +115,14 @@ applied policy (AddUser name parent) = added_to policy User name parent
 applied policy (Remove subject) = removed_from policy subject
 applied policy (SetParent subject parent) = moved_in policy subject parent
 applied policy (SetLogin user secret) =
-    set_in policy (user_id user) (all_of is_secret secret) (with_secret Login secret)
+    set_in policy (user_id user) (all_of is_secret secret)
+    (with_secret Login (option_map Clear secret))
 applied policy (SetEnable user secret) =
-    set_in policy (user_id user) (all_of is_secret secret) (with_secret Enable secret)
+    set_in policy (user_id user) (all_of is_secret secret)
+    (with_secret Enable (option_map Clear secret))
+applied policy (SetHash user credential text) =
+    set_in policy (user_id user) (is_some (hash_of text))
+    (with_secret credential (option_map Hashed (hash_of text)))
 applied policy (SetPriv subject level) =
     set_in policy subject (all_of (λ n. nat_le n max_level) level) (with_priv level)
 applied policy (InsertRule subject at verdict pattern) =
@@ -132,6 +139,8 @@ is_missing policy (SetParent subject parent) =
     not (is_some (find_subject subject policy)) || not (has_group parent policy)
 is_missing policy (SetLogin user secret) = not (is_some (find_subject (user_id user) policy))
 is_missing policy (SetEnable user secret) = not (is_some (find_subject (user_id user) policy))
+is_missing policy (SetHash user credential text) =
+    not (is_some (find_subject (user_id user) policy))
 is_missing policy (Remove subject) = not (is_some (find_subject subject policy))
 is_missing policy (SetPriv subject level) = not (is_some (find_subject subject policy))
 is_missing policy (InsertRule subject at verdict pattern) =
@@ -152,7 +161,7 @@ has_place policy id at =
     option_map_or (λ subject. is_number at (length subject.rules + 1))
     (find_subject id policy) false
 
--- whether the edit takes memory: a subject that is added and a secret that is set
+-- whether the edit takes memory: a subject that is added and a secret in the clear that is set
 -- do, and a pattern that is read, which it is once its rule has a place. No other
 -- edit does, nor one that is refused before
 abbrev pub takes_memory : List Subject → Edit → Bool

@@ -7,6 +7,8 @@ use Rattle.basics.specs.Symbol.{is_text}
 use Rattle.basics.specs.Lines.{split_at_first}
 use Rattle.basics.specs.Number.{number_of}
 use Rattle.pol_names.specs.Name.{name_of}
+use Rattle.pol_names.specs.declared.secret.Credential.{Credential}
+use Rattle.pol_names.specs.declared.secret.Credential.TheVariants.{Login, Enable}
 use Rattle.pol_names.specs.declared.subject_id.Kind.{Kind}
 use Rattle.pol_names.specs.declared.subject_id.Kind.TheVariants.{Group, User}
 use Rattle.pol_names.specs.declared.decision.Verdict.{Verdict}
@@ -15,7 +17,7 @@ use Rattle.pol_names.specs.declared.subject_id.SubjectId.{SubjectId}
 use Rattle.pol_edit.specs.declared.edit.Edit.{Edit}
 use Rattle.pol_edit.specs.declared.edit.Edit.TheVariants.{AddGroup, AddUser, Remove, SetParent}
 use Rattle.pol_edit.specs.declared.edit.Edit.TheVariants.{SetLogin, SetEnable, SetPriv, InsertRule}
-use Rattle.pol_edit.specs.declared.edit.Edit.TheVariants.{RemoveRule, MoveRule}
+use Rattle.pol_edit.specs.declared.edit.Edit.TheVariants.{SetHash, RemoveRule, MoveRule}
 
 infixl 10 ◌>>=◌
 abbrev pub ◌>>=◌ : {A B : Type 0} → Option A → (A → Option B) → Option B
@@ -94,6 +96,12 @@ unfoldable pub secret_for : (List ℕ → Option (List ℕ) → Edit) → List �
 secret_for setting rest =
     parted rest >>= λ parts. option_map (λ user. setting user (Some parts.1)) (name_of parts.0)
 
+-- `NAME HASH`: the hash is the whole rest
+unfoldable pub hash_for : Credential → List ℕ → Option Edit
+hash_for credential rest =
+    parted rest
+    >>= λ parts. option_map (λ user. SetHash user credential parts.1) (name_of parts.0)
+
 -- `login NAME`, `enable NAME` or `priv KIND NAME`
 unfoldable pub clear_of : List ℕ → Option Edit
 clear_of rest = parted rest >>= λ parts.
@@ -142,6 +150,8 @@ edit_by word rest =
     else if bytes_eq word (codes "move") then move_of rest
     else if bytes_eq word (codes "login") then secret_for SetLogin rest
     else if bytes_eq word (codes "enable") then secret_for SetEnable rest
+    else if bytes_eq word (codes "login-hash") then hash_for Login rest
+    else if bytes_eq word (codes "enable-hash") then hash_for Enable rest
     else if bytes_eq word (codes "clear") then clear_of rest
     else if bytes_eq word (codes "priv") then priv_of rest
     else if bytes_eq word (codes "insert") then insert_of rest
@@ -155,10 +165,11 @@ edit_of line = if is_text line then (parted line >>= λ parts. edit_by parts.0 p
 
 -- ---- memory
 
--- whether an edit has a secret or a pattern, which take memory to keep
+-- whether an edit has a secret, a hash or a pattern, which take memory to keep
 abbrev pub has_text : Edit → Bool
 has_text (SetLogin user secret) = is_some secret
 has_text (SetEnable user secret) = is_some secret
+has_text (SetHash user credential hash) = true
 has_text (InsertRule subject at verdict pattern) = true
 has_text edit = false
 

@@ -5,6 +5,8 @@
 --           | "move " subject ( " in " name | " out" )
 --           | "login " name " " text
 --           | "enable " name " " text
+--           | "login-hash " name " " text
+--           | "enable-hash " name " " text
 --           | "clear login " name
 --           | "clear enable " name
 --           | "clear priv " subject
@@ -23,10 +25,11 @@ use Rattle.pol_names.specs.Name.{is_name}
 use Rattle.pol_text.specs.Policy.{all_of}
 use Rattle.pol_names.specs.SubjectId.{subject_text}
 use Rattle.pol_names.specs.Decision.{verdict_word}
+use Rattle.pol_names.specs.Secret.{hash_word}
 use Rattle.pol_edit.specs.declared.edit.Edit.{Edit}
 use Rattle.pol_edit.specs.declared.edit.Edit.TheVariants.{AddGroup, AddUser, Remove, SetParent}
 use Rattle.pol_edit.specs.declared.edit.Edit.TheVariants.{SetLogin, SetEnable, SetPriv, InsertRule}
-use Rattle.pol_edit.specs.declared.edit.Edit.TheVariants.{RemoveRule, MoveRule}
+use Rattle.pol_edit.specs.declared.edit.Edit.TheVariants.{SetHash, RemoveRule, MoveRule}
 
 abbrev pub IsName : List ℕ → Type 0
 IsName name = IsTrue (is_name name)
@@ -59,6 +62,8 @@ SpellsWords line (SetLogin user None) = (line ≡ codes "clear login " ++ user) 
 SpellsWords line (SetEnable user (Some text)) =
     (line ≡ codes "enable " ++ user ++ codes " " ++ text) × IsName user
 SpellsWords line (SetEnable user None) = (line ≡ codes "clear enable " ++ user) × IsName user
+SpellsWords line (SetHash user credential text) =
+    (line ≡ hash_word credential ++ user ++ codes " " ++ text) × IsName user
 SpellsWords line (SetPriv subject (Some level)) =
     (digits : List ℕ) × (line ≡ codes "priv " ++ subject_text subject ++ codes " " ++ digits)
     × IsName subject.name × SpellsNumber digits level

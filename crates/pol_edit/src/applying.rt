@@ -2,10 +2,13 @@
 
 ghost use Rattle.std.specs.Prelude.{◌≡◌, ◌⊎◌, ◌&&◌, Ok, Err, false, nat_le, is_some, IsTrue, IfOk};
 ghost use Rattle.std.specs.Prelude.{IfErr, OnErr};
+ghost use Rattle.std.specs.Option.{option_map};
 ghost use Rattle.std.specs.Result.{is_ok};
 ghost use Rattle.basics.specs.Memory.{GivesUnlessMemory};
 ghost use Rattle.pol_pattern.specs.Reading.{pattern_of};
+ghost use Rattle.sha_crypt.specs.HashText.{hash_of};
 ghost use Rattle.pol_names.specs.Secret.{is_secret};
+ghost use Rattle.pol_names.specs.declared.secret.Secret.TheVariants.{Clear, Hashed};
 ghost use Rattle.pol_names.specs.SubjectId.{user_id};
 ghost use Rattle.pol_text.specs.Policy.{WellFormed, all_of, find_subject};
 ghost use Rattle.pol_text.specs.Change.{has_room_below, with_secret, with_priv};
@@ -16,7 +19,7 @@ ghost use Rattle.pol_edit.specs.Applying.{Applies};
 use crate::edit::Edit;
 use crate::fault::EditFault;
 use basics::Bytes;
-use pol_names::{Credential, Kind, Name, Secret, SubjectId, Verdict};
+use pol_names::{ClearSecret, Credential, Hash, Kind, Name, Secret, SubjectId, Verdict};
 use pol_pattern::{Pattern, PatternFault};
 use pol_text::{ChainFault, Policy, Rule};
 use std::alloc::Global;
@@ -68,9 +71,8 @@ pub(crate) fn is_missing(policy: &Policy, edit: &Edit) -> bool
         Edit::SetParent { subject, parent } => {
             !has_subject(policy, subject) || !has_group(policy, parent)
         }
-        Edit::SetLogin { user, .. } | Edit::SetEnable { user, .. } => {
-            !has_subject(policy, &SubjectId::user(*user))
-        }
+        Edit::SetLogin { user, .. } | Edit::SetEnable { user, .. } | Edit::SetHash { user, .. } =>
+            !has_subject(policy, &SubjectId::user(*user)),
         Edit::Remove { subject }
         | Edit::SetPriv { subject, .. }
         | Edit::InsertRule { subject, .. }
@@ -92,7 +94,7 @@ fn read_pattern(alloc: Global, text: &[u8]) -> Result<Pattern, EditFault>
 
 fn read_secret(alloc: Global, text: &Option<Bytes>) -> Result<Option<Secret>, EditFault>
     ensures ok { IfOk result
-        (λ secret. (secret ≡ text.now) × IsTrue (all_of is_secret text.now)) }
+        (λ secret. (secret ≡ option_map Clear text.now) × IsTrue (all_of is_secret text.now)) }
     ensures err { IfErr result (λ fault.
         ((fault ≡ Memory) × IsTrue (is_some text.now) × IsTrue (all_of is_secret text.now))
         ⊎ ((fault ≡ BadValue) × (all_of is_secret text.now ≡ false))) }
@@ -100,8 +102,8 @@ fn read_secret(alloc: Global, text: &Option<Bytes>) -> Result<Option<Secret>, Ed
     let Some(text) = text else {
         return Ok(None);
     };
-    match Secret::read(alloc, text.as_slice())? {
-        Some(secret) => Ok(Some(secret)),
+    match ClearSecret::read(alloc, text.as_slice())? {
+        Some(secret) => Ok(Some(Secret::Clear(secret))),
         None => Err(EditFault::BadValue),
     }
 }
@@ -195,7 +197,7 @@ fn set_secret(
     secret: &Option<Bytes>,
 ) -> Result<(), EditFault>
     ensures exact { let right = all_of is_secret secret.now in
-        let change = with_secret credential secret.now in
+        let change = with_secret credential (option_map Clear secret.now) in
         let wanted = applying.set_in policy.old (user_id user) right change in
         Applies (is_some secret.now && is_ok wanted) policy.old policy.new result wanted }
     ensures well_formed { WellFormed policy.new }
@@ -206,6 +208,30 @@ fn set_secret(
     }
     let secret = read_secret(alloc, secret)?;
     policy.set_secret(&id, credential, secret);
+    Ok(())
+}
+
+#[tactic(auto, unfolding(crate::specs::Applying::set_in))]
+fn set_hash(
+    policy: &mut Policy,
+    user: Name,
+    credential: Credential,
+    text: &[u8],
+) -> Result<(), EditFault>
+    ensures exact { let hash = hash_of text.now in
+        let change = with_secret credential (option_map Hashed hash) in
+        Applies false policy.old policy.new result
+        (applying.set_in policy.old (user_id user) (is_some hash) change) }
+    ensures well_formed { WellFormed policy.new }
+{
+    let id = SubjectId::user(user);
+    if policy.find(&id).is_none() {
+        return Err(EditFault::NoSuch);
+    }
+    let Some(hash) = Hash::read(text) else {
+        return Err(EditFault::BadValue);
+    };
+    policy.set_secret(&id, credential, Some(Secret::Hashed(hash)));
     Ok(())
 }
 
@@ -310,6 +336,11 @@ fn make(alloc: Global, policy: &mut Policy, edit: &Edit) -> Result<(), EditFault
             Credential::Enable,
             secret,
         ),
+        Edit::SetHash {
+            user,
+            credential,
+            hash,
+        } => set_hash(policy, *user, *credential, hash.as_slice()),
         Edit::SetPriv { subject, level } => set_priv(policy, subject, *level),
         Edit::InsertRule {
             subject,
@@ -323,7 +354,8 @@ fn make(alloc: Global, policy: &mut Policy, edit: &Edit) -> Result<(), EditFault
 }
 
 /// Applies an edit. A refused edit leaves the policy as it was, also where memory ran out. Only a
-/// subject that is added, a secret that is set and a rule that is inserted take memory.
+/// subject that is added, a secret that is set in the clear and a rule that is inserted take
+/// memory.
 pub fn apply(alloc: Global, policy: &mut Policy, edit: &Edit) -> Result<(), EditFault>
     // Which policy it becomes, or which refusal comes first. Memory runs out only where it is
     // taken.

@@ -3,9 +3,9 @@
 ghost use Rattle.std.specs.Prelude.{◌≡◌};
 
 use basics::{Bytes, StructuralEq};
-use pol_names::{Name, SubjectId, Verdict};
+use pol_names::{Credential, Name, SubjectId, Verdict};
 
-/// An edit. Secrets and patterns are kept as they were written, and judged when the edit is
+/// An edit. Secrets, hashes and patterns are kept as they were written, and judged when the edit is
 /// applied; rules are counted from 1.
 #[derive(PartialEq, Eq)]
 pub enum Edit {
@@ -37,6 +37,12 @@ pub enum Edit {
     SetEnable {
         user: Name,
         secret: Option<Bytes>,
+    },
+    /// Sets the hash of what a user logs in or enables with, in place of the secret that is there.
+    SetHash {
+        user: Name,
+        credential: Credential,
+        hash: Bytes,
     },
     /// Sets the level of the subject's shells, or clears it.
     SetPriv {
@@ -76,6 +82,11 @@ impl Drop for Edit {
             } => {}
             Edit::SetLogin { user: _, secret: _ } => {}
             Edit::SetEnable { user: _, secret: _ } => {}
+            Edit::SetHash {
+                user: _,
+                credential: _,
+                hash: _,
+            } => {}
             Edit::SetPriv {
                 subject: _,
                 level: _,

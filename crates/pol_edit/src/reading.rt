@@ -8,14 +8,14 @@ ghost use Rattle.pol_edit.specs.declared.edit.Edit.TheVariants.{SetLogin, SetEna
 ghost use Rattle.pol_edit.specs.declared.fault.EditFault.TheVariants.{BadEdit, Memory};
 ghost use Rattle.pol_edit.specs.Spelling.{Spells};
 ghost use Rattle.pol_edit.specs.EditText.{parted, added as added_by, add_of, move_of, secret_for};
-ghost use Rattle.pol_edit.specs.EditText.{clear_of, priv_of, insert_of, drop_of, shift_of, edit_by};
-ghost use Rattle.pol_edit.specs.EditText.{edit_of, has_text_in};
+ghost use Rattle.pol_edit.specs.EditText.{hash_for, clear_of, priv_of, insert_of, drop_of};
+ghost use Rattle.pol_edit.specs.EditText.{shift_of, edit_by, edit_of, has_text_in};
 
 use crate::edit::Edit;
 use crate::fault::EditFault;
 use crate::fields::{count, kind, parent, subject, subject_before, verdict};
 use basics::{Bytes, is_text, split_once};
-use pol_names::{Kind, Name, SubjectId, Verdict};
+use pol_names::{Credential, Kind, Name, SubjectId, Verdict};
 use std::alloc::{AllocError, Global};
 
 // `NAME` or `NAME in PARENT`, after the kind.
@@ -102,6 +102,26 @@ fn enable(alloc: Global, rest: &[u8]) -> Result<Option<Edit>, AllocError>
     Ok(Some(Edit::SetEnable {
         user,
         secret: Some(text),
+    }))
+}
+
+// `login-hash NAME HASH` or `enable-hash NAME HASH`.
+#[tactic(auto, unfolding(crate::specs::EditText::hash_for))]
+fn hash(alloc: Global, credential: Credential, rest: &[u8]) -> Result<Option<Edit>, AllocError>
+    ensures edit { IfOk result (λ edit. edit ≡ hash_for credential rest.now) }
+    ensures memory { OnErr result (IsTrue (has_text_in (hash_for credential rest.now))) }
+{
+    let Some((name, text)) = split_once(rest, b' ') else {
+        return Ok(None);
+    };
+    let Some(user) = Name::read(name) else {
+        return Ok(None);
+    };
+    let hash = Bytes::from_slice(alloc, text)?;
+    Ok(Some(Edit::SetHash {
+        user,
+        credential,
+        hash,
     }))
 }
 
@@ -220,6 +240,12 @@ fn worded(alloc: Global, word: &[u8], rest: &[u8]) -> Result<Option<Edit>, Alloc
     }
     if word == b"enable".as_slice() {
         return enable(alloc, rest);
+    }
+    if word == b"login-hash".as_slice() {
+        return hash(alloc, Credential::Login, rest);
+    }
+    if word == b"enable-hash".as_slice() {
+        return hash(alloc, Credential::Enable, rest);
     }
     if word == b"clear".as_slice() {
         return Ok(clear(rest));
