@@ -1,5 +1,5 @@
 -- An edit that a policy takes is spelled by its line.
-use Rattle.std.proofs.Common.{◌≡◌, ℕ, ◌+◌, ◌≤◌, ◌&&◌, Bool, true, false, not, cond, nat_le, List, [], ◌++◌, length, codes, Option, Some, None, Result, Ok, Err, ok_or, refl, arith}
+use Rattle.std.proofs.Common.{◌≡◌, ℕ, ◌+◌, ◌≤◌, ◌&&◌, Bool, true, false, not, cond, nat_le, List, [], ◌++◌, length, codes, Option, Some, None, Result, Ok, Err, ok_or, is_some, refl, sym, subst, arith}
 use Rattle.std.specs.Result.{is_ok}
 use Rattle.std.specs.Fmt.{decimal}
 use Rattle.std.proofs.lemmas.Bool.{and_parts}
@@ -7,7 +7,11 @@ use Rattle.std.proofs.lemmas.Bool.Decides.{nat_tests}
 use Rattle.basics.specs.Symbol.{is_text}
 use Rattle.pol_pattern.specs.Reading.{pattern_of}
 use Rattle.pol_pattern.specs.declared.fault.PatternFault.{PatternFault}
+use Rattle.sha_crypt.specs.HashText.{HashParts, hash_of}
+use Rattle.sha_crypt.proofs.TextFacts.{found as found_hash}
+use Rattle.sha_crypt.proofs.SymbolFacts.{hash_is_text}
 use Rattle.pol_names.specs.Secret.{is_secret}
+use Rattle.pol_names.specs.declared.secret.Credential.TheVariants.{Login, Enable}
 use Rattle.pol_names.specs.SubjectId.{subject_text, user_id}
 use Rattle.pol_names.specs.Decision.{verdict_word}
 use Rattle.pol_names.specs.declared.decision.Verdict.{Verdict}
@@ -20,7 +24,7 @@ use Rattle.pol_text.proofs.RightSubject.{right_parts}
 use Rattle.pol_edit.specs.Applying.{◌>>=◌, applied, present, is_number, pattern_read, set_in, inserted_in, dropped_in, shifted_in}
 use Rattle.pol_edit.specs.Spelling.{Spells, IsName, parent_text}
 use Rattle.pol_edit.specs.declared.edit.Edit.{Edit}
-use Rattle.pol_edit.specs.declared.edit.Edit.TheVariants.{AddGroup, AddUser, Remove, SetParent, SetLogin, SetEnable, SetPriv, InsertRule, RemoveRule, MoveRule}
+use Rattle.pol_edit.specs.declared.edit.Edit.TheVariants.{AddGroup, AddUser, Remove, SetParent, SetLogin, SetEnable, SetHash, SetPriv, InsertRule, RemoveRule, MoveRule}
 use Rattle.pol_edit.specs.declared.fault.EditFault.{EditFault}
 use Rattle.pol_edit.specs.declared.fault.EditFault.TheVariants as faults
 use Rattle.pol_update.specs.Line.{edit_line, HasNames}
@@ -64,6 +68,12 @@ set_right policy made id is_right change h =
 
 secret_text : (secret : List ℕ) → is_secret secret ≡ true → is_text secret ≡ true
 secret_text secret h = (and_parts _ (is_text secret) h).1
+
+hash_symbols : (text : List ℕ) (read : Option HashParts) → read ≡ hash_of text → is_some read ≡ true → is_text text ≡ true
+hash_symbols text None e h = absurd cc
+hash_symbols text (Some hash) e h =
+    let is = found_hash text (Some hash) e in
+    subst (λ (t : List ℕ). is_text t ≡ true) (sym is.1) (hash_is_text hash is.0)
 
 read_ok : (text : List ℕ) (source : List ℕ) → pattern_read (pattern_of text) ≡ Ok source → is_ok (pattern_of text) ≡ true
 read_ok text source = by (pattern_of text)
@@ -135,6 +145,12 @@ spelled policy made (SetEnable user (Some text)) names w h =
     let right = set_right policy made (user_id user) (is_secret text) _ h in
     (texted (codes "enable ") user text refl names (secret_text text right), (refl, names))
 spelled policy made (SetEnable user None) names w h = (named (codes "clear enable ") user refl names, (refl, names))
+spelled policy made (SetHash user Login text) names w h =
+    let right = set_right policy made (user_id user) (is_some (hash_of text)) _ h in
+    (texted (codes "login-hash ") user text refl names (hash_symbols text (hash_of text) refl right), (refl, names))
+spelled policy made (SetHash user Enable text) names w h =
+    let right = set_right policy made (user_id user) (is_some (hash_of text)) _ h in
+    (texted (codes "enable-hash ") user text refl names (hash_symbols text (hash_of text) refl right), (refl, names))
 spelled policy made (SetPriv subject (Some level)) names w h =
     let right : nat_le level 15 ≡ true = set_right policy made subject (nat_le level 15) _ h in
     let small : level ≤ 257 = grind (arith, nat_tests) in

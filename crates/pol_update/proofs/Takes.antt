@@ -10,7 +10,10 @@ use Rattle.std.proofs.lemmas.List.Edits.{insert_end}
 use Rattle.std.proofs.lemmas.List.{length-take, drop_all}
 use Rattle.std.proofs.Math.Seq.{take-suc}
 use Rattle.pol_pattern.specs.Reading.{pattern_of}
-use Rattle.pol_names.specs.Secret.{is_secret}
+use Rattle.sha_crypt.proofs.TextFacts.{again}
+use Rattle.pol_names.specs.Kept.{is_right_secret, same_secret, same_secret-Decides}
+use Rattle.pol_names.specs.declared.secret.Secret.{Secret}
+use Rattle.pol_names.specs.declared.secret.Secret.TheVariants.{Clear, Hashed}
 use Rattle.pol_names.specs.SubjectId.{same_kind, user_id}
 use Rattle.pol_names.specs.declared.secret.Credential.{Credential}
 use Rattle.pol_names.specs.declared.secret.Credential.TheVariants.{Login, Enable}
@@ -51,11 +54,14 @@ unfolding applied added_to
 takes_added p Group name absent room = rw (absent, room) refl
 takes_added p User name absent room = rw (absent, room) refl
 
-takes_secret : (p : List Subject) (credential : Credential) (user : List ℕ) (secret : Option (List ℕ)) (s : Subject) → find_subject (user_id user) p ≡ Some s → all_of is_secret secret ≡ true
+takes_secret : (p : List Subject) (credential : Credential) (user : List ℕ) (secret : Option Secret) (s : Subject) → find_subject (user_id user) p ≡ Some s → all_of is_right_secret secret ≡ true
     → applied p (secret_edit credential user secret) ≡ Ok (with_changed (user_id user) (with_secret credential secret) p)
 unfolding applied set_in
-takes_secret p Login user secret s found right = rw (found, right) refl
-takes_secret p Enable user secret s found right = rw (found, right) refl
+takes_secret p Login user None s found right = rw found refl
+takes_secret p Enable user None s found right = rw found refl
+takes_secret p Login user (Some (Clear text)) s found right = rw (found, right) refl
+takes_secret p Enable user (Some (Clear text)) s found right = rw (found, right) refl
+takes_secret p credential user (Some (Hashed hash)) s found right = rw (found, again hash right) refl
 
 takes_level : (p : List Subject) (id : SubjectId) (level : Option ℕ) (s : Subject) → find_subject id p ≡ Some s → all_of (λ n. nat_le n 15) level ≡ true
     → applied p (SetPriv id level) ≡ Ok (with_changed id (with_priv level) p)
@@ -110,26 +116,29 @@ added_turned r kind name before now w absent room added =
     of Group = refl
     of User = refl
 
-secret_set : (credential : Credential) (secret : Option (List ℕ)) (s : Subject) → secret_for credential (with_secret credential secret s) ≡ secret
+secret_set : (credential : Credential) (secret : Option Secret) (s : Subject) → secret_for credential (with_secret credential secret s) ≡ secret
 secret_set Login secret s = refl
 secret_set Enable secret s = refl
 
-secret_keeps : (credential : Credential) (secret : Option (List ℕ)) (s : Subject) → id_of (with_secret credential secret s) ≡ id_of s
+secret_keeps : (credential : Credential) (secret : Option Secret) (s : Subject) → id_of (with_secret credential secret s) ≡ id_of s
 secret_keeps Login secret s = refl
 secret_keeps Enable secret s = refl
 
-pub secret_turned : {E : Type 0} (r : Result (Unit {0}) E) (credential : Credential) (user : List ℕ) (secret : Option (List ℕ)) (s : Subject) (before now : Plan) → WellFormed before.made
-    → find_subject (user_id user) before.made ≡ Some s → ¬ (secret_for credential s ≡ secret) → all_of is_secret secret ≡ true → Added r before now (secret_edit credential user secret)
+pub secret_turned : {E : Type 0} (r : Result (Unit {0}) E) (credential : Credential) (user : List ℕ) (secret : Option Secret) (s : Subject) (before now : Plan) → WellFormed before.made
+    → find_subject (user_id user) before.made ≡ Some s → ¬ (secret_for credential s ≡ secret) → all_of is_right_secret secret ≡ true → Added r before now (secret_edit credential user secret)
     → OnOk r (IsTurned (user_id user) (option_map (with_secret credential secret) (find_subject (user_id user) before.made)) before now)
 secret_turned r credential user secret s before now w found differs right added =
     turned_by r (secret_edit credential user secret) (user_id user) (option_map (with_secret credential secret) (find_subject (user_id user) before.made)) before now
-    (with_changed (user_id user) (with_secret credential secret) before.made) (of credential) w
+    (with_changed (user_id user) (with_secret credential secret) before.made) (of credential secret) w
     (takes_secret before.made credential user secret s found right) (turns_changed (user_id user) (with_secret credential secret) before.made (secret_keeps credential secret))
     (is_other before.made (user_id user) (with_secret credential secret) s found (λ e. differs (sym (ap (secret_for credential) e) ∙ secret_set credential secret s))) added
   where
-    of : (credential : Credential) → subject_of (secret_edit credential user secret) ≡ user_id user
-    of Login = refl
-    of Enable = refl
+    of : (credential : Credential) (secret : Option Secret) → subject_of (secret_edit credential user secret) ≡ user_id user
+    of Login None = refl
+    of Enable None = refl
+    of Login (Some (Clear text)) = refl
+    of Enable (Some (Clear text)) = refl
+    of credential (Some (Hashed hash)) = refl
 
 pub level_turned : {E : Type 0} (r : Result (Unit {0}) E) (id : SubjectId) (level : Option ℕ) (s : Subject) (before now : Plan) → WellFormed before.made → find_subject id before.made ≡ Some s
     → ¬ (s.priv_lvl ≡ level) → all_of (λ n. nat_le n 15) level ≡ true → Added r before now (SetPriv id level)
@@ -207,7 +216,7 @@ group_secrets p x s w right found group =
     let theirs = none_in s (all_found is_right_subject (id_of x) p s w.right found) group in
     rw found (ap Some (by (sym theirs.0 ∙ ours.0) (sym theirs.1 ∙ ours.1)))
   where
-    none_by : (k : Kind) (a b : Option (List ℕ)) → k ≡ Group → (same_kind k User || not (is_some a || is_some b)) ≡ true → (None ≡ a) × (None ≡ b)
+    none_by : (k : Kind) (a b : Option Secret) → k ≡ Group → (same_kind k User || not (is_some a || is_some b)) ≡ true → (None ≡ a) × (None ≡ b)
     none_by Group None None e h = (refl, refl)
     none_by Group (Some a) b e h = absurd cc
     none_by Group None (Some b) e h = absurd cc
@@ -217,7 +226,7 @@ group_secrets p x s w right found group =
     none_in t r e = none_by t.kind t.login t.enable e (right_parts t r).secrets
 
     by : s.login ≡ x.login → s.enable ≡ x.enable → s ≡ with_secrets x s
-    by login enable = ap (λ (v : Option (List ℕ)). record s { login = v }) login ∙ ap (λ (v : Option (List ℕ)). record s { login = x.login; enable = v }) enable
+    by login enable = ap (λ (v : Option Secret). record s { login = v }) login ∙ ap (λ (v : Option Secret). record s { login = x.login; enable = v }) enable
 
 pub both_secrets : (x : Subject) (o : Option Subject) → option_map (with_secret Enable x.enable) (option_map (with_secret Login x.login) o) ≡ option_map (with_secrets x) o
 both_secrets x None = refl
@@ -229,6 +238,13 @@ text_self (Some text) = (bytes_eq-Decides text text).1 refl
 
 pub text_differs : (a b : Option (List ℕ)) (test : Bool) → test ≡ option_eq bytes_eq a b → test ≡ false → ¬ (a ≡ b)
 text_differs a b test is apart same = absurd (true≢false (sym (is ∙ ap (option_eq bytes_eq a) (sym same) ∙ text_self a) ∙ apart))
+
+secret_self : (o : Option Secret) → option_eq same_secret o o ≡ true
+secret_self None = refl
+secret_self (Some secret) = (same_secret-Decides secret secret).1 refl
+
+pub secret_differs : (a b : Option Secret) (test : Bool) → test ≡ option_eq same_secret a b → test ≡ false → ¬ (a ≡ b)
+secret_differs a b test is apart same = absurd (true≢false (sym (is ∙ ap (option_eq same_secret a) (sym same) ∙ secret_self a) ∙ apart))
 
 level_self : (o : Option ℕ) → option_eq (λ m n. m == n) o o ≡ true
 level_self None = refl

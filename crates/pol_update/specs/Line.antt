@@ -3,7 +3,7 @@ use Rattle.std.specs.Prelude.{ℕ, List, [], ◌++◌, codes, Option, Some, None
 use Rattle.std.specs.Fmt.{decimal}
 use Rattle.pol_names.specs.SubjectId.{subject_text}
 use Rattle.pol_names.specs.Decision.{verdict_word}
-use Rattle.pol_names.specs.Secret.{credential_word}
+use Rattle.pol_names.specs.Secret.{credential_word, hash_word}
 use Rattle.pol_names.specs.declared.secret.Credential.{Credential}
 use Rattle.pol_names.specs.declared.secret.Credential.TheVariants.{Login, Enable}
 use Rattle.pol_names.specs.declared.subject_id.SubjectId.{SubjectId}
@@ -11,7 +11,7 @@ use Rattle.pol_edit.specs.Spelling.{parent_text, IsName, IsParent}
 use Rattle.pol_edit.specs.declared.edit.Edit.{Edit}
 use Rattle.pol_edit.specs.declared.edit.Edit.TheVariants.{AddGroup, AddUser, Remove, SetParent}
 use Rattle.pol_edit.specs.declared.edit.Edit.TheVariants.{SetLogin, SetEnable, SetPriv, InsertRule}
-use Rattle.pol_edit.specs.declared.edit.Edit.TheVariants.{RemoveRule, MoveRule}
+use Rattle.pol_edit.specs.declared.edit.Edit.TheVariants.{SetHash, RemoveRule, MoveRule}
 
 abbrev pub secret_line : Credential → List ℕ → Option (List ℕ) → List ℕ
 secret_line credential user (Some text) = credential_word credential ++ user ++ codes " " ++ text
@@ -31,6 +31,8 @@ edit_line (SetParent subject parent) =
     codes "move " ++ subject_text subject ++ parent_text parent (codes " out")
 edit_line (SetLogin user secret) = secret_line Login user secret
 edit_line (SetEnable user secret) = secret_line Enable user secret
+edit_line (SetHash user credential text) =
+    hash_word credential ++ user ++ codes " " ++ text
 edit_line (SetPriv subject level) = level_line subject level
 edit_line (InsertRule subject at verdict pattern) =
     codes "insert " ++ subject_text subject ++ codes " " ++ decimal at ++ codes " "
@@ -50,6 +52,7 @@ HasNames (Remove subject) = IsName subject.name
 HasNames (SetParent subject parent) = IsName subject.name × IsParent parent
 HasNames (SetLogin user secret) = IsName user
 HasNames (SetEnable user secret) = IsName user
+HasNames (SetHash user credential text) = IsName user
 HasNames (SetPriv subject level) = IsName subject.name
 HasNames (InsertRule subject at verdict pattern) = IsName subject.name
 HasNames (RemoveRule subject at) = IsName subject.name

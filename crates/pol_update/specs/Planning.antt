@@ -1,9 +1,12 @@
 -- What the functions that plan edits do, one subject after another.
 use Rattle.std.specs.Prelude.{◌≡◌, ◌⊎◌, ℕ, List, [], ◌∷◌, map, Bool, true, false, IsTrue, Option, Some}
 use Rattle.std.specs.Prelude.{None, Ok, is_some, if◌then◌else◌}
+use Rattle.sha_crypt.specs.HashText.{hash_text}
 use Rattle.pol_names.specs.SubjectId.{same_id}
 use Rattle.pol_names.specs.declared.secret.Credential.{Credential}
 use Rattle.pol_names.specs.declared.secret.Credential.TheVariants.{Login, Enable}
+use Rattle.pol_names.specs.declared.secret.Secret.{Secret}
+use Rattle.pol_names.specs.declared.secret.Secret.TheVariants.{Clear, Hashed}
 use Rattle.pol_names.specs.declared.subject_id.Kind.{Kind}
 use Rattle.pol_names.specs.declared.subject_id.Kind.TheVariants.{Group, User}
 use Rattle.pol_names.specs.declared.subject_id.SubjectId.{SubjectId}
@@ -12,6 +15,7 @@ use Rattle.pol_text.specs.declared.subject.Subject.{Subject}
 use Rattle.pol_text.specs.Policy.{WellFormed, id_of, find_subject, all_distinct}
 use Rattle.pol_edit.specs.declared.edit.Edit.{Edit}
 use Rattle.pol_edit.specs.declared.edit.Edit.TheVariants.{AddGroup, AddUser, SetLogin, SetEnable}
+use Rattle.pol_edit.specs.declared.edit.Edit.TheVariants.{SetHash}
 use Rattle.pol_edit.specs.Applying.{applied}
 use Rattle.pol_update.specs.Update.{IsAlike, subject_of, AreSteps}
 use Rattle.pol_update.specs.declared.plan.Plan.{Plan}
@@ -113,9 +117,15 @@ IsSet new id now = now ≡ find_subject id new
 
 -- ---- one subject's settings
 
-abbrev pub secret_edit : Credential → List ℕ → Option (List ℕ) → Edit
-secret_edit Login user secret = SetLogin user secret
-secret_edit Enable user secret = SetEnable user secret
+abbrev pub clear_edit : Credential → List ℕ → Option (List ℕ) → Edit
+clear_edit Login user text = SetLogin user text
+clear_edit Enable user text = SetEnable user text
+
+-- the edit that gives a user this secret, or none
+abbrev pub secret_edit : Credential → List ℕ → Option Secret → Edit
+secret_edit credential user None = clear_edit credential user None
+secret_edit credential user (Some (Clear text)) = clear_edit credential user (Some text)
+secret_edit credential user (Some (Hashed hash)) = SetHash user credential (hash_text hash)
 
 abbrev pub bare_edit : Kind → List ℕ → Edit
 bare_edit Group name = AddGroup name None

@@ -9,7 +9,7 @@ use Rattle.pol_text.specs.Same.{same_subject}
 use Rattle.pol_edit.specs.declared.edit.Edit.{Edit}
 use Rattle.pol_edit.specs.declared.edit.Edit.TheVariants.{AddGroup, AddUser, Remove, SetParent}
 use Rattle.pol_edit.specs.declared.edit.Edit.TheVariants.{SetLogin, SetEnable, SetPriv, InsertRule}
-use Rattle.pol_edit.specs.declared.edit.Edit.TheVariants.{RemoveRule, MoveRule}
+use Rattle.pol_edit.specs.declared.edit.Edit.TheVariants.{SetHash, RemoveRule, MoveRule}
 use Rattle.pol_edit.specs.Applying.{applied}
 use Rattle.pol_edit.specs.Batches.{applied_all}
 
@@ -32,6 +32,7 @@ subject_of (Remove subject) = subject
 subject_of (SetParent subject parent) = subject
 subject_of (SetLogin user secret) = user_id user
 subject_of (SetEnable user secret) = user_id user
+subject_of (SetHash user credential hash) = user_id user
 subject_of (SetPriv subject level) = subject
 subject_of (InsertRule subject at verdict pattern) = subject
 subject_of (RemoveRule subject at) = subject

@@ -18,7 +18,8 @@ pub(crate) fn subject(edit: &Edit) -> SubjectId
     match edit {
         Edit::AddGroup { name, .. } => SubjectId::group(*name),
         Edit::AddUser { name, .. } => SubjectId::user(*name),
-        Edit::SetLogin { user, .. } | Edit::SetEnable { user, .. } => SubjectId::user(*user),
+        Edit::SetLogin { user, .. } | Edit::SetEnable { user, .. } | Edit::SetHash { user, .. } =>
+            SubjectId::user(*user),
         Edit::Remove { subject }
         | Edit::SetParent { subject, .. }
         | Edit::SetPriv { subject, .. }

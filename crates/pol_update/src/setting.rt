@@ -1,21 +1,11 @@
 //! Secrets and levels.
 
 use crate::plan::Plan;
-use basics::Bytes;
+use crate::turning::secret_edit;
 use pol_edit::Edit;
-use pol_text::{Secret, Subject};
+use pol_names::Credential;
+use pol_text::Subject;
 use std::alloc::{AllocError, Global};
-
-// The secret's text, if there is one.
-fn text_of(alloc: Global, secret: &Option<Secret>) -> Result<Option<Bytes>, AllocError> {
-    match secret {
-        Some(secret) => {
-            let text = Bytes::from_slice(alloc, secret.as_slice())?;
-            Ok(Some(text))
-        }
-        None => Ok(None),
-    }
-}
 
 /// Gives a subject that is there the secrets and the level that this one has.
 pub(crate) fn set(alloc: Global, plan: &mut Plan, subject: &Subject) -> Result<(), AllocError> {
@@ -27,12 +17,12 @@ pub(crate) fn set(alloc: Global, plan: &mut Plan, subject: &Subject) -> Result<(
     let level = present.priv_lvl != subject.priv_lvl;
     let user = subject.name;
     if login {
-        let secret = text_of(alloc, &subject.login)?;
-        plan.add(alloc, Edit::SetLogin { user, secret })?;
+        let edit = secret_edit(alloc, Credential::Login, user, &subject.login)?;
+        plan.add(alloc, edit)?;
     }
     if enable {
-        let secret = text_of(alloc, &subject.enable)?;
-        plan.add(alloc, Edit::SetEnable { user, secret })?;
+        let edit = secret_edit(alloc, Credential::Enable, user, &subject.enable)?;
+        plan.add(alloc, edit)?;
     }
     if level {
         let level = subject.priv_lvl.map(u16::from);

@@ -3,7 +3,7 @@
 ghost use Rattle.std.specs.Prelude.{◌≡◌, ◌<◌, ◌≤◌, ◌&&◌, List, [], Some, None, length, nat_le};
 ghost use Rattle.std.specs.Prelude.{false, is_some, IsTrue, IfOk, OnOk};
 ghost use Rattle.std.specs.Option.{option_map};
-ghost use Rattle.pol_names.specs.Secret.{is_secret};
+ghost use Rattle.pol_names.specs.Kept.{is_right_secret};
 ghost use Rattle.pol_names.specs.SubjectId.{same_kind, user_id};
 ghost use Rattle.pol_names.specs.declared.subject_id.Kind.TheVariants.{Group};
 ghost use Rattle.pol_text.specs.Policy.{WellFormed, all_of, find_subject, id_of, is_right_subject};
@@ -23,19 +23,6 @@ use pol_edit::Edit;
 use pol_names::{Credential, Kind, Name, SubjectId};
 use pol_text::{Rule, Secret, Subject};
 use std::alloc::{AllocError, Global};
-
-// The secret's text, if there is one.
-fn text_of(alloc: Global, secret: &Option<Secret>) -> Result<Option<Bytes>, AllocError>
-    ensures { IfOk result (λ text. text ≡ secret.now) }
-{
-    match secret {
-        Some(secret) => {
-            let text = Bytes::from_slice(alloc, secret.as_slice())?;
-            Ok(Some(text))
-        }
-        None => Ok(None),
-    }
-}
 
 // The secret of this kind.
 fn secret_of(subject: &Subject, credential: Credential) -> &Option<Secret>
@@ -66,13 +53,40 @@ fn wide(level: Option<u8>) -> Option<u16>
     }
 }
 
-// The edit that sets a secret.
-fn secret_edit(credential: Credential, user: Name, secret: Option<Bytes>) -> Edit
-    ensures { result ≡ planning.secret_edit credential user secret }
+// The edit that sets a secret in the clear, or clears it.
+fn clear_edit(credential: Credential, user: Name, secret: Option<Bytes>) -> Edit
+    ensures { result ≡ planning.clear_edit credential user secret }
 {
     match credential {
         Credential::Login => Edit::SetLogin { user, secret },
         Credential::Enable => Edit::SetEnable { user, secret },
+    }
+}
+
+/// The edit that gives a user this secret, or none.
+pub(crate) fn secret_edit(
+    alloc: Global,
+    credential: Credential,
+    user: Name,
+    secret: &Option<Secret>,
+) -> Result<Edit, AllocError>
+    ensures { IfOk result (λ edit. edit ≡ planning.secret_edit credential user secret.now) }
+{
+    match secret {
+        Some(Secret::Clear(secret)) => {
+            let text = Bytes::from_slice(alloc, secret.as_slice())?;
+            Ok(clear_edit(credential, user, Some(text)))
+        }
+        Some(Secret::Hashed(hash)) => {
+            let spelled = hash.text();
+            let hash = Bytes::from_slice(alloc, spelled.as_slice())?;
+            Ok(Edit::SetHash {
+                user,
+                credential,
+                hash,
+            })
+        }
+        None => Ok(clear_edit(credential, user, None)),
     }
 }
 
@@ -145,7 +159,7 @@ impl Plan {
         credential: Credential,
         secret: &Option<Secret>,
     ) -> Result<(), AllocError>
-        requires { IsTrue (all_of is_secret secret.now) }
+        requires { IsTrue (all_of is_right_secret secret.now) }
         ensures { OnOk result (IsTurned (user_id user.now)
             (option_map (with_secret credential secret.now)
             (find_subject (user_id user.now) self.old.made)) self.old self.new) }
@@ -156,8 +170,8 @@ impl Plan {
         if secret_of(present, credential) == secret {
             return Ok(());
         }
-        let secret = text_of(alloc, secret)?;
-        self.add(alloc, secret_edit(credential, *user, secret))
+        let edit = secret_edit(alloc, credential, *user, secret)?;
+        self.add(alloc, edit)
     }
 
     // Gives a subject another level, or none.

@@ -2,6 +2,7 @@
 
 ghost use Rattle.std.specs.Prelude.{◌≡◌, ◌++◌, ◌∷◌, List, [], codes, Ok, OnOk};
 ghost use Rattle.std.specs.Fmt.{decimal};
+ghost use Rattle.pol_names.specs.Secret.{hash_word};
 ghost use Rattle.pol_names.specs.SubjectId.{subject_text};
 ghost use Rattle.pol_text.specs.Policy.{WellFormed};
 ghost use Rattle.pol_text.specs.declared.subject.Subject.{Subject as SubjectValue};
@@ -95,6 +96,23 @@ fn write_secret(
     }
 }
 
+// `login-hash NAME HASH` or `enable-hash NAME HASH`.
+fn write_hash(
+    out: &mut Vec<u8>,
+    credential: Credential,
+    user: &Name,
+    hash: &[u8],
+) -> Result<(), AllocError>
+    ensures text { OnOk result (out.new.items
+        ≡ out.old.items ++ (hash_word credential ++ user.now ++ codes " " ++ hash.now)) }
+    ensures name { OnOk result (IsName user.now) }
+{
+    out.extend_from_slice(credential.hash_keyword().as_bytes())?;
+    out.extend_from_slice(user.as_slice())?;
+    out.extend_from_slice(b" ")?;
+    out.extend_from_slice(hash)
+}
+
 // `priv KIND NAME LEVEL` or `clear priv KIND NAME`.
 fn write_level(out: &mut Vec<u8>, subject: &SubjectId, level: Option<u16>) -> Result<(), AllocError>
     ensures text { OnOk result
@@ -125,6 +143,11 @@ fn write_words(out: &mut Vec<u8>, edit: &Edit) -> Result<(), AllocError>
         }
         Edit::SetLogin { user, secret } => write_secret(out, Credential::Login, user, secret),
         Edit::SetEnable { user, secret } => write_secret(out, Credential::Enable, user, secret),
+        Edit::SetHash {
+            user,
+            credential,
+            hash,
+        } => write_hash(out, *credential, user, hash.as_slice()),
         Edit::SetPriv { subject, level } => write_level(out, subject, *level),
         Edit::InsertRule {
             subject,
