@@ -12,6 +12,7 @@ use Rattle.pol_pattern.specs.declared.version.Version.{Version}
 use Rattle.pol_text.specs.declared.fault.PolicyRefusal.{PolicyRefusal}
 use Rattle.pol_text.specs.Policy.{max_subjects}
 use Rattle.pol_text.specs.Text.{body_of}
+use Rattle.pol_text.specs.Versions.{patterns_of}
 use Rattle.pol_lint.specs.Words.{column_of, noted, words_of, words_in, parent_text, keyword_of}
 use Rattle.pol_lint.specs.Faults.{body_faults}
 use Rattle.pol_lint.specs.Searches.{pattern_searches}
@@ -136,7 +137,8 @@ abbrev pub too_large : List ℕ → List Heading → Option Heading → List Rem
 too_large text headings None = []
 too_large text headings (Some large) =
     noted large.line 1 (Some TooManyStates)
-    ++ searches (body_of (lines_of text)).version headings large false 1 (lines_of text)
+    ++ searches (patterns_of (body_of (lines_of text)).version) headings large false 1
+    (lines_of text)
 
 -- of a text whose policy is refused since this subject has too many states: its line, and then the
 -- rules along its chain that go on after a search

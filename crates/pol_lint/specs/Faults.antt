@@ -11,17 +11,17 @@ use Rattle.basics.specs.Lines.{without_leading_spaces}
 use Rattle.pol_names.specs.Name.{name_of}
 use Rattle.pol_names.specs.declared.subject_id.Kind.{Kind}
 use Rattle.pol_names.specs.declared.subject_id.Kind.TheVariants.{Group, User}
-use Rattle.pol_pattern.specs.declared.version.Version.{Version}
-use Rattle.pol_pattern.specs.declared.version.Version.TheVariants.{One, Two}
 use Rattle.pol_pattern.specs.declared.fault.PatternFault.{PatternFault}
 use Rattle.pol_pattern.specs.declared.fault.PatternFault.TheVariants as patterns
 use Rattle.pol_text.specs.declared.subject.Subject.{Subject}
+use Rattle.pol_text.specs.declared.version.TextVersion.{TextVersion}
+use Rattle.pol_text.specs.declared.version.TextVersion.TheVariants.{One, Two, Three}
 use Rattle.pol_text.specs.declared.fault.PolicyFault.{PolicyFault}
 use Rattle.pol_text.specs.declared.fault.PolicyFault.TheVariants as policies
 use Rattle.pol_text.specs.declared.fault.PolicyRefusal.{PolicyRefusal}
 use Rattle.pol_text.specs.declared.fault.PolicyRefusal.TheVariants.{BadLine, BadName, BadPattern}
 use Rattle.pol_text.specs.declared.fault.PolicyRefusal.TheVariants.{BadValue, NoSuchParent, Cycle}
-use Rattle.pol_text.specs.Text.{policy_of, version_line, Body}
+use Rattle.pol_text.specs.Text.{policy_of, version_line, third_line, Body}
 use Rattle.pol_lint.specs.Words.{column_of, noted, begins, words_of, words_in, parent_text}
 use Rattle.pol_lint.specs.Words.{keyword_of}
 use Rattle.pol_lint.specs.Reasons.{line_reason, reason_column}
@@ -88,10 +88,11 @@ abbrev pub opening_for : Option Kind → Keyword → List ℕ
 opening_for present (Opens kind) = []
 opening_for present _ = opening_of present
 
--- the line before these: one that says version 2, or an empty one
-abbrev pub first_line : Version → List ℕ
+-- the line before these: one that says version 2 or 3, or an empty one
+abbrev pub first_line : TextVersion → List ℕ
 first_line One = 10 ∷ []
 first_line Two = version_line ++ 10 ∷ []
+first_line Three = third_line ++ 10 ∷ []
 
 -- ---- a line by itself
 
@@ -106,7 +107,7 @@ refusal_in (Ok policy) = None
 refusal_in (Err policies.Memory) = None
 refusal_in (Err (policies.Refused line refusal)) = own_refusal refusal
 
-abbrev pub refusal_of : Version → Option Kind → List ℕ → Option PolicyRefusal
+abbrev pub refusal_of : TextVersion → Option Kind → List ℕ → Option PolicyRefusal
 refusal_of version present line =
     refusal_in (policy_of (first_line version
     ++ opening_for present (keyword_of (words_in line).0) ++ line))
@@ -136,31 +137,32 @@ refusal_column line BadValue = column_of line (words_in line).1
 refusal_column line _ = column_of line (without_leading_spaces line)
 
 -- why it isn't a line of a policy
-abbrev pub reason_of : List ℕ → LineReason
-reason_of line = line_reason (without_leading_spaces line)
+abbrev pub reason_of : TextVersion → List ℕ → LineReason
+reason_of version line = line_reason version (without_leading_spaces line)
 
-abbrev pub refusal_remarks : ℕ → List ℕ → Option PolicyRefusal → List Remark
-refusal_remarks number line None = []
-refusal_remarks number line (Some BadLine) =
-    noted number (reason_column line (reason_of line)) (Some (findings.BadLine (reason_of line)))
-refusal_remarks number line (Some refusal) =
+abbrev pub refusal_remarks : TextVersion → ℕ → List ℕ → Option PolicyRefusal → List Remark
+refusal_remarks version number line None = []
+refusal_remarks version number line (Some BadLine) =
+    noted number (reason_column line (reason_of version line))
+    (Some (findings.BadLine (reason_of version line)))
+refusal_remarks version number line (Some refusal) =
     noted number (refusal_column line refusal) (Some (Refused refusal))
 
 -- of a line of symbols
-abbrev pub text_faults : Version → Option Kind → ℕ → List ℕ → List Remark
+abbrev pub text_faults : TextVersion → Option Kind → ℕ → List ℕ → List Remark
 text_faults version present number line =
     if has_capitals line
     then noted number (column_of line (without_leading_spaces line)) (Some Capitals)
-    else refusal_remarks number line (refusal_of version present line)
+    else refusal_remarks version number line (refusal_of version present line)
 
 -- of a line of a text, said of a subject of this kind, if of any
-abbrev pub line_faults : Version → Option Kind → ℕ → List ℕ → List Remark
+abbrev pub line_faults : TextVersion → Option Kind → ℕ → List ℕ → List Remark
 line_faults version present number line =
     if is_text line then text_faults version present number line
     else noted number (column_of line (from_odd line)) (odd_finding number line (from_odd line))
 
 -- of these lines, of which the first has this number
-abbrev pub lines_faults : Version → Option Kind → ℕ → List (List ℕ) → List Remark
+abbrev pub lines_faults : TextVersion → Option Kind → ℕ → List (List ℕ) → List Remark
 lines_faults version present number [] = []
 lines_faults version present number (line ∷ lines) =
     line_faults version present number line

@@ -1,8 +1,10 @@
 -- Habits of other pattern languages: what is a symbol here and stands for something else there, and
 -- spaces that nobody sees.
-use Rattle.std.specs.Prelude.{ℕ, List, [], ◌∷◌, ◌++◌, ◌==◌, length, codes, nat_le, Bool}
+use Rattle.std.specs.Prelude.{ℕ, List, [], ◌∷◌, ◌++◌, ◌==◌, length, codes, nat_le, nat_lt, Bool}
 use Rattle.std.specs.Prelude.{false, not, ◌&&◌, ◌||◌, Option, Some, None, if◌then◌else◌}
-use Rattle.std.specs.Option.{option_or}
+use Rattle.std.specs.Option.{option_or, option_map_or}
+use Rattle.sha_crypt.specs.HashText.{hash_of}
+use Rattle.sha_crypt.specs.Passing.{rounds_of}
 use Rattle.pol_pattern.specs.declared.version.Version.{Version}
 use Rattle.pol_pattern.specs.declared.version.Version.TheVariants.{One, Two}
 use Rattle.pol_lint.specs.Words.{column_of, noted, begins, ends}
@@ -13,10 +15,14 @@ use Rattle.pol_lint.specs.declared.finding.Finding.{Finding}
 use Rattle.pol_lint.specs.declared.finding.Finding.TheVariants.{Caret, Dollar, Digit, WordByte}
 use Rattle.pol_lint.specs.declared.finding.Finding.TheVariants.{Space, NamedClass, Count, Comment}
 use Rattle.pol_lint.specs.declared.finding.Finding.TheVariants.{BlankBefore, BlankAfter}
+use Rattle.pol_lint.specs.declared.finding.Finding.TheVariants.{HashInClear, ManyRounds}
 use Rattle.pol_lint.specs.declared.remark.Remark.{Remark}
 
 abbrev pub is_digit : ℕ → Bool
 is_digit byte = nat_le 48 byte && nat_le byte 57
+
+abbrev pub is_letter : ℕ → Bool
+is_letter byte = (nat_le 65 byte && nat_le byte 90) || (nat_le 97 byte && nat_le byte 122)
 
 -- digits and commas up to a `}`
 abbrev pub ends_count : List ℕ → Bool
@@ -86,6 +92,29 @@ last_habit pattern =
     if ends_quoted false pattern then None
     else if ends pattern (codes "$") then Some Dollar else blank_after pattern
 
+-- letters or digits up to a `$`
+abbrev pub ends_scheme : List ℕ → Bool
+ends_scheme [] = false
+ends_scheme (byte ∷ rest) =
+    if is_digit byte || is_letter byte then ends_scheme rest else byte == 36
+
+-- `$6$`, as the texts of hashes begin
+abbrev pub looks_hashed : List ℕ → Bool
+looks_hashed [] = false
+looks_hashed (sign ∷ []) = false
+looks_hashed (sign ∷ first ∷ rest) =
+    (sign == 36 && (is_digit first || is_letter first)) && ends_scheme rest
+
+-- a secret in the clear that looks like a hash, or begins with a space
+abbrev pub secret_habit : List ℕ → Option Finding
+secret_habit secret = if looks_hashed secret then Some HashInClear else blank_before secret
+
+-- a hash of so many rounds that a login by it takes long
+abbrev pub rounds_finding : List ℕ → Option Finding
+rounds_finding text =
+    option_map_or (λ hash. if nat_lt 20000 (rounds_of hash) then Some ManyRounds else None)
+    (hash_of text) None
+
 -- all habits of the pattern, or the secret, at the end of a line
 abbrev pub pattern_habits : Version → ℕ → List ℕ → List ℕ → List Remark
 pattern_habits version number line pattern =
@@ -95,5 +124,5 @@ pattern_habits version number line pattern =
 
 abbrev pub secret_habits : ℕ → List ℕ → List ℕ → List Remark
 secret_habits number line secret =
-    noted number (column_of line secret) (blank_before secret)
+    noted number (column_of line secret) (secret_habit secret)
     ++ noted number (length line) (blank_after secret)

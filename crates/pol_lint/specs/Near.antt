@@ -6,13 +6,15 @@ use Rattle.std.specs.Char.{to_ascii_lowercase}
 use Rattle.strsim.specs.Edits.{levenshtein_row}
 use Rattle.pol_lint.specs.declared.near.Word.{Word}
 use Rattle.pol_lint.specs.declared.near.Word.TheVariants.{Group, User, Login, Enable, Priv}
-use Rattle.pol_lint.specs.declared.near.Word.TheVariants.{Permit, Deny, Policy}
+use Rattle.pol_lint.specs.declared.near.Word.TheVariants.{LoginHash, EnableHash, Permit, Deny, Policy}
 
 abbrev pub word_text : Word → List ℕ
 word_text Group = codes "group"
 word_text User = codes "user"
 word_text Login = codes "login"
 word_text Enable = codes "enable"
+word_text LoginHash = codes "login-hash"
+word_text EnableHash = codes "enable-hash"
 word_text Priv = codes "priv"
 word_text Permit = codes "permit"
 word_text Deny = codes "deny"
@@ -20,7 +22,8 @@ word_text Policy = codes "policy"
 
 -- the words with which lines of a policy begin, in the order of docs/POLICY.md
 abbrev pub known_words : List Word
-known_words = Group ∷ User ∷ Login ∷ Enable ∷ Priv ∷ Permit ∷ Deny ∷ Policy ∷ []
+known_words =
+    Group ∷ User ∷ Login ∷ Enable ∷ LoginHash ∷ EnableHash ∷ Priv ∷ Permit ∷ Deny ∷ Policy ∷ []
 
 -- how many bytes have to be put in, taken out or exchanged to make the one word of the other: their
 -- Levenshtein distance
@@ -39,7 +42,7 @@ nearest_of from =
     (option_or (first_within known_words from (min 1 (length from / 2)))
     (first_within known_words from (min 2 (length from / 2))))
 
--- capitals are no change; a word of more than 8 bytes is near none, since none has more than 6
+-- capitals are no change; a word of more than 13 bytes is near none, since none has more than 11
 abbrev pub nearest : List ℕ → Option Word
 nearest word =
-    if nat_le (length word) 8 then nearest_of (map to_ascii_lowercase word) else None
+    if nat_le (length word) 13 then nearest_of (map to_ascii_lowercase word) else None

@@ -1,16 +1,19 @@
 -- Why a line isn't one of a policy, where it is refused as BadLine (docs/REVIEW.md). Of several
 -- reasons the first of this order is told: it is another program's; no line begins with its first
--- word; nothing follows that word; it is a secret, which stands under a group; it ends with a space;
--- it has two spaces in a row; its fields are wrong.
+-- word; it is a hash, in a text of version 1 or 2; nothing follows its first word; it is a secret,
+-- which stands under a group; it ends with a space; it has two spaces in a row; its fields are
+-- wrong.
 use Rattle.std.specs.Prelude.{ℕ, List, [], ◌∷◌, ◌++◌, ◌==◌, length, codes, Bool, is_some}
 use Rattle.std.specs.Prelude.{◌&&◌, ◌||◌, Option, Some, None, if◌then◌else◌}
 use Rattle.std.specs.Str.{bytes_eq}
 use Rattle.basics.specs.Lines.{split_at_first, without_leading_spaces}
+use Rattle.pol_text.specs.declared.version.TextVersion.{TextVersion}
+use Rattle.pol_text.specs.Versions.{has_hashes}
 use Rattle.pol_lint.specs.Words.{begins, ends, column_of, words_of, keyword_of}
 use Rattle.pol_lint.specs.Near.{word_text, nearest}
 use Rattle.pol_lint.specs.declared.near.Word.{Word}
 use Rattle.pol_lint.specs.declared.words.Keyword.{Keyword}
-use Rattle.pol_lint.specs.declared.words.Keyword.TheVariants.{Opens, Secret, Nothing}
+use Rattle.pol_lint.specs.declared.words.Keyword.TheVariants.{Opens, Secret, Hash, Nothing}
 use Rattle.pol_lint.specs.declared.reason.LineReason.{LineReason}
 use Rattle.pol_lint.specs.declared.reason.LineReason.TheVariants as reasons
 
@@ -59,6 +62,7 @@ fields_reason line says rest =
 
 abbrev pub value_reason : List ℕ → Keyword → List ℕ → LineReason
 value_reason line Secret rest = reasons.OfUsers
+value_reason line Hash rest = reasons.OfUsers
 value_reason line says rest = fields_reason line says rest
 
 abbrev pub known_reason : List ℕ → Keyword → List ℕ → LineReason
@@ -67,15 +71,17 @@ known_reason line says rest =
 
 -- ---- any line
 
-abbrev pub reason_by : List ℕ → Keyword → List ℕ × List ℕ → LineReason
-reason_by line Nothing words = unknown_reason words.0
-reason_by line says words = known_reason line says words.1
+abbrev pub reason_by : TextVersion → List ℕ → Keyword → List ℕ × List ℕ → LineReason
+reason_by version line Nothing words = unknown_reason words.0
+reason_by version line Hash words =
+    if has_hashes version then known_reason line Hash words.1 else reasons.OfVersion3
+reason_by version line says words = known_reason line says words.1
 
--- of a line without the spaces that it begins with
-abbrev pub line_reason : List ℕ → LineReason
-line_reason line =
+-- of a line without the spaces that it begins with, in a text of this version
+abbrev pub line_reason : TextVersion → List ℕ → LineReason
+line_reason version line =
     if is_of_other_program line then reasons.OtherProgram
-    else reason_by line (keyword_of (words_of line).0) (words_of line)
+    else reason_by version line (keyword_of (words_of line).0) (words_of line)
 
 -- where it is: at the space, or at the first word
 abbrev pub reason_column : List ℕ → LineReason → ℕ
@@ -89,10 +95,12 @@ reason_column line _ = column_of line (without_leading_spaces line)
 abbrev pub reason_text : LineReason → List ℕ
 reason_text reasons.OtherProgram = codes "this is a line of another program's file, such as tac_plus's"
 reason_text reasons.Version =
-    codes "only the first line of a text says a version, and exactly as 'policy 2'"
+    codes "only the first line of a text says a version, as 'policy 2' or 'policy 3' exactly"
 reason_text reasons.Unknown = codes "no line of a policy begins with this word"
 reason_text (reasons.Misspelt word) =
     codes "no line of a policy begins with this word: is '" ++ word_text word ++ codes "' meant?"
+reason_text reasons.OfVersion3 =
+    codes "such lines are of version 3: is 'policy 3' meant as the first line?"
 reason_text reasons.NoValue = codes "a value is missing at its end"
 reason_text reasons.OfUsers = codes "this is a setting of users, and it stands under a group"
 reason_text reasons.BlankAtEnd = codes "it ends with a space"

@@ -16,13 +16,14 @@ use Rattle.pol_pattern.specs.declared.version.Version.TheVariants.{Two}
 use Rattle.pol_text.specs.declared.subject.Subject.{Subject}
 use Rattle.pol_text.specs.Policy.{find_subject}
 use Rattle.pol_text.specs.Text.{body_of}
+use Rattle.pol_text.specs.Versions.{patterns_of}
 use Rattle.pol_text.specs.Change.{is_parent}
 use Rattle.pol_meaning.specs.declared.Shadowed.{Shadowed}
 use Rattle.pol_lint.specs.Words.{column_of, noted, words_of, words_in, keyword_of}
-use Rattle.pol_lint.specs.Habits.{pattern_habits, secret_habits}
+use Rattle.pol_lint.specs.Habits.{pattern_habits, secret_habits, rounds_finding}
 use Rattle.pol_lint.specs.Endings.{names_end, lacks_end}
 use Rattle.pol_lint.specs.declared.words.Keyword.{Keyword}
-use Rattle.pol_lint.specs.declared.words.Keyword.TheVariants.{Opens, Secret, Rule}
+use Rattle.pol_lint.specs.declared.words.Keyword.TheVariants.{Opens, Secret, Hash, Rule}
 use Rattle.pol_lint.specs.declared.finding.Finding.{Finding}
 use Rattle.pol_lint.specs.declared.finding.Finding.TheVariants.{NoEnd, NoEnds, NoSubjects}
 use Rattle.pol_lint.specs.declared.finding.Finding.TheVariants.{NoMembers, NoLogin}
@@ -119,6 +120,8 @@ remarks_by version policy others hidden present number line (Opens kind) rest =
     noted number (column_of line rest) (subject_finding policy present)
 remarks_by version policy others hidden present number line Secret rest =
     secret_habits number line rest
+remarks_by version policy others hidden present number line Hash rest =
+    noted number (column_of line rest) (rounds_finding rest)
 remarks_by version policy others hidden present number line Rule rest =
     rule_remarks version others hidden present number line rest
 remarks_by version policy others hidden present number line _ rest = []
@@ -146,8 +149,8 @@ lines_remarks version policy others hidden present number (line ∷ lines) =
 abbrev pub remarks_with : List ℕ → List Subject → List Present → List Remark
 remarks_with text policy hidden =
     noted 1 1 (policy_finding policy)
-    ++ lines_remarks (body_of (lines_of text)).version policy (any_pattern (names_end Two) policy)
-    hidden None 1 (lines_of text)
+    ++ lines_remarks (patterns_of (body_of (lines_of text)).version) policy
+    (any_pattern (names_end Two) policy) hidden None 1 (lines_of text)
 
 -- what is told of a policy, of whose rules these decide nothing
 abbrev pub policy_remarks : List ℕ → List Subject → List Shadowed → List Remark

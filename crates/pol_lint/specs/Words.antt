@@ -7,7 +7,8 @@ use Rattle.std.specs.Str.{bytes_eq}
 use Rattle.basics.specs.Lines.{split_at_first, without_leading_spaces}
 use Rattle.pol_names.specs.declared.subject_id.Kind.TheVariants.{Group, User}
 use Rattle.pol_lint.specs.declared.words.Keyword.{Keyword}
-use Rattle.pol_lint.specs.declared.words.Keyword.TheVariants.{Opens, Secret, Level, Rule, Nothing}
+use Rattle.pol_lint.specs.declared.words.Keyword.TheVariants.{Opens, Secret, Hash, Level, Rule}
+use Rattle.pol_lint.specs.declared.words.Keyword.TheVariants.{Nothing}
 use Rattle.pol_lint.specs.declared.finding.Finding.{Finding}
 use Rattle.pol_lint.specs.declared.remark.Remark.{Remark}
 
@@ -45,6 +46,7 @@ keyword_of word =
     if bytes_eq word (codes "group") then Opens Group
     else if bytes_eq word (codes "user") then Opens User
     else if bytes_eq word (codes "login") || bytes_eq word (codes "enable") then Secret
+    else if bytes_eq word (codes "login-hash") || bytes_eq word (codes "enable-hash") then Hash
     else if bytes_eq word (codes "priv") then Level
     else if bytes_eq word (codes "permit") || bytes_eq word (codes "deny") then Rule
     else Nothing

@@ -5,6 +5,7 @@ ghost use Rattle.std.specs.Option.{option_copied, option_to_list};
 ghost use Rattle.std.specs.List.{list_any};
 ghost use Rattle.basics.specs.Lines.{lines_of};
 ghost use Rattle.pol_text.specs.Text.{body_of as body_wanted};
+ghost use Rattle.pol_text.specs.Versions.{patterns_of};
 ghost use Rattle.pol_lint.specs.Chains as chains;
 
 use crate::faults::lines_faults;
@@ -259,14 +260,15 @@ fn note_searches(
     large: &Heading,
 ) -> Result<(), AllocError>
     ensures { OnOk result (remarks.new ≡ remarks.old ++ chains.searches
-        (body_wanted (lines_of text.now)).version headings.now large.now
+        (patterns_of (body_wanted (lines_of text.now)).version) headings.now large.now
         false 1 (lines_of text.now)) }
 {
     let (version, _) = body_of(text);
+    let patterns = version.patterns();
     let mut along = false;
     let mut lines = Lines::new(text);
     'lines: while let Some((number, line)) = lines.take_line() {
-        note_line(remarks, version, along, number, line)?;
+        note_line(remarks, patterns, along, number, line)?;
         along = along_after(headings, large, along, line);
     }
     Ok(())

@@ -12,8 +12,8 @@ use crate::remark::{Remark, column_of, note};
 use crate::words::{Keyword, keyword_of, parent_text, words_in, words_of};
 use basics::{Sequence, is_symbol, is_text, without_leading_spaces};
 use pol_names::{Kind, Name};
-use pol_pattern::{PatternFault, Version};
-use pol_text::{Policy, PolicyFault, PolicyRefusal, body_of};
+use pol_pattern::PatternFault;
+use pol_text::{Policy, PolicyFault, PolicyRefusal, TextVersion, body_of};
 use std::alloc::{AllocError, Global};
 use std::str;
 
@@ -111,13 +111,14 @@ fn opening(present: Option<Kind>, says: Keyword) -> &'static str
     }
 }
 
-// The line before these: one that says version 2, or an empty one.
-fn first_line(version: Version) -> &'static str
+// The line before these: one that says version 2 or 3, or an empty one.
+fn first_line(version: TextVersion) -> &'static str
     ensures { result.now ≡ faults.first_line version }
 {
     match version {
-        Version::One => "\n",
-        Version::Two => "policy 2\n",
+        TextVersion::One => "\n",
+        TextVersion::Two => "policy 2\n",
+        TextVersion::Three => "policy 3\n",
     }
 }
 
@@ -133,7 +134,7 @@ fn own_refusal(refusal: PolicyRefusal) -> Option<PolicyRefusal>
 // What a line by itself is refused for.
 fn refusal_of(
     alloc: Global,
-    version: Version,
+    version: TextVersion,
     present: Option<Kind>,
     line: &[u8],
 ) -> Result<Option<PolicyRefusal>, AllocError>
@@ -209,17 +210,18 @@ fn refusal_column(line: &[u8], refusal: PolicyRefusal) -> usize
 fn note_refusal(
     alloc: Global,
     remarks: &mut Sequence<Remark>,
-    version: Version,
+    version: TextVersion,
     present: Option<Kind>,
     number: usize,
     line: &[u8],
 ) -> Result<(), AllocError>
     ensures { OnOk result (remarks.new ≡ remarks.old
-        ++ faults.refusal_remarks number line.now (faults.refusal_of version present line.now)) }
+        ++ faults.refusal_remarks version number line.now
+        (faults.refusal_of version present line.now)) }
 {
     match refusal_of(alloc, version, present, line)? {
         Some(PolicyRefusal::BadLine) => {
-            let reason = line_reason(alloc, without_leading_spaces(line))?;
+            let reason = line_reason(alloc, version, without_leading_spaces(line))?;
             let column = reason_column(line, reason);
             note(remarks, number, column, Some(Finding::BadLine(reason)))
         }
@@ -235,7 +237,7 @@ fn note_refusal(
 fn note_line(
     alloc: Global,
     remarks: &mut Sequence<Remark>,
-    version: Version,
+    version: TextVersion,
     present: Option<Kind>,
     number: usize,
     line: &[u8],

@@ -31,6 +31,10 @@ pub enum Finding {
     BlankBefore,
     /// A secret or a pattern ends with a space.
     BlankAfter,
+    /// A secret in the clear looks like a hash.
+    HashInClear,
+    /// A hash has over 20,000 rounds.
+    ManyRounds,
     /// A rule doesn't end in ` <cr>`, where others do.
     NoEnd,
     /// No rule ends in ` <cr>`.
@@ -114,6 +118,18 @@ impl fmt::Display for Finding {
             }
             Finding::BlankBefore => write!(f, "it begins with a space: is that meant?"),
             Finding::BlankAfter => write!(f, "it ends with a space: is that meant?"),
+            Finding::HashInClear => {
+                write!(
+                    f,
+                    "this text itself is the password: is a hash meant, as after 'login-hash'?"
+                )
+            }
+            Finding::ManyRounds => {
+                write!(
+                    f,
+                    "over 20000 rounds: each login keeps all other devices waiting so long"
+                )
+            }
             Finding::NoEnd => {
                 write!(
                     f,

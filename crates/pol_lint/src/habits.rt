@@ -1,6 +1,6 @@
 //! Habits of other pattern languages, and spaces that nobody sees.
 
-ghost use Rattle.std.specs.Prelude.{◌≡◌, ◌++◌, false, OnOk};
+ghost use Rattle.std.specs.Prelude.{◌≡◌, ◌++◌, ◌||◌, false, OnOk};
 ghost use Rattle.pol_lint.specs.Habits as habits;
 ghost use Rattle.pol_lint.specs.declared.place.Place.TheVariants.{Outside};
 
@@ -8,6 +8,7 @@ use crate::finding::Finding;
 use crate::place::Place;
 use crate::remark::{Remark, column_of, note};
 use basics::Sequence;
+use pol_names::Hash;
 use pol_pattern::Version;
 use std::alloc::AllocError;
 
@@ -191,7 +192,68 @@ pub(crate) fn note_pattern(
     note(remarks, number, line.len(), last_habit(pattern))
 }
 
-/// Adds the spaces round the secret at the end of a line.
+fn is_letter(byte: u8) -> bool
+    ensures { result ≡ habits.is_letter byte }
+{
+    matches!(byte, b'A'..=b'Z' | b'a'..=b'z')
+}
+
+fn is_letter_or_digit(byte: u8) -> bool
+    ensures { result ≡ (habits.is_digit byte || habits.is_letter byte) }
+{
+    matches!(byte, b'0'..=b'9') || is_letter(byte)
+}
+
+// Letters or digits up to a `$`.
+fn ends_scheme(text: &[u8]) -> bool
+    ensures { result ≡ habits.ends_scheme text.now }
+{
+    let mut rest = text;
+    while let [byte, after @ ..] = rest {
+        if !is_letter_or_digit(*byte) {
+            return *byte == b'$';
+        }
+        rest = after;
+    }
+    false
+}
+
+// `$6$`, as the texts of hashes begin.
+fn looks_hashed(text: &[u8]) -> bool
+    ensures { result ≡ habits.looks_hashed text.now }
+{
+    match text {
+        [sign, first, rest @ ..] => {
+            *sign == b'$' && is_letter_or_digit(*first) && ends_scheme(rest)
+        }
+        _ => false,
+    }
+}
+
+fn secret_habit(secret: &[u8]) -> Option<Finding>
+    ensures { result ≡ habits.secret_habit secret.now }
+{
+    if looks_hashed(secret) {
+        return Some(Finding::HashInClear);
+    }
+    blank_before(secret)
+}
+
+// How many rounds a hash has at most without a remark.
+const FEW_ROUNDS: u32 = 20_000;
+
+/// A hash of so many rounds that a login by it takes long.
+pub(crate) fn rounds_finding(text: &[u8]) -> Option<Finding>
+    ensures { result ≡ habits.rounds_finding text.now }
+{
+    match Hash::read(text) {
+        Some(hash) if hash.rounds() > FEW_ROUNDS => Some(Finding::ManyRounds),
+        _ => None,
+    }
+}
+
+/// Adds what is told of the secret at the end of a line: that it looks like a hash, and the spaces
+/// round it.
 pub(crate) fn note_secret(
     remarks: &mut Sequence<Remark>,
     number: usize,
@@ -205,7 +267,7 @@ pub(crate) fn note_secret(
         remarks,
         number,
         column_of(line, secret),
-        blank_before(secret),
+        secret_habit(secret),
     )?;
     note(remarks, number, line.len(), blank_after(secret))
 }

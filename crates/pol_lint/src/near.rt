@@ -14,6 +14,8 @@ pub enum Word {
     User,
     Login,
     Enable,
+    LoginHash,
+    EnableHash,
     Priv,
     Permit,
     Deny,
@@ -29,6 +31,8 @@ impl Word {
             Word::User => "user",
             Word::Login => "login",
             Word::Enable => "enable",
+            Word::LoginHash => "login-hash",
+            Word::EnableHash => "enable-hash",
             Word::Priv => "priv",
             Word::Permit => "permit",
             Word::Deny => "deny",
@@ -45,8 +49,8 @@ impl fmt::Display for Word {
     }
 }
 
-/// How long a word is at most that is two changes away from one of at most 6 bytes.
-const LONGEST: usize = 8;
+/// How long a word is at most that is two changes away from one of at most 11 bytes.
+const LONGEST: usize = 13;
 
 // How many bytes have to be put in, taken out or exchanged to make the one word of the other.
 fn distance(alloc: Global, from: &[u8], to: &[u8]) -> Result<usize, AllocError>
@@ -82,6 +86,8 @@ fn nearest_of(alloc: Global, from: &[u8]) -> Result<Option<Word>, AllocError>
         Word::User,
         Word::Login,
         Word::Enable,
+        Word::LoginHash,
+        Word::EnableHash,
         Word::Priv,
         Word::Permit,
         Word::Deny,

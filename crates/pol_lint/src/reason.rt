@@ -7,6 +7,7 @@ use crate::near::{Word, nearest};
 use crate::remark::column_of;
 use crate::words::{Keyword, keyword_of, words_of};
 use basics::{split_once, without_leading_spaces};
+use pol_text::TextVersion;
 use std::alloc::{AllocError, Global};
 use std::fmt;
 
@@ -16,12 +17,14 @@ use std::fmt;
 pub enum LineReason {
     /// It is a line as tac_plus's configuration has them.
     OtherProgram,
-    /// It begins with `policy`, and isn't the first line of a text of version 2.
+    /// It begins with `policy`, and isn't a first line that says a version.
     Version,
     /// No line of a policy begins with its first word, and none with one like it.
     Unknown,
     /// No line of a policy begins with its first word, but lines begin with this one.
     Misspelt(Word),
+    /// A hash, in a text of version 1 or 2.
+    OfVersion3,
     /// Nothing follows its first word, or the `in` after a name.
     NoValue,
     /// A secret under a group.
@@ -50,7 +53,7 @@ impl fmt::Display for LineReason {
             LineReason::Version => {
                 write!(
                     f,
-                    "only the first line of a text says a version, and exactly as 'policy 2'"
+                    "only the first line of a text says a version, as 'policy 2' or 'policy 3' exactly"
                 )
             }
             LineReason::Unknown => write!(f, "no line of a policy begins with this word"),
@@ -58,6 +61,12 @@ impl fmt::Display for LineReason {
                 write!(
                     f,
                     "no line of a policy begins with this word: is '{word}' meant?"
+                )
+            }
+            LineReason::OfVersion3 => {
+                write!(
+                    f,
+                    "such lines are of version 3: is 'policy 3' meant as the first line?"
                 )
             }
             LineReason::NoValue => write!(f, "a value is missing at its end"),
@@ -151,14 +160,19 @@ fn known_reason(line: &[u8], says: Keyword, rest: &[u8]) -> LineReason
         return LineReason::NoValue;
     }
     match says {
-        Keyword::Secret => LineReason::OfUsers,
+        Keyword::Secret | Keyword::Hash => LineReason::OfUsers,
         says => fields_reason(line, says, rest),
     }
 }
 
-/// Why a line that is refused as BadLine isn't one of a policy. It has no spaces at its beginning.
-pub(crate) fn line_reason(alloc: Global, line: &[u8]) -> Result<LineReason, AllocError>
-    ensures { IfOk result (λ reason. reason ≡ reasons.line_reason line.now) }
+/// Why a line that is refused as BadLine isn't one of a policy of this version. It has no spaces at
+/// its beginning.
+pub(crate) fn line_reason(
+    alloc: Global,
+    version: TextVersion,
+    line: &[u8],
+) -> Result<LineReason, AllocError>
+    ensures { IfOk result (λ reason. reason ≡ reasons.line_reason version line.now) }
 {
     if is_of_other_program(line) {
         return Ok(LineReason::OtherProgram);
@@ -166,6 +180,7 @@ pub(crate) fn line_reason(alloc: Global, line: &[u8]) -> Result<LineReason, Allo
     let (word, rest) = words_of(line);
     match keyword_of(word) {
         Keyword::Nothing => unknown_reason(alloc, word),
+        Keyword::Hash if !version.has_hashes() => Ok(LineReason::OfVersion3),
         says => Ok(known_reason(line, says, rest)),
     }
 }

@@ -8,7 +8,7 @@ ghost use Rattle.pol_pattern.specs.declared.version.Version.TheVariants.{Two};
 
 use crate::ending::{lacks_end, names_end};
 use crate::finding::Finding;
-use crate::habits::{note_pattern, note_secret};
+use crate::habits::{note_pattern, note_secret, rounds_finding};
 use crate::hidden::hidden_of;
 use crate::remark::{Remark, column_of, note};
 use crate::words::{Keyword, keyword_of, words_in, words_of};
@@ -237,6 +237,7 @@ fn note_line(
             note(remarks, number, column_of(line, rest), finding)
         }
         Keyword::Secret => note_secret(remarks, number, line, rest),
+        Keyword::Hash => note(remarks, number, column_of(line, rest), rounds_finding(rest)),
         Keyword::Rule => note_rule(alloc, remarks, known, *present, number, line, rest),
         Keyword::Level | Keyword::Nothing => Ok(()),
     }
@@ -255,7 +256,7 @@ fn told_of<'a>(
     let (version, _) = body_of(text);
     let others = has_ends(policy);
     let known = Known {
-        version,
+        version: version.patterns(),
         policy,
         others,
         hidden,

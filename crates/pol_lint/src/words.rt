@@ -11,8 +11,10 @@ use pol_names::Kind;
 pub(crate) enum Keyword {
     /// A subject begins.
     Opens(Kind),
-    /// A user's secret.
+    /// A user's secret, in the clear.
     Secret,
+    /// A user's secret, as a hash.
+    Hash,
     /// A level.
     Level,
     /// A rule.
@@ -59,6 +61,9 @@ pub(crate) fn keyword_of(word: &[u8]) -> Keyword
     }
     if word == b"login".as_slice() || word == b"enable".as_slice() {
         return Keyword::Secret;
+    }
+    if word == b"login-hash".as_slice() || word == b"enable-hash".as_slice() {
+        return Keyword::Hash;
     }
     if word == b"priv".as_slice() {
         return Keyword::Level;

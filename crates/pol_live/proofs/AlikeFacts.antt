@@ -6,8 +6,11 @@ use Rattle.std.proofs.lemmas.Bool.{or_parts}
 use Rattle.std.proofs.lemmas.List.Folds.{list_any-append}
 use Rattle.std.proofs.lemmas.List.Elements.{filter_map-append}
 use Rattle.std.proofs.lemmas.Option.{same_Some, none-some}
+use Rattle.sha_crypt.specs.HashText.{hash_of}
 use Rattle.pol_names.specs.declared.secret.Credential.{Credential}
 use Rattle.pol_names.specs.declared.secret.Credential.TheVariants.{Login, Enable}
+use Rattle.pol_names.specs.declared.secret.Secret.{Secret}
+use Rattle.pol_names.specs.declared.secret.Secret.TheVariants.{Clear, Hashed}
 use Rattle.pol_names.specs.declared.subject_id.Kind.{Kind}
 use Rattle.pol_names.specs.declared.subject_id.Kind.TheVariants.{Group, User}
 use Rattle.pol_names.specs.declared.subject_id.SubjectId.{SubjectId}
@@ -24,7 +27,7 @@ use Rattle.pol_edit.specs.Batches as batches
 use Rattle.pol_edit.specs.Batches.{applied_from}
 use Rattle.pol_edit.specs.Applying.{◌>>=◌, present, has_group, added_to, removed_from, unless_chain, moved_in, set_in, pattern_read, is_number, inserted_in, dropped_in, shifted_in, applied}
 use Rattle.pol_edit.specs.declared.edit.Edit.{Edit}
-use Rattle.pol_edit.specs.declared.edit.Edit.TheVariants.{AddGroup, AddUser, Remove, SetParent, SetLogin, SetEnable, SetPriv, InsertRule, RemoveRule, MoveRule}
+use Rattle.pol_edit.specs.declared.edit.Edit.TheVariants.{AddGroup, AddUser, Remove, SetParent, SetLogin, SetEnable, SetHash, SetPriv, InsertRule, RemoveRule, MoveRule}
 use Rattle.pol_edit.specs.declared.fault.EditFault.{EditFault}
 use Rattle.pol_live.specs.declared.touching.Touched.{Touched}
 use Rattle.pol_live.specs.Renewing.{touches, rewrites, touched_by, is_among, IsAlike}
@@ -211,15 +214,15 @@ alike_setting id right f old new keeps rules parents made =
     let there = then_ok (present id old) _ new made in
     alike_set id f old new keeps rules parents (if_ok right _ (with_changed id f old) new there.1)
 
-secret_keeps : (which : Credential) (secret : Option (List ℕ)) (s : Subject) → id_of (with_secret which secret s) ≡ id_of s
+secret_keeps : (which : Credential) (secret : Option Secret) (s : Subject) → id_of (with_secret which secret s) ≡ id_of s
 secret_keeps Login secret s = refl
 secret_keeps Enable secret s = refl
 
-secret_rules : (which : Credential) (secret : Option (List ℕ)) (s : Subject) → (with_secret which secret s).rules ≡ s.rules
+secret_rules : (which : Credential) (secret : Option Secret) (s : Subject) → (with_secret which secret s).rules ≡ s.rules
 secret_rules Login secret s = refl
 secret_rules Enable secret s = refl
 
-secret_parent : (which : Credential) (secret : Option (List ℕ)) (s : Subject) → (with_secret which secret s).parent ≡ s.parent
+secret_parent : (which : Credential) (secret : Option Secret) (s : Subject) → (with_secret which secret s).parent ≡ s.parent
 secret_parent Login secret s = refl
 secret_parent Enable secret s = refl
 
@@ -266,14 +269,18 @@ alike_shift id from to old new made =
     alike_changed id (with_rule_moved (from - 1) (to - 1)) old new (λ _. refl)
     (if_ok (is_number from (length there.0.rules) && is_number to (length there.0.rules)) _ (with_changed id (with_rule_moved (from - 1) (to - 1)) old) new there.1)
 
+alike_secret : (which : Credential) (user : List ℕ) (right : Bool) (secret : Option Secret) (old new : List Subject) → set_in old (user_id user) right (with_secret which secret) ≡ Ok new → IsAlike nothing old new
+alike_secret which user right secret old new made = alike_setting (user_id user) right (with_secret which secret) old new (secret_keeps which secret) (secret_rules which secret) (secret_parent which secret) made
+
 alike : (old : List Subject) (edit : Edit) (new : List Subject) → applied old edit ≡ Ok new → IsAlike (touched_by (edit ∷ [])) old new
 unfolding applied
 alike old (AddGroup name parent) new made = alike_add Group name parent old new made
 alike old (AddUser name parent) new made = alike_add User name parent old new made
 alike old (Remove id) new made = alike_remove id old new made
 alike old (SetParent id parent) new made = alike_move id parent old new made
-alike old (SetLogin user secret) new made = alike_setting (user_id user) _ (with_secret Login secret) old new (secret_keeps Login secret) (secret_rules Login secret) (secret_parent Login secret) made
-alike old (SetEnable user secret) new made = alike_setting (user_id user) _ (with_secret Enable secret) old new (secret_keeps Enable secret) (secret_rules Enable secret) (secret_parent Enable secret) made
+alike old (SetLogin user text) new made = alike_secret Login user _ (option_map Clear text) old new made
+alike old (SetEnable user text) new made = alike_secret Enable user _ (option_map Clear text) old new made
+alike old (SetHash user which text) new made = alike_secret which user _ (option_map Hashed (hash_of text)) old new made
 alike old (SetPriv id level) new made = alike_setting id _ (with_priv level) old new (λ _. refl) (λ _. refl) (λ _. refl) made
 alike old (InsertRule id at verdict text) new made = alike_insert id at verdict text old new made
 alike old (RemoveRule id at) new made = alike_drop id at old new made

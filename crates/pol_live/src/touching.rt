@@ -36,6 +36,7 @@ fn touches(edit: &Edit) -> Option<SubjectId>
         Edit::Remove { .. }
         | Edit::SetLogin { .. }
         | Edit::SetEnable { .. }
+        | Edit::SetHash { .. }
         | Edit::SetPriv { .. } => None,
     }
 }

@@ -1,6 +1,7 @@
 use Rattle.std.proofs.Common.{◌++◌, List, ap, ◌∙◌, None}
 use Rattle.basics.specs.Lines.{lines_of}
 use Rattle.pol_text.specs.Text.{body_of}
+use Rattle.pol_text.specs.Versions.{patterns_of}
 use Rattle.pol_lint.specs.Words.{noted}
 use Rattle.pol_lint.specs.Endings.{names_end}
 use Rattle.pol_lint.specs.Remarks as wanted
@@ -16,5 +17,5 @@ returns c =
     ok_so c.told_of.result
     (λ remarks told. told
     ∙ ap (λ (later : List Remark). noted 1 1 (wanted.policy_finding policy) ++ later)
-    (lines_alike (body_of (lines_of c.args.text.now)).version policy others c.in_ok-hidden.hidden.keys (wanted.hidden_of c.args.rows.now) c.in_ok-hidden.ensures None 1 (lines_of c.args.text.now)))
+    (lines_alike (patterns_of (body_of (lines_of c.args.text.now)).version) policy others c.in_ok-hidden.hidden.keys (wanted.hidden_of c.args.rows.now) c.in_ok-hidden.ensures None 1 (lines_of c.args.text.now)))
     c.told_of.ensures
