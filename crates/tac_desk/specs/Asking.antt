@@ -1,14 +1,19 @@
 -- What is asked for the packets of connections, and what the desk answers: what the policy
 -- says of who a user is and of what a user may do, and whether a record is kept (RFC 8907,
 -- sections 5.4, 6.1 and 7.1).
-use Rattle.std.specs.Prelude.{◌≡◌, ℕ, ◌+◌, List, [], ◌∷◌, length, Bool, false, not, ◌==◌, Option}
-use Rattle.std.specs.Prelude.{Some, None, if◌then◌else◌}
+use Rattle.std.specs.Prelude.{◌≡◌, ℕ, ◌+◌, ◌<◌, ◌≤◌, List, [], ◌∷◌, length, Bool, false, not, ◌==◌}
+use Rattle.std.specs.Prelude.{Option, Some, None, if◌then◌else◌}
 use Rattle.std.specs.Option.{option_and_then}
 use Rattle.std.specs.Str.{bytes_eq}
 use Rattle.basics.specs.Symbol.{is_text}
+use Rattle.sha_crypt.specs.Crypt.{crypted}
+use Rattle.sha_crypt.specs.HashText.{HashParts}
+use Rattle.sha_crypt.specs.Passing.{passes, rounds_of}
 use Rattle.tac_wire.specs.Chap.{response_to}
 use Rattle.pol_names.specs.Name.{name_of}
 use Rattle.pol_names.specs.SubjectId.{user_id}
+use Rattle.pol_names.specs.declared.secret.Secret.{Secret}
+use Rattle.pol_names.specs.declared.secret.Secret.TheVariants.{Clear, Hashed}
 use Rattle.pol_text.specs.Policy.{find_subject, decision, level_of}
 use Rattle.pol_names.specs.declared.decision.Verdict.{Verdict}
 use Rattle.pol_names.specs.declared.decision.Verdict.TheVariants.{Permit, Deny}
@@ -35,17 +40,20 @@ user_named policy text = option_and_then (λ name. find_subject (user_id name) p
 -- ---- authentication
 
 -- what a user proves to know: ENABLE asks for another secret than all other services
-abbrev pub secret_for : Service → Subject → Option (List ℕ)
+abbrev pub secret_for : Service → Subject → Option Secret
 secret_for service user = if service.0 == authen_svc_enable then user.enable else user.login
 
--- the password itself, or the response that it gives to the challenge (RFC 1994)
-abbrev pub is_proof_of : List ℕ → Proof → Bool
-is_proof_of secret (Plain password) = bytes_eq password secret
-is_proof_of secret (Chap id challenge response) =
+-- of a secret in the clear: the password itself, or the response that it gives to the challenge
+-- (RFC 1994). Of a hash: a password that makes it; no response is one, since it takes the password
+abbrev pub is_proof_of : Secret → Proof → Bool
+is_proof_of (Clear secret) (Plain password) = bytes_eq password secret
+is_proof_of (Clear secret) (Chap id challenge response) =
     bytes_eq response (response_to id secret challenge)
+is_proof_of (Hashed hash) (Plain password) = passes hash password
+is_proof_of (Hashed hash) (Chap id challenge response) = false
 
 -- nobody knows a secret that isn't there
-abbrev pub authenticated : Option (List ℕ) → Proof → Answer
+abbrev pub authenticated : Option Secret → Proof → Answer
 authenticated None proof = Fail
 authenticated (Some secret) proof = if is_proof_of secret proof then Pass else Fail
 
@@ -53,17 +61,25 @@ abbrev pub authentication : List Subject → List ℕ → Service → Proof → 
 authentication policy name service proof =
     authenticated (option_and_then (secret_for service) (user_named policy name)) proof
 
+-- the password has 1 to 128 bytes, and makes the hash under the hash's rounds and salt
+abbrev pub Makes : HashParts → List ℕ → Type 0
+Makes hash password =
+    (0 < length password) × (length password ≤ 128)
+    × (crypted (rounds_of hash) hash.salt password ≡ hash.symbols)
+
 -- the same as a fact: the proof is one of this secret
-abbrev pub Proves : List ℕ → Proof → Type 0
-Proves secret (Plain password) = password ≡ secret
-Proves secret (Chap id challenge response) = response ≡ response_to id secret challenge
+abbrev pub Proves : Secret → Proof → Type 0
+Proves (Clear secret) (Plain password) = password ≡ secret
+Proves (Clear secret) (Chap id challenge response) = response ≡ response_to id secret challenge
+Proves (Hashed hash) (Plain password) = Makes hash password
+Proves (Hashed hash) (Chap id challenge response) = ⊥
 
 -- the policy has the user, the user has the secret that the service names, and the
 -- proof is one of it
 pub record LogsIn (policy : List Subject) (name : List ℕ) (service : Service) (proof : Proof) :
     Type 0 where
   pub user : Subject
-  pub secret : List ℕ
+  pub secret : Secret
   pub known : user_named policy name ≡ Some user
   pub has : secret_for service user ≡ Some secret
   pub proves : Proves secret proof

@@ -1,7 +1,15 @@
 -- A login passes exactly for a user who is there, and proves to know the secret.
-use Rattle.std.proofs.Common.{◌≡◌, ◌↔◌, ℕ, List, Bool, true, false, cond, if◌then◌else◌, Option, Some, None, Result, Ok, refl, sym, ap, ◌∙◌}
+use Rattle.std.proofs.Common.{◌≡◌, ◌↔◌, ◌<◌, ◌≤◌, ◌&&◌, ℕ, nat_lt, nat_le, arith, List, length, Bool, true, false, cond, if◌then◌else◌, Option, Some, None, Result, Ok, refl, sym, ap, ◌∙◌}
 use Rattle.std.specs.Option.{option_and_then}
 use Rattle.std.proofs.lemmas.Slice.Eq.{bytes_eq-Decides}
+use Rattle.std.specs.Str.{bytes_eq}
+use Rattle.std.proofs.lemmas.Bool.{and_parts}
+use Rattle.std.proofs.lemmas.Bool.Decides.{nat_tests}
+use Rattle.sha_crypt.specs.Crypt.{crypted}
+use Rattle.sha_crypt.specs.HashText.{HashParts}
+use Rattle.sha_crypt.specs.Passing.{passes as passes_for, rounds_of}
+use Rattle.pol_names.specs.declared.secret.Secret.{Secret}
+use Rattle.pol_names.specs.declared.secret.Secret.TheVariants.{Clear, Hashed}
 use Rattle.tac_wire.specs.Chap.{response_to}
 use Rattle.basics.specs.Symbol.{is_text}
 use Rattle.pol_text.specs.Policy.{decision}
@@ -21,22 +29,40 @@ use Rattle.tac_conn.specs.declared.ask.AskKind.{AskKind}
 use Rattle.tac_conn.specs.declared.ask.AskKind.TheVariants.{Authentication, Authorisation, Accounting}
 use Rattle.tac_conn.specs.Ask.{kind_of_answer}
 use Rattle.tac_desk.specs.Meaning.{Meaning}
-use Rattle.tac_desk.specs.Asking.{user_named, secret_for, is_proof_of, authenticated, authentication, Proves, LogsIn, level_for, by_verdict, decided, authorised, is_full, Answered, with_record, stored, asked, Passes}
+use Rattle.tac_desk.specs.Asking.{user_named, secret_for, is_proof_of, authenticated, authentication, Makes, Proves, LogsIn, level_for, by_verdict, decided, authorised, is_full, Answered, with_record, stored, asked, Passes}
 
-proves_true : (secret : List ℕ) (proof : Proof) → is_proof_of secret proof ≡ true → Proves secret proof
-proves_true secret (Plain password) = (bytes_eq-Decides password secret).0
-proves_true secret (Chap id challenge response) = (bytes_eq-Decides response (response_to id secret challenge)).0
+passes_makes : (hash : HashParts) (password : List ℕ) → passes_for hash password ≡ true → Makes hash password
+passes_makes hash password e =
+    let parts = and_parts (nat_lt 0 (length password) && nat_le (length password) 128) (bytes_eq (crypted (rounds_of hash) hash.salt password) hash.symbols) e in
+    let sizes = and_parts (nat_lt 0 (length password)) (nat_le (length password) 128) parts.0 in
+    let some : 0 < length password = let test = sizes.0 in grind (arith, nat_tests) in
+    let few : length password ≤ 128 = let test = sizes.1 in grind (arith, nat_tests) in
+    (some, few, (bytes_eq-Decides (crypted (rounds_of hash) hash.salt password) hash.symbols).0 parts.1)
 
-true_proves : (secret : List ℕ) (proof : Proof) → Proves secret proof → is_proof_of secret proof ≡ true
-true_proves secret (Plain password) = (bytes_eq-Decides password secret).1
-true_proves secret (Chap id challenge response) = (bytes_eq-Decides response (response_to id secret challenge)).1
+makes_passes : (hash : HashParts) (password : List ℕ) → Makes hash password → passes_for hash password ≡ true
+makes_passes hash password h =
+    let some : nat_lt 0 (length password) ≡ true = let size = h.0 in grind (arith, nat_tests) in
+    let few : nat_le (length password) 128 ≡ true = let size = h.1 in grind (arith, nat_tests) in
+    rw (some, few, (bytes_eq-Decides (crypted (rounds_of hash) hash.salt password) hash.symbols).1 h.2) refl
+
+proves_true : (secret : Secret) (proof : Proof) → is_proof_of secret proof ≡ true → Proves secret proof
+proves_true (Clear secret) (Plain password) = (bytes_eq-Decides password secret).0
+proves_true (Clear secret) (Chap id challenge response) = (bytes_eq-Decides response (response_to id secret challenge)).0
+proves_true (Hashed hash) (Plain password) = passes_makes hash password
+proves_true (Hashed hash) (Chap id challenge response) = λ e. absurd cc
+
+true_proves : (secret : Secret) (proof : Proof) → Proves secret proof → is_proof_of secret proof ≡ true
+true_proves (Clear secret) (Plain password) = (bytes_eq-Decides password secret).1
+true_proves (Clear secret) (Chap id challenge response) = (bytes_eq-Decides response (response_to id secret challenge)).1
+true_proves (Hashed hash) (Plain password) = makes_passes hash password
+true_proves (Hashed hash) (Chap id challenge response) = λ h. absurd h
 
 passed : (b : Bool) → cond b Pass Fail ≡ Pass → b ≡ true
 passed true e = refl
 passed false e = cc
 
 module _ (policy : List Subject) (name : List ℕ) (service : Service) (proof : Proof) where
-  by_secret : (user : Subject) (secret : Option (List ℕ)) → user_named policy name ≡ Some user → secret_for service user ≡ secret
+  by_secret : (user : Subject) (secret : Option Secret) → user_named policy name ≡ Some user → secret_for service user ≡ secret
       → authenticated secret proof ≡ Pass → LogsIn policy name service proof
   by_secret user None known has e = absurd cc
   by_secret user (Some secret) known has e = record {

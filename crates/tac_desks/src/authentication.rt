@@ -2,10 +2,12 @@
 
 ghost use Rattle.std.specs.Prelude.{◌≡◌};
 ghost use Rattle.std.specs.Option.{option_copied};
+ghost use Rattle.pol_names.specs.declared.secret.Secret.TheVariants.{Clear, Hashed};
 ghost use Rattle.tac_desk.specs.Asking as asking;
 
-use pol_names::{Name, Secret, SubjectId};
+use pol_names::{Hash, Name, Secret, SubjectId};
 use pol_text::{Policy, Subject};
+use sha_crypt::same_bytes;
 use tac_conn::{Answer, Proof, Service};
 use tac_wire::chap_response;
 
@@ -20,17 +22,37 @@ fn secret_for(service: Service, user: &Subject) -> Option<&Secret>
     }
 }
 
-// Whether the proof is one of this secret.
-fn is_proof_of(secret: &[u8], proof: &Proof) -> bool
-    ensures { result ≡ asking.is_proof_of secret.now proof.now }
+// Whether the proof is one of a secret in the clear.
+fn is_proof_of_text(secret: &[u8], proof: &Proof) -> bool
+    ensures { result ≡ asking.is_proof_of (Clear secret.now) proof.now }
 {
     match proof {
-        Proof::Plain(password) => password.as_slice() == secret,
+        Proof::Plain(password) => same_bytes(password.as_slice(), secret),
         Proof::Chap {
             id,
             challenge,
             response,
         } => *response == chap_response(*id, secret, challenge.as_slice()),
+    }
+}
+
+// Whether the proof is one of a secret that is kept as a hash.
+fn is_proof_of_hash(hash: &Hash, proof: &Proof) -> bool
+    ensures { result ≡ asking.is_proof_of (Hashed hash.now) proof.now }
+{
+    match proof {
+        Proof::Plain(password) => hash.passes(password.as_slice()),
+        Proof::Chap { .. } => false,
+    }
+}
+
+// Whether the proof is one of this secret.
+fn is_proof_of(secret: &Secret, proof: &Proof) -> bool
+    ensures { result ≡ asking.is_proof_of secret.now proof.now }
+{
+    match secret {
+        Secret::Clear(secret) => is_proof_of_text(secret.as_slice(), proof),
+        Secret::Hashed(hash) => is_proof_of_hash(hash, proof),
     }
 }
 
@@ -55,7 +77,7 @@ pub(crate) fn authentication(
         return Answer::Fail;
     };
     match secret_for(service, user) {
-        Some(secret) if is_proof_of(secret.as_slice(), proof) => Answer::Pass,
+        Some(secret) if is_proof_of(secret, proof) => Answer::Pass,
         _ => Answer::Fail,
     }
 }
