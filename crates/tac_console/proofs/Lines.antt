@@ -2,9 +2,10 @@
 use Rattle.std.proofs.Common.{◌≡◌, ℕ, Bool, true, false, List, [], ◌∷◌, Some, None, Result, Ok, Err, ◌⊎◌, codes, nat_eq, inl, inr, refl, sym, ◌∙◌, subst}
 use Rattle.std.specs.List.{list_any, starts_with}
 use Rattle.std.specs.Str.{bytes_eq}
+use Rattle.pol_names.specs.declared.secret.Credential.TheVariants.{Login, Enable}
 use Rattle.pol_edit.specs.Spelling.{SpellsWords as SpellsEditWords, Spells as SpellsEdit}
 use Rattle.pol_edit.specs.declared.edit.Edit.{Edit}
-use Rattle.pol_edit.specs.declared.edit.Edit.TheVariants.{AddGroup, AddUser, Remove, SetParent, SetLogin, SetEnable, SetPriv, InsertRule, RemoveRule, MoveRule}
+use Rattle.pol_edit.specs.declared.edit.Edit.TheVariants.{AddGroup, AddUser, Remove, SetParent, SetLogin, SetEnable, SetHash, SetPriv, InsertRule, RemoveRule, MoveRule}
 use Rattle.pol_edit.specs.declared.fault.EditFault.{EditFault}
 use Rattle.pol_edit.specs.declared.fault.EditFault.TheVariants.{BadEdit, Memory}
 use Rattle.tac_desk.specs.declared.query.Query.{Query}
@@ -32,6 +33,8 @@ edits_begin line (SetLogin user (Some text)) h = rw h.0 refl
 edits_begin line (SetLogin user None) h = rw h.0 refl
 edits_begin line (SetEnable user (Some text)) h = rw h.0 refl
 edits_begin line (SetEnable user None) h = rw h.0 refl
+edits_begin line (SetHash user Login text) h = rw h.0 refl
+edits_begin line (SetHash user Enable text) h = rw h.0 refl
 edits_begin line (SetPriv subject (Some level)) h = rw h.1 refl
 edits_begin line (SetPriv subject None) h = rw h.0 refl
 edits_begin line (InsertRule subject at verdict pattern) h = rw h.1 refl
