@@ -1,15 +1,15 @@
 -- What is told of an answer: how its front is made, and that a short one is told whole.
-use Rattle.std.proofs.Common.{◌≡◌, ◌≤◌, ℕ, zero, suc, ◌+◌, ◌-◌, ◌||◌, not, eqb, if◌then◌else◌, Bool, true, false, List, [], ◌∷◌, ◌++◌, length, map, Option, Some, None, take_all, length-append, append_assoc, codes, nat_lt, refl, sym, ap, ◌∙◌, arith}
-use Rattle.std.specs.Prelude.{take, bytes_eq}
+use Rattle.std.proofs.Common.{◌≡◌, ◌≤◌, inl, inr, ℕ, zero, suc, ◌+◌, ◌-◌, not, eqb, if◌then◌else◌, Bool, true, false, List, [], ◌∷◌, ◌++◌, length, map, Option, Some, None, take_all, length-append, append_assoc, codes, nat_lt, refl, sym, ap, ◌∙◌, arith}
+use Rattle.std.specs.Prelude.{take}
 use Rattle.std.specs.List.{list_all}
 use Rattle.std.specs.Option.{option_map_or}
 use Rattle.std.proofs.lemmas.Bool.{and_parts, and_from}
 use Rattle.std.proofs.lemmas.Bool.Decides.{nat_tests}
-use Rattle.std.proofs.lemmas.Slice.Eq.{bytes_eq-Decides}
 use Rattle.basics.specs.Lines.{lines_of, onto_first, split_at_first}
 use Rattle.tac_audit.specs.declared.event.Typist.{Typist}
 use Rattle.tac_audit.specs.declared.event.Typed.{Typed}
-use Rattle.tac_audit.specs.Masking.{masked, masked_answer, masked_setting, is_setting, text_of, masked_text, most_told, size_told, typed_of, IsToldWhole}
+use Rattle.tac_audit.specs.Masking.{masked, masked_answer, masked_setting, is_setting, text_of, masked_text, most_told, size_told, typed_of, IsSetting, IsToldWhole}
+use Rattle.tac_audit.proofs.MaskingFacts.{setting_is}
 
 -- ---- the front
 
@@ -75,13 +75,15 @@ lines_are : (bytes : List ℕ) → are_lines (lines_of bytes) ≡ true
 lines_are [] = refl
 lines_are (byte ∷ bytes) = line_case byte bytes (eqb byte 10) refl (lines_are bytes)
 
-word_case : (word : List ℕ) (b : Bool) → bytes_eq word (codes "login") ≡ b → (b || bytes_eq word (codes "enable")) ≡ true → no_end (word ++ codes " *") ≡ true
-word_case word true e h = rw ((bytes_eq-Decides word (codes "login")).0 e) refl
-word_case word false e h = rw ((bytes_eq-Decides word (codes "enable")).0 h) refl
+word_case : (word : List ℕ) → IsSetting word → no_end (word ++ codes " *") ≡ true
+word_case word (inl (inl is)) = rw is refl
+word_case word (inl (inr is)) = rw is refl
+word_case word (inr (inl is)) = rw is refl
+word_case word (inr (inr is)) = rw is refl
 
 setting_case : (line word : List ℕ) (b : Bool) → is_setting word ≡ b → no_end line ≡ true → no_end (if b then word ++ codes " *" else line) ≡ true
 setting_case line word false e h = h
-setting_case line word true e h = word_case word (bytes_eq word (codes "login")) refl e
+setting_case line word true e h = word_case word (setting_is word e)
 
 answer_case : (line : List ℕ) (parts : Option (List ℕ × List ℕ)) → no_end line ≡ true → no_end (option_map_or (masked_setting line) parts line) ≡ true
 answer_case line None h = h

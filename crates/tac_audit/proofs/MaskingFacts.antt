@@ -1,6 +1,7 @@
 -- Lines that differ only in their secret have the same text.
 use Rattle.std.proofs.Common.{◌≡◌, ◌≢◌, inl, inr, ℕ, suc, ◌+◌, ◌-◌, ◌||◌, not, Bool, true, false, List, [], ◌∷◌, ◌++◌, length, map, Some, codes, nat_lt, append_assoc, refl, sym, ap, ◌∙◌, arith}
 use Rattle.std.specs.List.{list_all, prefix_len}
+use Rattle.std.specs.Prelude.{bytes_eq}
 use Rattle.std.specs.Option.{option_map}
 use Rattle.std.specs.Char.{to_ascii_lowercase}
 use Rattle.std.specs.Str.{str_to_ascii_lowercase, str_eq_ignore_ascii_case}
@@ -9,7 +10,7 @@ use Rattle.std.proofs.lemmas.Bool.{and_parts, lt-ltb}
 use Rattle.std.proofs.lemmas.Bool.Decides.{nat_tests}
 use Rattle.std.proofs.lemmas.List.{length-append, take_at}
 use Rattle.std.proofs.lemmas.Slice.Eq.{bytes_eq-Decides}
-use Rattle.tac_audit.specs.Masking.{is_blank, without_blanks, split_word, sets_secret, secret_of, masked, IsWord, AreBlank, OpensSecret, IsSetting, masked_answer}
+use Rattle.tac_audit.specs.Masking.{is_blank, without_blanks, split_word, sets_secret, secret_of, masked, IsWord, AreBlank, OpensSecret, IsSetting, is_setting, masked_answer}
 
 is_visible : ℕ → Bool
 is_visible byte = not (is_blank byte)
@@ -68,18 +69,34 @@ named_some [] [] some e = some
 named_some [] (byte ∷ name) some e = absurd cc
 named_some (byte ∷ word) name some e = λ is. absurd cc
 
-either_second : (x y : Bool) → (x || y) ≡ true → x ≡ false → y ≡ true
-either_second true y h e = absurd cc
-either_second false y h e = h
+either : {A : Type 0} (x y : Bool) → (x || y) ≡ true → (x ≡ true → A) → (y ≡ true → A) → A
+either true y h first second = first refl
+either false y h first second = second h
+
+-- the words of settings
+pub setting_is : (word : List ℕ) → is_setting word ≡ true → IsSetting word
+setting_is word h =
+    either (bytes_eq word (codes "login") || bytes_eq word (codes "enable") || bytes_eq word (codes "login-hash")) (bytes_eq word (codes "enable-hash")) h
+    (λ h. either (bytes_eq word (codes "login") || bytes_eq word (codes "enable")) (bytes_eq word (codes "login-hash")) h
+    (λ h. either (bytes_eq word (codes "login")) (bytes_eq word (codes "enable")) h
+    (λ e. inl (inl ((bytes_eq-Decides word (codes "login")).0 e)))
+    (λ e. inl (inr ((bytes_eq-Decides word (codes "enable")).0 e))))
+    (λ e. inr (inl ((bytes_eq-Decides word (codes "login-hash")).0 e))))
+    (λ e. inr (inr ((bytes_eq-Decides word (codes "enable-hash")).0 e)))
+
+-- the word of a line, but for capitals
+abbrev spells : List ℕ → List ℕ → Bool
+spells verb name = str_eq_ignore_ascii_case verb name
 
 verb_word : (verb : List ℕ) → sets_secret verb ≡ true → IsWord verb × (verb ≢ [])
-verb_word verb h = cases (str_eq_ignore_ascii_case verb (codes "login")) refl
-  where
-    cases : (b : Bool) → str_eq_ignore_ascii_case verb (codes "login") ≡ b → IsWord verb × (verb ≢ [])
-    cases true e = (named_word verb (codes "login") refl e, named_some verb (codes "login") (λ is. absurd cc) e)
-    cases false e =
-        let other : str_eq_ignore_ascii_case verb (codes "enable") ≡ true = either_second _ _ h e in
-        (named_word verb (codes "enable") refl other, named_some verb (codes "enable") (λ is. absurd cc) other)
+verb_word verb h =
+    either (spells verb (codes "login") || spells verb (codes "enable") || spells verb (codes "login-hash")) (spells verb (codes "enable-hash")) h
+    (λ h. either (spells verb (codes "login") || spells verb (codes "enable")) (spells verb (codes "login-hash")) h
+    (λ h. either (spells verb (codes "login")) (spells verb (codes "enable")) h
+    (λ e. (named_word verb (codes "login") refl e, named_some verb (codes "login") (λ is. absurd cc) e))
+    (λ e. (named_word verb (codes "enable") refl e, named_some verb (codes "enable") (λ is. absurd cc) e)))
+    (λ e. (named_word verb (codes "login-hash") refl e, named_some verb (codes "login-hash") (λ is. absurd cc) e)))
+    (λ e. (named_word verb (codes "enable-hash") refl e, named_some verb (codes "enable-hash") (λ is. absurd cc) e))
 
 -- ---- a line
 
@@ -135,6 +152,16 @@ shows_enable : (secret : List ℕ) → masked_answer (codes "enable" ++ codes " 
 unfolding masked_answer
 shows_enable secret = refl
 
+shows_login_hash : (secret : List ℕ) → masked_answer (codes "login-hash" ++ codes " " ++ secret) ≡ codes "login-hash *"
+unfolding masked_answer
+shows_login_hash secret = refl
+
+shows_enable_hash : (secret : List ℕ) → masked_answer (codes "enable-hash" ++ codes " " ++ secret) ≡ codes "enable-hash *"
+unfolding masked_answer
+shows_enable_hash secret = refl
+
 pub hides_setting : (word secret other : List ℕ) → IsSetting word → masked_answer (word ++ codes " " ++ secret) ≡ masked_answer (word ++ codes " " ++ other)
-hides_setting word secret other (inl is) = rw is (shows_login secret ∙ sym (shows_login other))
-hides_setting word secret other (inr is) = rw is (shows_enable secret ∙ sym (shows_enable other))
+hides_setting word secret other (inl (inl is)) = rw is (shows_login secret ∙ sym (shows_login other))
+hides_setting word secret other (inl (inr is)) = rw is (shows_enable secret ∙ sym (shows_enable other))
+hides_setting word secret other (inr (inl is)) = rw is (shows_login_hash secret ∙ sym (shows_login_hash other))
+hides_setting word secret other (inr (inr is)) = rw is (shows_enable_hash secret ∙ sym (shows_enable_hash other))

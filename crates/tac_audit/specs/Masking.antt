@@ -24,10 +24,12 @@ without_blanks (byte ∷ bytes) = if is_blank byte then without_blanks bytes els
 unfoldable pub split_word : List ℕ → Option (List ℕ × List ℕ)
 split_word text = option_map (λ at. (take at text, drop (at + 1) text)) (position is_blank text)
 
--- `login` or `enable`, also in capitals
+-- `login`, `enable`, `login-hash` or `enable-hash`, also in capitals
 abbrev pub sets_secret : List ℕ → Bool
 sets_secret word =
     str_eq_ignore_ascii_case word (codes "login") || str_eq_ignore_ascii_case word (codes "enable")
+    || str_eq_ignore_ascii_case word (codes "login-hash")
+    || str_eq_ignore_ascii_case word (codes "enable-hash")
 
 -- what follows the second word, where the first has set a secret
 abbrev pub secret_after : List ℕ × List ℕ → Option (List ℕ)
@@ -71,12 +73,16 @@ pub record OpensSecret (head : List ℕ) : Type 0 where
 
 -- ---- lines of an answer
 
--- `login` or `enable`, as a policy is printed
+-- `login`, `enable`, `login-hash` or `enable-hash`, as a policy is printed
 abbrev pub is_setting : List ℕ → Bool
-is_setting word = bytes_eq word (codes "login") || bytes_eq word (codes "enable")
+is_setting word =
+    bytes_eq word (codes "login") || bytes_eq word (codes "enable")
+    || bytes_eq word (codes "login-hash") || bytes_eq word (codes "enable-hash")
 
 abbrev pub IsSetting : List ℕ → Type 0
-IsSetting word = (word ≡ codes "login") ⊎ (word ≡ codes "enable")
+IsSetting word =
+    ((word ≡ codes "login") ⊎ (word ≡ codes "enable"))
+    ⊎ ((word ≡ codes "login-hash") ⊎ (word ≡ codes "enable-hash"))
 
 -- a word of these, a space and a star
 abbrev pub masked_setting : List ℕ → List ℕ × List ℕ → List ℕ

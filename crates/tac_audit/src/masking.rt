@@ -56,7 +56,10 @@ fn split_word(text: &[u8]) -> Option<(&[u8], &[u8])>
 fn sets_secret(word: &[u8]) -> bool
     ensures { result ≡ words.sets_secret word.now }
 {
-    word.eq_ignore_ascii_case(b"login") || word.eq_ignore_ascii_case(b"enable")
+    word.eq_ignore_ascii_case(b"login")
+        || word.eq_ignore_ascii_case(b"enable")
+        || word.eq_ignore_ascii_case(b"login-hash")
+        || word.eq_ignore_ascii_case(b"enable-hash")
 }
 
 // The secret of a line: all that follows the blank after its second word.
@@ -86,10 +89,11 @@ fn starred(alloc: Global, shown: &[u8]) -> Result<Bytes, AllocError>
     Ok(text)
 }
 
-/// A line of the console, without its LF, that shows no secret: what follows `login NAME ` and
-/// `enable NAME ` is a star. So it is where the line isn't quite one, as in capitals or with more
-/// blanks. A line with another first word stands as it is; where the name was left out, the secret's
-/// first word shows. The error means that memory ran out. Linear.
+/// A line of the console, without its LF, that shows no secret: what follows `login NAME `,
+/// `enable NAME `, `login-hash NAME ` and `enable-hash NAME ` is a star. So it is where the line isn't
+/// quite one, as in capitals or with more blanks. A line with another first word stands as it is;
+/// where the name was left out, the secret's first word shows. The error means that memory ran out.
+/// Linear.
 #[tactic(auto, using(crate::proofs::MaskingFacts::hides), unfolding(crate::specs::Masking::masked))]
 pub fn masked(alloc: Global, line: &[u8]) -> Result<Bytes, AllocError>
     ensures line { IfOk result (λ text. text ≡ words.masked line.now) }
@@ -107,11 +111,15 @@ pub fn masked(alloc: Global, line: &[u8]) -> Result<Bytes, AllocError>
 fn is_setting(word: &[u8]) -> bool
     ensures { result ≡ words.is_setting word.now }
 {
-    word == b"login".as_slice() || word == b"enable".as_slice()
+    word == b"login".as_slice()
+        || word == b"enable".as_slice()
+        || word == b"login-hash".as_slice()
+        || word == b"enable-hash".as_slice()
 }
 
-/// A line of an answer, without its LF, that shows no secret: of the lines `login TEXT` and
-/// `enable TEXT` of a policy the text is a star. The error means that memory ran out. Linear.
+/// A line of an answer, without its LF, that shows no secret: of the lines `login TEXT`,
+/// `enable TEXT`, `login-hash HASH` and `enable-hash HASH` of a policy all that follows the first word
+/// is a star. The error means that memory ran out. Linear.
 #[tactic(auto, using(crate::proofs::MaskingFacts::hides_setting), unfolding(crate::specs::Masking::masked_answer))]
 pub fn masked_answer(alloc: Global, line: &[u8]) -> Result<Bytes, AllocError>
     ensures line { IfOk result (λ text. text ≡ words.masked_answer line.now) }
