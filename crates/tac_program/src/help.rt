@@ -11,6 +11,8 @@ macro_rules! with_policy_lines {
     user NAME            begins a user; with ' in GROUP', one that has that group's rules too
     login TEXT           what the user above it logs in with, 1 to 128 characters
     enable TEXT          what the user above it enables with
+    login-hash HASH      what he logs in with, as a hash that 'openssl passwd -6' makes
+    enable-hash HASH     what he enables with, as such a hash
     priv N               the level, 0 to 15, of the shells of the user or group above it
     permit PATTERN       the next rule of the user or group above it
     deny PATTERN         the next rule of the user or group above it
@@ -22,10 +24,10 @@ In the policy, empty lines, lines that begin with '#' and leading spaces are pas
 whole command line: '.' fits any character, '[a-z]' and '[^a-z]' one of a class or one that isn't in
 it, 'A|B' what A or B fits; after a character, a class or a part in parentheses, '*' means any
 number of it, '+' at least one, '?' at most one, '{3}' three and '{1,3}' one to three, where no
-number is over 32; a '\\' takes the next character as it is. Without the line 'policy 2' a PATTERN
-of the policy has at most 200 characters, and '{' and '}' fit themselves; in edits they always
-count. The first rule that fits decides, a user's own before the group's, and a group's own before
-those of its group; where none fits, the command is denied.
+number is over 32; a '\\' takes the next character as it is. Where the first line says no version,
+a PATTERN of the policy has at most 200 characters, and '{' and '}' fit themselves; in edits they
+always count. The first rule that fits decides, a user's own before the group's, and a group's own
+before those of its group; where none fits, the command is denied.
 ",
             $after
         )
@@ -146,6 +148,7 @@ Lines of the console, where a SUBJECT is 'user NAME' or 'group NAME':
   remove SUBJECT       removes it
   move SUBJECT in GROUP, or move SUBJECT out
   login NAME TEXT, enable NAME TEXT, clear login NAME, clear enable NAME
+  login-hash NAME HASH, enable-hash NAME HASH
   priv SUBJECT N, clear priv SUBJECT
   insert SUBJECT N permit PATTERN, or deny PATTERN
                        a new rule with this number
@@ -168,7 +171,8 @@ answer, the edit counts all the same, and it is tried again before each later an
 there at a start, it is served in place of FILE. 'reload' takes FILE again, and removes PATH.
 
 Lines of a policy:
-  policy 2             the first line, if it is there: patterns may count, as '{1,3}'
+  policy 2, policy 3   the first line, if it is there: patterns may count, as '{1,3}'; hashes may
+                       stand after 'policy 3' alone
   any number of these:",
     "\n",
     "
@@ -267,7 +271,8 @@ pub(crate) const CHECK_AFTER_HELP: &str = "Example:
 /// What `tacd check --help` ends with.
 pub(crate) const CHECK_AFTER_LONG_HELP: &str = with_policy_lines!(
     "Lines of a policy:
-  policy 2             the first line, if it is there: patterns may count, as '{1,3}'
+  policy 2, policy 3   the first line, if it is there: patterns may count, as '{1,3}'; hashes may
+                       stand after 'policy 3' alone
   any number of these:",
     "\n",
     "
@@ -544,8 +549,8 @@ pub(crate) const REPLAY_AFTER_HELP: &str = "Example:
 pub(crate) const REPLAY_AFTER_LONG_HELP: &str = with_policy_lines!(
     "Lines of a script, in this order:
   key TEXT             line 1: the key, 1 to 128 printable ASCII characters
-  policy 2             line 2, or the first of a file that has a policy alone: its patterns may
-                       count, as '{1,3}'; it may be left out
+  policy 2, policy 3   line 2, or the first of a file that has a policy alone: its patterns may
+                       count, as '{1,3}', and after 'policy 3' hashes may stand; it may be left out
   the policy, any number of these:",
     "  run                  ends the policy
   events, any number of these:
