@@ -45,3 +45,43 @@ status 4
 $ tacd lint /proc/self/mem
 ! tacd: /proc/self/mem: it could not be read
 status 4
+
+file policy
+policy 3
+user bob
+login $6$saltsalt$temoAzB1LMUGfs39YsEHhlSSY8ud5tjHcrE1ZINzi8TsesBqqjufdtA7fVhnojTHlBhKZVF0Q9wxWAcE707Cb0
+enable-hash $6$rounds=20001$saltsalt$temoAzB1LMUGfs39YsEHhlSSY8ud5tjHcrE1ZINzi8TsesBqqjufdtA7fVhnojTHlBhKZVF0Q9wxWAcE707Cb0
+user eve
+login-hash $6$rounds=20000$saltsalt$temoAzB1LMUGfs39YsEHhlSSY8ud5tjHcrE1ZINzi8TsesBqqjufdtA7fVhnojTHlBhKZVF0Q9wxWAcE707Cb0
+
+$ tacd lint policy
+line 3 column 7: this text itself is the password: is a hash meant, as after 'login-hash'?
+line 4 column 13: over 20000 rounds: each login keeps all other devices waiting so long
+status 5
+
+$ tacd check policy
+policy ok: 2 subjects, 0 rules
+none
+
+file policy
+policy 2
+user bob
+login-hash $6$saltsalt$temoAzB1LMUGfs39YsEHhlSSY8ud5tjHcrE1ZINzi8TsesBqqjufdtA7fVhnojTHlBhKZVF0Q9wxWAcE707Cb0
+
+$ tacd lint policy
+line 3 column 1: refused: 1 BadLine: such lines are of version 3: is 'policy 3' meant as the first line?
+status 1
+
+file policy
+policy 3
+group ops
+login-hash $6$saltsalt$temoAzB1LMUGfs39YsEHhlSSY8ud5tjHcrE1ZINzi8TsesBqqjufdtA7fVhnojTHlBhKZVF0Q9wxWAcE707Cb0
+user bob
+login-hash $6$saltsalt$temo
+loginhash $6$saltsalt$temoAzB1LMUGfs39YsEHhlSSY8ud5tjHcrE1ZINzi8TsesBqqjufdtA7fVhnojTHlBhKZVF0Q9wxWAcE707Cb0
+
+$ tacd lint policy
+line 3 column 1: refused: 1 BadLine: this is a setting of users, and it stands under a group
+line 5 column 12: refused: 6 BadValue
+line 6 column 1: refused: 1 BadLine: no line of a policy begins with this word: is 'login-hash' meant?
+status 1

@@ -1,6 +1,7 @@
 //! Tests of patterns, policies and edits, against answers that were worked out by hand.
 
 mod edits;
+mod hashes;
 mod large;
 mod patterns;
 mod policies;

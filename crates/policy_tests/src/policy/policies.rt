@@ -37,7 +37,7 @@ fn texts_that_are_no_policy(rt: HostRuntime) -> Result<(), Fail> {
         "user bob\npermit (a",
         "line 2: 5 BadPattern 3 Unclosed at 0",
     )?;
-    refuses(&rt, "policy 3", "line 1: 1 BadLine")?;
+    refuses(&rt, "policy 4", "line 1: 1 BadLine")?;
     refuses(
         &rt,
         "policy 2\nuser bob\npermit a}",

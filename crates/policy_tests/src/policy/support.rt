@@ -36,13 +36,22 @@ fn is_text<R: Abort>(rt: &R, bytes: &[u8], expected: &str) -> Result<(), Fail> {
     Ok(())
 }
 
-/// The policy is printed so, after the line that says the version.
-pub(crate) fn prints<R: Abort + AllocGlobal>(
+/// The policy is printed so.
+pub(crate) fn prints_whole<R: Abort + AllocGlobal>(
     rt: &R,
     policy: &Policy,
     expected: &str,
 ) -> Result<(), Fail> {
     let text = policy.print(rt.alloc())?;
+    is_text(rt, text.as_slice(), expected)
+}
+
+/// The policy is printed so, after the line that says version 2.
+pub(crate) fn prints<R: Abort + AllocGlobal>(
+    rt: &R,
+    policy: &Policy,
+    expected: &str,
+) -> Result<(), Fail> {
     let expected = format!(in rt.alloc(); "policy 2\n{expected}")?;
-    is_text(rt, text.as_slice(), expected.as_str())
+    prints_whole(rt, policy, expected.as_str())
 }

@@ -278,7 +278,7 @@ line 8 column 1: refused: 1 BadLine: no line of a policy begins with this word
     refuses(
         &rt,
         "\npolicy 2\nuser bob\npermit show a}\n",
-        "line 2 column 1: refused: 1 BadLine: only the first line of a text says a version, and exactly as 'policy 2'\n",
+        "line 2 column 1: refused: 1 BadLine: only the first line of a text says a version, as 'policy 2' or 'policy 3' exactly\n",
     )?;
     refuses(
         &rt,
@@ -292,7 +292,7 @@ line 8 column 1: refused: 1 BadLine: no line of a policy begins with this word
 fn reasons(rt: HostRuntime) -> Result<(), Fail> {
     refuses(
         &rt,
-        "policy 3
+        "policy 4
 key = k
 accounting file = /var/log/acct
 user = bob {
@@ -315,7 +315,7 @@ user b/b in o/ps
   policy 2
 realm ops {
 ",
-        "line 1 column 1: refused: 1 BadLine: only the first line of a text says a version, and exactly as 'policy 2'
+        "line 1 column 1: refused: 1 BadLine: only the first line of a text says a version, as 'policy 2' or 'policy 3' exactly
 line 2 column 1: refused: 1 BadLine: this is a line of another program's file, such as tac_plus's
 line 3 column 1: refused: 1 BadLine: this is a line of another program's file, such as tac_plus's
 line 4 column 1: refused: 1 BadLine: this is a line of another program's file, such as tac_plus's
@@ -333,8 +333,48 @@ line 17 column 1: refused: 1 BadLine: after the name nothing may follow but 'in 
 line 18 column 12: refused: 1 BadLine: two spaces in a row, where words are set apart by one
 line 19 column 13: refused: 2 BadName
 line 20 column 6: refused: 2 BadName
-line 21 column 3: refused: 1 BadLine: only the first line of a text says a version, and exactly as 'policy 2'
+line 21 column 3: refused: 1 BadLine: only the first line of a text says a version, as 'policy 2' or 'policy 3' exactly
 line 22 column 1: refused: 1 BadLine: this is a line of another program's file, such as tac_plus's
+",
+    )
+}
+
+/// A hash of more rounds than are quiet, and one of as many.
+const MANY: &str = "policy 3
+user bob
+login-hash $6$rounds=20001$saltsalt$temoAzB1LMUGfs39YsEHhlSSY8ud5tjHcrE1ZINzi8TsesBqqjufdtA7fVhnojTHlBhKZVF0Q9wxWAcE707Cb0
+enable-hash $6$rounds=20000$saltsalt$temoAzB1LMUGfs39YsEHhlSSY8ud5tjHcrE1ZINzi8TsesBqqjufdtA7fVhnojTHlBhKZVF0Q9wxWAcE707Cb0
+";
+
+// What is told of hashes, and of texts that look like one.
+#[test]
+fn hashes(rt: HostRuntime) -> Result<(), Fail> {
+    tells(
+        &rt,
+        MANY,
+        "line 3 column 12: over 20000 rounds: each login keeps all other devices waiting so long\n",
+    )?;
+    let clear = "this text itself is the password: is a hash meant, as after 'login-hash'?";
+    let told = format!(in rt.alloc(); "line 2 column 7: {clear}\nline 3 column 10: {clear}\n")?;
+    tells(
+        &rt,
+        "user bob\nlogin $6$x\n  enable $y$\nuser eve\nlogin $6\nenable $$x$\n",
+        told.as_str(),
+    )?;
+    refuses(
+        &rt,
+        "policy 2\nuser bob\nlogin-hash x\n  enable-hash\n",
+        "line 3 column 1: refused: 1 BadLine: such lines are of version 3: is 'policy 3' meant as the first line?
+line 4 column 3: refused: 1 BadLine: such lines are of version 3: is 'policy 3' meant as the first line?
+",
+    )?;
+    refuses(
+        &rt,
+        "policy 3\ngroup g\nlogin-hash x\nuser bob\nlogin-hash x\nLogin-Hash x\nlogin-hash\n",
+        "line 3 column 1: refused: 1 BadLine: this is a setting of users, and it stands under a group
+line 5 column 12: refused: 6 BadValue
+line 6 column 1: a keyword in capitals: keywords are in lower case
+line 7 column 1: refused: 1 BadLine: a value is missing at its end
 ",
     )
 }
@@ -349,7 +389,7 @@ fn takes_for<R: Abort + AllocGlobal>(rt: &R, word: &str, known: &str) -> Result<
 }
 
 /// Words, and what is asked of each: `drnv` is as near to `deny`, which comes later.
-const WORDS: [(&str, &str); 10] = [
+const WORDS: [(&str, &str); 12] = [
     ("grop", ": is 'group' meant?"),
     ("usre", ": is 'user' meant?"),
     ("enab", ": is 'enable' meant?"),
@@ -357,6 +397,8 @@ const WORDS: [(&str, &str); 10] = [
     ("permitte", ": is 'permit' meant?"),
     ("drnv", ": is 'priv' meant?"),
     ("dny", ": is 'deny' meant?"),
+    ("login_hash", ": is 'login-hash' meant?"),
+    ("enablehash", ": is 'enable-hash' meant?"),
     ("end", ""),
     ("permitted", ""),
     ("show", ""),

@@ -6,7 +6,7 @@ use std::test::Fail;
 use tac_audit::{Typist, masked, masked_answer, typed, typed_line};
 
 // Lines that have a secret, and how they are shown.
-const SECRETS: [(&str, &str); 9] = [
+const SECRETS: [(&str, &str); 13] = [
     ("login bob secret", "login bob *"),
     ("enable bob two small boats", "enable bob *"),
     ("login bob  secret", "login bob *"),
@@ -16,10 +16,14 @@ const SECRETS: [(&str, &str); 9] = [
     ("\tlogin\tbob\tsecret", "\tlogin\tbob\t*"),
     ("login bob secret\r", "login bob *"),
     ("login user bob", "login user *"),
+    ("login-hash bob $6$salt$symbols", "login-hash bob *"),
+    ("enable-hash bob $6$salt$symbols", "enable-hash bob *"),
+    ("LOGIN-HASH  bob  $6$salt$symbols", "LOGIN-HASH  bob  *"),
+    (" Enable-Hash\tbob $6$salt$symbols", " Enable-Hash\tbob *"),
 ];
 
 // Lines that have none.
-const PLAIN: [&str; 11] = [
+const PLAIN: [&str; 13] = [
     "",
     "  ",
     "login",
@@ -28,6 +32,8 @@ const PLAIN: [&str; 11] = [
     "logins bob blue",
     "clear login bob",
     "clear enable bob out",
+    "login-hash bob",
+    "login-hashes bob $6$salt$symbols",
     "why bob login ann blue",
     "insert group ops 1 permit enable .*",
     "policy",
@@ -47,11 +53,14 @@ fn lines(rt: HostRuntime) -> Result<(), Fail> {
 }
 
 // Lines of an answer, and how they are shown.
-const ANSWERS: [(&str, &str); 9] = [
+const ANSWERS: [(&str, &str); 12] = [
     ("login secret", "login *"),
     ("enable two small boats", "enable *"),
     ("login ", "login *"),
     ("login", "login"),
+    ("login-hash $6$salt$symbols", "login-hash *"),
+    ("enable-hash $6$salt$symbols", "enable-hash *"),
+    ("Login-hash $6$salt$symbols", "Login-hash $6$salt$symbols"),
     ("Login bob", "Login bob"),
     (" login bob", " login bob"),
     ("user login in ops", "user login in ops"),
