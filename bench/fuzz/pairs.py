@@ -110,7 +110,7 @@ def one_batch(policy, untouched, lines):
 
 def label_of(line):
     words = line.split(" ")
-    if words[0] in ("login", "enable"):
+    if words[0] in ("login", "enable", "login-hash", "enable-hash"):
         return f"user {words[1]}"
     if words[0] == "clear" and words[1] != "priv":
         return f"user {words[2]}"

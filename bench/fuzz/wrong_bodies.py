@@ -56,8 +56,8 @@ WRONG_BODIES = [
     WrongBody(
         "the line that says the version isn't counted",
         "policy.py",
-        "list(enumerate(lines, start=first_line))[version - 1 :]",
-        "enumerate(lines[version - 1 :], start=first_line)",
+        "list(enumerate(lines, start=first_line))[1 if version > 1 else 0 :]",
+        "enumerate(lines[1 if version > 1 else 0 :], start=first_line)",
     ),
     WrongBody(
         "a star goes on only with what it begins with",
@@ -137,6 +137,30 @@ WRONG_BODIES = [
         "policy.py",
         "if self.subjects and self.subjects[-1].kind == GROUP:",
         "if not self.subjects or self.subjects[-1].kind == GROUP:",
+    ),
+    WrongBody(
+        "a hash may stand in a text of version 2",
+        "policy.py",
+        'in ("login-hash", "enable-hash") and self.version == 3:',
+        'in ("login-hash", "enable-hash") and self.version >= 2:',
+    ),
+    WrongBody(
+        "a policy with a hash to enable with alone is printed in version 2",
+        "policy.py",
+        "return isinstance(subject.login, Hash) or isinstance(subject.enable, Hash)",
+        "return isinstance(subject.login, Hash)",
+    ),
+    WrongBody(
+        "rounds are ignored",
+        "hashes.py",
+        "crypted(self.rounds or ROUNDS, self.salt, password)",
+        "crypted(ROUNDS, self.salt, password)",
+    ),
+    WrongBody(
+        "a hash passes as a password",
+        "desk.py",
+        "return secret.passes(password)",
+        "return secret.passes(password) or bytes_of(str(secret)) == password",
     ),
     WrongBody(
         "only the chain of who is moved is judged",

@@ -3,11 +3,12 @@
 import hashlib
 from typing import NamedTuple
 
-from reference.texts import bytes_of, is_name, text_of
+from reference.hashes import Hash
+from reference.texts import bytes_of, is_name
 from reference.wire import ACCOUNTING, AUTHENTICATION, AUTHORISATION, Header, padded
 
 from .patterns import line
-from .policies import SECRETS, USERS
+from .policies import PASSWORDS, SECRETS, USERS
 
 ASCII, PAP, CHAP = 1, 2, 3
 ENABLE = 2
@@ -342,7 +343,10 @@ class World:
 
     def secret(self, user, enable):
         secret = self.server.desk.secret_of(user, ENABLE if enable else 1)
-        return None if secret is None else text_of(secret)
+        if isinstance(secret, Hash):
+            known = PASSWORDS.get(str(secret), "secret")
+            return str(secret) if self.choices.chance(0.05) else known
+        return secret
 
     def record_users(self):
         """The users of the records, as far as a tally of them can be asked for."""

@@ -1,7 +1,7 @@
 """What an operator types: edits and questions of all kinds, with a thing wrong at times."""
 
 from .patterns import line, pattern
-from .policies import GROUPS, NO_NAMES, SECRETS, USERS
+from .policies import GROUPS, HASHES, NO_HASHES, NO_NAMES, SECRETS, USERS
 
 WORDS = [
     "add",
@@ -9,6 +9,8 @@ WORDS = [
     "move",
     "login",
     "enable",
+    "login-hash",
+    "enable-hash",
     "clear login",
     "clear enable",
     "priv",
@@ -92,6 +94,8 @@ class Operator:
                 return f"move {kind} {name} " + (f"in {group}" if choices.chance(0.75) else "out")
             case "login" | "enable":
                 return f"{word} {user} {self.secret()}"
+            case "login-hash" | "enable-hash":
+                return f"{word} {user} {self.hash()}"
             case "clear login" | "clear enable":
                 return f"{word} {user}"
             case "priv":
@@ -118,6 +122,10 @@ class Operator:
         if choices.chance(0.1):
             return choices.choice(["", "s" * 129, " ", "s" * 128, "a b "])
         return choices.choice(SECRETS)
+
+    def hash(self):
+        choices = self.choices
+        return choices.choice(NO_HASHES if choices.chance(0.1) else HASHES)
 
     def question(self):
         choices = self.choices

@@ -1,11 +1,12 @@
 """Two policies, of which the second was made of the first: the text of each, as bytes."""
 
+from reference.hashes import hash_of
 from reference.policy import BadPolicy, printed, read_policy
 
-from .policies import GROUPS, SECRETS, USERS, policy
+from .policies import GROUPS, HASHES, SECRETS, USERS, policy
 
 LEVELS = [0, 0, 1, 7, 15, None]
-SECRETS_OR_NONE = SECRETS + [None]
+SECRETS_OR_NONE = SECRETS + [hash_of(text) for text in HASHES[:2]] + [None]
 
 
 def pair(choices):

@@ -1,27 +1,57 @@
 """Policy texts, as lists of lines; those that are right, and those with something wrong."""
 
+from reference.hashes import made_of
+from reference.texts import bytes_of
+
 from .patterns import COMMANDS, SEARCHED, pattern, search
 
 GROUPS = ["g", "ops", "staff", "base", "bare", "core", "x-y.z_1@a"]
 USERS = ["u", "bob", "eve", "g", "ann", "B", "n" * 32]
 SECRETS = ["secret", "b", " b ", "login", "s" * 128, "p@ss word"]
+# What a user types whose secret is this hash.
+PASSWORDS = {
+    str(made_of(rounds, salt, bytes_of(password))): password
+    for rounds, salt, password in [
+        (1000, "./09AZaz", "secret"),
+        (1001, "0123456789abcdef", "b"),
+        (1000, "x", " b "),
+        (1234, "q.r", "p\xe4ssw\xf6rd"),
+        (1000, "x", "s" * 128),
+        (None, "saltsalt", "login"),
+    ]
+}
+HASHES = list(PASSWORDS)
+NO_HASHES = [
+    "",
+    "x",
+    HASHES[0] + " ",
+    HASHES[0][:-1],
+    HASHES[0] + ".",
+    HASHES[0].replace("1000", "999"),
+    HASHES[0].replace("1000", "01000"),
+    HASHES[0].replace("1000", "100001"),
+    HASHES[0].replace("$6$", "$5$"),
+    HASHES[1].replace("0123", "01234"),
+    HASHES[2].replace("$x$", "$$"),
+]
 NO_NAMES = ["", "n" * 33, "a/b", "a:b", "\xe9", "a\tb", "é"]
 
 
 def policy(choices):
     """Lines of a policy that is right, but for a pattern now and then."""
     subjects = subject_lines(choices)
+    version = choices.kind({"": 55, "policy 2": 20, "policy 3": 25})
     searched = choices.choice(COMMANDS) if choices.chance(0.06) else None
     lines = []
     for first in subjects:
         lines.append(first)
-        lines.extend(settings(choices, first))
+        lines.extend(settings(choices, first, 0.5 if version == "policy 3" else 0))
         if searched is not None:
             lines.extend(searches(choices, searched))
     if choices.chance(0.2):
         lines = [dressed(choices, line) for line in lines]
-    if choices.chance(0.4):
-        lines.insert(0, "policy 2")
+    if version:
+        lines.insert(0, version)
     return [part for line in lines for part in line.split("\n")]
 
 
@@ -48,12 +78,12 @@ def chain(length):
     return groups + [f"user deep in c{length - 1}"]
 
 
-def settings(choices, first):
+def settings(choices, first, hashed):
     lines = []
     if first.startswith("user"):
         for word in ("login", "enable"):
             if choices.chance(0.5):
-                lines.append(f"{word} {choices.choice(SECRETS)}")
+                lines.append(secret_line(choices, word, hashed))
     if choices.chance(0.35):
         lines.append(f"priv {choices.choice(['0', '1', '15', '7', '0015', '015'])}")
     for _ in range(choices.choice([0, 0, 1, 1, 1, 2, 2, 3, 4])):
@@ -63,6 +93,13 @@ def settings(choices, first):
     if choices.chance(0.1):
         lines.append("permit ()")
     return lines
+
+
+def secret_line(choices, word, hashed):
+    """In the clear, or as a hash at this probability."""
+    if choices.chance(hashed):
+        return f"{word}-hash {choices.choice(HASHES)}"
+    return f"{word} {choices.choice(SECRETS)}"
 
 
 def searches(choices, command):
@@ -130,6 +167,11 @@ def wrong_line(choices):
             "login " + "s" * choices.choice([127, 128, 129]),
             "login x",
             "enable x",
+            "login-hash",
+            f"login-hash {choices.choice(HASHES)}",
+            f"enable-hash {choices.choice(HASHES)}",
+            f"login-hash {choices.choice(NO_HASHES)}",
+            f"enable-hash {choices.choice(NO_HASHES)}",
             "priv",
             "priv ",
             "priv 16",
@@ -157,6 +199,7 @@ def wrong_line(choices):
             " policy 2",
             "policy 2 ",
             "policy 3",
+            "policy 4",
             "#\xe9",
             "   \x7f",
             "\r",

@@ -5,6 +5,7 @@ import hashlib
 
 from .accounting import sum_of, tally_of
 from .decisions import chain_of, decision_on, permits
+from .hashes import Hash
 from .policy import GROUP, USER, find
 from .texts import bytes_of, is_text
 
@@ -31,19 +32,20 @@ class Desk:
         user = self.user(name)
         if user is None:
             return None
-        secret = user.enable if service == ENABLE_SERVICE else user.login
-        return None if secret is None else bytes_of(secret)
+        return user.enable if service == ENABLE_SERVICE else user.login
 
     def passes_by_password(self, name, service, password):
         secret = self.secret_of(name, service)
-        return secret is not None and secret == password
+        if isinstance(secret, Hash):
+            return secret.passes(password)
+        return secret is not None and bytes_of(secret) == password
 
     def passes_by_response(self, name, service, data):
         """A CHAP login: one byte of id, the challenge, and the 16 bytes of the response."""
         secret = self.secret_of(name, service)
-        if secret is None or len(data) < 17:
+        if secret is None or isinstance(secret, Hash) or len(data) < 17:
             return False
-        digest = hashlib.md5(data[:1] + secret + data[1:-16]).digest()
+        digest = hashlib.md5(data[:1] + bytes_of(secret) + data[1:-16]).digest()
         return digest == data[-16:]
 
     def why_denied(self, name, line):

@@ -5,6 +5,7 @@ raise Refused.
 """
 
 from .decisions import chain_of, first_too_large
+from .hashes import hash_of
 from .patterns import BadPattern, read_pattern
 from .policy import (
     DENY,
@@ -30,6 +31,8 @@ WORDS = (
     "move",
     "login",
     "enable",
+    "login-hash",
+    "enable-hash",
     "clear",
     "priv",
     "insert",
@@ -101,8 +104,12 @@ def read_move(line):
 
 def read_secret(line):
     match line.split(" ", 2):
+        case [("login" | "enable") as word, name, text] if is_name(name):
+            secret = text if is_secret(text) else None
+            return lambda policy: set_secret(policy, word, name, secret)
         case [word, name, text] if is_name(name):
-            return lambda policy: set_secret(policy, word, name, text)
+            secret = hash_of(text)
+            return lambda policy: set_secret(policy, word.removesuffix("-hash"), name, secret)
     return None
 
 
@@ -157,6 +164,8 @@ READERS = {
     "move": read_move,
     "login": read_secret,
     "enable": read_secret,
+    "login-hash": read_secret,
+    "enable-hash": read_secret,
     "clear": read_clear,
     "priv": read_level,
     "insert": read_insert,
@@ -209,11 +218,11 @@ def move(policy, kind, name, parent):
     return after
 
 
-def set_secret(policy, word, name, text):
+def set_secret(policy, word, name, secret):
     place = place_of(policy, USER, name)
-    if not is_secret(text):
+    if secret is None:
         refuse(9, "BadValue")
-    return changed(policy, place, **{word: text})
+    return changed(policy, place, **{word: secret})
 
 
 def clear(policy, field, kind, name):

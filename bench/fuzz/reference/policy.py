@@ -1,7 +1,8 @@
 """A policy's text: reading, refusals and printed form (docs/POLICY.md, "The text of a policy")."""
 
-from typing import NamedTuple, Optional
+from typing import NamedTuple, Optional, Union
 
+from .hashes import Hash, hash_of
 from .patterns import BadPattern, Pattern, read_pattern
 from .texts import is_name, is_secret, is_text, number_of
 
@@ -9,7 +10,7 @@ MOST_SUBJECTS = 1024
 MOST_RULES = 256
 LONGEST_CHAIN = 8
 HIGHEST_LEVEL = 15
-VERSION_LINE = "policy 2"
+VERSION_LINES = {"policy 2": 2, "policy 3": 3}
 
 GROUP, USER = "group", "user"
 PERMIT, DENY = "permit", "deny"
@@ -24,8 +25,8 @@ class Subject(NamedTuple):
     kind: str
     name: str
     parent: Optional[str] = None
-    login: Optional[str] = None
-    enable: Optional[str] = None
+    login: Optional[Union[str, Hash]] = None
+    enable: Optional[Union[str, Hash]] = None
     level: Optional[int] = None
     rules: tuple = ()
 
@@ -50,9 +51,9 @@ def refuse(number, name):
 
 def read_policy(lines, first_line=1):
     """The policy that the lines say: a tuple of subjects. Lines count from the number given."""
-    version = 2 if lines[:1] == [VERSION_LINE] else 1
+    version = VERSION_LINES.get(lines[0], 1) if lines else 1
     reader = Reader(version)
-    for number, line in list(enumerate(lines, start=first_line))[version - 1 :]:
+    for number, line in list(enumerate(lines, start=first_line))[1 if version > 1 else 0 :]:
         try:
             reader.read(line, number)
         except Refused as fault:
@@ -79,7 +80,9 @@ class Reader:
         if word in (GROUP, USER):
             self.begin(word, rest.split(" "), number)
         elif word in ("login", "enable"):
-            self.set_secret(word, rest)
+            self.set_secret(word, rest if is_secret(rest) else None)
+        elif word in ("login-hash", "enable-hash") and self.version == 3:
+            self.set_secret(word.removesuffix("-hash"), hash_of(rest))
         elif word == "priv":
             self.set_level(rest)
         elif word in (PERMIT, DENY):
@@ -104,14 +107,14 @@ class Reader:
             refuse(4, "NoSubject")
         return self.subjects[-1]
 
-    def set_secret(self, word, text):
+    def set_secret(self, word, secret):
         if self.subjects and self.subjects[-1].kind == GROUP:
             refuse(1, "BadLine")
         if getattr(self.last(), word) is not None:
             refuse(3, "Repeated")
-        if not is_secret(text):
+        if secret is None:
             refuse(6, "BadValue")
-        self.subjects[-1] = self.last()._replace(**{word: text})
+        self.subjects[-1] = self.last()._replace(**{word: secret})
 
     def set_level(self, text):
         if " " in text:
@@ -126,7 +129,7 @@ class Reader:
     def add_rule(self, verdict, source):
         subject = self.last()
         try:
-            rule = Rule(verdict, read_pattern(source, self.version))
+            rule = Rule(verdict, read_pattern(source, min(self.version, 2)))
         except BadPattern as fault:
             raise Refused(f"5 BadPattern {fault}") from None
         if len(subject.rules) == MOST_RULES:
@@ -165,14 +168,22 @@ def chain_length(subjects, subject):
     return length
 
 
+def secret_line(word, secret):
+    return f"{word}-hash {secret}" if isinstance(secret, Hash) else f"{word} {secret}"
+
+
+def has_hash(subject):
+    return isinstance(subject.login, Hash) or isinstance(subject.enable, Hash)
+
+
 def printed(policy):
-    lines = [VERSION_LINE]
+    lines = ["policy 3" if any(has_hash(subject) for subject in policy) else "policy 2"]
     for subject in policy:
         lines.append(subject.label() + (f" in {subject.parent}" if subject.parent else ""))
         if subject.login is not None:
-            lines.append(f"login {subject.login}")
+            lines.append(secret_line("login", subject.login))
         if subject.enable is not None:
-            lines.append(f"enable {subject.enable}")
+            lines.append(secret_line("enable", subject.enable))
         if subject.level is not None:
             lines.append(f"priv {subject.level}")
         lines.extend(f"{rule.verdict} {rule.pattern.source}" for rule in subject.rules)
