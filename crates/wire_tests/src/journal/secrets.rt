@@ -18,7 +18,7 @@ const SECRETS: [(&str, &str); 13] = [
     ("login user bob", "login user *"),
     ("login-hash bob $6$salt$symbols", "login-hash bob *"),
     ("enable-hash bob $6$salt$symbols", "enable-hash bob *"),
-    ("LOGIN-HASH  bob  $6$salt$symbols", "LOGIN-HASH  bob  *"),
+    ("LOGIN-HASH  bob  $6$salt$symbols", "LOGIN-HASH  bob *"),
     (" Enable-Hash\tbob $6$salt$symbols", " Enable-Hash\tbob *"),
 ];
 
