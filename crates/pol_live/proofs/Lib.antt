@@ -13,3 +13,4 @@ pub mod PreparedFacts
 pub mod ReplaceFacts
 pub mod RiseFacts
 pub mod StayingFacts
+pub mod JudgedFacts

@@ -17,14 +17,14 @@ use Rattle.pol_live.specs.Live.{Builds, Step, PreparesTo, Prepares, PreparesAll,
 use Rattle.pol_meaning.specs.Memory.{UnlessMemory}
 
 module _ (policy : List Subject) where
-  first_unique : (subjects : List Subject) (a b : SubjectId) → IsFirstLarge policy subjects a → IsFirstLarge policy subjects b → a ≡ b
+  pub first_unique : (subjects : List Subject) (a b : SubjectId) → IsFirstLarge policy subjects a → IsFirstLarge policy subjects b → a ≡ b
   first_unique [] a b h k = absurd h
   first_unique (s ∷ rest) a b (inl h) (inl k) = h.1 ∙ sym k.1
   first_unique (s ∷ rest) a b (inl h) (inr k) = absurd (k.0 h.0)
   first_unique (s ∷ rest) a b (inr h) (inl k) = absurd (h.0 k.0)
   first_unique (s ∷ rest) a b (inr h) (inr k) = first_unique rest a b h.1 k.1
 
-  none_large : (subjects : List Subject) (id : SubjectId) → AreSmall policy subjects → IsFirstLarge policy subjects id → ⊥
+  pub none_large : (subjects : List Subject) (id : SubjectId) → AreSmall policy subjects → IsFirstLarge policy subjects id → ⊥
   none_large [] id small h = h
   none_large (s ∷ rest) id small (inl h) = small.0 h.0
   none_large (s ∷ rest) id small (inr h) = none_large rest id small.1 h.1

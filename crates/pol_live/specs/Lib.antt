@@ -5,3 +5,4 @@ pub mod Rise
 pub mod Counting
 pub mod Refusing
 pub mod Live
+pub mod Judging

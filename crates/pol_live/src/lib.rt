@@ -6,6 +6,7 @@ mod building;
 mod deciding;
 mod fault;
 mod filling;
+mod judging;
 mod keeping;
 mod live;
 mod parents;
@@ -19,6 +20,7 @@ mod touching;
 
 pub use along::{ChainRule, rules_along};
 pub use fault::BuildFault;
+pub use judging::TextRefusal;
 pub use keeping::keeper;
 pub use live::Live;
 pub use pol_names::{By, Decision, Kind, Name, SubjectId};

@@ -15,6 +15,7 @@ ghost use Rattle.tac_desks.specs.Metered.{unmetered};
 ghost use Rattle.tac_desk.specs.Asking as asking;
 ghost use Rattle.tac_desk.specs.Asking.{asked, stores, Passes};
 ghost use Rattle.tac_desk.specs.Editing as editing;
+ghost use Rattle.tac_desk.specs.Meaning.{opened};
 ghost use Rattle.tac_desk.specs.Reporting as reporting;
 ghost use Rattle.tac_desk.specs.declared.query.QueryFault.TheVariants.{NoSuch};
 
@@ -111,6 +112,21 @@ impl LiveDesk {
     {
         let mut meter = Meter::new();
         let live = Live::build(alloc, policy, &mut meter)?;
+        let desk = LiveDesk::of_live(alloc, live, meter, limit)?;
+        Ok(desk)
+    }
+
+    /// A desk of a policy that has its automata, without records, which keeps them as the limit
+    /// says. The meter says how many states were built so far, and goes on from there.
+    pub fn of_live(
+        alloc: Global,
+        live: Live,
+        meter: Meter,
+        limit: RecordLimit,
+    ) -> Result<LiveDesk, AllocError>
+        ensures meaning { IfOk result (λ desk. desk.meaning ≡ opened live limit) }
+        ensures meter { IfOk result (λ desk. desk.meter ≡ meter.total) }
+    {
         let remembered = Remembered::new(alloc)?;
         Ok(LiveDesk {
             alloc,

@@ -2,16 +2,13 @@
 -- there is none.
 use Rattle.std.specs.Prelude.{◌≡◌, ℕ, min, max, List, [], Bool, true, false, Option, Some, None}
 use Rattle.std.specs.Prelude.{Result, Ok, Err}
-use Rattle.pol_text.specs.Text.{policy_of}
 use Rattle.pol_text.specs.declared.subject.Subject.{Subject}
-use Rattle.pol_text.specs.declared.fault.PolicyFault.{PolicyFault}
+use Rattle.pol_live.specs.declared.judging.TextRefusal.{TextRefusal}
 use Rattle.tac_tally.specs.Keeping.{refusing, forgetting}
 use Rattle.tac_tally.specs.declared.limit.RecordLimit.{RecordLimit}
-use Rattle.tac_desk.specs.Meaning.{max_records}
+use Rattle.tac_desk.specs.Meaning.{max_records, opened}
 use Rattle.tac_desks.specs.Metered.{Metered}
-use Rattle.tac_desks.specs.Opening.{Opens}
-use Rattle.tac_review.specs.Check.{IsCheckOf}
-use Rattle.tac_review.specs.declared.checking.CheckEnd.TheVariants.{Refused}
+use Rattle.tac_review.specs.Judged.{refusal_line, ByJudged}
 
 -- a server that is told how many records to keep keeps the latest; else the first that come are kept,
 -- and no more
@@ -26,15 +23,15 @@ workers (Some given) syncs processors = given
 workers None true processors = 16
 workers None false processors = max 1 (min 16 processors)
 
--- a policy that may stand has a desk that keeps records by this limit, and nothing is printed; of
--- one that is refused, what its check prints is printed
-abbrev pub IsDeskOf : RecordLimit → Result (List Subject) PolicyFault → List ℕ → Option Metered
+-- a policy that may stand has a desk that keeps records by this limit, and nothing is printed; of a
+-- text that is refused, why is printed, as its check prints it
+abbrev pub IsDeskOf : RecordLimit → Result (List Subject) TextRefusal → List ℕ → Option Metered
     → Type 0
 IsDeskOf limit (Ok policy) printed (Some desk) =
-    Opens policy limit (Ok desk.meaning) × (printed ≡ [])
-IsDeskOf limit (Err fault) printed (Some desk) = ⊥
-IsDeskOf limit policy printed None = IsCheckOf policy printed Refused
+    (desk.meaning ≡ opened policy limit) × (printed ≡ [])
+IsDeskOf limit (Err refusal) printed None = printed ≡ refusal_line refusal
+IsDeskOf limit _ printed _ = ⊥
 
--- the same of a policy's text
+-- the desk of a policy's text
 abbrev pub IsDeskOfText : RecordLimit → List ℕ → List ℕ → Option Metered → Type 0
-IsDeskOfText limit text printed desk = IsDeskOf limit (policy_of text) printed desk
+IsDeskOfText limit text printed desk = ByJudged (IsDeskOf limit) text printed desk

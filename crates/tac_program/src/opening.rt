@@ -1,23 +1,22 @@
 //! The policy's file, and the desk of the policy.
 
-ghost use Rattle.std.specs.Prelude.{◌≡◌, Ok, IfOk, OnOk};
+ghost use Rattle.std.specs.Prelude.{IfOk, OnOk};
 ghost use Rattle.std.specs.Io.KnownBytes.{IsAtEnd};
-ghost use Rattle.tac_console.specs.Faults.{size_fault};
 ghost use Rattle.tac_io.specs.Answering.{IsAnswered, IsWorked};
-ghost use Rattle.tac_program.specs.Opening.{IsDeskOf, IsDeskOfText};
+ghost use Rattle.tac_program.specs.Opening.{IsDeskOfText};
 
 use crate::status::Status;
-use pol_live::{BuildFault, SubjectId};
-use pol_text::{Policy, PolicyFault};
+use pol_automaton::Meter;
+use pol_live::Live;
 use std::alloc::{AllocError, Global};
 use std::fs;
 use std::fs::OpenFile;
 use std::io::{Read, Write};
 use std::os::unix::fs::PermissionsExt;
 use std::rt::Files;
-use tac_console::{write_policy_fault, write_size_fault};
 use tac_desks::LiveDesk;
 use tac_io::{AnswerFault, InputFault, MAX_INPUT, read_whole, write_answer};
+use tac_review::refusal_line;
 use tac_tally::RecordLimit;
 
 /// The right by which any user of a machine reads a file.
@@ -72,34 +71,7 @@ pub(crate) fn open_secret<R: Files + Eprint>(rt: &R, path: &str) -> Result<R::Fi
     Ok(file)
 }
 
-// What is printed of a policy that may not stand.
-fn too_large(alloc: Global, subject: SubjectId) -> Result<Vec<u8>, AllocError>
-    ensures { IfOk result (λ printed. printed.items ≡ size_fault subject) }
-{
-    let mut printed = Vec::new(alloc);
-    write_size_fault(alloc, &mut printed, subject)?;
-    Ok(printed)
-}
-
-// The desk of a policy, and nothing to print; or no desk, and what is printed instead.
-fn desk_of_policy(
-    alloc: Global,
-    limit: RecordLimit,
-    policy: Policy,
-) -> Result<(Vec<u8>, Option<LiveDesk>), AllocError>
-    ensures { IfOk result (λ opened. IsDeskOf limit (Ok policy) opened.0.items opened.1) }
-{
-    match LiveDesk::with_limit(alloc, policy, limit) {
-        Ok(desk) => Ok((Vec::new(alloc), Some(desk))),
-        Err(BuildFault::TooManyStates(subject)) => {
-            let printed = too_large(alloc, subject)?;
-            Ok((printed, None))
-        }
-        Err(BuildFault::Memory) => Err(AllocError),
-    }
-}
-
-// The same of a policy's text.
+// The desk of a policy's text, and nothing to print; or no desk, and what is printed instead.
 fn desk_of_text(
     alloc: Global,
     limit: RecordLimit,
@@ -107,13 +79,15 @@ fn desk_of_text(
 ) -> Result<(Vec<u8>, Option<LiveDesk>), AllocError>
     ensures { IfOk result (λ opened. IsDeskOfText limit text.now opened.0.items opened.1) }
 {
-    match Policy::read(alloc, text) {
-        Ok(policy) => desk_of_policy(alloc, limit, policy),
-        Err(PolicyFault::Memory) => Err(AllocError),
-        Err(fault) => {
-            let mut printed = Vec::new(alloc);
-            write_policy_fault(alloc, &mut printed, fault)?;
-            Ok((printed, None))
+    let mut meter = Meter::new();
+    match Live::of_text(alloc, text, &mut meter)? {
+        Ok(live) => {
+            let desk = LiveDesk::of_live(alloc, live, meter, limit)?;
+            Ok((Vec::new(alloc), Some(desk)))
+        }
+        Err(refusal) => {
+            let line = refusal_line(alloc, refusal)?;
+            Ok((line, None))
         }
     }
 }

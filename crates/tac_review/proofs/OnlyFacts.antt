@@ -1,11 +1,12 @@
 -- One output alone is right.
 use Rattle.std.proofs.Common.{◌≡◌, ℕ, List, Result, Ok, Err, IfOk, sym, ap, subst, ◌∙◌}
 use Rattle.pol_text.specs.declared.subject.Subject.{Subject}
-use Rattle.pol_text.specs.declared.fault.PolicyFault.{PolicyFault}
 use Rattle.pol_meaning.specs.Changes.{AreChanges}
 use Rattle.pol_meaning.specs.declared.Changed.{Changed}
-use Rattle.tac_review.specs.Judged.{JudgesOf, IsJudgedOf}
-use Rattle.tac_review.specs.Review.{IsOnly, IsRight, Diffs, DiffsTo, ListsEdits, Continues, changes_text, changes_end}
+use Rattle.pol_live.specs.Judging.{Judges, IsOnlyJudged}
+use Rattle.pol_live.specs.declared.judging.TextRefusal.{TextRefusal}
+use Rattle.tac_review.specs.Judged.{ByJudged, IsOnly}
+use Rattle.tac_review.specs.Review.{IsRight, Diffs, DiffsTo, ListsEdits, Continues, changes_text, changes_end}
 use Rattle.tac_review.specs.declared.task.Review.{Review}
 use Rattle.tac_review.specs.declared.task.Review.TheVariants.{Diff, Edits}
 use Rattle.tac_review.specs.declared.task.ReviewEnd.{ReviewEnd}
@@ -14,12 +15,16 @@ pub ok_so : {X E : Type 0} (r : Result X E) {P Q : X → Type 0} → ((x : X) �
 ok_so (Ok x) so h = so x h
 ok_so (Err e) so h = tt
 
+-- what is equal to one value alone
+pub equal_only : {End : Type 0} (line output : List ℕ) (last end : End) → output ≡ line → end ≡ last → IsOnly (λ other at. (other ≡ line) × (at ≡ last)) output end
+equal_only line output last end p q = record { wanted = (p, q); only = λ other at w. (w.0 ∙ sym p, w.1 ∙ sym q) }
+
 -- what goes on from a judgement
-pub judged_only : (read : Result (List Subject) PolicyFault) (judged : Result (List Subject) (List ℕ)) (By : Result (List Subject) (List ℕ) → List ℕ → ReviewEnd → Type 0) (output : List ℕ) (end : ReviewEnd)
-    → IsJudgedOf read judged → IsOnly (By judged) output end → IsOnly (λ other last. (found : Result (List Subject) (List ℕ)) × JudgesOf read found × By found other last) output end
-judged_only read judged By output end judges only = record {
-  wanted = (judged, judges.right, only.wanted);
-  only = λ other last w. only.only other last (subst (λ (found : Result (List Subject) (List ℕ)). By found other last) (judges.only w.0 w.1) w.2);
+pub judged_only : {End : Type 0} (text : List ℕ) (judged : Result (List Subject) TextRefusal) (by : Result (List Subject) TextRefusal → List ℕ → End → Type 0) (output : List ℕ) (end : End)
+    → Judges text judged → IsOnlyJudged text judged → IsOnly (by judged) output end → IsOnly (ByJudged by text) output end
+judged_only text judged by output end judges one only = record {
+  wanted = (judged, judges, only.wanted);
+  only = λ other last w. only.only other last (subst (λ (found : Result (List Subject) TextRefusal). by found other last) (sym (one w.0 w.1)) w.2);
 }
 
 -- the changes between two policies

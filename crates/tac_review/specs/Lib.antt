@@ -1,6 +1,6 @@
+pub mod Judged
 pub mod Check
 pub mod Lint
-pub mod Judged
 pub mod Asking
 pub mod Tables
 pub mod Loading

@@ -2,19 +2,16 @@
 use Rattle.std.specs.Prelude.{◌≡◌, ℕ, List, [], ◌∷◌, ◌++◌, codes, Result, Ok, Err}
 use Rattle.std.specs.List.{flat_map}
 use Rattle.std.specs.Fmt.{decimal}
-use Rattle.pol_text.specs.Text.{policy_of}
 use Rattle.pol_text.specs.declared.subject.Subject.{Subject}
-use Rattle.pol_text.specs.declared.fault.PolicyFault.{PolicyFault}
-use Rattle.pol_text.specs.declared.fault.PolicyFault.TheVariants as policies
-use Rattle.pol_live.specs.declared.fault.BuildFault.{BuildFault}
-use Rattle.pol_live.specs.declared.fault.BuildFault.TheVariants as builds
-use Rattle.pol_live.specs.Live.{Builds}
 use Rattle.pol_meaning.specs.Reach.{Shadows}
 use Rattle.pol_meaning.specs.declared.Shadowed.{Shadowed}
 use Rattle.pol_lint.specs.FindingText.{finding_text}
 use Rattle.pol_lint.specs.Remarks.{policy_remarks}
 use Rattle.pol_lint.specs.Chains.{text_faults, size_faults}
 use Rattle.pol_lint.specs.declared.remark.Remark.{Remark}
+use Rattle.pol_live.specs.declared.judging.TextRefusal.{TextRefusal}
+use Rattle.pol_live.specs.declared.judging.TextRefusal.TheVariants.{NoPolicy, TooLarge}
+use Rattle.tac_review.specs.Judged.{ByJudged, IsOnly}
 use Rattle.tac_review.specs.declared.linting.LintEnd.{LintEnd}
 use Rattle.tac_review.specs.declared.linting.LintEnd.TheVariants.{Quiet, Told, Refused}
 
@@ -38,38 +35,21 @@ Remarks text policy output end =
     × (output ≡ remarks_text (policy_remarks text policy rows))
     × (end ≡ end_of (policy_remarks text policy rows))
 
--- a policy that may stand is told of; else the subject that is too large
-abbrev pub TellsBuilt : List ℕ → Result (List Subject) BuildFault → List ℕ → LintEnd → Type 0
-TellsBuilt text (Ok policy) output end = Remarks text policy output end
-TellsBuilt text (Err (builds.TooManyStates subject)) output end =
-    (output ≡ remarks_text (size_faults text subject)) × (end ≡ Refused)
-TellsBuilt text (Err builds.Memory) output end = ⊥
+-- all that is wrong with a text that is refused
+abbrev pub faults : List ℕ → TextRefusal → List Remark
+faults text (NoPolicy line refusal) = text_faults text line refusal
+faults text (TooLarge subject) = size_faults text subject
 
-pub record IsBuilt (text : List ℕ) (policy : List Subject) (output : List ℕ) (end : LintEnd)
-    : Type 0 where
-  pub built : Result (List Subject) BuildFault
-  pub builds : Builds policy built
-  pub tells : TellsBuilt text built output end
-
--- a text that says no policy is told of by all its faults. A lack of memory refuses no text
-abbrev pub IsLintOf : List ℕ → Result (List Subject) PolicyFault → List ℕ → LintEnd → Type 0
-IsLintOf text (Ok policy) output end = IsBuilt text policy output end
-IsLintOf text (Err (policies.Refused line refusal)) output end =
-    (output ≡ remarks_text (text_faults text line refusal)) × (end ≡ Refused)
-IsLintOf text (Err policies.Memory) output end = ⊥
+-- a policy that may stand is told of; else what is wrong with the text
+abbrev pub Tells : List ℕ → Result (List Subject) TextRefusal → List ℕ → LintEnd → Type 0
+Tells text (Ok policy) output end = Remarks text policy output end
+Tells text (Err refusal) output end =
+    (output ≡ remarks_text (faults text refusal)) × (end ≡ Refused)
 
 -- what is printed of a text is this, and it ends so
 abbrev pub IsLint : List ℕ → List ℕ → LintEnd → Type 0
-IsLint text output end = IsLintOf text (policy_of text) output end
+IsLint text output end = ByJudged (Tells text) text output end
 
--- ---- what a function returned, against what was wanted
-
--- that is wanted, and nothing else is
-pub record IsOnly (Wanted : List ℕ → LintEnd → Type 0) (output : List ℕ) (end : LintEnd)
-    : Type 0 where
-  pub wanted : Wanted output end
-  pub only : (other : List ℕ) (last : LintEnd) → Wanted other last
-      → (other ≡ output) × (last ≡ end)
-
+-- that was worked out, and nothing else is right
 abbrev pub IsOnlyLint : List ℕ → List ℕ → LintEnd → Type 0
 IsOnlyLint text output end = IsOnly (IsLint text) output end

@@ -9,7 +9,8 @@ use Rattle.pol_meaning.specs.declared.Changed.{Changed}
 use Rattle.tac_desk.specs.declared.query.Query.{Query}
 use Rattle.tac_console.specs.Answers.{changed_lines}
 use Rattle.tac_console.specs.Faults.{fault_line}
-use Rattle.tac_review.specs.Judged.{Judges}
+use Rattle.pol_live.specs.declared.judging.TextRefusal.{TextRefusal}
+use Rattle.tac_review.specs.Judged.{refusal_line, ByJudged, IsOnly}
 use Rattle.tac_review.specs.Asking.{question_of, answer_to}
 use Rattle.tac_review.specs.Tables as tables
 use Rattle.tac_review.specs.Loading.{Loads}
@@ -17,12 +18,18 @@ use Rattle.tac_review.specs.declared.task.Review.{Review}
 use Rattle.tac_review.specs.declared.task.Review.TheVariants.{Diff, Edits, Why, Each}
 use Rattle.tac_review.specs.declared.task.ReviewEnd.{ReviewEnd}
 use Rattle.tac_review.specs.declared.task.ReviewEnd.TheVariants.{Done, Differs, BadPolicy, Refused}
+use Rattle.tac_review.specs.declared.task.Input.{Input}
 use Rattle.tac_review.specs.declared.task.Input.TheVariants.{First, Second}
 use Rattle.tac_review.specs.declared.task.Table.{Table}
 
 -- the line that refuses an input, after the input's name
 abbrev pub named : List ℕ → List ℕ → List ℕ
 named name line = name ++ codes ": " ++ line
+
+-- that is printed of an input whose text is refused
+abbrev pub IsRefused : Input → List ℕ → TextRefusal → List ℕ → ReviewEnd → Type 0
+IsRefused input name refusal output end =
+    (output ≡ named name (refusal_line refusal)) × (end ≡ BadPolicy input)
 
 -- ---- what a new policy changes
 
@@ -35,31 +42,27 @@ abbrev pub changes_end : List Changed → ReviewEnd
 changes_end [] = Done
 changes_end (change ∷ changes) = Differs
 
-abbrev pub DiffsTo : List ℕ → List Subject → Result (List Subject) (List ℕ) → List ℕ → ReviewEnd
+abbrev pub DiffsTo : List ℕ → List Subject → Result (List Subject) TextRefusal → List ℕ → ReviewEnd
     → Type 0
-DiffsTo name old (Err line) output end = (output ≡ named name line) × (end ≡ BadPolicy Second)
+DiffsTo name old (Err refusal) output end = IsRefused Second name refusal output end
 DiffsTo name old (Ok new) output end =
     (changes : List Changed) × AreChanges old new changes × (output ≡ changes_text changes)
     × (end ≡ changes_end changes)
 
 -- the exact changes between the policies, if the new one may stand
 abbrev pub Diffs : List ℕ → List ℕ → List Subject → List ℕ → ReviewEnd → Type 0
-Diffs name text old output end =
-    (judged : Result (List Subject) (List ℕ)) × Judges text judged
-    × DiffsTo name old judged output end
+Diffs name text old output end = ByJudged (DiffsTo name old) text output end
 
 -- ---- which edits make a new policy
 
-abbrev pub EditsTo : List Subject → List ℕ → Result (List Subject) (List ℕ) → List ℕ → ReviewEnd
+abbrev pub EditsTo : List Subject → List ℕ → Result (List Subject) TextRefusal → List ℕ → ReviewEnd
     → Type 0
-EditsTo old name (Err line) output end = (output ≡ named name line) × (end ≡ BadPolicy Second)
+EditsTo old name (Err refusal) output end = IsRefused Second name refusal output end
 EditsTo old name (Ok new) output end = Loads old new output end
 
 -- the edits in batches, if the new policy may stand
 abbrev pub ListsEdits : List ℕ → List ℕ → List Subject → List ℕ → ReviewEnd → Type 0
-ListsEdits name text old output end =
-    (judged : Result (List Subject) (List ℕ)) × Judges text judged
-    × EditsTo old name judged output end
+ListsEdits name text old output end = ByJudged (EditsTo old name) text output end
 
 -- ---- how a policy decides
 
@@ -87,29 +90,21 @@ Continues Edits name text policy output end = ListsEdits name text policy output
 Continues Why name text policy output end = Explains policy (question_of text) output end
 Continues (Each table) name text policy output end = Tells table name text policy output end
 
-abbrev pub ReviewsBy : Review → List ℕ → List ℕ → List ℕ → Result (List Subject) (List ℕ) → List ℕ
-    → ReviewEnd → Type 0
-ReviewsBy review first second text (Err line) output end =
-    (output ≡ named first line) × (end ≡ BadPolicy First)
+abbrev pub ReviewsBy : Review → List ℕ → List ℕ → List ℕ → Result (List Subject) TextRefusal
+    → List ℕ → ReviewEnd → Type 0
+ReviewsBy review first second text (Err refusal) output end =
+    IsRefused First first refusal output end
 ReviewsBy review first second text (Ok policy) output end =
     Continues review second text policy output end
 
 -- the review of the inputs with these names and texts prints this, and ends so
 abbrev pub Reviews : Review → List ℕ → List ℕ → List ℕ → List ℕ → List ℕ → ReviewEnd → Type 0
 Reviews review first second one two output end =
-    (judged : Result (List Subject) (List ℕ)) × Judges one judged
-    × ReviewsBy review first second two judged output end
+    ByJudged (ReviewsBy review first second two) one output end
 
 -- ---- what a function returned, against what was wanted
 
--- that is wanted, and nothing else is
-pub record IsOnly (Wanted : List ℕ → ReviewEnd → Type 0) (output : List ℕ) (end : ReviewEnd)
-    : Type 0 where
-  pub wanted : Wanted output end
-  pub only : (other : List ℕ) (last : ReviewEnd) → Wanted other last
-      → (other ≡ output) × (last ≡ end)
-
--- the same, but of edits others would do as well
+-- that is wanted, and nothing else is; but of edits others would do as well
 abbrev pub IsRight : Review → (List ℕ → ReviewEnd → Type 0) → List ℕ → ReviewEnd → Type 0
 IsRight Edits Wanted output end = Wanted output end
 IsRight review Wanted output end = IsOnly Wanted output end

@@ -4,7 +4,7 @@ ghost use Rattle.std.specs.Prelude.{OnOk};
 ghost use Rattle.std.specs.Io.KnownBytes.{IsAtEnd};
 ghost use Rattle.pol_pattern.specs.Matching.{MatchLaw};
 ghost use Rattle.tac_io.specs.Answering.{IsAnswered, IsWorked};
-ghost use Rattle.tac_review.specs.Check.{IsWorkedOut};
+ghost use Rattle.tac_review.specs.Check.{IsOnlyCheck};
 
 use crate::check_output::output;
 use std::alloc::Global;
@@ -23,7 +23,7 @@ pub enum CheckEnd {
 // Reads a text, and works out what its check prints.
 fn answer<R: Read>(alloc: Global, reader: &mut R) -> Result<(Vec<u8>, CheckEnd), InputFault>
     ensures end { OnOk result (IsAtEnd (R.remaining reader.new)) }
-    ensures worked { IsWorked IsWorkedOut (R.remaining reader.old) result }
+    ensures worked { IsWorked IsOnlyCheck (R.remaining reader.old) result }
 {
     let text = read_whole(alloc, reader, MAX_INPUT)?;
     let (printed, end) = output(alloc, text.as_slice())?;
@@ -43,7 +43,7 @@ pub fn check<R: Read, W: Write>(
 
     // What was written is exactly the check's output, the end is the check's, and no others are;
     // or what a fault leaves.
-    ensures answered { IsAnswered IsWorkedOut (R.remaining reader.old)
+    ensures answered { IsAnswered IsOnlyCheck (R.remaining reader.old)
         (W.contents writer.old) (W.contents writer.new) result }
 
     // Whether a pattern matches a line by the definitions is whether its set of texts has it.

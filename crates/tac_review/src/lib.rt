@@ -15,6 +15,7 @@ mod table;
 mod task;
 
 pub use checking::{CheckEnd, check};
+pub use judging::refusal_line;
 pub use linting::{LintEnd, lint};
 pub use reviewing::review;
 pub use tac_io::AnswerFault as CheckFault;

@@ -1,15 +1,15 @@
 //! What is told of a text, and how that ends.
 
 ghost use Rattle.std.specs.Prelude.{◌≡◌, ◌++◌, Ok, IfOk, OnOk};
+ghost use Rattle.tac_review.specs.Judged.{IsOnly};
 ghost use Rattle.tac_review.specs.Lint as lints;
 
+use crate::judging::judge;
 use crate::linting::LintEnd;
 use basics::Sequence;
-use pol_automaton::Meter;
 use pol_lint::{Remark, policy_remarks, size_faults, text_faults};
-use pol_live::{BuildFault, Live};
+use pol_live::{Live, TextRefusal};
 use pol_report::shadows;
-use pol_text::{Policy, PolicyFault};
 use std::alloc::{AllocError, Global};
 use std::io;
 use std::io::Write;
@@ -60,39 +60,20 @@ fn ended(alloc: Global, remarks: &Sequence<Remark>) -> Result<(Vec<u8>, LintEnd)
 // What is told of a policy that may stand.
 fn told(alloc: Global, text: &[u8], live: &Live) -> Result<(Vec<u8>, LintEnd), AllocError>
     ensures { IfOk result (λ output.
-        lints.IsOnly (lints.Remarks text.now live.now) output.0.items output.1) }
+        IsOnly (lints.Tells text.now (Ok live.now)) output.0.items output.1) }
 {
     let rows = shadows(alloc, live)?;
     let remarks = policy_remarks(alloc, text, live.policy(), rows.as_slice())?;
     ended(alloc, &remarks)
 }
 
-// What is told of a policy that may not stand.
-fn refused(alloc: Global, remarks: &Sequence<Remark>) -> Result<(Vec<u8>, LintEnd), AllocError>
-    ensures { IfOk result (λ output. (output.0.items ≡ lints.remarks_text remarks.now)
-        × (output.1 ≡ LintEnd.Refused)) }
+// What is wrong with a text that is refused.
+fn faults(alloc: Global, text: &[u8], refusal: TextRefusal) -> Result<Sequence<Remark>, AllocError>
+    ensures { IfOk result (λ remarks. remarks ≡ lints.faults text.now refusal) }
 {
-    let printed = text_of(alloc, remarks)?;
-    Ok((printed, LintEnd::Refused))
-}
-
-// What is told of a text that says this policy.
-fn output_of_policy(
-    alloc: Global,
-    text: &[u8],
-    policy: Policy,
-) -> Result<(Vec<u8>, LintEnd), AllocError>
-    ensures { IfOk result (λ output.
-        lints.IsOnly (lints.IsLintOf text.now (Ok policy)) output.0.items output.1) }
-{
-    let mut meter = Meter::new();
-    match Live::build(alloc, policy, &mut meter) {
-        Ok(live) => told(alloc, text, &live),
-        Err(BuildFault::TooManyStates(subject)) => {
-            let remarks = size_faults(alloc, text, &subject)?;
-            refused(alloc, &remarks)
-        }
-        Err(BuildFault::Memory) => Err(AllocError),
+    match refusal {
+        TextRefusal::NoPolicy { line, refusal } => text_faults(alloc, text, line, refusal),
+        TextRefusal::TooLarge(subject) => size_faults(alloc, text, &subject),
     }
 }
 
@@ -100,12 +81,12 @@ fn output_of_policy(
 pub(crate) fn output(alloc: Global, text: &[u8]) -> Result<(Vec<u8>, LintEnd), AllocError>
     ensures { IfOk result (λ output. lints.IsOnlyLint text.now output.0.items output.1) }
 {
-    match Policy::read(alloc, text) {
-        Ok(policy) => output_of_policy(alloc, text, policy),
-        Err(PolicyFault::Refused { line, refusal }) => {
-            let remarks = text_faults(alloc, text, line, refusal)?;
-            refused(alloc, &remarks)
+    match judge(alloc, text)? {
+        Ok(live) => told(alloc, text, &live),
+        Err(refusal) => {
+            let remarks = faults(alloc, text, refusal)?;
+            let printed = text_of(alloc, &remarks)?;
+            Ok((printed, LintEnd::Refused))
         }
-        Err(PolicyFault::Memory) => Err(AllocError),
     }
 }

@@ -4,16 +4,17 @@ ghost use Rattle.std.specs.Prelude.{◌≡◌, ◌++◌, codes, ◌∷◌, [], O
 ghost use Rattle.std.specs.List.{flat_map};
 ghost use Rattle.tac_console.specs.Answers.{changed_lines};
 ghost use Rattle.tac_review.specs.Asking as asking;
+ghost use Rattle.tac_review.specs.Judged.{IsOnly};
 ghost use Rattle.tac_review.specs.Tables as tables;
 ghost use Rattle.tac_review.specs.Review as reviews;
 
 use crate::asking::{add_answer, question};
-use crate::judging::judge;
+use crate::judging::{judge, refusal_line};
 use crate::loading::load;
 use crate::table::tell;
 use crate::task::{Input, Review, ReviewEnd, Table};
 use basics::Bytes;
-use pol_live::Live;
+use pol_live::{Live, TextRefusal};
 use pol_report::{Changes, compare};
 use std::alloc::{AllocError, Global};
 use std::io::Write;
@@ -34,6 +35,20 @@ fn refused(
     text.extend_from_slice(b": ")?;
     text.extend_from_slice(line)?;
     Ok((text, end))
+}
+
+// What is printed of a text that is refused.
+fn refused_text(
+    alloc: Global,
+    input: Input,
+    name: &[u8],
+    refusal: TextRefusal,
+) -> Result<(Vec<u8>, ReviewEnd), AllocError>
+    ensures { IfOk result (λ output.
+        reviews.IsRefused input name.now refusal output.0.items output.1) }
+{
+    let line = refusal_line(alloc, refusal)?;
+    refused(alloc, name, line.as_slice(), ReviewEnd::BadPolicy(input))
 }
 
 // The lines of changes: those of an edit's answer after its `ok`.
@@ -77,7 +92,7 @@ fn diff(
     name: &[u8],
     text: &[u8],
 ) -> Result<(Vec<u8>, ReviewEnd), AllocError>
-    ensures { IfOk result (λ output. reviews.IsOnly (reviews.Diffs name.now text.now old.now)
+    ensures { IfOk result (λ output. IsOnly (reviews.Diffs name.now text.now old.now)
         output.0.items output.1) }
 {
     match judge(alloc, text)? {
@@ -85,12 +100,7 @@ fn diff(
             let changes = compare(alloc, old, &new)?;
             show(alloc, &changes)
         }
-        Err(line) => refused(
-            alloc,
-            name,
-            line.as_slice(),
-            ReviewEnd::BadPolicy(Input::Second),
-        ),
+        Err(refusal) => refused_text(alloc, Input::Second, name, refusal),
     }
 }
 
@@ -106,12 +116,7 @@ fn edits(
 {
     match judge(alloc, text)? {
         Ok(new) => load(alloc, old, new.policy()),
-        Err(line) => refused(
-            alloc,
-            name,
-            line.as_slice(),
-            ReviewEnd::BadPolicy(Input::Second),
-        ),
+        Err(refusal) => refused_text(alloc, Input::Second, name, refusal),
     }
 }
 
@@ -225,11 +230,6 @@ pub(crate) fn output(
     let (first_text, second_text) = texts;
     match judge(alloc, first_text)? {
         Ok(live) => second(alloc, review, live, second_name, second_text),
-        Err(line) => refused(
-            alloc,
-            first_name,
-            line.as_slice(),
-            ReviewEnd::BadPolicy(Input::First),
-        ),
+        Err(refusal) => refused_text(alloc, Input::First, first_name, refusal),
     }
 }

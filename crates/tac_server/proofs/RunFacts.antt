@@ -2,22 +2,17 @@
 use Rattle.std.proofs.Common.{◌≡◌, ℕ, ◌+◌, List, [], ◌∷◌, ◌++◌, length, Bool, true, false, Option, None, Some, Result, Ok, Err, inl, inr, refl, sym, ap, subst, ◌∙◌, append_assoc, append-nil}
 use Rattle.std.specs.Prelude.{is_some, IsTrue, if◌then◌else◌}
 use Rattle.std.specs.List.{list_any}
-use Rattle.pol_names.specs.declared.subject_id.SubjectId.{SubjectId}
-use Rattle.pol_meaning.specs.Sizes.{IsSmall, IsFirstLarge}
-use Rattle.pol_live.specs.declared.fault.BuildFault.{BuildFault}
-use Rattle.pol_live.specs.declared.fault.BuildFault.TheVariants as builds
+use Rattle.pol_live.specs.Judging.{Judges, IsOnlyJudged}
+use Rattle.pol_live.specs.declared.judging.TextRefusal.{TextRefusal}
 use Rattle.std.proofs.lemmas.List.{append_cancel_left}
 use Rattle.pol_text.specs.declared.subject.Subject.{Subject}
-use Rattle.pol_text.specs.Text.{policy_of, text_of_lines}
-use Rattle.tac_tally.specs.Keeping.{refusing}
-use Rattle.tac_desk.specs.Meaning.{Meaning, max_records}
-use Rattle.tac_desks.specs.Opening.{IsOnlyOpened}
+use Rattle.tac_desk.specs.Meaning.{Meaning}
 use Rattle.tac_server.specs.declared.server.Server.{Server}
 use Rattle.tac_server.specs.declared.server.ServerFault.{ServerFault}
 use Rattle.tac_server.specs.declared.server.ServerFault.TheVariants as faults
 use Rattle.tac_server.specs.declared.event.Event.{Event}
 use Rattle.tac_server.specs.declared.event.Event.TheVariants.{Open, Hand, Pieces, Lost, Console}
-use Rattle.tac_server.specs.declared.script_fault.ScriptFault.TheVariants.{BadKey, NoRun, BadPolicy, TooManyStates, BadCommand, AlreadyOpen}
+use Rattle.tac_server.specs.declared.script_fault.ScriptFault.TheVariants.{BadKey, NoRun, BadCommand, AlreadyOpen}
 use Rattle.tac_server.specs.declared.script_fault.Located.{Located}
 use Rattle.tac_server.specs.declared.script_fault.Stop.{Stop}
 use Rattle.tac_server.specs.declared.script_fault.Stop.TheVariants as stops
@@ -28,7 +23,7 @@ use Rattle.tac_server.specs.Happening.{Nothing, Packets, Text}
 use Rattle.tac_server.specs.Events.{shown, printed}
 use Rattle.tac_server.specs.Kept.{Sends, HasState, IsOpened, IsHeardUnlessMemory, IsAnswered, IsOnlyAnswer, IsDone, IsDoneUnless, stop_of}
 use Rattle.tac_server.specs.Running.{Steps, EventGoesOn}
-use Rattle.tac_server.specs.Script.{Run, Runs, BodyRuns, LinesRun, ReadsPolicy, Ends, Prints, DeskRuns, desk_of, ended, stopped_by, stopped, after_text, is_run, before_run, key_line}
+use Rattle.tac_server.specs.Script.{Run, Runs, RunsBy, TextRuns, BodyRuns, LinesRun, Ends, Prints, desk_of, ended, stopped_by, stopped, after_text, is_run, key_line}
 use Rattle.tac_server.proofs.CourseFacts.{only_hears}
 use Rattle.tac_server.proofs.LinesFacts.{prints_course}
 
@@ -231,62 +226,33 @@ unfolding BodyRuns
 body_none text key lines at none number =
     stops_at text (record { line = Some at; fault = NoRun }) (BodyRuns key lines) (rw (none, number) refl) (λ other r. (let told : other ≡ stopped (length lines + 2) NoRun = rw none at r in rw number told))
 
--- ---- a desk of the policy
+-- ---- the policy of a text
 
-module _ (key : List ℕ) (policy : List Subject) (number : ℕ) (events : List (List ℕ)) (old new : List ℕ) where
-  -- no other run of a policy that may stand
-  small_back : (meaning : Meaning) → IsOnlyOpened policy (refusing max_records) (Ok meaning) → (run : Run) → DeskRuns key policy number events run → Runs (opening key (desk_of policy)) number events run
-  unfolding DeskRuns
-  small_back meaning only run (inl small) = small.1
-  small_back meaning only run (inr large) =
-      let e : ◌≡◌ {A = Result Meaning BuildFault} (Ok meaning) (Err (builds.TooManyStates large.0)) = only (Err (builds.TooManyStates large.0)) large.1 in absurd cc
+module _ (text key : List ℕ) (number : ℕ) (events : List (List ℕ)) (old new : List ℕ) (judged : Result (List Subject) TextRefusal) (judges : Judges text judged) (one : IsOnlyJudged text judged) where
+  ends_judged : (fault : Option Located) → Ends old new fault (RunsBy judged key number events) → Ends old new fault (TextRuns text key number events)
+  unfolding TextRuns
+  ends_judged fault h = record {
+    run = h.run;
+    is = (judged, judges, h.is);
+    only = λ other k. h.only other (subst (λ (found : Result (List Subject) TextRefusal). RunsBy found key number events other) (sym (one k.0 k.1)) k.2);
+    printed = h.printed;
+    fault_is = h.fault_is;
+  }
 
-  module _ (meaning : Meaning) (is : meaning ≡ desk_of policy) (small : IsSmall policy) (only : IsOnlyOpened policy (refusing max_records) (Ok meaning)) where
-    ends_at_desk : (fault : Option Located) → Ends old new fault (Runs (opening key (desk_of policy)) number events) → Ends old new fault (DeskRuns key policy number events)
-    unfolding DeskRuns
-    ends_at_desk fault h = record {
-      run = h.run;
-      is = inl (small, h.is);
-      only = λ other k. h.only other (small_back meaning only other k);
-      printed = h.printed;
-      fault_is = h.fault_is;
-    }
+  pub prints_judged : (result : Result (Unit {0}) Stop) → Prints old new result (RunsBy judged key number events) → Prints old new result (TextRuns text key number events)
+  prints_judged (Ok _) h = ends_judged None h
+  prints_judged (Err stops.Memory) h = tt
+  prints_judged (Err (stops.Fault at)) h = ends_judged (Some at) h
 
-    runs_so : (result : Result (Unit {0}) Stop) → Prints old new result (Runs (opening key (desk_of policy)) number events) → Prints old new result (DeskRuns key policy number events)
-    runs_so (Ok _) h = ends_at_desk None h
-    runs_so (Err stops.Memory) h = tt
-    runs_so (Err (stops.Fault at)) h = ends_at_desk (Some at) h
+-- a desk of a policy that may stand
+pub runs_at_desk : (key : List ℕ) (number : ℕ) (events : List (List ℕ)) (old new : List ℕ) (policy : List Subject) (meaning : Meaning) → meaning ≡ desk_of policy
+    → (result : Result (Unit {0}) Stop) → Prints old new result (Steps (opening key meaning) number events) → Prints old new result (RunsBy (Ok policy) key number events)
+runs_at_desk key number events old new policy meaning is result h =
+    subst (λ (m : Meaning). Prints old new result (Runs (opening key m) number events)) is (prints_course (opening key meaning) number events old new result h)
 
-    pub runs_at_desk : (result : Result (Unit {0}) Stop) → Prints old new result (Steps (opening key meaning) number events) → Prints old new result (DeskRuns key policy number events)
-    runs_at_desk result h =
-        runs_so result (subst (λ (m : Meaning). Prints old new result (Runs (opening key m) number events)) is (prints_course (opening key meaning) number events old new result h))
-
-  -- a policy that may not stand
-  module _ (subject : SubjectId) (first : IsFirstLarge policy policy subject) (only : IsOnlyOpened policy (refusing max_records) (Err (builds.TooManyStates subject))) where
-    large : SubjectId → Located
-    large id = record { line = None; fault = TooManyStates id }
-
-    large_back : (run : Run) → DeskRuns key policy number events run → run ≡ stopped_by (large subject)
-    unfolding DeskRuns large
-    large_back run (inl small) =
-        let e : ◌≡◌ {A = Result Meaning BuildFault} (Err (builds.TooManyStates subject)) (Ok (desk_of policy)) = only (Ok (desk_of policy)) (refl, small.0) in absurd cc
-    large_back run (inr other) =
-        let e : ◌≡◌ {A = Result Meaning BuildFault} (Err (builds.TooManyStates subject)) (Err (builds.TooManyStates other.0)) = only (Err (builds.TooManyStates other.0)) other.1 in
-        let same : subject ≡ other.0 = cc in
-        other.2 ∙ ap (λ (id : SubjectId). stopped_by (record { line = None; fault = TooManyStates id })) (sym same)
-
-    pub stops_at_desk : Ends old old (Some (record { line = None; fault = TooManyStates subject })) (DeskRuns key policy number events)
-    unfolding DeskRuns large
-    stops_at_desk =
-        stops_at old (large subject) (DeskRuns key policy number events) (inr (subject, first, refl)) large_back
-
--- the policy is refused
-pub body_refused : (text : List ℕ) (key : List ℕ) (lines : List (List ℕ)) (stop : Stop) → list_any is_run lines ≡ true
-    → ReadsPolicy {T = List Subject} (Err stop) (policy_of (text_of_lines (before_run lines))) → Prints text text (Err stop) (BodyRuns key lines)
-unfolding BodyRuns
-body_refused text key lines stops.Memory there h = tt
-body_refused text key lines (stops.Fault at) there (line, refusal, e, f) =
-    stops_at text at (BodyRuns key lines) (rw (there, e, f) refl) (λ other r. (let told : other ≡ stopped (line + 1) (BadPolicy refusal) = rw (there, e) at r in rw f told))
+-- a run that stops before anything is printed
+pub stops_so : (text : List ℕ) (at : Located) → Ends text text (Some at) (λ run. run ≡ stopped_by at)
+stops_so text at = stops_at text at (λ run. run ≡ stopped_by at) refl (λ other r. r)
 
 -- there is no line 1
 pub lines_none : (text : List ℕ) (lines : List (List ℕ)) → lines ≡ [] → Ends text text (Some (record { line = Some 1; fault = BadKey })) (LinesRun lines)

@@ -1,5 +1,5 @@
 -- What the replay of a script prints.
-use Rattle.std.specs.Prelude.{◌≡◌, ◌⊎◌, ℕ, ◌+◌, List, [], ◌∷◌, ◌++◌, length, reverse, codes, Bool}
+use Rattle.std.specs.Prelude.{◌≡◌, ℕ, ◌+◌, List, [], ◌∷◌, ◌++◌, length, reverse, codes, Bool}
 use Rattle.std.specs.Prelude.{true, false, Option, Some, None, option_map, Result, Ok, Err}
 use Rattle.std.specs.Prelude.{if◌then◌else◌}
 use Rattle.std.specs.Option.{option_and_then}
@@ -7,9 +7,10 @@ use Rattle.std.specs.List.{list_any, flat_map}
 use Rattle.std.specs.Str.{bytes_eq}
 use Rattle.tac_wire.specs.Key.{key_of}
 use Rattle.basics.specs.Lines.{split_at_first, lines_of}
-use Rattle.pol_text.specs.Text.{policy_of, text_of_lines}
-use Rattle.pol_names.specs.declared.subject_id.SubjectId.{SubjectId}
-use Rattle.pol_meaning.specs.Sizes.{IsSmall, IsFirstLarge}
+use Rattle.pol_text.specs.Text.{text_of_lines}
+use Rattle.pol_live.specs.Judging.{Judges}
+use Rattle.pol_live.specs.declared.judging.TextRefusal.{TextRefusal}
+use Rattle.pol_live.specs.declared.judging.TextRefusal.TheVariants.{NoPolicy, TooLarge}
 use Rattle.tac_server.specs.FaultText.{located_text}
 use Rattle.tac_server.specs.Command.{event_of}
 use Rattle.tac_desk.specs.Meaning.{Meaning}
@@ -25,9 +26,6 @@ use Rattle.tac_server.specs.declared.script_fault.ScriptFault.{ScriptFault}
 use Rattle.tac_server.specs.declared.script_fault.ScriptFault.TheVariants.{BadKey, NoRun, BadPolicy}
 use Rattle.tac_server.specs.declared.script_fault.ScriptFault.TheVariants.{TooManyStates}
 use Rattle.tac_server.specs.declared.script_fault.ScriptFault.TheVariants.{BadCommand}
-use Rattle.pol_text.specs.declared.fault.PolicyFault.{PolicyFault}
-use Rattle.pol_text.specs.declared.fault.PolicyRefusal.{PolicyRefusal}
-use Rattle.pol_text.specs.declared.fault.PolicyFault.TheVariants as policies
 use Rattle.tac_server.specs.declared.script_fault.Stop.{Stop}
 use Rattle.tac_server.specs.declared.script_fault.Stop.TheVariants as stops
 use Rattle.tac_server.specs.declared.replaying.ReplayEnd.{ReplayEnd}
@@ -47,10 +45,6 @@ stopped_by at = record { text = []; fault = Some at }
 
 abbrev pub stopped : ℕ → ScriptFault → Run
 stopped line fault = stopped_by (record { line = Some line; fault = fault })
-
--- that a policy is too large is a fault of no single line; the subject is named whose rules are
-abbrev pub too_large : SubjectId → Run
-too_large subject = stopped_by (record { line = None; fault = TooManyStates subject })
 
 -- a run that first prints this
 abbrev pub after_text : List ℕ → Run → Run
@@ -121,26 +115,26 @@ key_line line =
     (λ parts. if bytes_eq parts.0 (codes "key") then key_of parts.1 else None)
     (split_at_first 32 line)
 
--- the events with a desk of the policy, if that may stand; else the first subject that is too large
--- is named
-unfoldable pub DeskRuns : List ℕ → List Subject → ℕ → List (List ℕ) → Run → Type 0
-DeskRuns key policy number events run =
-    (IsSmall policy × Runs (opening key (desk_of policy)) number events run)
-    ⊎ ((subject : SubjectId) × IsFirstLarge policy policy subject × (run ≡ too_large subject))
-
--- the events with the policy, of which the first has this number; the policy's first line is the
--- second of the script. A lack of memory refuses no text
-abbrev pub PolicyRuns : List ℕ → ℕ → List (List ℕ) → Result (List Subject) PolicyFault → Run
-    → Type 0
-PolicyRuns key number events (Ok policy) run = DeskRuns key policy number events run
-PolicyRuns key number events (Err (policies.Refused line refusal)) run =
+-- the events, of which the first has this number, with a desk of the policy that may stand; or why
+-- the policy is refused, whose first line is the second of the script. That it is too large is a
+-- fault of no single line
+abbrev pub RunsBy : Result (List Subject) TextRefusal → List ℕ → ℕ → List (List ℕ) → Run → Type 0
+RunsBy (Ok policy) key number events run = Runs (opening key (desk_of policy)) number events run
+RunsBy (Err (NoPolicy line refusal)) key number events run =
     run ≡ stopped (line + 1) (BadPolicy refusal)
-PolicyRuns key number events (Err policies.Memory) run = ⊥
+RunsBy (Err (TooLarge subject)) key number events run =
+    run ≡ stopped_by (record { line = None; fault = TooManyStates subject })
+
+-- the events with the policy of this text
+unfoldable pub TextRuns : List ℕ → List ℕ → ℕ → List (List ℕ) → Run → Type 0
+TextRuns text key number events run =
+    (judged : Result (List Subject) TextRefusal) × Judges text judged
+    × RunsBy judged key number events run
 
 abbrev pub BodyRunsBy : Bool → List ℕ → List (List ℕ) → Run → Type 0
 BodyRunsBy true key lines run =
-    PolicyRuns key (length (before_run lines) + 3) (after_run lines)
-    (policy_of (text_of_lines (before_run lines))) run
+    TextRuns (text_of_lines (before_run lines)) key (length (before_run lines) + 3)
+    (after_run lines) run
 BodyRunsBy false key lines run = run ≡ stopped (length lines + 2) NoRun
 
 -- the lines after the key; the policy's text is those before `run`
@@ -172,14 +166,6 @@ pub record IsReplay (script output : List ℕ) (end : ReplayEnd) : Type 0 where
   pub ends : end ≡ end_by run.fault
 
 -- ---- what a function returned, against what was wanted
-
--- a policy was read, or the stop at its fault, whose line is one more in the script
-abbrev pub ReadsPolicy : {T : Type 0} → Result T Stop → Result T PolicyFault → Type 0
-ReadsPolicy (Ok policy) wanted = wanted ≡ Ok policy
-ReadsPolicy (Err stops.Memory) wanted = Unit {0}
-ReadsPolicy (Err (stops.Fault at)) wanted =
-    (line : ℕ) × (refusal : PolicyRefusal) × (wanted ≡ Err (policies.Refused line refusal))
-    × (at ≡ record { line = Some (line + 1); fault = BadPolicy refusal })
 
 -- the text grew by what a run of this kind prints, up to the fault that ended it; no other run is
 -- one of this kind

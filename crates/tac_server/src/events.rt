@@ -10,7 +10,7 @@ ghost use Rattle.tac_server.specs.declared.event.Event.TheVariants.{Open, Hand, 
 
 use crate::event::{Event, read_event};
 use crate::noticed::Noticed;
-use crate::script_fault::{Located, ScriptFault, Stop};
+use crate::script_fault::{ScriptFault, Stop};
 use crate::server::{Server, ServerFault};
 use crate::shown::show;
 use basics::Lines;
@@ -41,14 +41,8 @@ fn stop_at(line: usize, fault: ServerFault) -> Stop
     ensures { result ≡ kept.stop_of line fault }
 {
     match fault {
-        ServerFault::NoConnection => Stop::Fault(Located {
-            line: Some(line),
-            fault: ScriptFault::NoConnection,
-        }),
-        ServerFault::AlreadyOpen => Stop::Fault(Located {
-            line: Some(line),
-            fault: ScriptFault::AlreadyOpen,
-        }),
+        ServerFault::NoConnection => Stop::at(line, ScriptFault::NoConnection),
+        ServerFault::AlreadyOpen => Stop::at(line, ScriptFault::AlreadyOpen),
         ServerFault::Memory { .. } => Stop::Memory,
     }
 }
@@ -215,10 +209,7 @@ pub(crate) fn run_events<D: Desk, W: Witness<Noticed>>(
     };
     'events: while let Some((number, line)) = lines.take_line() {
         let Some(event) = read_event(alloc, driver.server.key(), line)? else {
-            return Err(Stop::Fault(Located {
-                line: Some(number),
-                fault: ScriptFault::BadCommand,
-            }));
+            return Err(Stop::at(number, ScriptFault::BadCommand));
         };
         driver.do_event(alloc, number, event, out, witness)?;
     }

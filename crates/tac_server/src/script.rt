@@ -3,8 +3,8 @@
 ghost use Rattle.std.specs.Prelude.{◌≡◌, ◌+◌, length, true, false, None, Some, MatchOption};
 ghost use Rattle.std.specs.List.{list_any};
 ghost use Rattle.basics.specs.Lines.{lines_of};
-ghost use Rattle.pol_text.specs.Text.{policy_of, text_of_lines};
-ghost use Rattle.tac_server.specs.Script.{ReadsPolicy, Prints, DeskRuns, BodyRuns, LinesRun};
+ghost use Rattle.pol_text.specs.Text.{text_of_lines};
+ghost use Rattle.tac_server.specs.Script.{Prints, TextRuns, BodyRuns, LinesRun};
 ghost use Rattle.tac_server.specs.Script.{is_run as run_test, before_run, after_run};
 ghost use Rattle.tac_server.specs.Script.{key_line as key_of_line};
 
@@ -13,11 +13,13 @@ use crate::noticed::Noticed;
 use crate::script_fault::{Located, ScriptFault, Stop};
 use crate::server::Server;
 use basics::{Lines, split_once};
+use pol_automaton::Meter;
+use pol_live::{Live, TextRefusal};
 use pol_names::SubjectId;
-use pol_text::{Policy, PolicyFault};
 use std::alloc::Global;
 use tac_audit::Witness;
-use tac_desks::{BuildFault, LiveDesk, MAX_RECORDS};
+use tac_desks::{LiveDesk, MAX_RECORDS};
+use tac_tally::RecordLimit;
 use tac_wire::Key;
 
 fn is_run(line: &[u8]) -> bool
@@ -49,20 +51,6 @@ fn text_before_run<'a>(lines: &mut Lines<'a>) -> Option<&'a [u8]>
     None
 }
 
-// Reads the policy, whose first line is the second of the script.
-fn read_policy(alloc: Global, text: &[u8]) -> Result<Policy, Stop>
-    ensures { ReadsPolicy result (policy_of text.now) }
-{
-    match Policy::read(alloc, text) {
-        Ok(policy) => Ok(policy),
-        Err(PolicyFault::Memory) => Err(Stop::Memory),
-        Err(PolicyFault::Refused { line, refusal }) => Err(Stop::Fault(Located {
-            line: Some(line + 1),
-            fault: ScriptFault::BadPolicy(refusal),
-        })),
-    }
-}
-
 // The key of a script's first line.
 #[tactic(auto, unfolding(crate::specs::Script::key_line))]
 fn read_key(line: &[u8]) -> Option<Key>
@@ -86,22 +74,30 @@ fn too_large(subject: SubjectId) -> Stop
     })
 }
 
-// Runs the events with this policy, if it isn't too large.
-fn run_policy<W: Witness<Noticed>>(
+// Runs the events with the policy of this text, if it isn't refused.
+fn run_text<W: Witness<Noticed>>(
     alloc: Global,
+    text: &[u8],
     key: Key,
-    policy: Policy,
     lines: &mut Lines<'_>,
     out: &mut Vec<u8>,
     witness: &mut W,
 ) -> Result<(), Stop>
     ensures { Prints out.old.items out.new.items result
-        (DeskRuns key policy lines.old.number lines.old.lines) }
+        (TextRuns text.now key lines.old.number lines.old.lines) }
 {
-    match LiveDesk::new(alloc, policy, MAX_RECORDS) {
-        Ok(desk) => run_events(alloc, Server::new(alloc, desk, key), lines, out, witness),
-        Err(BuildFault::TooManyStates(subject)) => Err(too_large(subject)),
-        Err(BuildFault::Memory) => Err(Stop::Memory),
+    let mut meter = Meter::new();
+    match Live::of_text(alloc, text, &mut meter)? {
+        Ok(live) => {
+            let limit = RecordLimit::refusing(MAX_RECORDS);
+            let desk = LiveDesk::of_live(alloc, live, meter, limit)?;
+            run_events(alloc, Server::new(alloc, desk, key), lines, out, witness)
+        }
+        // the policy's first line is the second of the script
+        Err(TextRefusal::NoPolicy { line, refusal }) => {
+            Err(Stop::at(line + 1, ScriptFault::BadPolicy(refusal)))
+        }
+        Err(TextRefusal::TooLarge(subject)) => Err(too_large(subject)),
     }
 }
 
@@ -118,23 +114,9 @@ fn run_body<W: Witness<Noticed>>(
     ensures { Prints out.old.items out.new.items result (BodyRuns key lines.old.lines) }
 {
     let Some(text) = text_before_run(lines) else {
-        return Err(Stop::Fault(Located {
-            line: Some(lines.number()),
-            fault: ScriptFault::NoRun,
-        }));
+        return Err(Stop::at(lines.number(), ScriptFault::NoRun));
     };
-    let policy = read_policy(alloc, text)?;
-    run_policy(alloc, key, policy, lines, out, witness)
-}
-
-// The key is judged before anything else.
-fn bad_key() -> Stop
-    ensures { result ≡ Stop.Fault (record { line = Some 1; fault = ScriptFault.BadKey }) }
-{
-    Stop::Fault(Located {
-        line: Some(1),
-        fault: ScriptFault::BadKey,
-    })
+    run_text(alloc, text, key, lines, out, witness)
 }
 
 /// Runs a script, and adds what that prints; a fault is left for the caller to print. The witness is
@@ -150,10 +132,10 @@ pub(crate) fn run_script<W: Witness<Noticed>>(
 {
     let mut lines = Lines::new(script);
     let Some((_, line)) = lines.take_line() else {
-        return Err(bad_key());
+        return Err(Stop::at(1, ScriptFault::BadKey));
     };
     let Some(key) = read_key(line) else {
-        return Err(bad_key());
+        return Err(Stop::at(1, ScriptFault::BadKey));
     };
     run_body(alloc, key, &mut lines, out, witness)
 }

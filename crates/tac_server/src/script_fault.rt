@@ -1,6 +1,6 @@
 //! What can be wrong with a script, and at which line.
 
-ghost use Rattle.std.specs.Prelude.{◌≡◌};
+ghost use Rattle.std.specs.Prelude.{◌≡◌, Some};
 ghost use Rattle.tac_server.specs.declared.script_fault.Stop.TheVariants.{Memory};
 
 use pol_names::SubjectId;
@@ -34,8 +34,19 @@ pub(crate) enum Stop {
     Fault(Located),
 }
 
+impl Stop {
+    /// The stop at a line that has this fault.
+    pub(crate) fn at(line: usize, fault: ScriptFault) -> Stop
+        ensures { result ≡ Stop.Fault (record { line = Some line; fault = fault }) }
+    {
+        Stop::Fault(Located {
+            line: Some(line),
+            fault,
+        })
+    }
+}
+
 impl fmt::Display for ScriptFault {
-    ghost use Rattle.std.specs.Prelude.{Some};
     ghost use Rattle.tac_server.specs.FaultText.{script_fault_text};
 
     ghost output = { λ fault. Some (script_fault_text fault) };
@@ -54,7 +65,6 @@ impl fmt::Display for ScriptFault {
 }
 
 impl fmt::Display for Located {
-    ghost use Rattle.std.specs.Prelude.{Some};
     ghost use Rattle.tac_server.specs.FaultText.{located_text};
 
     ghost output = { λ at. Some (located_text at) };

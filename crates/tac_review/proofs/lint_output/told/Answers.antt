@@ -1,7 +1,8 @@
 use Rattle.std.proofs.Common.{◌≡◌, ap, ◌∙◌}
 use Rattle.pol_lint.specs.Remarks.{policy_remarks}
 use Rattle.tac_review.specs.Lint.{remarks_text, end_of}
-use Rattle.tac_review.proofs.LintFacts.{ok_so, remarks_only}
+use Rattle.tac_review.proofs.LintFacts.{remarks_only}
+use Rattle.tac_review.proofs.OnlyFacts.{ok_so}
 use Rattle.tac_review.proofs.lint_output.told.Goals as goal
 
 pub returns : goal.returns

@@ -1,15 +1,24 @@
-use Rattle.std.proofs.Common.{Ok}
-use Rattle.pol_text.specs.Text.{policy_of}
-use Rattle.tac_review.specs.Judged.{IsJudgedOf}
-use Rattle.tac_review.specs.Review.{DiffsTo}
-use Rattle.tac_review.proofs.OnlyFacts.{ok_so, judged_only, changes_only}
+use Rattle.std.proofs.Common.{Ok, Err}
+use Rattle.tac_review.specs.Judged.{refusal_line}
+use Rattle.tac_review.specs.Review.{DiffsTo, named}
+use Rattle.tac_review.specs.declared.task.Input.TheVariants.{Second}
+use Rattle.tac_review.specs.declared.task.ReviewEnd.TheVariants.{BadPolicy}
+use Rattle.tac_review.proofs.OnlyFacts.{ok_so, equal_only, judged_only, changes_only}
 use Rattle.tac_review.proofs.review_output.diff.Goals as goal
 
 pub returns-in_ok-changes-in-Ok : goal.returns-in_ok-changes-in-Ok
 returns-in_ok-changes-in-Ok c =
-    let read = policy_of c.args.text.now in
-    let judged : IsJudgedOf read (Ok c.in-Ok.new) = rw c.in-Ok.is at c.in_ok-new.ensures in
+    let at = c.in_ok-new.ensures in
+    let compared = c.in_ok-changes-in-Ok in
     ok_so c.show.result
-    (λ output shown. judged_only read (Ok c.in-Ok.new) (DiffsTo c.args.name.now c.args.old.now) output.0.items output.1 judged
-    (changes_only c.args.name.now c.args.old.now c.in-Ok.new c.in_ok-changes-in-Ok.changes output.0.items output.1 c.in_ok-changes-in-Ok.ensures.found c.in_ok-changes-in-Ok.ensures.only shown.0 shown.1))
+    (λ output shown. judged_only c.args.text.now (Ok c.in-Ok.new) (DiffsTo c.args.name.now c.args.old.now) output.0.items output.1 (rw c.in-Ok.is at at.found) (rw c.in-Ok.is at at.only)
+    (changes_only c.args.name.now c.args.old.now c.in-Ok.new compared.changes output.0.items output.1 compared.ensures.found compared.ensures.only shown.0 shown.1))
     c.show.ensures
+
+pub returns-in-Err : goal.returns-in-Err
+returns-in-Err c =
+    let at = c.in_ok-new.ensures in
+    ok_so c.refused_text.result
+    (λ output told. judged_only c.args.text.now (Err c.in-Err.refusal) (DiffsTo c.args.name.now c.args.old.now) output.0.items output.1 (rw c.in-Err.is at at.found) (rw c.in-Err.is at at.only)
+    (equal_only (named c.args.name.now (refusal_line c.in-Err.refusal)) output.0.items (BadPolicy Second) output.1 told.0 told.1))
+    c.refused_text.ensures

@@ -7,8 +7,9 @@ use Rattle.tac_server.proofs.events.run_events.Goals as goal
 pub returns-in_default-2 : goal.returns-in_default-2
 returns-in_default-2 g c = λ state has.
     let p = c.events.invariant state has in
-    run_refused g.D.Desk.meaning _ _ _ _ _ _ p c.in-Some.line.now c.take_line.new.self.lines c.in-Some.ensures.some.1 c.in-Some.number c.in-Some.ensures.some.0
-    (ap (λ (k : List ℕ). event_of k c.in-Some.line.now) (sym p.has.key ∙ sym c.key.ensures) ∙ sym c.in_ok-event.ensures ∙ c.in_default-2.is)
+    rw c.at.ensures
+    (run_refused g.D.Desk.meaning _ _ _ _ _ _ p c.in-Some.line.now c.take_line.new.self.lines c.in-Some.ensures.some.1 c.in-Some.number c.in-Some.ensures.some.0
+    (ap (λ (k : List ℕ). event_of k c.in-Some.line.now) (sym p.has.key ∙ sym c.key.ensures) ∙ sym c.in_ok-event.ensures ∙ c.in_default-2.is))
 
 pub events-preserved : goal.events-preserved
 events-preserved g c = λ state has.

@@ -13,4 +13,4 @@ returns-in_err-live-clause-only c =
 pub returns-clause-only : goal.returns-clause-only
 returns-clause-only c =
     let live = c.in_ok-live.ensures in
-    rw (live.found.0, c.with_limit.ensures) (opened_only c.args.policy c.args.limit c.in_ok-live.live live.found live.only)
+    rw (c.in_ok-desk.ensures.meaning, live.found.0) (opened_only c.args.policy c.args.limit c.in_ok-live.live live.found live.only)
