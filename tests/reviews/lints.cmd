@@ -56,7 +56,7 @@ login-hash $6$rounds=20000$saltsalt$temoAzB1LMUGfs39YsEHhlSSY8ud5tjHcrE1ZINzi8Ts
 
 $ tacd lint policy
 line 3 column 7: this text itself is the password: is a hash meant, as after 'login-hash'?
-line 4 column 13: over 20000 rounds: each login keeps all other devices waiting so long
+line 4 column 13: over 20000 rounds: each login takes a processor for 8 milliseconds or more
 status 5
 
 $ tacd check policy

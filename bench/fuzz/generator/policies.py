@@ -29,7 +29,7 @@ NO_HASHES = [
     HASHES[0] + ".",
     HASHES[0].replace("1000", "999"),
     HASHES[0].replace("1000", "01000"),
-    HASHES[0].replace("1000", "100001"),
+    HASHES[0].replace("1000", "1000000"),
     HASHES[0].replace("$6$", "$5$"),
     HASHES[1].replace("0123", "01234"),
     HASHES[2].replace("$x$", "$$"),

@@ -7,7 +7,7 @@ from typing import NamedTuple, Optional
 
 SYMBOLS = "./0123456789ABCDEFGHIJKLMNOPQRSTUVWXYZabcdefghijklmnopqrstuvwxyz"
 FORM = re.compile(r"\$6\$(?:rounds=([1-9][0-9]*)\$)?([./0-9A-Za-z]{1,16})\$([./0-9A-Za-z]{86})")
-FEWEST_ROUNDS, ROUNDS, MOST_ROUNDS = 1_000, 5_000, 100_000
+FEWEST_ROUNDS, ROUNDS, MOST_ROUNDS = 1_000, 5_000, 999_999
 LONGEST_PASSWORD = 128
 
 

@@ -23,7 +23,7 @@ finding_text findings.BlankAfter = codes "it ends with a space: is that meant?"
 finding_text findings.HashInClear =
     codes "this text itself is the password: is a hash meant, as after 'login-hash'?"
 finding_text findings.ManyRounds =
-    codes "over 20000 rounds: each login keeps all other devices waiting so long"
+    codes "over 20000 rounds: each login takes a processor for 8 milliseconds or more"
 finding_text findings.NoEnd = codes "other rules end in ' <cr>': is it meant that this one doesn't?"
 finding_text findings.NoEnds =
     codes "no rule ends in ' <cr>', with which Cisco IOS ends each line: is that meant?"

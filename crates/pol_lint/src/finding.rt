@@ -127,7 +127,7 @@ impl fmt::Display for Finding {
             Finding::ManyRounds => {
                 write!(
                     f,
-                    "over 20000 rounds: each login keeps all other devices waiting so long"
+                    "over 20000 rounds: each login takes a processor for 8 milliseconds or more"
                 )
             }
             Finding::NoEnd => {

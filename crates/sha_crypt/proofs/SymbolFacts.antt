@@ -31,7 +31,7 @@ decimal_text = decimal_by_steps (λ n digits. is_text digits ≡ true) digit (λ
 rounds_are_text : (rounds : Option ℕ) → are_rounds rounds ≡ true → is_text (rounds_text rounds) ≡ true
 rounds_are_text None right = refl
 rounds_are_text (Some n) right =
-    let bound = leb-true n 100000 (and_parts (nat_le 1000 n) (nat_le n 100000) right).1 in
+    let bound = leb-true n 999999 (and_parts (nat_le 1000 n) (nat_le n 999999) right).1 in
     joined (codes "rounds=" ++ decimal n) (codes "$") (joined (codes "rounds=") (decimal n) refl (decimal_text n (omega arith))) refl
 
 pub hash_is_text : (hash : HashParts) → is_hash hash ≡ true → is_text (hash_text hash) ≡ true

@@ -76,17 +76,17 @@ pub short : (rounds : Option ℕ) (n : ℕ) → are_rounds rounds ≡ true → r
 short None n right e = absurd cc
 short (Some m) n right e =
     let same : m ≡ n = cc in
-    let bound = leb-true m 100000 (and_parts (nat_le 1000 m) (nat_le m 100000) right).1 in
+    let bound = leb-true m 999999 (and_parts (nat_le 1000 m) (nat_le m 999999) right).1 in
     length-decimal-le 6 n (omega arith) (omega arith) (omega arith)
 
-named : (n : ℕ) → nat_le 1000 n && nat_le n 100000 ≡ true → number_of 6 (decimal n) ≡ Some n
+named : (n : ℕ) → nat_le 1000 n && nat_le n 999999 ≡ true → number_of 6 (decimal n) ≡ Some n
 named n right =
-    let bound = leb-true n 100000 (and_parts (nat_le 1000 n) (nat_le n 100000) right).1 in
+    let bound = leb-true n 999999 (and_parts (nat_le 1000 n) (nat_le n 999999) right).1 in
     number_of-decimal 6 n (omega arith) (short (Some n) n right refl)
 
-few : (n : ℕ) → nat_le 1000 n && nat_le n 100000 ≡ true → lacks 36 (decimal n) ≡ true
+few : (n : ℕ) → nat_le 1000 n && nat_le n 999999 ≡ true → lacks 36 (decimal n) ≡ true
 few n right =
-    let bound = leb-true n 100000 (and_parts (nat_le 1000 n) (nat_le n 100000) right).1 in
+    let bound = leb-true n 999999 (and_parts (nat_le 1000 n) (nat_le n 999999) right).1 in
     decimal_lacks n (omega arith)
 
 regrouped : (front salt symbols : List ℕ) → ((((front ++ 36 ∷ []) ++ salt) ++ 36 ∷ []) ++ symbols) ≡ front ++ 36 ∷ (salt ++ 36 ∷ symbols)

@@ -31,9 +31,9 @@ is_salt text = nat_lt 0 (length text) && nat_le (length text) 16 && list_all is_
 abbrev pub is_digest : List ℕ → Bool
 is_digest text = length text == 86 && list_all is_hash_symbol text
 
--- 1,000 to 100,000, where they are named
+-- 1,000 to 999,999, where they are named
 abbrev pub are_rounds : Option ℕ → Bool
-are_rounds rounds = option_map_or (λ n. nat_le 1000 n && nat_le n 100000) rounds true
+are_rounds rounds = option_map_or (λ n. nat_le 1000 n && nat_le n 999999) rounds true
 
 abbrev pub is_hash : HashParts → Bool
 is_hash hash = are_rounds hash.rounds && is_salt hash.salt && is_digest hash.symbols

@@ -232,7 +232,7 @@ impl Hash {
     pub const ROUNDS_MIN: u32 = 1_000;
 
     /// The most rounds that a text may name.
-    pub const ROUNDS_MAX: u32 = 100_000;
+    pub const ROUNDS_MAX: u32 = 999_999;
 
     /// The rounds where a text names none.
     pub const ROUNDS: u32 = 5_000;

@@ -352,7 +352,7 @@ fn hashes(rt: HostRuntime) -> Result<(), Fail> {
     tells(
         &rt,
         MANY,
-        "line 3 column 12: over 20000 rounds: each login keeps all other devices waiting so long\n",
+        "line 3 column 12: over 20000 rounds: each login takes a processor for 8 milliseconds or more\n",
     )?;
     let clear = "this text itself is the password: is a hash meant, as after 'login-hash'?";
     let told = format!(in rt.alloc(); "line 2 column 7: {clear}\nline 3 column 10: {clear}\n")?;
