@@ -1,5 +1,6 @@
 //! What is asked of the desk, which has the policy and the records, and what it answers.
 
+use crate::typed::Typed;
 use basics::{Bytes, StructuralEq};
 use pol_names::By;
 use tac_authen::Service;
@@ -10,7 +11,7 @@ use tac_wire::Header;
 #[derive(Drop, PartialEq, Eq)]
 pub enum Proof {
     /// The password itself.
-    Plain(Bytes),
+    Plain(Typed),
     /// A response to a challenge, by the password (RFC 1994).
     Chap {
         id: u8,

@@ -9,6 +9,7 @@ use crate::ask::{Ask, Proof, Slot};
 use crate::outcome::{Outcome, breaks, ends, reply_in};
 use crate::reply::{fail, secret_question};
 use crate::session::Session;
+use crate::typed::Typed;
 use basics::Bytes;
 use std::alloc::{AllocError, Global};
 use tac_authen::{Continue, read_continue};
@@ -52,7 +53,7 @@ fn typed(alloc: Global, slot: Slot, session: &Session, text: Bytes) -> Result<Ou
     let ask = Ask::Authenticate {
         user: user.copy(alloc)?,
         service: session.service,
-        proof: Proof::Plain(text),
+        proof: Proof::Plain(Typed::new(text)),
     };
     Ok(Outcome::Asks(ask, slot))
 }

@@ -15,6 +15,7 @@ mod sent;
 mod session;
 mod start;
 mod step;
+mod typed;
 
 pub use ask::{Answer, Ask, AskKind, Proof, Slot};
 pub use conn::Conn;
@@ -22,6 +23,8 @@ pub use packet::Packet;
 pub use pol_names::{By, Decision, Kind, Name, SubjectId};
 pub use reply::{Reply, ReplyBody};
 pub use sent::Sent;
+pub use sha_crypt::Hash;
 pub use step::Step;
 pub use tac_authen::Service;
 pub use tac_request::{AcctKind, Record};
+pub use typed::Typed;

@@ -9,6 +9,7 @@ use crate::ask::{Ask, Proof, Slot};
 use crate::outcome::{Outcome, breaks, ends, reply_in};
 use crate::reply::{authen_error, fail, question_to};
 use crate::session::Session;
+use crate::typed::Typed;
 use basics::Bytes;
 use std::alloc::{AllocError, Global};
 use tac_authen::{Action, AuthenType, Start, read_start};
@@ -88,7 +89,7 @@ fn pap(slot: Slot, start: Start) -> Outcome
     let ask = Ask::Authenticate {
         user: start.user,
         service: start.service,
-        proof: Proof::Plain(start.extra),
+        proof: Proof::Plain(Typed::new(start.extra)),
     };
     Outcome::Asks(ask, slot)
 }
