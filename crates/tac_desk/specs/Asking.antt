@@ -61,6 +61,14 @@ abbrev pub authentication : List Subject → List ℕ → Service → Proof → 
 authentication policy name service proof =
     authenticated (option_and_then (secret_for service) (user_named policy name)) proof
 
+-- the hash that a proof of a secret is compared with, if it is one: only a password is, and only
+-- where the secret is kept as a hash
+abbrev pub compared_with : Option Secret → Proof → Option HashParts
+compared_with None proof = None
+compared_with (Some (Clear secret)) proof = None
+compared_with (Some (Hashed hash)) (Plain password) = Some hash
+compared_with (Some (Hashed hash)) (Chap id challenge response) = None
+
 -- the password has 1 to 128 bytes, and makes the hash under the hash's rounds and salt
 abbrev pub Makes : HashParts → List ℕ → Type 0
 Makes hash password =
@@ -147,6 +155,16 @@ abbrev pub stores : Meaning → Ask → Bool
 stores meaning (Authenticate user service proof) = false
 stores meaning (Authorise user line) = false
 stores meaning (Account item) = not (is_full meaning)
+
+-- the hash that the password of an ask is compared with, if it is one
+abbrev pub hash_in : List Subject → Ask → Option HashParts
+hash_in policy (Authenticate user service proof) =
+    compared_with (option_and_then (secret_for service) (user_named policy user)) proof
+hash_in policy (Authorise user line) = None
+hash_in policy (Account item) = None
+
+abbrev pub hash_for : Meaning → Ask → Option HashParts
+hash_for meaning ask = hash_in meaning.policy ask
 
 -- the desk answers that the user is the one named
 abbrev pub Passes : Meaning → Ask → Type 0

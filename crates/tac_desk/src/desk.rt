@@ -6,7 +6,7 @@ ghost use Rattle.pol_edit.specs.Applying.{is_memory};
 ghost use Rattle.pol_edit.specs.Batches.{ran_out};
 ghost use Rattle.pol_meaning.specs.Memory.{UnlessMemory};
 ghost use Rattle.tac_desk.specs.Meaning.{Meaning};
-ghost use Rattle.tac_desk.specs.Asking.{asked, stores, Passes};
+ghost use Rattle.tac_desk.specs.Asking.{asked, hash_for, stores, Passes};
 ghost use Rattle.tac_desk.specs.Editing as editing;
 ghost use Rattle.tac_desk.specs.Reporting as reporting;
 ghost use Rattle.tac_desk.specs.declared.query.QueryFault.TheVariants.{NoSuch};
@@ -19,7 +19,7 @@ use pol_meaning::Changes;
 use pol_text::Policy;
 use std::alloc::AllocError;
 use std::slice;
-use tac_conn::{Answer, Ask};
+use tac_conn::{Answer, Ask, Hash};
 
 /// A desk: it answers the asks of connections, takes edits of its policy, and answers questions.
 /// Each call is one step, and what it answers depends on what the desk represents, and on nothing
@@ -42,6 +42,11 @@ pub trait Desk: Drop {
         // Only a record that is to be stored takes memory, and a refusal changes nothing.
         ensures sure { stores (meaning self.old) ask.now ≡ false → IsOk result }
         ensures err { OnErr result (meaning self.new ≡ meaning self.old) };
+
+    /// The hash that the password of this ask is compared with, if it is one: what a password may
+    /// be worked out under before it is asked. Takes a look-up of the user, and no memory.
+    fn hash(&self, ask: &Ask) -> Option<Hash>
+        ensures { result ≡ hash_for (meaning self.now) ask.now };
 
     /// Makes an edit, and answers what it changes for users. Refused as the edit is, and then where
     /// a subject of the new policy is too large, with the first such subject in its order. A
