@@ -7,7 +7,7 @@ use pol_edit::{BatchFault, Edit, EditFault};
 use pol_meaning::Changes;
 use pol_text::Policy;
 use std::alloc::AllocError;
-use tac_conn::{Answer, Ask};
+use tac_conn::{Answer, Ask, Hash};
 use tac_desk::{Desk, Query, QueryFault, Report, State, Thrice};
 use tac_tally::{AtLimit, RecordLimit};
 
@@ -84,6 +84,10 @@ impl<D: Desk> Desk for CountedDesk<'_, D> {
             self.count_record();
         }
         answered
+    }
+
+    fn hash(&self, ask: &Ask) -> Option<Hash> {
+        self.desk.hash(ask)
     }
 
     fn edit(&mut self, edit: &Edit) -> Result<Thrice<Changes>, EditFault> {
