@@ -2,6 +2,7 @@
 
 ghost use Rattle.std.specs.Prelude.{◌≡◌, ◌↔◌, ◌<◌, ◌≤◌, ◌++◌, ◌∷◌, [], suc, true, false, Some, Ok, Err};
 ghost use Rattle.std.specs.Prelude.{IsTrue, IfOk, IfErr, OnErr};
+ghost use Rattle.tac_desk.specs.Asking.{hash_for};
 ghost use Rattle.tac_forum.specs.Closing.{HasAll};
 ghost use Rattle.tac_forum.specs.History as history;
 ghost use Rattle.tac_forum.specs.Seat as seats;
@@ -16,6 +17,7 @@ use crate::run::Run;
 use crate::seat::Seat;
 use std::marker::{Model, PhantomData};
 use std::mem;
+use tac_conn::{Ask, Hash};
 use tac_desk::Desk;
 use tac_hall::laws::MAX_SEATS;
 use tac_hall::{Call, HallFault, Receipt};
@@ -135,6 +137,13 @@ impl<J: Run, D: Desk> Locked<J, D> {
             member: Some(member),
             of: PhantomData,
         })
+    }
+
+    /// The hash that the password of this ask is compared with now, if it is one.
+    pub(crate) fn hash(&self, ask: &Ask) -> Option<Hash>
+        ensures { result ≡ hash_for self.now.meaning ask.now }
+    {
+        self.desk.hash(ask)
     }
 
     // Where the next call stands.

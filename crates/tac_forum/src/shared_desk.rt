@@ -13,6 +13,7 @@ use crate::run::Run;
 use crate::seat::Seat;
 use brief_lock::take;
 use std::sync::{Mutex, Wait};
+use tac_conn::{Ask, Hash, Proof};
 use tac_desk::Desk;
 use tac_hall::{Call, HallFault, Receipt};
 use tac_roll::Roll;
@@ -56,6 +57,21 @@ impl<J: Run, D: Desk> SharedDesk<J, D> {
         ensures fault { IfErr result (λ fault. fault ≡ NoSeat) }
     {
         take(rt, &self.locked).seat(&self.roll)
+    }
+
+    /// The hash that the password of this ask is compared with by the policy of this moment, if it
+    /// is one: what the password may be worked out under before the call. It is no call, and stands
+    /// in no history; the policy may be another one when the call is made. So no contract says which
+    /// policy it was, and nothing may rest on the answer but the time that a call takes. Takes the
+    /// lock for a look-up, and only where a password is asked about; and no memory.
+    pub fn hash<R: Wait>(&self, rt: &R, ask: &Ask) -> Option<Hash> {
+        match ask {
+            Ask::Authenticate {
+                proof: Proof::Plain(_),
+                ..
+            } => take(rt, &self.locked).hash(ask),
+            _ => None,
+        }
     }
 
     /// Makes a call. Its answer is right after all calls before it, of this seat and of others; the
