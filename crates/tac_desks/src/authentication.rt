@@ -1,14 +1,14 @@
-//! Who a user is: whether a proof is one of the user's secret.
+//! Who a user is: whether a proof is one of the user's secret, and which hash it is compared with.
 
-ghost use Rattle.std.specs.Prelude.{◌≡◌};
+ghost use Rattle.std.specs.Prelude.{◌≡◌, Some};
 ghost use Rattle.std.specs.Option.{option_copied};
 ghost use Rattle.pol_names.specs.declared.secret.Secret.TheVariants.{Clear, Hashed};
 ghost use Rattle.tac_desk.specs.Asking as asking;
 
-use pol_names::{Hash, Name, Secret, SubjectId};
+use pol_names::{Name, Secret, SubjectId};
 use pol_text::{Policy, Subject};
 use sha_crypt::same_bytes;
-use tac_conn::{Answer, Proof, Service};
+use tac_conn::{Answer, Ask, Hash, Proof, Service};
 use tac_wire::chap_response;
 
 // What the user proves to know: ENABLE asks for another secret than all other services.
@@ -41,7 +41,7 @@ fn is_proof_of_hash(hash: &Hash, proof: &Proof) -> bool
     ensures { result ≡ asking.is_proof_of (Hashed hash.now) proof.now }
 {
     match proof {
-        Proof::Plain(password) => hash.passes(password.as_slice()),
+        Proof::Plain(password) => password.passes(hash),
         Proof::Chap { .. } => false,
     }
 }
@@ -80,4 +80,31 @@ pub(crate) fn authentication(
         Some(secret) if is_proof_of(secret, proof) => Answer::Pass,
         _ => Answer::Fail,
     }
+}
+
+// The hash that a proof of this secret is compared with, if it is one.
+fn compared_with(secret: &Secret, proof: &Proof) -> Option<Hash>
+    ensures { result ≡ asking.compared_with (Some secret.now) proof.now }
+{
+    match (secret, proof) {
+        (Secret::Hashed(hash), Proof::Plain(_)) => Some(*hash),
+        _ => None,
+    }
+}
+
+/// The hash that the password of this ask is compared with, if it is one. Takes no memory.
+pub(crate) fn hash_for(policy: &Policy, ask: &Ask) -> Option<Hash>
+    ensures { result ≡ asking.hash_in policy.now ask.now }
+{
+    let Ask::Authenticate {
+        user,
+        service,
+        proof,
+    } = ask
+    else {
+        return None;
+    };
+    let user = user_of(policy, user.as_slice())?;
+    let secret = secret_for(*service, user)?;
+    compared_with(secret, proof)
 }

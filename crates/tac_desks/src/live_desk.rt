@@ -19,7 +19,7 @@ ghost use Rattle.tac_desk.specs.Meaning.{opened};
 ghost use Rattle.tac_desk.specs.Reporting as reporting;
 ghost use Rattle.tac_desk.specs.declared.query.QueryFault.TheVariants.{NoSuch};
 
-use crate::authentication::authentication;
+use crate::authentication::{authentication, hash_for};
 use crate::deciding::{authorisation_by, is_denied};
 use crate::live_editing::{change_kept, load_kept};
 use crate::live_reports::{reach_report_of, shadow_report_of, tally_by_marks};
@@ -33,7 +33,7 @@ use pol_text::Policy;
 use std::alloc::{AllocError, Global};
 use std::marker::Model;
 use std::slice;
-use tac_conn::{Answer, Ask};
+use tac_conn::{Answer, Ask, Hash};
 use tac_desk::{Desk, Query, QueryFault, Report, State, Thrice};
 use tac_tally::{Book, Record, RecordLimit};
 
@@ -226,6 +226,10 @@ impl Desk for LiveDesk {
             }
             Ask::Account(item) => self.store(item),
         }
+    }
+
+    fn hash(&self, ask: &Ask) -> Option<Hash> {
+        hash_for(self.live.policy(), ask)
     }
 
     fn edit(&mut self, edit: &Edit) -> Result<Thrice<Changes>, EditFault>

@@ -9,7 +9,7 @@ ghost use Rattle.tac_desk.specs.Asking as asking;
 ghost use Rattle.tac_desk.specs.Reporting as reporting;
 ghost use Rattle.tac_desk.specs.declared.query.QueryFault.TheVariants.{NoSuch};
 
-use crate::authentication::authentication;
+use crate::authentication::{authentication, hash_for};
 use crate::authorisation::authorisation;
 use crate::editing::{change, load};
 use crate::reaching::{live_policy, reach_report, shadow_report};
@@ -22,7 +22,7 @@ use pol_meaning::Changes;
 use pol_text::Policy;
 use std::alloc::{AllocError, Global};
 use std::marker::Model;
-use tac_conn::{Answer, Ask};
+use tac_conn::{Answer, Ask, Hash};
 use tac_desk::{Desk, Query, QueryFault, Report, State, Thrice};
 use tac_tally::{Book, Record, RecordLimit};
 
@@ -158,6 +158,10 @@ impl Desk for PlainDesk {
             }
             Ask::Account(item) => self.store(item),
         }
+    }
+
+    fn hash(&self, ask: &Ask) -> Option<Hash> {
+        hash_for(&self.policy, ask)
     }
 
     fn edit_all(&mut self, edits: &[Edit]) -> Result<Thrice<Changes>, BatchFault> {
