@@ -19,7 +19,7 @@ use pol_edit::{BatchFault, Edit, EditFault};
 use pol_meaning::Changes;
 use pol_text::Policy;
 use std::alloc::{AllocError, Global};
-use tac_conn::{Answer, Ask};
+use tac_conn::{Answer, Ask, Hash};
 use tac_desk::{Desk, Query, QueryFault, Report, State, Thrice};
 
 /// Another desk, which is asked and edited as that one is. After each accepted edit it hands over
@@ -94,6 +94,10 @@ impl<T: HandOver, D: Desk> Desk for KeptDesk<'_, T, D> {
         ensures err { OnErr result (D.meaning self.new.desk ≡ D.meaning self.old.desk) }
     {
         self.desk.ask(ask)
+    }
+
+    fn hash(&self, ask: &Ask) -> Option<Hash> {
+        self.desk.hash(ask)
     }
 
     fn edit(&mut self, edit: &Edit) -> Result<Thrice<Changes>, EditFault>
