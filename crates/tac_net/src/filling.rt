@@ -17,7 +17,7 @@ use pol_edit::{BatchFault, Edit, EditFault};
 use pol_meaning::Changes;
 use pol_text::Policy;
 use std::alloc::AllocError;
-use tac_conn::{Answer, Ask};
+use tac_conn::{Answer, Ask, Hash};
 use tac_desk::{Desk, Query, QueryFault, Report, State, Thrice};
 use tac_tally::RecordLimit;
 
@@ -93,6 +93,10 @@ impl<R: Eprint, D: Desk> Desk for FillingDesk<'_, R, D> {
             self.count();
         }
         answered
+    }
+
+    fn hash(&self, ask: &Ask) -> Option<Hash> {
+        self.desk.hash(ask)
     }
 
     fn edit(&mut self, edit: &Edit) -> Result<Thrice<Changes>, EditFault>
