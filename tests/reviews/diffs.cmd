@@ -33,3 +33,17 @@ $ tacd diff policy next --exit-code
 user bob now denies: show run
 |user eve now permits: show |
 status 5
+
+# a single line that one user gains
+file more
+group ops
+permit show .*
+permit ping
+user bob in ops
+
+$ tacd diff policy more
+user bob now permits: ping
+
+$ tacd diff --exit-code more policy
+user bob now denies: ping
+status 5
