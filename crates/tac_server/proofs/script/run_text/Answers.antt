@@ -23,7 +23,7 @@ returns-in-Err-NoPolicy g c =
     let at = c.in_ok-live.ensures in
     let case = c.in-Err-NoPolicy in
     let stop : Located = record { line = Some (case.line + 1); fault = BadPolicy case.refusal } in
-    rw c.at.ensures
+    rw (c.at.ensures, case.field-0-is)
     (prints_judged c.args.text.now c.args.key c.args.lines.now.number c.args.lines.now.lines c.args.out.now.items c.args.out.now.items (Err (NoPolicy case.line case.refusal))
     (rw (case.is, case.field-0-is) at at.found) (rw (case.is, case.field-0-is) at at.only) (Err (stops.Fault stop)) (stops_so c.args.out.now.items stop))
 
@@ -32,6 +32,6 @@ returns-in-Err-TooLarge g c =
     let at = c.in_ok-live.ensures in
     let case = c.in-Err-TooLarge in
     let stop : Located = record { line = None; fault = TooManyStates case.subject } in
-    rw c.too_large.ensures
+    rw (c.too_large.ensures, case.field-0-is)
     (prints_judged c.args.text.now c.args.key c.args.lines.now.number c.args.lines.now.lines c.args.out.now.items c.args.out.now.items (Err (TooLarge case.subject))
     (rw (case.is, case.field-0-is) at at.found) (rw (case.is, case.field-0-is) at at.only) (Err (stops.Fault stop)) (stops_so c.args.out.now.items stop))
