@@ -7,3 +7,4 @@ pub mod HearFacts
 pub mod TurnFacts
 pub mod WorkFacts
 pub mod LinkFacts
+pub mod AheadFacts

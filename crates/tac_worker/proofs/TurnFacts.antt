@@ -715,3 +715,35 @@ module _ {S V : Type 0} (step : S → Exchange → S → Type 0) (rests : S → 
   turned_memory was seen old stream (Err end) told some =
       let d = done_memory step rests refuses takes refuses_notice key (packets_of key (take taken (cut bytes).packets)) (drop taken (cut bytes).packets) (cut bytes).tail was was seen old (rests_so was) in
       rw told (record { unfinished = λ e. cc; memory = λ e. some_bytes bytes taken some; closing = tt; ends = d.ends; told = d.told })
+
+  -- no whole packet is left
+  pub turned_need : (was : S) (seen : V) (old : Option (List ℕ)) (stream : Stream) → IsTurn key bytes taken turns.Need → closed_of stream ≡ false → pending_of stream ≡ None → Stands key stream bytes taken
+      → Turns (Ok Rests) was seen was seen old old stream
+  turned_need was seen old stream (inl f) closed free stands = absurd (by_packet f.is)
+    where
+      by_packet : {packet : Packet} {it : Step} → turns.Need ≡ turns.Packet packet it → ⊥
+      by_packet e = cc
+  turned_need was seen old stream (inr n) closed free stands = record {
+    left = n.left;
+    tail = open_by (cut bytes).tail n.is;
+    same = refl;
+    nothing = Appends-nil old;
+    ready = (closed, free);
+    stands = stands;
+  }
+    where
+      open_by : (tail : Tail) → turns.Need ≡ tail_turn tail → closed_by tail ≡ false
+      open_by (open_end rest) e = refl
+      open_by (fault refused) e = cc
+
+-- a connection on which packets are taken isn't closed
+pub not_shut : (key bytes : List ℕ) (taken : ℕ) → IsTurn key bytes taken turns.Close → ⊥
+not_shut key bytes taken (inl f) = by_packet f.is
+  where
+    by_packet : {packet : Packet} {it : Step} → turns.Close ≡ turns.Packet packet it → ⊥
+    by_packet e = cc
+not_shut key bytes taken (inr n) = by_tail (cut bytes).tail n.is
+  where
+    by_tail : (tail : Tail) → turns.Close ≡ tail_turn tail → ⊥
+    by_tail (open_end rest) e = cc
+    by_tail (fault refused) e = cc

@@ -4,6 +4,7 @@ pub mod Worked
 pub mod AtHall
 pub mod AtDesk
 pub mod Working
+pub mod Ahead
 pub mod Noting
 pub mod Linked
 pub mod Linking

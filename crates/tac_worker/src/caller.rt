@@ -10,7 +10,7 @@ ghost use Rattle.tac_hall.specs.History.{IsOfKind};
 ghost use Rattle.tac_worker.specs.Worked.{Exchange};
 ghost use Rattle.tac_worker.specs.Working.{IsUnmade};
 
-use tac_conn::{Answer, Ask};
+use tac_conn::{Answer, Ask, Hash};
 use tac_hall::{CallAnswer, HallFault, Receipt};
 
 /// Who makes the calls of a connection, one after another: a seat of a hall, or of a desk that many
@@ -35,6 +35,12 @@ pub trait Caller: Drop {
         ensures kind { IfOk result (λ answer. kind_of_answer answer ≡ kind_of_ask ask) }
         ensures unmade { IfErr result (IsUnmade (refuses self.new) ask) }
         ensures err { OnErr result (rests self.old self.new) };
+
+    /// The hash that the password of this ask is compared with, if it is one. It is no call. The
+    /// policy may be another by the time of the call, so that nothing is promised of it.
+    fn hash(&self, _: &Ask) -> Option<Hash> {
+        None
+    }
 
     /// Who does nothing rests.
     ghost rests_so: { (caller : Self) → rests caller caller };

@@ -7,7 +7,7 @@ ghost use Rattle.tac_worker.specs.AtDesk as at_desk;
 use crate::caller::{Caller, answer_in};
 use std::marker::Model;
 use std::sync::Wait;
-use tac_conn::{Answer, Ask};
+use tac_conn::{Answer, Ask, Hash};
 use tac_desk::Desk;
 use tac_forum::{Run, Seat, SharedDesk};
 use tac_hall::{Call, HallFault};
@@ -74,6 +74,10 @@ impl<'a, H: Wait, J: Run, D: Desk> Caller for DeskCaller<'a, H, J, D> {
     fn ask(&mut self, ask: Ask) -> Result<Answer, HallFault> {
         let receipt = self.desk.call(self.rt, &mut self.seat, &Call::Ask(ask))?;
         Ok(answer_in(&receipt))
+    }
+
+    fn hash(&self, ask: &Ask) -> Option<Hash> {
+        self.desk.hash(self.rt, ask)
     }
 
     ghost rests_so = { at_desk.rests_so };

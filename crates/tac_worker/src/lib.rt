@@ -1,11 +1,13 @@
 //! Workers: who serve connections by calls, at a hall or at a desk that many share.
 #![tactic(auto)]
 
+mod ahead;
 mod caller;
 mod desk_caller;
 mod due;
 mod gate;
 mod hall_caller;
+mod hash_work;
 mod hearing;
 mod laws;
 mod link;
@@ -22,6 +24,7 @@ pub use desk_caller::DeskCaller;
 pub use due::Due;
 pub use gate::{Gate, OpenGate};
 pub use hall_caller::HallCaller;
+pub use hash_work::HashWork;
 pub use hearing::{CHUNK, Chunk};
 pub use laws::told_law;
 pub use link::Link;

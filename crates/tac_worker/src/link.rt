@@ -1,24 +1,53 @@
 //! A connection that is served in turns, while others are served too.
 
-ghost use Rattle.std.specs.Prelude.{◌≡◌, ◌≤◌, length, take, IfOk, OnErr};
+ghost use Rattle.std.specs.Prelude.{◌≡◌, ◌≤◌, length, take, IsTrue, IfOk, OnErr};
 ghost use Rattle.std.specs.Io.KnownBytes.{Appends, Keeps};
 ghost use Rattle.tac_worker.specs.Linked as linked;
+ghost use Rattle.tac_worker.specs.declared.due.Due.TheVariants as dues;
 
+use crate::ahead::{Ahead, adopt, first_turn, hash_ahead, look_ahead, password_ahead};
 use crate::caller::Caller;
 use crate::due::Due;
 use crate::gate::Gate;
+use crate::hash_work::HashWork;
 use crate::hearing::{Chunk, hear};
 use crate::notes::{Called, Pieces, Sent};
 use crate::queue::Queue;
 use crate::terms::Terms;
-use crate::turning::{Went, take_turn};
+use crate::turning::{Went, serve_turn};
 use crate::worked::End;
+use std::alloc::{AllocError, Global};
 use std::io::{self, Read, Write};
 use std::marker::Model;
 use std::snapshot::Snapshot;
 use tac_audit::{Notice, Witness};
+use tac_conn::{Hash, Typed};
 use tac_stream::Stream;
 use tac_wire::Key;
+
+/// What is known of the digest that the next packet's password takes.
+#[derive(Clone, Copy)]
+enum Digest {
+    /// Nothing yet.
+    Unknown,
+    /// It is to be worked out under the rounds and the salt of this hash.
+    Needed(Hash),
+    /// Somebody works it out.
+    Awaited,
+    /// There is none to be worked out any more.
+    Settled,
+}
+
+impl Digest {
+    // What is to be worked out for the password of the next packet, which was found.
+    fn work(&self, alloc: Global, ahead: &Option<Ahead>) -> Result<Option<HashWork>, AllocError> {
+        let (Digest::Needed(hash), Some(password)) = (self, password_ahead(ahead)) else {
+            return Ok(None);
+        };
+        let work = HashWork::new(alloc, password, hash)?;
+        Ok(Some(work))
+    }
+}
 
 /// A connection that is served in turns, by a caller that may call for others in between. It holds
 /// what came and isn't served yet, what waits to be sent, and its witness.
@@ -31,6 +60,9 @@ pub struct Link<'a, C: Caller, V: Witness<Notice>> {
     witness: V,
     caller: Snapshot<C>,
     stream: Stream,
+    // the next turn, where it was found already
+    ahead: Option<Ahead>,
+    digest: Digest,
     queue: Queue,
     pieces: Pieces,
     called: Called,
@@ -49,6 +81,8 @@ impl<'a, C: Caller, V: Witness<Notice>> Drop for Link<'a, C, V> {
             witness: _,
             caller: _,
             stream: _,
+            ahead: _,
+            digest: _,
             queue: _,
             pieces: _,
             called: _,
@@ -60,16 +94,15 @@ impl<'a, C: Caller, V: Witness<Notice>> Drop for Link<'a, C, V> {
 }
 
 impl<'a, C: Caller, V: Witness<Notice>> Model for Link<'a, C, V> {
-    ghost use Rattle.tac_worker.specs.Linked.{Linked, IsLinked};
+    ghost use Rattle.tac_worker.specs.Linked.{Linked};
 
     ghost Value = { Linked C V };
 
-    ghost use Rattle.tac_worker.specs.Linking.{connection_of};
+    ghost use Rattle.tac_worker.specs.Linking.{connection_of, IsKept};
 
     ghost view = { connection_of };
 
-    ghost invariant = { λ link. IsLinked C.refuses V.takes V.refuses link.end
-        (connection_of link) link.stream };
+    ghost invariant = { IsKept C.refuses V.takes V.refuses };
 }
 
 impl<'a, C: Caller, V: Witness<Notice>> Link<'a, C, V> {
@@ -83,6 +116,8 @@ impl<'a, C: Caller, V: Witness<Notice>> Link<'a, C, V> {
             witness,
             caller: Snapshot::of(caller),
             stream: Stream::new(terms.alloc),
+            ahead: None,
+            digest: Digest::Unknown,
             queue: Queue::new(terms.alloc),
             pieces: Pieces::new(),
             called: Called::new(),
@@ -132,6 +167,56 @@ impl<'a, C: Caller, V: Witness<Notice>> Link<'a, C, V> {
         &self.witness
     }
 
+    /// If a turn is due, finds the next packet, though it doesn't serve it, and whether that has a
+    /// password which is to be worked out first. It may wait for the caller.
+    pub fn foresee(&mut self, caller: &C)
+        ensures { self.new ≡ self.old }
+    {
+        match self.due() {
+            Due::Turn => {}
+            _ => return,
+        }
+        match self.digest {
+            Digest::Unknown => {}
+            _ => return,
+        }
+        look_ahead(self.key, &mut self.stream, &mut self.ahead);
+        self.digest = match hash_ahead(&self.ahead, caller) {
+            Some(hash) => Digest::Needed(hash),
+            None => Digest::Settled,
+        };
+    }
+
+    /// Whether a turn is due that waits until a password is worked out.
+    pub fn awaits_digest(&self) -> bool
+        ensures { IsTrue result → linked.due_of self.now ≡ dues.Turn }
+    {
+        match self.due() {
+            Due::Turn => matches!(self.digest, Digest::Needed(_) | Digest::Awaited),
+            _ => false,
+        }
+    }
+
+    /// What is to be worked out for the next packet, unless somebody was handed that before. The
+    /// error means that there is no memory for it: then it still is to be.
+    pub fn take_work(&mut self, alloc: Global) -> Result<Option<HashWork>, AllocError>
+        ensures { self.new ≡ self.old }
+    {
+        let work = self.digest.work(alloc, &self.ahead)?;
+        if work.is_some() {
+            self.digest = Digest::Awaited;
+        }
+        Ok(work)
+    }
+
+    /// The password of the next packet was worked out, so that it waits for nothing any more.
+    pub fn adopt(&mut self, worked_out: Typed)
+        ensures { self.new ≡ self.old }
+    {
+        adopt(&mut self.ahead, worked_out);
+        self.digest = Digest::Settled;
+    }
+
     /// If a turn is due, serves the next packet if it has come whole: has the caller ask, tells the
     /// witness, and puts the reply there to be sent, as [`serve`](crate::serve) does. Else it does
     /// nothing.
@@ -155,11 +240,14 @@ impl<'a, C: Caller, V: Witness<Notice>> Link<'a, C, V> {
             key: self.key,
             gate: terms.gate,
         };
-        let went = take_turn(
+        self.digest = Digest::Unknown;
+        let turn = first_turn(self.key, &mut self.stream, &mut self.ahead);
+        let went = serve_turn(
             &terms,
             caller,
             &mut self.witness,
             &mut self.stream,
+            turn,
             &mut self.queue,
             &mut self.called,
         );
@@ -217,6 +305,8 @@ impl<'a, C: Caller, V: Witness<Notice>> Link<'a, C, V> {
             witness,
             caller: _,
             stream: _,
+            ahead: _,
+            digest: _,
             queue: _,
             pieces: _,
             called: _,

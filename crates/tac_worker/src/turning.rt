@@ -6,7 +6,10 @@ ghost use Rattle.tac_conn.specs.Ask.{kind_of_ask, kind_of_answer};
 ghost use Rattle.tac_conn.specs.Packet.{sent};
 ghost use Rattle.tac_conn.specs.Reply.{packet_of};
 ghost use Rattle.tac_audit.specs.Notices.{replied};
-ghost use Rattle.tac_stream.specs.Kept.{IsReady, Stands};
+ghost use Rattle.tac_stream.specs.declared.stream.Stream.{Stream as StreamValue};
+ghost use Rattle.tac_stream.specs.Kept.{IsReady, Stands, Waits};
+ghost use Rattle.tac_stream.specs.Turns.{HasItsSlot};
+ghost use Rattle.tac_worker.specs.Ahead.{IsTurnOf};
 ghost use Rattle.tac_worker.specs.Noting.{noting, NotesOne, NotesNone, RefusesNoted};
 ghost use Rattle.tac_worker.specs.Told.{TakesUntil};
 ghost use Rattle.tac_worker.specs.Worked.{AreAllMade, IsServedBy};
@@ -19,6 +22,7 @@ use crate::notes::{Called, Pieces};
 use crate::terms::Terms;
 use crate::worked::End;
 use basics::send;
+use std::alloc::AllocError;
 use std::io::{Read, Write};
 use std::snapshot::Snapshot;
 use std::sync::Wait;
@@ -119,17 +123,21 @@ fn note<V: Witness<Notice>>(witness: &mut V, notice: Notice, closes: bool) -> Re
     Ok(Went::On)
 }
 
-/// Serves what stands first, and notes the call that was made for it.
-pub(crate) fn take_turn<H, G: Gate, C: Caller, V: Witness<Notice>, W: Write>(
+/// Serves what stood first, whose turn this is, and notes the call that was made for it.
+pub(crate) fn serve_turn<H, G: Gate, C: Caller, V: Witness<Notice>, W: Write>(
     terms: &Terms<H, G>,
     caller: &mut C,
     witness: &mut V,
     stream: &mut Stream,
+    turn: Result<Turn, AllocError>,
     writer: &mut W,
     called: &mut Called,
 ) -> Result<Went, End>
-    ensures turned { (bytes : List ℕ) (taken : ℕ) → IsReady stream.old →
-        Stands terms.now.key.now stream.old bytes taken →
+    requires waits { IfOk turn (λ turn. Waits turn stream.old) }
+    requires kind { IfOk turn HasItsSlot }
+    ensures turned { (was : StreamValue) (bytes : List ℕ) (taken : ℕ) →
+        IsTurnOf terms.now.key.now was turn stream.old → IsReady was →
+        Stands terms.now.key.now was bytes taken →
         working.Turned (NotesOne C.makes) (NotesNone C.rests) (RefusesNoted C.refuses)
         V.takes V.refuses result terms.now.key.now bytes taken
         (record { caller = noting caller.old called.old; witness = witness.old })
@@ -137,7 +145,11 @@ pub(crate) fn take_turn<H, G: Gate, C: Caller, V: Witness<Notice>, W: Write>(
         (W.contents writer.old) (W.contents writer.new) stream.new }
     ensures one { length called.new ≤ suc (length called.old) }
 {
-    match stream.next(terms.key)? {
+    let turn = match turn {
+        Ok(turn) => turn,
+        Err(error) => return Err(End::from(error)),
+    };
+    match turn {
         Turn::Packet(packet, step) => match step {
             Step::Reply(reply, closes) => {
                 let seat = caller.number();
@@ -156,6 +168,28 @@ pub(crate) fn take_turn<H, G: Gate, C: Caller, V: Witness<Notice>, W: Write>(
         Turn::Refused(header) => note(witness, Notice::BadHeader(header), true),
         Turn::Close => Err(End::ByProtocol),
     }
+}
+
+// Serves what stands first, and notes the call that was made for it.
+fn take_turn<H, G: Gate, C: Caller, V: Witness<Notice>, W: Write>(
+    terms: &Terms<H, G>,
+    caller: &mut C,
+    witness: &mut V,
+    stream: &mut Stream,
+    writer: &mut W,
+    called: &mut Called,
+) -> Result<Went, End>
+    ensures turned { (bytes : List ℕ) (taken : ℕ) → IsReady stream.old →
+        Stands terms.now.key.now stream.old bytes taken →
+        working.Turned (NotesOne C.makes) (NotesNone C.rests) (RefusesNoted C.refuses)
+        V.takes V.refuses result terms.now.key.now bytes taken
+        (record { caller = noting caller.old called.old; witness = witness.old })
+        (record { caller = noting caller.new called.new; witness = witness.new })
+        (W.contents writer.old) (W.contents writer.new) stream.new }
+    ensures one { length called.new ≤ suc (length called.old) }
+{
+    let turn = stream.next(terms.key);
+    serve_turn(terms, caller, witness, stream, turn, writer, called)
 }
 
 /// Serves one connection to its end, which it answers: reads what comes, has the caller ask, tells
