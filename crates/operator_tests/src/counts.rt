@@ -53,6 +53,7 @@ tacd_connections_ended_total{why=\"packet_memory\"} 0
 tacd_connections_ended_total{why=\"read\"} 0
 tacd_connections_ended_total{why=\"write\"} 0
 tacd_connections_ended_total{why=\"log\"} 0
+tacd_connections_ended_total{why=\"hashing\"} 0
 tacd_connections_ended_total{why=\"memory\"} 0
 tacd_connections_ended_total{why=\"server\"} 0
 # HELP tacd_connections_refused_total Connections closed as soon as they came.

@@ -39,6 +39,11 @@ module _ {L : Type 0} where
   set_else (x ∷ xs) (suc key) zero now ne = refl
   set_else (x ∷ xs) (suc key) (suc other) now ne = set_else xs key other now (λ e. ne (ap suc e))
 
+  pub set_same : (xs : List (Option L)) (key : ℕ) (was : L) → get_or xs key None ≡ Some was → set xs key (Some was) ≡ xs
+  set_same [] key was e = refl
+  set_same (x ∷ xs) zero was e = ap (λ (item : Option L). item ∷ xs) (sym e)
+  set_same (x ∷ xs) (suc key) was e = ap (λ (items : List (Option L)). x ∷ items) (set_same xs key was e)
+
   some_same : (x y : L) → Some x ≡ Some y → x ≡ y
   some_same x y e = cc
 

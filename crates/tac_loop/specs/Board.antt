@@ -12,7 +12,7 @@ use Rattle.tac_loop.specs.declared.line.Line.{Line}
 use Rattle.tac_loop.specs.declared.stop.Stop.{Stop}
 use Rattle.tac_loop.specs.declared.stop.Stop.TheVariants.{Absent}
 use Rattle.tac_loop.specs.Calls.{Call, calls_of, AreCalled, WasAfter}
-use Rattle.tac_loop.specs.Steps.{begun, GoesUpTo, stopped, woken}
+use Rattle.tac_loop.specs.Steps.{begun, GoesUpTo, woken}
 
 -- who calls for many connections, and those connections
 pub record Board (C V S : Type 0) : Type 0 where
@@ -100,8 +100,8 @@ module _ {C V S : Type 0} (makes : C → Exchange → C → Type 0) (rests : C �
   pub record ServesOne (turns key : ℕ) (line : Line C V S) (stop : Stop) (was now : Board C V S)
       : Type 0 where
     pub then : Line C V S
-    pub goes : GoesUpTo makes rests remaining contents turns (woken line) then was.caller now.caller
-    pub left : stop ≡ stopped then
+    pub goes : GoesUpTo makes rests remaining contents turns stop (woken line) then was.caller
+        now.caller
     pub rest : now ≡ record was {
       caller = now.caller;
       lines = slice_set was.lines key (Some then);

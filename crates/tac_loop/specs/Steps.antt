@@ -9,7 +9,7 @@ use Rattle.tac_worker.specs.Linked.{Linked, fresh, due_of, Turns, Hears, after_s
 use Rattle.tac_worker.specs.Worked.{Exchange}
 use Rattle.tac_loop.specs.declared.line.Line.{Line}
 use Rattle.tac_loop.specs.declared.stop.Stop.{Stop}
-use Rattle.tac_loop.specs.declared.stop.Stop.TheVariants.{Busy, Idle, Full, Ended, Broken}
+use Rattle.tac_loop.specs.declared.stop.Stop.TheVariants.{Busy, Idle, Digest, Full, Ended, Broken}
 
 -- ---- when it is left
 
@@ -44,6 +44,11 @@ module _ {C V S : Type 0} where
 
   abbrev pub stopped : Line C V S → Stop
   stopped line = or_busy (stop_of line)
+
+  -- it is left so, or, where a turn is due, until a password is worked out
+  abbrev pub IsLeft : Stop → Line C V S → Type 0
+  IsLeft Digest line = due_of line.link ≡ next.Turn
+  IsLeft stop line = stop ≡ stopped line
 
   -- its socket may be ready again
   abbrev pub woken : Line C V S → Line C V S
@@ -81,9 +86,11 @@ module _ {C V S : Type 0} (makes : C → Exchange → C → Type 0) (rests : C �
       (then : Line C V S) × (mid : C) × Goes n was then before mid
       × StepsAt (due_of then.link) then now mid after
 
-  -- at most so many, and no fewer where it isn't to be left
-  pub record GoesUpTo (turns : ℕ) (was now : Line C V S) (before after : C) : Type 0 where
-    pub steps : ℕ
-    pub few : steps ≤ turns
-    pub goes : Goes steps was now before after
-    pub all : stop_of now ≡ None → steps ≡ turns
+  -- at most so many, and no fewer unless it is left
+  pub record GoesUpTo (turns : ℕ) (stop : Stop) (was now : Line C V S) (before after : C) : Type 0
+    where
+      pub steps : ℕ
+      pub few : steps ≤ turns
+      pub goes : Goes steps was now before after
+      pub left : IsLeft stop now
+      pub all : stop ≡ Busy → steps ≡ turns

@@ -6,9 +6,11 @@ ghost use Rattle.tac_loop.specs.Steps as steps;
 
 use crate::source::Source;
 use crate::stop::Stop;
+use std::alloc::{AllocError, Global};
 use std::io::{Read, Write};
 use tac_audit::{Notice, Witness};
-use tac_worker::{Caller, Chunk, Due, Gate, Link, Terms};
+use tac_conn::Typed;
+use tac_worker::{Caller, Chunk, Due, Gate, HashWork, Link, Terms};
 
 /// One of many connections: its number, how it stands, and its socket.
 pub struct Line<'a, C: Caller, V: Witness<Notice>, S> {
@@ -127,6 +129,20 @@ impl<'a, C: Caller, V: Witness<Notice>, S: Read + Write> Line<'a, C, V, S> {
         }
     }
 
+    /// What is to be worked out for it, unless that was handed out before.
+    pub(crate) fn take_work(&mut self, alloc: Global) -> Result<Option<HashWork>, AllocError>
+        ensures { self.new ≡ self.old }
+    {
+        self.link.take_work(alloc)
+    }
+
+    /// The password of its next packet was worked out.
+    pub(crate) fn adopt(&mut self, worked_out: Typed)
+        ensures { self.new ≡ self.old }
+    {
+        self.link.adopt(worked_out);
+    }
+
     /// Does what is due, one step after another, until it is to be left.
     pub(crate) fn go<H, G: Gate>(
         &mut self,
@@ -135,9 +151,8 @@ impl<'a, C: Caller, V: Witness<Notice>, S: Read + Write> Line<'a, C, V, S> {
         chunk: &mut Chunk,
         turns: u32,
     ) -> Stop
-        ensures goes { steps.GoesUpTo C.makes C.rests S.remaining S.contents turns
+        ensures goes { steps.GoesUpTo C.makes C.rests S.remaining S.contents turns result
             (steps.woken self.old) self.new caller.old caller.new }
-        ensures stop { result ≡ steps.stopped self.new }
         ensures stands { linked.StandsSo C.refuses V.takes V.refuses self.new.link.end
             self.new.link }
     {
@@ -145,6 +160,10 @@ impl<'a, C: Caller, V: Witness<Notice>, S: Read + Write> Line<'a, C, V, S> {
         'steps: for _ in 0..turns {
             if let Some(stop) = self.stop() {
                 return stop;
+            }
+            self.link.foresee(caller);
+            if self.link.awaits_digest() {
+                return Stop::Digest;
             }
             self.step(terms, caller, chunk);
         }

@@ -11,6 +11,8 @@ pub enum Stop {
     Busy,
     /// More has to come first.
     Idle,
+    /// The next packet has a password that is to be worked out first.
+    Digest,
     /// What waits to be sent found no room.
     Full,
     /// It ended so, and all that was put on it is sent. It is to be removed.

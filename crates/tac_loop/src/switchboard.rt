@@ -10,12 +10,13 @@ use crate::steady::Steady;
 use crate::stop::Stop;
 use crate::trace::Trace;
 use slab::{Iter, Slab};
-use std::alloc::Global;
+use std::alloc::{AllocError, Global};
 use std::io::{Read, Write};
 use std::marker::Model;
 use std::snapshot::Snapshot;
 use tac_audit::{Notice, Witness};
-use tac_worker::{Caller, Chunk, Gate, Terms};
+use tac_conn::Typed;
+use tac_worker::{Caller, Chunk, Gate, HashWork, Terms};
 
 /// One caller that many connections share, and those connections, each under a key.
 ///
@@ -118,6 +119,10 @@ impl<'a, C: Steady, V: Witness<Notice>, S: Read + Write + Drop> Switchboard<'a, 
     /// the connection as ReadFault. Any other error of a write, and a write that takes nothing,
     /// leaves it as Broken. What it said of waiting is forgotten at the next call.
     ///
+    /// It is left as Digest where its next packet has a password that takes the rounds of a hash,
+    /// which [`take_work`](Switchboard::take_work) has worked out, until
+    /// [`adopt`](Switchboard::adopt) brings that back: such a packet isn't judged before.
+    ///
     /// It may wait for the caller, the witness and the gate, and for no socket that keeps to that.
     /// Linear in what is read, but for what the caller and the witness take.
     pub fn serve<H, G: Gate>(
@@ -134,6 +139,40 @@ impl<'a, C: Steady, V: Witness<Notice>, S: Read + Write + Drop> Switchboard<'a, 
             Some(line) => line.go(terms, &mut self.caller, chunk, turns),
             None => Stop::Absent,
         }
+    }
+
+    /// What is to be worked out for the connection of this key, with its number, unless that was
+    /// handed out before. The error means that there is no memory for it. Linear in the password.
+    pub fn take_work(
+        &mut self,
+        key: usize,
+        alloc: Global,
+    ) -> Result<Option<(u64, HashWork)>, AllocError>
+        ensures { self.new ≡ self.old }
+    {
+        let Some(line) = self.lines.get_mut(key) else {
+            return Ok(None);
+        };
+        let number = line.number();
+        match line.take_work(alloc)? {
+            Some(work) => Ok(Some((number, work))),
+            None => Ok(None),
+        }
+    }
+
+    /// What was worked out for the connection of this key and number, which goes on by it. The
+    /// answer is false where that connection was removed.
+    pub fn adopt(&mut self, key: usize, number: u64, worked_out: Typed) -> bool
+        ensures { self.new ≡ self.old }
+    {
+        let Some(line) = self.lines.get_mut(key) else {
+            return false;
+        };
+        if line.number() != number {
+            return false;
+        }
+        line.adopt(worked_out);
+        true
     }
 
     /// Removes the connection of this key, if there is one, whether it has ended or is given up,

@@ -8,6 +8,8 @@ use Rattle.tac_hall.proofs.Crossing.{Key-sync}
 use Rattle.tac_census.proofs.census.Census.TheSendSync as census
 use Rattle.tac_status.proofs.counts.Counts.TheSendSync as counts
 use Rattle.tac_status.specs.contracts.counts.Counts as Counts
+use Rattle.tac_digests.proofs.digests.Digests.TheSendSync as digests
+use Rattle.tac_net.specs.contracts.hashing.Hashing as Hashing
 use Rattle.tac_net.specs.contracts.intake.Arrival as Arrival
 use Rattle.tac_net.specs.contracts.intake.Inbox as Inbox
 use Rattle.tac_net.specs.contracts.intake.Intake as Intake
@@ -41,3 +43,6 @@ Intake-sync = search (Inbox-sync, census.the_send, crosses, sendable) depth 60 f
 
 pub Counts-sync : IsSync Counts.the_row
 Counts-sync = search (counts.the_sync, crosses, sendable) depth 60
+
+pub Hashing-sync : IsSync Hashing.the_row
+Hashing-sync = search (digests.the_sync, crosses, sendable) depth 60 fits 20000

@@ -15,6 +15,8 @@ pub(crate) enum Parting {
     GivenUp { asks: bool },
     /// The system can't wait for it.
     Unwatched,
+    /// Too many passwords wait to be worked out.
+    Crowded,
     /// Memory ran out.
     Memory,
 }
@@ -42,6 +44,7 @@ pub(crate) fn departure<S, C: Clock>(parting: Parting, socket: &Socket<'_, S, C>
         Parting::GivenUp { asks: _ } if socket.has_untaken() => Departure::NotTaken,
         Parting::GivenUp { asks: true } => Departure::LoginIdle,
         Parting::GivenUp { asks: false } => Departure::Idle,
+        Parting::Crowded => Departure::Hashing,
         Parting::Memory => Departure::Memory,
     }
 }

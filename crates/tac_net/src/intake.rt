@@ -208,6 +208,13 @@ impl Intake {
         take(rt, &self.census).leave(address);
     }
 
+    /// Ends the present wait of a worker.
+    pub(crate) fn wake(&self, at: usize) {
+        if let Some(inbox) = self.inboxes.get(at) {
+            let _ = inbox.waker.wake();
+        }
+    }
+
     /// Ends the present wait of each worker.
     pub(crate) fn wake_all(&self) {
         for inbox in self.inboxes.iter() {

@@ -10,6 +10,7 @@ mod files;
 mod filling;
 mod gauge;
 mod hall_worker;
+mod hashing;
 mod intake;
 mod lent;
 mod opening;

@@ -1,5 +1,6 @@
 //! What the threads of a server share.
 
+use crate::hashing::Hashing;
 use crate::intake::Intake;
 use crate::port::Port;
 use crate::settings::Settings;
@@ -17,6 +18,7 @@ pub(crate) struct Premises<'a, R, J: Run, D: Desk, L> {
     pub(crate) settings: &'a Settings,
     pub(crate) vigil: &'a Vigil,
     pub(crate) intake: &'a Intake,
+    pub(crate) hashing: &'a Hashing,
     pub(crate) log: &'a L,
     pub(crate) counts: &'a Counts,
 }

@@ -9,6 +9,7 @@ use crate::attending::attend;
 use crate::ending::{close, refuse};
 use crate::fault::ServeFault;
 use crate::files::ServerFiles;
+use crate::hashing::Hashing;
 use crate::lent::Lent;
 use crate::opening::{places_of, waits_of};
 use crate::port::Port;
@@ -48,6 +49,7 @@ where
         settings,
         vigil,
         intake,
+        hashing,
         log,
         counts,
     } = *premises;
@@ -62,6 +64,7 @@ where
             settings,
             vigil,
             intake,
+            hashing,
             log,
             counts,
         };
@@ -106,6 +109,7 @@ where
         settings,
         vigil,
         intake,
+        hashing,
         log,
         counts,
     } = *premises;
@@ -125,6 +129,7 @@ where
                     settings,
                     vigil,
                     intake,
+                    hashing,
                     log,
                     counts,
                 };
@@ -141,12 +146,7 @@ where
             program.Attends result premises.entry.now.settings.now.port J.opening seat
             (I.remaining input.entry.now) (I.remaining input.exit.now)
             (O.contents output.entry.now) (O.contents output.exit.now)) }
-    {
-        match console.take_item() {
-            Some(seat) => attend(premises, source, seat, input, output),
-            None => unreachable!(),
-        }
-    };
+    { attend(premises, source, console, input, output) };
     join_mut(rt, &mut serving, &mut attending)
 }
 
@@ -174,6 +174,7 @@ where
     let room = Vec::with_capacity(rt.alloc(), settings.workers as usize + 1)?;
     let vigil = Vigil::new();
     let (intake, waits) = waits_of(rt, rt.alloc(), port, settings)?;
+    let hashing = Hashing::new(rt.alloc())?;
     let desk = SharedDesk::<J, D>::new(history, desk, settings.limits);
     let Ok(console) = desk.seat(rt) else {
         return Err(refuse(output));
@@ -192,6 +193,7 @@ where
         settings,
         vigil: &vigil,
         intake: &intake,
+        hashing: &hashing,
         log: files.log,
         counts: files.counts,
     };
@@ -225,6 +227,10 @@ where
 /// connections and ends, whatever its devices do. At last the desk is closed with all its seats.
 /// These are made before the threads: where one is missing, `close refused` is printed, and nothing
 /// is served.
+///
+/// A login by a hash is compared by other threads, before its packet is judged: the connection
+/// waits meanwhile, and its worker serves others. Where 256 wait for that, the connection of one
+/// more is closed.
 ///
 /// A new connection goes to the worker that has the fewest. It is closed where there are as many as
 /// the settings allow, in all or of its address. A connection is given up where so many seconds as

@@ -14,6 +14,8 @@ pub struct Settings {
     /// How many workers it has, each with a seat and a thread of its own. Each serves many
     /// connections at once.
     pub workers: u32,
+    /// How many threads it has that work passwords out, which takes the rounds of a hash.
+    pub hashers: u32,
     /// How many connections each worker serves in all, before it ends.
     pub connections: u32,
     /// How many connections there may be at once. One more is closed as soon as it is accepted.
@@ -29,4 +31,11 @@ pub struct Settings {
     /// How long the segments of its history may be. Nothing is printed of one that begins by
     /// itself.
     pub limits: Limits,
+}
+
+impl Settings {
+    /// How many threads it has beside that of the console.
+    pub(crate) fn threads(&self) -> u64 {
+        u64::from(self.workers) + u64::from(self.hashers)
+    }
 }

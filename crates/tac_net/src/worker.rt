@@ -18,6 +18,7 @@ use std::net::IpAddr;
 use std::sync::Wait;
 use std::time::{Clock, Duration};
 use tac_desk::Desk;
+use tac_digests::{Done, Job};
 use tac_forum::{Run, Seat};
 use tac_journal::{Log, LogFiles, Moments};
 use tac_loop::{Stop, Switchboard};
@@ -162,6 +163,27 @@ where
         }
     }
 
+    // Has the password of a connection worked out, unless that is under way. Where too many are,
+    // or memory is out, the connection is over.
+    fn hand_out(&mut self, key: usize)
+        ensures { self.new ≡ self.old }
+    {
+        let Premises { rt, hashing, .. } = *self.premises;
+        let (number, work) = match self.board.take_work(key, rt.alloc()) {
+            Ok(Some(taken)) => taken,
+            Ok(None) => return,
+            Err(_) => return self.remove(key, Parting::Memory),
+        };
+        let place = tac_digests::Place {
+            worker: self.at,
+            key,
+            number,
+        };
+        if !hashing.add(rt, Job { place, work }) {
+            self.remove(key, Parting::Crowded);
+        }
+    }
+
     // Serves a connection for some steps, and lets go of it where it is over. The answer is whether
     // it waits for room to write.
     fn go(&mut self, key: usize) -> bool
@@ -174,6 +196,10 @@ where
         match stop {
             Stop::Busy => {
                 self.keep_busy(key);
+                false
+            }
+            Stop::Digest => {
+                self.hand_out(key);
                 false
             }
             Stop::Full => true,
@@ -275,6 +301,21 @@ where
         }
     }
 
+    // Goes on with connections whose passwords were worked out.
+    fn adopt(&mut self, poller: &Poller)
+        ensures { self.new ≡ self.old }
+    {
+        let rt = self.premises.rt;
+        'passwords: for _ in rt.forever() {
+            let Some(Done { place, password }) = self.premises.hashing.collect(rt, self.at) else {
+                return;
+            };
+            if self.board.adopt(place.key, place.number, password) {
+                self.serve(poller, place.key);
+            }
+        }
+    }
+
     // Does what an event asks for.
     fn answer(&mut self, poller: &Poller, event: &Event)
         ensures { self.new ≡ self.old }
@@ -282,6 +323,7 @@ where
         let token = event.token();
         if token == WOKEN {
             self.collect(poller);
+            self.adopt(poller);
         } else if token == CALLED {
             if let Some(acceptor) = &mut self.acceptor {
                 acceptor.called();
@@ -354,7 +396,8 @@ where
         let mut keys = Vec::new(self.premises.rt.alloc());
         for (key, line) in self.board.lines() {
             let asks = line.link().witness().asks();
-            if line.socket().is_over(idle, asks, now) && keys.push((key, asks)).is_err() {
+            let is_over = line.socket().is_over(idle, asks, now) && !line.link().awaits_digest();
+            if is_over && keys.push((key, asks)).is_err() {
                 return keys;
             }
         }

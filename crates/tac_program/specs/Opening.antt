@@ -1,6 +1,6 @@
 -- What a server begins with: its workers, and the desk of its policy, or what is printed where
 -- there is none.
-use Rattle.std.specs.Prelude.{◌≡◌, ℕ, min, max, List, [], Bool, true, false, Option, Some, None}
+use Rattle.std.specs.Prelude.{◌≡◌, ℕ, ◌-◌, min, max, List, [], Bool, true, false, Option, Some, None}
 use Rattle.std.specs.Prelude.{Result, Ok, Err}
 use Rattle.pol_text.specs.declared.subject.Subject.{Subject}
 use Rattle.pol_live.specs.declared.judging.TextRefusal.{TextRefusal}
@@ -22,6 +22,10 @@ abbrev pub workers : Option ℕ → Bool → ℕ → ℕ
 workers (Some given) syncs processors = given
 workers None true processors = 16
 workers None false processors = max 1 (min 16 processors)
+
+-- as many threads work passwords out as there are processors but one, at least one and at most four
+abbrev pub hashers : ℕ → ℕ
+hashers processors = max 1 (min 4 (processors - 1))
 
 -- a policy that may stand has a desk that keeps records by this limit, and nothing is printed; of a
 -- text that is refused, why is printed, as its check prints it

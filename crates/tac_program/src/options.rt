@@ -171,6 +171,14 @@ fn workers_of(given: Option<u32>, syncs: bool, processors: usize) -> u32
     }
 }
 
+// How many threads work passwords out: one less than there are processors, but at least one, and no
+// more than four.
+fn hashers_of(processors: usize) -> u32
+    ensures { result ≡ opening.hashers processors }
+{
+    processors.saturating_sub(1).clamp(1, 4) as u32
+}
+
 // The numbers of a command line that was parsed, which has each of them within its bounds, on a
 // machine with so many processors.
 fn settings_of(matches: &ArgMatches<'_>, key: Key, processors: usize) -> Option<Settings> {
@@ -182,6 +190,7 @@ fn settings_of(matches: &ArgMatches<'_>, key: Key, processors: usize) -> Option<
             matches.get_flag(SYNC),
             processors,
         ),
+        hashers: hashers_of(processors),
         connections: matches.get_one::<u32>(CONNECTIONS)?,
         connections_at_once: matches.get_one::<u32>(CONNECTIONS_AT_ONCE)?,
         per_address: matches.get_one::<u32>(PER_ADDRESS)?,

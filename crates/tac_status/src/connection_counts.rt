@@ -36,6 +36,8 @@ pub enum Departure {
     Write,
     /// The log didn't take the line of its reply.
     Log,
+    /// Too many passwords waited to be compared with hashes.
+    Hashing,
     /// Memory ran out.
     Memory,
     /// The server stops, or the system can't wait for it.
@@ -64,7 +66,7 @@ impl Rejection {
 
 impl Departure {
     /// All of them, in the order in which they are told.
-    pub const ALL: [Departure; 11] = [
+    pub const ALL: [Departure; 12] = [
         Departure::Finished,
         Departure::Protocol,
         Departure::Idle,
@@ -74,6 +76,7 @@ impl Departure {
         Departure::Read,
         Departure::Write,
         Departure::Log,
+        Departure::Hashing,
         Departure::Memory,
         Departure::Server,
     ];
@@ -90,6 +93,7 @@ impl Departure {
             Departure::Read => "read",
             Departure::Write => "write",
             Departure::Log => "log",
+            Departure::Hashing => "hashing",
             Departure::Memory => "memory",
             Departure::Server => "server",
         }
@@ -115,6 +119,7 @@ struct Ended {
     read: Count,
     write: Count,
     log: Count,
+    hashing: Count,
     memory: Count,
     server: Count,
 }
@@ -151,6 +156,7 @@ impl Ended {
             read: Count::new(),
             write: Count::new(),
             log: Count::new(),
+            hashing: Count::new(),
             memory: Count::new(),
             server: Count::new(),
         }
@@ -167,6 +173,7 @@ impl Ended {
             Departure::Read => &self.read,
             Departure::Write => &self.write,
             Departure::Log => &self.log,
+            Departure::Hashing => &self.hashing,
             Departure::Memory => &self.memory,
             Departure::Server => &self.server,
         }

@@ -5,7 +5,7 @@ use denote.Param.Send.{IsSync, sendable, part_keyless, Quiet-if}
 use Rattle.std.proofs.Crossing.{crosses}
 use Rattle.tac_forum.specs.contracts.shared_desk.SharedDesk as SharedDesk
 use Rattle.tac_forum.proofs.shared_desk.SharedDesk.TheSendSync as shared
-use Rattle.tac_net.proofs.Crossing.{Counts-sync, Intake-sync, Port-sync, Settings-sync, Vigil-sync}
+use Rattle.tac_net.proofs.Crossing.{Counts-sync, Hashing-sync, Intake-sync, Port-sync, Settings-sync, Vigil-sync}
 use Rattle.tac_net.proofs.program.serve_both.Goals as goal
 
 pub join_mut-requires-send-F : goal.join_mut-requires-send-F
@@ -32,10 +32,13 @@ join_mut-requires-send-F g c κs within =
                     (
                       (tt, Intake-sync.shared d.6.now d.6.ref_ptr.0 d.6.ref_ptr.1 _),
                       (
-                        (tt, log.shared d.7.now d.7.ref_ptr.0 d.7.ref_ptr.1 _),
+                        (tt, Hashing-sync.shared d.7.now d.7.ref_ptr.0 d.7.ref_ptr.1 _),
                         (
-                          (tt, Counts-sync.shared d.8.now d.8.ref_ptr.0 d.8.ref_ptr.1 _),
-                          tt,
+                          (tt, log.shared d.8.now d.8.ref_ptr.0 d.8.ref_ptr.1 _),
+                          (
+                            (tt, Counts-sync.shared d.9.now d.9.ref_ptr.0 d.9.ref_ptr.1 _),
+                            tt,
+                          ),
                         ),
                       ),
                     ),

@@ -5,7 +5,7 @@ use Rattle.std.proofs.Crossing.{crosses}
 use Rattle.tac_forum.specs.contracts.shared_desk.SharedDesk as SharedDesk
 use Rattle.tac_forum.proofs.shared_desk.SharedDesk.TheSendSync as shared
 use Rattle.tac_net.specs.Connections.{HasServed}
-use Rattle.tac_net.proofs.Crossing.{Counts-sync, Intake-sync, Port-sync, Settings-sync, Vigil-sync}
+use Rattle.tac_net.proofs.Crossing.{Counts-sync, Hashing-sync, Intake-sync, Port-sync, Settings-sync, Vigil-sync}
 use Rattle.tac_net.proofs.FitFacts.{each_served_so}
 use Rattle.tac_net.proofs.ServingFacts.{ok_both}
 use Rattle.tac_net.proofs.program.serve_places.Goals as goal
@@ -31,10 +31,13 @@ map_vec-requires-sync-F g c κs within =
                   (
                     (λ q. tt, Intake-sync.shared d.5.now d.5.ref_ptr.0 d.5.ref_ptr.1 _),
                     (
-                      (λ q. tt, log.shared d.6.now d.6.ref_ptr.0 d.6.ref_ptr.1 _),
+                      (λ q. tt, Hashing-sync.shared d.6.now d.6.ref_ptr.0 d.6.ref_ptr.1 _),
                       (
-                        (λ q. tt, Counts-sync.shared d.7.now d.7.ref_ptr.0 d.7.ref_ptr.1 _),
-                        tt,
+                        (λ q. tt, log.shared d.7.now d.7.ref_ptr.0 d.7.ref_ptr.1 _),
+                        (
+                          (λ q. tt, Counts-sync.shared d.8.now d.8.ref_ptr.0 d.8.ref_ptr.1 _),
+                          tt,
+                        ),
                       ),
                     ),
                   ),

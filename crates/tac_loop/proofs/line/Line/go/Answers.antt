@@ -7,4 +7,4 @@ steps-init g c = goes_first g.C.Caller.makes g.C.Caller.rests g.S.Read.remaining
 
 pub steps-preserved : goal.steps-preserved
 steps-preserved g c =
-    goes_more g.C.Caller.makes g.C.Caller.rests g.S.Read.remaining g.S.Write.contents c.steps.counter (woken c.args.self.now) c.steps.self c.step.new.self c.args.caller.now c.steps.caller c.step.new.caller c.steps.invariant c.step.ensures
+    goes_more g.C.Caller.makes g.C.Caller.rests g.S.Read.remaining g.S.Write.contents c.steps.counter (woken c.args.self.now) c.steps.self c.step.new.self c.args.caller.now c.steps.caller c.step.new.caller c.steps.invariant (rw c.foresee.ensures at c.step.ensures)

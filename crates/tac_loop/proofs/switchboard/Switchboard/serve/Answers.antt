@@ -24,4 +24,4 @@ returns-in-Some g c =
     let is : at board.lines c.args.key ≡ Some c.in-Some.line.now = search rules in
     rw (← c.self.view_is)
     (served_at g.C.Caller.makes g.C.Caller.rests g.S.Read.remaining g.S.Write.contents (at board.lines c.args.key) c.args.turns c.args.key c.in-Some.line.now c.go.result board _ is
-    (record { then = c.go.new.self; goes = c.go.ensures.goes; left = c.go.ensures.stop; rest = refl }))
+    (record { then = c.go.new.self; goes = c.go.ensures.goes; rest = refl }))
