@@ -1,5 +1,6 @@
 //! Tests of workers: how connections end, over readers, writers and gates of the tests' own.
 
+mod digests;
 mod ends;
 mod gates;
 mod linked;

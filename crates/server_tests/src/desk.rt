@@ -5,6 +5,7 @@ mod batches;
 mod both;
 mod chance;
 mod edits;
+mod hashes;
 mod keeping;
 mod loads;
 mod questions;

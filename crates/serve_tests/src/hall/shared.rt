@@ -11,7 +11,7 @@ use std::test::Fail;
 use std::thread::{Threads, map_vec};
 use tac_desk::Desk;
 use tac_forum::{EmptyHistory, Limits, Rotated, Run, Seat, SharedDesk};
-use tac_hall::HallFault;
+use tac_hall::{Call, HallFault};
 
 /// No log of these tests takes nearly so many calls, so that no segment begins by itself.
 pub(crate) const NEVER: usize = 9_999;
@@ -22,6 +22,24 @@ fn show_rotated(out: &mut String, told: Result<Rotated, HallFault>) -> Result<()
         Ok(rotated) => write!(out, "{} of {}", rotated.number, rotated.entries),
         Err(fault) => write!(out, "{fault}"),
     }
+}
+
+// Shows the hash that the password of this call is compared with at this moment.
+fn show_hash<J: Run, D: Desk, R: Wait + AllocGlobal>(
+    rt: &R,
+    desk: &SharedDesk<J, D>,
+    words: &str,
+    shown: &mut String,
+) -> Result<(), Fail> {
+    let call = call_of(rt.alloc(), words)?;
+    let Call::Ask(ask) = &call else {
+        return Err(Fail::from("no ask"));
+    };
+    match desk.hash(rt, ask) {
+        Some(hash) => shown.push_str(str::from_utf8(hash.text().as_slice())?)?,
+        None => shown.push_str("no hash")?,
+    }
+    Ok(())
 }
 
 // Does what these words say by a seat, and shows its result.
@@ -35,6 +53,9 @@ fn does<J: Run, D: Desk, R: Wait + AllocGlobal>(
     if words == "rotate" {
         let told = desk.rotate(rt, seat);
         return Ok(show_rotated(shown, told)?);
+    }
+    if let Some(words) = words.strip_prefix("hash ") {
+        return show_hash(rt, desk, words, shown);
     }
     let call = call_of(rt.alloc(), words)?;
     let told = desk.call(rt, seat, &call);
@@ -59,7 +80,7 @@ fn says<J: Run, D: Desk, R: Wait + AllocGlobal>(
 }
 
 // One line of a conversation: `SEAT CALL = SEGMENT:PLACE ANSWER`, or `SEAT rotate = SEGMENT of
-// CALLS`, or a refusal for the answer.
+// CALLS`, or a refusal for the answer, or `SEAT hash CALL = HASH`.
 fn exchanges<J: Run, D: Desk, R: Wait + AllocGlobal>(
     rt: &R,
     desk: &SharedDesk<J, D>,
@@ -226,6 +247,41 @@ fn a_segment_begins_by_itself(rt: HostRuntime) -> Result<(), Fail> {
         1 run bob show version = 4:0 denied by group ops rule 1
         0 pass bob secret = 4:1 fail
         1 stop = 5:0 stopped
+        ",
+        },
+    )
+}
+
+// The hash of `blue-lake` is told by the policy of the moment, before and after a Stop, and takes no
+// place in the history.
+#[test]
+fn the_hash_of_a_password_is_told_beside_the_calls(rt: HostRuntime) -> Result<(), Fail> {
+    let desk = desk_of(rt.alloc(), OPS)?;
+    converses(
+        &rt,
+        desk,
+        Talk {
+            limits: Limits {
+                calls: 9,
+                rotate_at: NEVER,
+            },
+            lines: "
+        0 hash pass bob blue-lake = no hash
+        1 login-hash bob $6$rounds=1000$one$\
+hqJyrpV8VNbVbEd9aL68I4mDrkiBvwdUGcUaMWUg.1qTkxX7AgAHehNkiN6RvZvZLeNETdb0oU5uXWjjTQ62b1 \
+= 0:0 changes 0
+        0 hash pass bob blue-lake = $6$rounds=1000$one$\
+hqJyrpV8VNbVbEd9aL68I4mDrkiBvwdUGcUaMWUg.1qTkxX7AgAHehNkiN6RvZvZLeNETdb0oU5uXWjjTQ62b1
+        0 hash run bob show version = no hash
+        0 hash record bob t1 = no hash
+        0 pass bob blue-lake = 0:1 pass
+        1 login bob plain = 0:2 changes 0
+        0 hash pass bob blue-lake = no hash
+        1 enable-hash bob $6$rounds=1000$one$\
+hqJyrpV8VNbVbEd9aL68I4mDrkiBvwdUGcUaMWUg.1qTkxX7AgAHehNkiN6RvZvZLeNETdb0oU5uXWjjTQ62b1 \
+= 0:3 changes 0
+        0 hash pass bob blue-lake = no hash
+        0 stop = 0:4 stopped
         ",
         },
     )

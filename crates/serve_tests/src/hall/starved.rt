@@ -14,7 +14,7 @@ use std::alloc::{AllocError, Global};
 use std::marker::Model;
 use std::sync::Wait;
 use std::test::Fail;
-use tac_conn::{Answer, Ask};
+use tac_conn::{Answer, Ask, Hash};
 use tac_desk::{Desk, Query, QueryFault, Report, State, Thrice};
 use tac_desks::{BuildFault, PlainDesk};
 use tac_forum::Limits;
@@ -59,6 +59,10 @@ impl Desk for Starved {
             Ask::Authenticate { .. } | Ask::Authorise { .. } => self.inner.ask(ask),
             Ask::Account(_) => Err(AllocError),
         }
+    }
+
+    fn hash(&self, ask: &Ask) -> Option<Hash> {
+        self.inner.hash(ask)
     }
 
     fn edit_all(&mut self, _edits: &[Edit]) -> Result<Thrice<Changes>, BatchFault> {

@@ -9,7 +9,7 @@ use std::alloc::{AllocError, Global};
 use std::fmt::Display;
 use std::sync::Wait;
 use std::test::Fail;
-use tac_conn::{Answer, Ask, Proof, Service};
+use tac_conn::{Answer, Ask, Proof, Service, Typed};
 use tac_desk::{Desk, Query, State};
 use tac_desks::PlainDesk;
 use tac_hall::{
@@ -56,7 +56,7 @@ fn login(alloc: Global, user: &str, secret: &str) -> Result<Call, AllocError> {
     Ok(Call::Ask(Ask::Authenticate {
         user,
         service: Service::LOGIN,
-        proof: Proof::Plain(secret),
+        proof: Proof::Plain(Typed::new(secret)),
     }))
 }
 

@@ -16,8 +16,21 @@ use tac_net::serve_on;
 use tac_wire::Key;
 use tac_worker::{End, Gate};
 
-/// Bob may show things, and can log in.
-const POLICY: &[u8] = b"group ops\npermit show .*\nuser bob in ops\nlogin secret\n";
+/// Bob may show things, and can log in. Ann's password is compared with a hash.
+const POLICY: &[u8] = b"policy 3
+group ops
+permit show .*
+user bob in ops
+login secret
+user ann
+login-hash $6$rounds=20000$salt$08kvPIstYCENqko/lONBfcMHFS7V2wtFnGvxavXyNDB/tVJNAuE.O//oe2EjrrlS7nRxwNdiNxNe./5iZCmAz0
+";
+
+/// Ann logs in, on a connection that is kept.
+const SLOW_LOGIN: &str = "c1010104.00000001.00000011.0101020103000006'annsecret'";
+
+/// She is let in.
+const LET_IN: &str = "c1010204.00000001.00000006.010000000000";
 
 /// Bob asks for `show version`, on a connection of its own.
 const SHOW: &str =
@@ -237,6 +250,51 @@ pub(crate) fn visits<R: Net<Listener = TcpListener, Stream = TcpStream> + AllocG
 ) -> io::Result<bool> {
     let device = TcpStream::connect(rt, address)?;
     speaks(rt.alloc(), &device)
+}
+
+// Whether each of these devices is let in.
+fn are_let_in(alloc: Global, devices: &[TcpStream]) -> io::Result<bool> {
+    let wanted = sent_as(alloc, LET_IN)?;
+    for device in devices.iter() {
+        if !is_answered_with(alloc, device, &[], wanted.as_slice())? {
+            return Ok(false);
+        }
+    }
+    Ok(true)
+}
+
+// Whether nothing has come on a connection.
+fn is_silent(device: &TcpStream) -> io::Result<bool> {
+    device.set_nonblocking(true)?;
+    let mut reader = device;
+    let came = reader.read(&mut [0]);
+    device.set_nonblocking(false)?;
+    match came {
+        Ok(_) => Ok(false),
+        Err(error) => Ok(error.kind() == ErrorKind::WouldBlock),
+    }
+}
+
+/// How often ann logs in at once: it takes far longer than a visit until all are answered.
+const LOGINS: usize = 24;
+
+/// Ann logs in on many connections, and before the last is answered another device makes its visit.
+/// Whether all are answered as they are to be.
+pub(crate) fn is_overtaken<R: Net<Listener = TcpListener, Stream = TcpStream> + AllocGlobal>(
+    rt: &R,
+    address: SocketAddr,
+) -> io::Result<bool> {
+    let mut devices = Vec::new(rt.alloc());
+    for _ in 0..LOGINS {
+        devices.push(sends(rt, address, SLOW_LOGIN)?)?;
+    }
+    if !visits(rt, address)? {
+        return Ok(false);
+    }
+    match devices.last() {
+        Some(last) if is_silent(last)? => are_let_in(rt.alloc(), devices.as_slice()),
+        _ => Ok(false),
+    }
 }
 
 /// How often a device asks at once: in more packets than one read gives.

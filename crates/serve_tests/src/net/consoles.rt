@@ -2,8 +2,8 @@
 
 use crate::console::shelf::Shelf;
 use crate::net::clients::{
-    asks, asks_often, desk_of, is_answered, is_closed, key, permission, sends_too_much, visits,
-    waits_at_its_name,
+    asks, asks_often, desk_of, is_answered, is_closed, is_overtaken, key, permission,
+    sends_too_much, visits, waits_at_its_name,
 };
 use std::alloc::{AllocError, Global};
 use std::io::{self, ErrorKind, Read, Write};
@@ -35,9 +35,9 @@ struct Course {
     limits: Limits,
     /// He asks as a client does, once for each letter, and goes on if he was permitted at each p,
     /// and at each x his connection was closed without a byte. At each v he makes a device's visit.
-    /// At each m he asks many times at once. At l he is asked for a name, and at b he sends the
-    /// beginning of a long packet, and then his connection is closed. At c it is closed at once. At
-    /// g those are closed that he keeps.
+    /// At each h he makes it while somebody logs in by a hash, and at each m he asks many times at
+    /// once. At l he is asked for a name, and at b he sends the beginning of a long packet, and then
+    /// his connection is closed. At c it is closed at once. At g those are closed that he keeps.
     asks: &'static str,
     /// Then he types this.
     types: &'static str,
@@ -116,6 +116,7 @@ where
     match letter {
         b'v' => visits(rt, address),
         b'm' => asks_often(rt, address),
+        b'h' => is_overtaken(rt, address),
         b'l' => waits_at_its_name(rt, address),
         b'b' => sends_too_much(rt, address),
         b'c' => is_closed(&asks(rt, address)?),
@@ -287,6 +288,7 @@ where
         port: address.port(),
         key: key()?,
         workers: course.workers,
+        hashers: 1,
         connections: 299,
         connections_at_once: 250,
         per_address: course.per_address,
@@ -409,6 +411,17 @@ fn connections_in_all(rt: HostRuntime) -> Result<(), Fail> {
         ..course
     };
     ends(&rt, one_more, "", Ok(()))
+}
+
+// A login by a hash keeps nobody waiting, though there is one worker, and is answered in the end.
+#[test]
+fn a_slow_login_holds_up_nobody(rt: HostRuntime) -> Result<(), Fail> {
+    let course = Course {
+        workers: 1,
+        asks: "php",
+        ..QUITS
+    };
+    ends_at_last(&rt, course, "", Ok(()))
 }
 
 // What came in one piece is served to its end, though nothing more is heard of it.

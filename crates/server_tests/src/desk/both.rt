@@ -46,6 +46,17 @@ fn asks<D: Desk>(alloc: Global, desk: &mut D, words: &str, out: &mut Vec<u8>) ->
     Ok(())
 }
 
+// The hash that the password of an ask is compared with.
+fn push_hash<D: Desk>(alloc: Global, desk: &D, words: &str, out: &mut Vec<u8>) -> Result<(), Fail> {
+    let ask = ask(alloc, words)?;
+    match desk.hash(&ask) {
+        Some(hash) => out.extend_from_slice(hash.text().as_slice())?,
+        None => out.extend_from_slice(b"no hash")?,
+    }
+    out.push(b'\n')?;
+    Ok(())
+}
+
 // A call of a conversation, and what it is answered.
 fn call<D: Desk>(
     alloc: Global,
@@ -58,6 +69,9 @@ fn call<D: Desk>(
     out.push(b'\n')?;
     if let Some(words) = line.strip_prefix("? ") {
         return asks(alloc, desk, words, out);
+    }
+    if let Some(words) = line.strip_prefix("% ") {
+        return push_hash(alloc, desk, words, out);
     }
     if let Some(lines) = line.strip_prefix("< ") {
         return load(alloc, desk, lines, out);
@@ -439,11 +453,18 @@ fn kept_policy(alloc: Global) -> Result<Policy, Fail> {
     Ok(Policy::read(alloc, policy.as_slice())?)
 }
 
+// Whether the line is a call, or a policy that is loaded, and not what is answered.
+fn is_call(line: &str) -> bool {
+    ["? ", "> ", "< ", "% "]
+        .iter()
+        .any(|mark| line.starts_with(*mark))
+}
+
 // The calls of a talk, and the policies that are loaded in it.
 fn calls_of(alloc: Global, talk: &str) -> Result<String, AllocError> {
     let mut calls = String::new(alloc);
     for line in talk.lines() {
-        if line.starts_with("? ") || line.starts_with("> ") || line.starts_with("< ") {
+        if is_call(line) {
             writeln!(calls, "{line}")?;
         }
     }

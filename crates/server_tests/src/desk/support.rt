@@ -5,7 +5,7 @@ use pol_text::Policy;
 use std::alloc::{AllocError, Global};
 use std::process::Abort;
 use std::test::Fail;
-use tac_conn::{Answer, Ask, Proof, Service};
+use tac_conn::{Answer, Ask, Proof, Service, Typed};
 use tac_console::{
     Action, Batch, read_console, write_batch_answer, write_edit_answer, write_notice,
     write_query_answer,
@@ -125,12 +125,12 @@ pub(crate) fn ask(alloc: Global, words: &str) -> Result<Ask, Fail> {
         "login" => Ask::Authenticate {
             user,
             service: Service::LOGIN,
-            proof: Proof::Plain(text),
+            proof: Proof::Plain(Typed::new(text)),
         },
         "enable" => Ask::Authenticate {
             user,
             service: Service::ENABLE,
-            proof: Proof::Plain(text),
+            proof: Proof::Plain(Typed::new(text)),
         },
         "chap" => Ask::Authenticate {
             user,

@@ -6,7 +6,7 @@ use pol_edit::{BatchFault, Edit, EditFault};
 use pol_meaning::Changes;
 use pol_text::Policy;
 use std::alloc::AllocError;
-use tac_conn::{Answer, Ask};
+use tac_conn::{Answer, Ask, Hash};
 use tac_desk::{Desk, Query, QueryFault, Report, State, Thrice};
 use tac_desks::PlainDesk;
 
@@ -36,6 +36,10 @@ impl Desk for Faltering {
 
     fn ask(&mut self, ask: &Ask) -> Result<Answer, AllocError> {
         self.inner.ask(ask)
+    }
+
+    fn hash(&self, ask: &Ask) -> Option<Hash> {
+        self.inner.hash(ask)
     }
 
     fn edit_all(&mut self, edits: &[Edit]) -> Result<Thrice<Changes>, BatchFault> {

@@ -14,7 +14,7 @@ use pol_meaning::Changes;
 use pol_names::Kind;
 use pol_text::Policy;
 use std::alloc::{AllocError, Global};
-use tac_conn::{Answer, Ask};
+use tac_conn::{Answer, Ask, Hash};
 use tac_desk::{Desk, Numbered, Query, QueryFault, Report, State, Thrice};
 use tac_tally::{Record, RecordLimit};
 
@@ -122,6 +122,10 @@ impl Desk for Ledger {
             Ask::Authorise { .. } => Ok(Answer::UnknownUser),
             Ask::Account(item) => self.store(item),
         }
+    }
+
+    fn hash(&self, _ask: &Ask) -> Option<Hash> {
+        None
     }
 
     fn edit_all(&mut self, _edits: &[Edit]) -> Result<Thrice<Changes>, BatchFault> {

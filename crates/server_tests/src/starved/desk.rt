@@ -10,7 +10,7 @@ use pol_live::BuildFault;
 use pol_meaning::Changes;
 use pol_names::{Name, SubjectId};
 use std::alloc::{AllocError, Global};
-use tac_conn::{Answer, Ask, Proof, Service};
+use tac_conn::{Answer, Ask, Proof, Service, Typed};
 use tac_console::{write_edit_answer, write_query_answer};
 use tac_desk::{Query, QueryFault};
 use tac_server::{Desk, LiveDesk};
@@ -96,7 +96,7 @@ fn login(alloc: Global) -> Result<Ask, Trouble> {
     Ok(Ask::Authenticate {
         user: Bytes::from_slice(alloc, b"bob")?,
         service: Service::LOGIN,
-        proof: Proof::Plain(Bytes::from_slice(alloc, b"secret")?),
+        proof: Proof::Plain(Typed::new(Bytes::from_slice(alloc, b"secret")?)),
     })
 }
 
