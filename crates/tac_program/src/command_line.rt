@@ -310,7 +310,7 @@ fn with<'a>(
 }
 
 /// The version of the program.
-pub(crate) const VERSION: &str = "0.10.0";
+pub(crate) const VERSION: &str = "0.11.0";
 
 /// What the program's command line may be.
 pub(crate) fn command<'a>(alloc: Global) -> Result<Command<'a>, AllocError> {
