@@ -1,20 +1,15 @@
 //! The words that the program takes.
 
 use crate::help::{
-    ABOUT, ADDRESS_HELP, AFTER_LONG_HELP, AT_ONCE_HELP, CASES_HELP, CHECK_ABOUT, CHECK_AFTER_HELP,
-    CHECK_AFTER_LONG_HELP, CHECK_LONG_ABOUT, CONNECTIONS_HELP, CONSOLE_ABOUT, CONSOLE_AFTER_HELP,
-    CONSOLE_AFTER_LONG_HELP, CONSOLE_LONG_ABOUT, CONSOLE_OPTION_HELP, CONSOLE_PATH_HELP,
-    DIFF_ABOUT, DIFF_AFTER_HELP, DIFF_AFTER_LONG_HELP, DIFF_LONG_ABOUT, EDITS_HELP, EXIT_CODE_HELP,
+    ABOUT, ADDRESS_HELP, AFTER_LONG_HELP, AT_ONCE_HELP, CASES_HELP, CHECK_PAGE, CONNECTIONS_HELP,
+    CONSOLE_OPTION_HELP, CONSOLE_PAGE, CONSOLE_PATH_HELP, DIFF_PAGE, EDITS_HELP, EXIT_CODE_HELP,
     FILE_HELP, IDLE_HELP, KEEP_EDITS_HELP, KEEP_RECORDS_HELP, KEY_FILE_HELP, KEY_HELP, LINE_HELP,
-    LINT_ABOUT, LINT_AFTER_HELP, LINT_AFTER_LONG_HELP, LINT_LONG_ABOUT, LOG_HELP, LOGIN_IDLE_HELP,
-    LONG_ABOUT, NEW_HELP, NO_CONSOLE_HELP, OLD_HELP, PACKET_MEMORY_HELP, PER_ADDRESS_HELP,
-    PORT_HELP, REPLAY_ABOUT, REPLAY_AFTER_HELP, REPLAY_AFTER_LONG_HELP, REPLAY_LOG_HELP,
-    REPLAY_LONG_ABOUT, ROTATE_AT_HELP, SERVE_ABOUT, SERVE_AFTER_HELP, SERVE_AFTER_LONG_HELP,
-    SERVE_LONG_ABOUT, SYNC_HELP, TEST_ABOUT, TEST_AFTER_HELP, TEST_AFTER_LONG_HELP,
-    TEST_LONG_ABOUT, TIME_HELP, USER_HELP, WHY_ABOUT, WHY_AFTER_HELP, WHY_AFTER_LONG_HELP,
-    WHY_LONG_ABOUT, WORD_HELP, WORKERS_HELP,
+    LINT_PAGE, LOG_HELP, LOGIN_IDLE_HELP, LONG_ABOUT, NEW_HELP, NO_CONSOLE_HELP, OLD_HELP,
+    PACKET_MEMORY_HELP, PER_ADDRESS_HELP, PORT_HELP, Page, REPLAY_LOG_HELP, REPLAY_PAGE,
+    ROTATE_AT_HELP, SERVE_PAGE, SYNC_HELP, TEST_PAGE, TIME_HELP, USER_HELP, WHY_PAGE, WORD_HELP,
+    WORKERS_HELP,
 };
-use clap::{Arg, ArgAction, ArgGroup, Command, value_parser};
+use clap::{Arg, ArgAction, ArgGroup, ArgMatches, Command, value_parser};
 use std::alloc::{AllocError, Global};
 
 /// The word that asks for a server.
@@ -84,6 +79,9 @@ pub(crate) const KEEP_RECORDS: &str = "keep-records";
 
 /// Before which call of a segment of the history the next one begins.
 pub(crate) const ROTATE_AT: &str = "rotate-at";
+
+/// The most calls of a segment.
+pub(crate) const MAX_CALLS: u32 = 65_536;
 
 /// The file that takes the lines of an auditor.
 pub(crate) const LOG: &str = "log";
@@ -155,6 +153,29 @@ fn flag<'a>(alloc: Global, id: &'a str, help: &'a str) -> Arg<'a> {
         .help(help)
 }
 
+// A word that must be there.
+fn required<'a>(alloc: Global, id: &'a str, help: &'a str) -> Arg<'a> {
+    Arg::new(alloc, id).required(true).help(help)
+}
+
+// All words that are left, whatever they begin with.
+fn rest<'a>(alloc: Global, id: &'a str, help: &'a str) -> Arg<'a> {
+    Arg::new(alloc, id)
+        .num_args(0..)
+        .trailing_var_arg(true)
+        .allow_hyphen_values(true)
+        .help(help)
+}
+
+// A command with its help.
+fn with_page<'a>(alloc: Global, name: &'a str, page: Page) -> Command<'a> {
+    Command::new(alloc, name)
+        .about(page.about)
+        .long_about(page.long_about)
+        .after_help(page.after_help)
+        .after_long_help(page.after_long_help)
+}
+
 // How many connections a server serves, and for how long.
 fn with_limits<'a>(alloc: Global, command: Command<'a>) -> Result<Command<'a>, AllocError> {
     let at_once = (1, 1_000_000);
@@ -174,6 +195,7 @@ fn with_limits<'a>(alloc: Global, command: Command<'a>) -> Result<Command<'a>, A
 fn with_options<'a>(alloc: Global, command: Command<'a>) -> Result<Command<'a>, AllocError> {
     let connections = (1, 4_294_967_295);
     let records = (1_000, 10_000_000);
+    let calls = (1, i64::from(MAX_CALLS));
     let command = command
         .arg(number(alloc, PORT, "P", (1, 65_535), PORT_HELP).required(true))?
         .arg(text(alloc, KEY, "K", KEY_HELP))?
@@ -186,7 +208,7 @@ fn with_options<'a>(alloc: Global, command: Command<'a>) -> Result<Command<'a>, 
         .arg(text(alloc, CONSOLE, "PATH", CONSOLE_OPTION_HELP))?
         .arg(text(alloc, KEEP_EDITS, "PATH", KEEP_EDITS_HELP).requires_arg(CONSOLE)?)?
         .arg(flag(alloc, NO_CONSOLE, NO_CONSOLE_HELP).conflicts_with(CONSOLE)?)?
-        .arg(number(alloc, ROTATE_AT, "N", (1, 65_536), ROTATE_AT_HELP).default_value("32768"))?
+        .arg(number(alloc, ROTATE_AT, "N", calls, ROTATE_AT_HELP).default_value("32768"))?
         .arg(number(alloc, CONNECTIONS, "N", connections, CONNECTIONS_HELP).default_value(
             "4294967295",
         ))
@@ -197,108 +219,51 @@ fn serve<'a>(alloc: Global) -> Result<Command<'a>, AllocError> {
         .arg(KEY)?
         .arg(KEY_FILE)?
         .required(true);
-    let command = Command::new(alloc, SERVE)
-        .about(SERVE_ABOUT)
-        .long_about(SERVE_LONG_ABOUT)
-        .after_help(SERVE_AFTER_HELP)
-        .after_long_help(SERVE_AFTER_LONG_HELP);
+    let command = with_page(alloc, SERVE, SERVE_PAGE);
     with_options(alloc, command)?
         .group(secret)?
-        .arg(Arg::new(alloc, FILE).required(true).help(FILE_HELP))
+        .arg(required(alloc, FILE, FILE_HELP))
 }
 
 fn check<'a>(alloc: Global) -> Result<Command<'a>, AllocError> {
-    let file = Arg::new(alloc, FILE).required(true).help(FILE_HELP);
-    Command::new(alloc, CHECK)
-        .about(CHECK_ABOUT)
-        .long_about(CHECK_LONG_ABOUT)
-        .after_help(CHECK_AFTER_HELP)
-        .after_long_help(CHECK_AFTER_LONG_HELP)
-        .arg(file)
+    with_page(alloc, CHECK, CHECK_PAGE).arg(required(alloc, FILE, FILE_HELP))
 }
 
 fn lint<'a>(alloc: Global) -> Result<Command<'a>, AllocError> {
-    let file = Arg::new(alloc, FILE).required(true).help(FILE_HELP);
-    Command::new(alloc, LINT)
-        .about(LINT_ABOUT)
-        .long_about(LINT_LONG_ABOUT)
-        .after_help(LINT_AFTER_HELP)
-        .after_long_help(LINT_AFTER_LONG_HELP)
-        .arg(file)
+    with_page(alloc, LINT, LINT_PAGE).arg(required(alloc, FILE, FILE_HELP))
 }
 
 fn diff<'a>(alloc: Global) -> Result<Command<'a>, AllocError> {
-    Command::new(alloc, DIFF)
-        .about(DIFF_ABOUT)
-        .long_about(DIFF_LONG_ABOUT)
-        .after_help(DIFF_AFTER_HELP)
-        .after_long_help(DIFF_AFTER_LONG_HELP)
+    with_page(alloc, DIFF, DIFF_PAGE)
         .arg(flag(alloc, EDITS, EDITS_HELP))?
         .arg(flag(alloc, EXIT_CODE, EXIT_CODE_HELP))?
-        .arg(Arg::new(alloc, OLD).required(true).help(OLD_HELP))?
-        .arg(Arg::new(alloc, NEW).required(true).help(NEW_HELP))
-}
-
-// What comes after the user is the line, whatever it begins with.
-fn line<'a>(alloc: Global) -> Arg<'a> {
-    Arg::new(alloc, LINE)
-        .num_args(0..)
-        .trailing_var_arg(true)
-        .allow_hyphen_values(true)
-        .help(LINE_HELP)
+        .arg(required(alloc, OLD, OLD_HELP))?
+        .arg(required(alloc, NEW, NEW_HELP))
 }
 
 fn why<'a>(alloc: Global) -> Result<Command<'a>, AllocError> {
-    Command::new(alloc, WHY)
-        .about(WHY_ABOUT)
-        .long_about(WHY_LONG_ABOUT)
-        .after_help(WHY_AFTER_HELP)
-        .after_long_help(WHY_AFTER_LONG_HELP)
-        .arg(Arg::new(alloc, FILE).required(true).help(FILE_HELP))?
+    with_page(alloc, WHY, WHY_PAGE)
+        .arg(required(alloc, FILE, FILE_HELP))?
         .arg(Arg::new(alloc, USER).help(USER_HELP))?
-        .arg(line(alloc))
+        .arg(rest(alloc, LINE, LINE_HELP))
 }
 
 fn test<'a>(alloc: Global) -> Result<Command<'a>, AllocError> {
-    Command::new(alloc, TEST)
-        .about(TEST_ABOUT)
-        .long_about(TEST_LONG_ABOUT)
-        .after_help(TEST_AFTER_HELP)
-        .after_long_help(TEST_AFTER_LONG_HELP)
-        .arg(Arg::new(alloc, FILE).required(true).help(FILE_HELP))?
-        .arg(Arg::new(alloc, CASES).required(true).help(CASES_HELP))
+    with_page(alloc, TEST, TEST_PAGE)
+        .arg(required(alloc, FILE, FILE_HELP))?
+        .arg(required(alloc, CASES, CASES_HELP))
 }
 
 fn replay<'a>(alloc: Global) -> Result<Command<'a>, AllocError> {
-    Command::new(alloc, REPLAY)
-        .about(REPLAY_ABOUT)
-        .long_about(REPLAY_LONG_ABOUT)
-        .after_help(REPLAY_AFTER_HELP)
-        .after_long_help(REPLAY_AFTER_LONG_HELP)
+    with_page(alloc, REPLAY, REPLAY_PAGE)
         .arg(text(alloc, LOG, "PATH", REPLAY_LOG_HELP))?
         .arg(text(alloc, TIME, "TEXT", TIME_HELP).requires_arg(LOG)?)
 }
 
-// The words of a line, whatever they begin with.
-fn words<'a>(alloc: Global) -> Arg<'a> {
-    Arg::new(alloc, WORD)
-        .num_args(0..)
-        .trailing_var_arg(true)
-        .allow_hyphen_values(true)
-        .help(WORD_HELP)
-}
-
 fn console<'a>(alloc: Global) -> Result<Command<'a>, AllocError> {
-    let path = Arg::new(alloc, CONSOLE_PATH)
-        .required(true)
-        .help(CONSOLE_PATH_HELP);
-    Command::new(alloc, CONSOLE)
-        .about(CONSOLE_ABOUT)
-        .long_about(CONSOLE_LONG_ABOUT)
-        .after_help(CONSOLE_AFTER_HELP)
-        .after_long_help(CONSOLE_AFTER_LONG_HELP)
-        .arg(path)?
-        .arg(words(alloc))
+    with_page(alloc, CONSOLE, CONSOLE_PAGE)
+        .arg(required(alloc, CONSOLE_PATH, CONSOLE_PATH_HELP))?
+        .arg(rest(alloc, WORD, WORD_HELP))
 }
 
 // The command with one more below it.
@@ -307,6 +272,11 @@ fn with<'a>(
     subcommand: Result<Command<'a>, AllocError>,
 ) -> Result<Command<'a>, AllocError> {
     command.subcommand(subcommand?)
+}
+
+/// The word of an argument that is required or has a default: any command line that is parsed has it.
+pub(crate) fn word_of<'a>(matches: &ArgMatches<'a>, id: &str) -> &'a str {
+    matches.get_str(id).unwrap_or("")
 }
 
 /// The version of the program.

@@ -1,6 +1,6 @@
 //! An operator's end of a console's socket.
 
-use crate::command_line::{CONSOLE_PATH, WORD};
+use crate::command_line::{CONSOLE_PATH, WORD, word_of};
 use crate::status::Status;
 use clap::ArgMatches;
 use std::alloc::{AllocError, Global};
@@ -278,8 +278,7 @@ where
     R: Env + Input + Print + Eprint + AllocGlobal,
     H: Net + Clock + AllocGlobal + ConsoleHost,
 {
-    // the path is required
-    let path = matches.get_str(CONSOLE_PATH).unwrap_or("");
+    let path = word_of(matches, CONSOLE_PATH);
     let words = matches.get_strs(WORD).unwrap_or(&[]);
     if words.iter().any(|word| word.contains('\n')) {
         let _ = eprintln!(rt; "{LINE_END}");

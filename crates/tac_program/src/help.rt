@@ -34,6 +34,19 @@ before those of its group; where none fits, the command is denied.
     };
 }
 
+/// The help of a command.
+#[derive(Clone, Copy)]
+pub(crate) struct Page {
+    /// What it is for, in a line.
+    pub(crate) about: &'static str,
+    /// What `--help` begins with.
+    pub(crate) long_about: &'static str,
+    /// What `-h` ends with.
+    pub(crate) after_help: &'static str,
+    /// What `--help` ends with.
+    pub(crate) after_long_help: &'static str,
+}
+
 pub(crate) const ABOUT: &str =
     "Serves TACACS+ by a policy of users and command lines, checks and compares policies, plays scripts";
 
@@ -49,12 +62,9 @@ didn't, 'tacd why' which rule decides on a line, and 'tacd test' whether all lin
 decided as it says. 'tacd replay' takes what devices send from a script, together with the policy,
 and prints what is answered; it opens no socket.";
 
-pub(crate) const SERVE_ABOUT: &str =
-    "Serves devices on a port, with a console on standard input or at a socket";
-
-/// What `tacd serve --help` begins with.
-pub(crate) const SERVE_LONG_ABOUT: &str =
-    "Serves devices that run TACACS+ (RFC 8907) on a port, with a console on standard input or at a
+pub(crate) const SERVE_PAGE: Page = Page {
+    about: "Serves devices on a port, with a console on standard input or at a socket",
+    long_about: "Serves devices that run TACACS+ (RFC 8907) on a port, with a console on standard input or at a
 socket.
 
 The policy is read from a file, and again where 'reload' is typed at the console. There it is
@@ -64,7 +74,91 @@ edits, and is served after a restart; and where --log names one, that keeps a li
 request and for each line of the console. A request is answered only once its line is in the file.
 
 The key is 1 to 128 printable ASCII characters. Give it by --key-file: a key on the command line can
-be seen by everyone with a login on this machine, by 'ps' for one.";
+be seen by everyone with a login on this machine, by 'ps' for one.",
+    after_help: "Example:
+  tacd serve --port 49 --key-file tacd.key campus.policy
+
+'tacd serve --help' describes the console and the lines of a policy.",
+    after_long_help: with_policy_lines!(
+        "\
+Each worker is a thread, and serves many connections at once: nobody waits for a device that says
+nothing, or for a user who types a password. A connection is closed where the device hangs up, or has
+had no reply for so many seconds as --idle or --login-idle says, at most 10 before the first reply.
+One beyond --connections-at-once or --per-address is closed as it comes, and none is given up for it.
+
+Standard output has 'listening PORT' first, and then what the console's lines are answered. Standard
+error says so where too few files may be open for so many connections, as by 'ulimit -n'.
+
+Signals aren't seen: SIGTERM ends the server, and SIGHUP too. To run it in the background or in a
+container, give --console PATH, where operators type by 'tacd console PATH', or --no-console. The
+package's service has --console /run/tacd/console; further options stand in /etc/default/tacd.
+
+Lines of the console, where a SUBJECT is 'user NAME' or 'group NAME':
+  policy               the policy as it is now
+  shadow               the rules that decide no line, for each user and group
+  reach SUBJECT        the shortest line that each of the rules decides
+  why NAME LINE        which rule decides on a line of this user
+  tally SUBJECT        what the records of a user, or of a group's users, add up to
+  records              the accounting records that are kept
+  add SUBJECT          a new user or group; with ' in GROUP', one that has that group's rules too
+  remove SUBJECT       removes it
+  move SUBJECT in GROUP, or move SUBJECT out
+  login NAME TEXT, enable NAME TEXT, clear login NAME, clear enable NAME
+  login-hash NAME HASH, enable-hash NAME HASH
+  priv SUBJECT N, clear priv SUBJECT
+  insert SUBJECT N permit PATTERN, or deny PATTERN
+                       a new rule with this number
+  drop SUBJECT N       removes rule N
+  shift SUBJECT N M    rule N gets the number M
+  begin, commit, abandon
+                       edits after 'begin', up to 64, are kept, and made by 'commit' all or none
+  reload               the policy's file is read again, and takes the place of the policy
+  quit                 the server stops, as it does where the input ends
+
+An edit, a 'commit' and a 'reload' are answered by 'ok', and for each user whom they concern by the
+shortest line that is now permitted, and the shortest that is now denied; or by 'refused' and why,
+and have changed nothing. A file that is refused is told as by 'tacd check', and one that can't be
+read by 'unread' and why.
+A line that the server doesn't take is answered by 'hall' and why.
+
+With --keep-edits PATH, an edit is on the disk before it is answered: PATH has the policy with all
+edits, as 'policy' prints it. Where the disk doesn't take it, 'not kept: ' and why comes before the
+answer, the edit counts all the same, and it is tried again before each later answer. Where PATH is
+there at a start, it is served in place of FILE. 'reload' takes FILE again, and removes PATH.
+
+Lines of a policy:
+  policy 2, policy 3   the first line, if it is there: patterns may count, as '{1,3}'; hashes may
+                       stand after 'policy 3' alone
+  any number of these:",
+        "\n",
+        "
+Where the server stops, the port and all connections are closed at once.
+
+Example:
+  $ cat ops.policy
+  group ops
+  permit show .*
+  user bob in ops
+  $ tacd serve --port 49 --key-file tacd.key ops.policy
+  listening 49
+  insert group ops 1 deny show run.*
+  ok
+  user bob now denies: show run
+  why bob show running-config
+  denied by group ops rule 1
+  quit
+
+Exit status:
+  0  the server was stopped
+  1  the policy is refused, or that of --keep-edits is, and why was printed, as by 'tacd check'
+  2  the command line or the key is wrong
+  3  memory ran out, a thread could not be made, or too few files may be open
+  4  a file could not be read, that of --log could not be opened, what is at the path of
+     --keep-edits is no regular file or is FILE, the port could not be had, the console could not be
+     read, or the output could not be written, or 'close refused' was printed: a worker or the
+     console had no place in the history"
+    ),
+};
 
 pub(crate) const PORT_HELP: &str = "The TCP port that devices call, 1 to 65535";
 
@@ -117,97 +211,9 @@ pub(crate) const CONSOLE_OPTION_HELP: &str =
 pub(crate) const KEEP_EDITS_HELP: &str =
     "Keep the policy with the edits of the console in this file, which a restart serves in place of FILE";
 
-pub(crate) const SERVE_AFTER_HELP: &str = "Example:
-  tacd serve --port 49 --key-file tacd.key campus.policy
-
-'tacd serve --help' describes the console and the lines of a policy.";
-
-/// What `tacd serve --help` ends with.
-pub(crate) const SERVE_AFTER_LONG_HELP: &str = with_policy_lines!(
-    "\
-Each worker is a thread, and serves many connections at once: nobody waits for a device that says
-nothing, or for a user who types a password. A connection is closed where the device hangs up, or has
-had no reply for so many seconds as --idle or --login-idle says, at most 10 before the first reply.
-One beyond --connections-at-once or --per-address is closed as it comes, and none is given up for it.
-
-Standard output has 'listening PORT' first, and then what the console's lines are answered. Standard
-error says so where too few files may be open for so many connections, as by 'ulimit -n'.
-
-Signals aren't seen: SIGTERM ends the server, and SIGHUP too. To run it in the background or in a
-container, give --console PATH, where operators type by 'tacd console PATH', or --no-console. The
-package's service has --console /run/tacd/console; further options stand in /etc/default/tacd.
-
-Lines of the console, where a SUBJECT is 'user NAME' or 'group NAME':
-  policy               the policy as it is now
-  shadow               the rules that decide no line, for each user and group
-  reach SUBJECT        the shortest line that each of the rules decides
-  why NAME LINE        which rule decides on a line of this user
-  tally SUBJECT        what the records of a user, or of a group's users, add up to
-  records              the accounting records that are kept
-  add SUBJECT          a new user or group; with ' in GROUP', one that has that group's rules too
-  remove SUBJECT       removes it
-  move SUBJECT in GROUP, or move SUBJECT out
-  login NAME TEXT, enable NAME TEXT, clear login NAME, clear enable NAME
-  login-hash NAME HASH, enable-hash NAME HASH
-  priv SUBJECT N, clear priv SUBJECT
-  insert SUBJECT N permit PATTERN, or deny PATTERN
-                       a new rule with this number
-  drop SUBJECT N       removes rule N
-  shift SUBJECT N M    rule N gets the number M
-  begin, commit, abandon
-                       edits after 'begin', up to 64, are kept, and made by 'commit' all or none
-  reload               the policy's file is read again, and takes the place of the policy
-  quit                 the server stops, as it does where the input ends
-
-An edit, a 'commit' and a 'reload' are answered by 'ok', and for each user whom they concern by the
-shortest line that is now permitted, and the shortest that is now denied; or by 'refused' and why,
-and have changed nothing. A file that is refused is told as by 'tacd check', and one that can't be
-read by 'unread' and why.
-A line that the server doesn't take is answered by 'hall' and why.
-
-With --keep-edits PATH, an edit is on the disk before it is answered: PATH has the policy with all
-edits, as 'policy' prints it. Where the disk doesn't take it, 'not kept: ' and why comes before the
-answer, the edit counts all the same, and it is tried again before each later answer. Where PATH is
-there at a start, it is served in place of FILE. 'reload' takes FILE again, and removes PATH.
-
-Lines of a policy:
-  policy 2, policy 3   the first line, if it is there: patterns may count, as '{1,3}'; hashes may
-                       stand after 'policy 3' alone
-  any number of these:",
-    "\n",
-    "
-Where the server stops, the port and all connections are closed at once.
-
-Example:
-  $ cat ops.policy
-  group ops
-  permit show .*
-  user bob in ops
-  $ tacd serve --port 49 --key-file tacd.key ops.policy
-  listening 49
-  insert group ops 1 deny show run.*
-  ok
-  user bob now denies: show run
-  why bob show running-config
-  denied by group ops rule 1
-  quit
-
-Exit status:
-  0  the server was stopped
-  1  the policy is refused, or that of --keep-edits is, and why was printed, as by 'tacd check'
-  2  the command line or the key is wrong
-  3  memory ran out, a thread could not be made, or too few files may be open
-  4  a file could not be read, that of --log could not be opened, what is at the path of
-     --keep-edits is no regular file or is FILE, the port could not be had, the console could not be
-     read, or the output could not be written, or 'close refused' was printed: a worker or the
-     console had no place in the history"
-);
-
-pub(crate) const CONSOLE_ABOUT: &str = "Types at the console of a server that has --console";
-
-/// What `tacd console --help` begins with.
-pub(crate) const CONSOLE_LONG_ABOUT: &str =
-    "Types at the console of a server that has --console PATH, and prints what is answered.
+pub(crate) const CONSOLE_PAGE: Page = Page {
+    about: "Types at the console of a server that has --console",
+    long_about: "Types at the console of a server that has --console PATH, and prints what is answered.
 
 The words of a line are joined by blanks. Without a WORD, lines are read: from a terminal, with a
 prompt, until the input ends; or from a file or a pipe, each once the one before is answered. There
@@ -217,21 +223,13 @@ the first that is refused ends it: the rest isn't sent, and a batch that is open
 'status', which tells how the server is, as lines that Prometheus reads; and 'operator NAME', which
 tells others and the log who types. This program says that by itself, from SUDO_USER, LOGNAME or
 USER. Eight operators may be there at once. While one of them has a batch open, edits of the others
-are answered by 'busy NAME'; he loses it where he types nothing for a minute.";
-
-pub(crate) const CONSOLE_PATH_HELP: &str = "The server's socket; root and its own user can open it";
-
-pub(crate) const WORD_HELP: &str = "The words of a line; without any, lines are read";
-
-pub(crate) const CONSOLE_AFTER_HELP: &str = "Examples:
+are answered by 'busy NAME'; he loses it where he types nothing for a minute.",
+    after_help: "Examples:
   tacd console /run/tacd/console why ben show vlan
   tacd console /run/tacd/console < changes
 
-'tacd console --help' describes what is printed.";
-
-/// What `tacd console --help` ends with.
-pub(crate) const CONSOLE_AFTER_LONG_HELP: &str =
-    "What is printed on standard error where a line of a file is refused:
+'tacd console --help' describes what is printed.",
+    after_long_help: "What is printed on standard error where a line of a file is refused:
   tacd: line N: ANSWER; later lines weren't sent
 
 Examples:
@@ -248,34 +246,32 @@ Exit status:
   3  memory ran out
   4  no server is at PATH, all of its places are taken, it ended the session, or reading or writing
      failed
-  5  an answer began with 'not kept', and none as at 1: an edit was made, and a restart would lose it";
+  5  an answer began with 'not kept', and none as at 1: an edit was made, and a restart would lose it",
+};
 
-pub(crate) const CHECK_ABOUT: &str = "Reads a policy, and prints which of its rules decide nothing";
+pub(crate) const CONSOLE_PATH_HELP: &str = "The server's socket; root and its own user can open it";
 
-/// What `tacd check --help` begins with.
-pub(crate) const CHECK_LONG_ABOUT: &str =
-    "Reads a policy, and prints how much it has and which of its rules decide nothing.
+pub(crate) const WORD_HELP: &str = "The words of a line; without any, lines are read";
+
+pub(crate) const CHECK_PAGE: Page = Page {
+    about: "Reads a policy, and prints which of its rules decide nothing",
+    long_about: "Reads a policy, and prints how much it has and which of its rules decide nothing.
 
 A rule decides nothing for a user or a group if each command line that it fits is decided by a rule
 before it, by one of them alone or by several together. Such a rule is mostly a mistake. A policy
 that is wrong is refused, and the first line that is no line of a policy is named. Where each is one,
-it is the line of a subject whose group isn't there, whose groups run in a circle or are too many.";
-
-pub(crate) const FILE_HELP: &str = "The policy's text, at most 268435456 bytes";
-
-pub(crate) const CHECK_AFTER_HELP: &str = "Example:
+it is the line of a subject whose group isn't there, whose groups run in a circle or are too many.",
+    after_help: "Example:
   tacd check campus.policy
 
-'tacd check --help' describes what is printed and the lines of a policy.";
-
-/// What `tacd check --help` ends with.
-pub(crate) const CHECK_AFTER_LONG_HELP: &str = with_policy_lines!(
-    "Lines of a policy:
+'tacd check --help' describes what is printed and the lines of a policy.",
+    after_long_help: with_policy_lines!(
+        "Lines of a policy:
   policy 2, policy 3   the first line, if it is there: patterns may count, as '{1,3}'; hashes may
                        stand after 'policy 3' alone
   any number of these:",
-    "\n",
-    "
+        "\n",
+        "
 What is printed of a policy that may stand, with the last line where no rule is shadowed:
   policy ok: S subjects, R rules
   shadowed in SUBJECT: OWNER rule N
@@ -306,28 +302,26 @@ Exit status:
   2  the command line is wrong
   3  memory ran out
   4  the file could not be read, or the output could not be written"
-);
+    ),
+};
 
-pub(crate) const LINT_ABOUT: &str = "Prints what a policy says and probably doesn't mean";
+pub(crate) const FILE_HELP: &str = "The policy's text, at most 268435456 bytes";
 
-/// What `tacd lint --help` begins with.
-pub(crate) const LINT_LONG_ABOUT: &str =
-    "Reads a policy, and prints what in it is right and probably not meant: questions about its rules
+pub(crate) const LINT_PAGE: Page = Page {
+    about: "Prints what a policy says and probably doesn't mean",
+    long_about: "Reads a policy, and prints what in it is right and probably not meant: questions about its rules
 and subjects, each with its line and column. What it says never changes what the policy means.
 
 It asks about what other pattern languages read otherwise ('^', '$', '\\d', '[[:alpha:]]', '{1,3}'),
 about ' # ' in a pattern, about spaces round patterns and secrets, rules without the word <cr> that
 Cisco IOS ends each line with, groups that nobody is in, users without a login, an empty policy, and
 it names rules that decide nothing. Of a policy that is refused it prints every wrong line, and not
-only the first, and why each is wrong; where it is too large, which rules may double its states.";
-
-pub(crate) const LINT_AFTER_HELP: &str = "Example:
+only the first, and why each is wrong; where it is too large, which rules may double its states.",
+    after_help: "Example:
   tacd lint campus.policy
 
-'tacd lint --help' describes what is printed; 'tacd replay --help' the lines of a policy.";
-
-/// What `tacd lint --help` ends with.
-pub(crate) const LINT_AFTER_LONG_HELP: &str = "'tacd replay --help' describes the lines of a policy.
+'tacd lint --help' describes what is printed; 'tacd replay --help' the lines of a policy.",
+    after_long_help: "'tacd replay --help' describes the lines of a policy.
 
 What is printed, a line for each; columns count bytes from 1, and what is said of the whole line, or
 of the whole policy, is at column 1:
@@ -350,38 +344,25 @@ Exit status:
   2  the command line is wrong
   3  memory ran out
   4  the file could not be read, or the output could not be written
-  5  the policy may stand, and something was printed";
+  5  the policy may stand, and something was printed",
+};
 
-pub(crate) const DIFF_ABOUT: &str = "Prints what users gain and lose by a new policy";
-
-/// What `tacd diff --help` begins with.
-pub(crate) const DIFF_LONG_ABOUT: &str =
-    "Prints what users gain and lose where a new policy takes the place of an old one.
+pub(crate) const DIFF_PAGE: Page = Page {
+    about: "Prints what users gain and lose by a new policy",
+    long_about: "Prints what users gain and lose where a new policy takes the place of an old one.
 
 For each user for whom anything changes it prints the shortest command line that the new policy
 permits and the old one denies, and the shortest that the new one denies and the old one permits; of
 lines of one length, the first by ASCII. So nothing is printed for a user exactly if the two policies
 permit and deny alike every line that he could ever give. It is what the console of 'tacd serve' answers
 to edits that make the one policy into the other. With --edits it prints such edits, which load NEW
-into a server that has OLD.";
-
-pub(crate) const OLD_HELP: &str = "The present policy's text, at most 268435456 bytes";
-
-pub(crate) const NEW_HELP: &str = "The text of the policy that is to take its place";
-
-pub(crate) const EDITS_HELP: &str = "Print the lines of the console that make NEW of OLD";
-
-pub(crate) const EXIT_CODE_HELP: &str =
-    "End with status 5 where anyone gains or loses a line; with --edits, where there are edits";
-
-pub(crate) const DIFF_AFTER_HELP: &str = "Examples:
+into a server that has OLD.",
+    after_help: "Examples:
   tacd diff campus.policy campus-next.policy
   tacd diff --edits saved.policy campus-next.policy > changes && cat changes > /run/tacd/console
 
-'tacd diff --help' describes what is printed; 'tacd replay --help' the lines of a policy.";
-
-/// What `tacd diff --help` ends with.
-pub(crate) const DIFF_AFTER_LONG_HELP: &str = "'tacd replay --help' describes the lines of a policy.
+'tacd diff --help' describes what is printed; 'tacd replay --help' the lines of a policy.",
+    after_long_help: "'tacd replay --help' describes the lines of a policy.
 
 What is printed, first for the users of NEW in its order, then for those of OLD alone:
   user NAME now permits: LINE
@@ -425,30 +406,31 @@ Exit status:
   2  the command line is wrong
   3  memory ran out
   4  a file could not be read, or the output could not be written
-  5  with --exit-code: anyone gains or loses a line, or with --edits too, there are edits";
+  5  with --exit-code: anyone gains or loses a line, or with --edits too, there are edits",
+};
 
-pub(crate) const WHY_ABOUT: &str = "Prints which rule decides on a command line";
+pub(crate) const OLD_HELP: &str = "The present policy's text, at most 268435456 bytes";
 
-/// What `tacd why --help` begins with.
-pub(crate) const WHY_LONG_ABOUT: &str =
-    "Prints which rule of a policy decides on a command line of a user, as the console of 'tacd serve'
+pub(crate) const NEW_HELP: &str = "The text of the policy that is to take its place";
+
+pub(crate) const EDITS_HELP: &str = "Print the lines of the console that make NEW of OLD";
+
+pub(crate) const EXIT_CODE_HELP: &str =
+    "End with status 5 where anyone gains or loses a line; with --edits, where there are edits";
+
+pub(crate) const WHY_PAGE: Page = Page {
+    about: "Prints which rule decides on a command line",
+    long_about: "Prints which rule of a policy decides on a command line of a user, as the console of 'tacd serve'
 answers 'why'.
 
 The words of LINE are joined by blanks, as a router joins them. Without USER, questions are read from
-standard input, a line 'USER LINE' for each, and each is printed with its answer.";
-
-pub(crate) const USER_HELP: &str = "Whose line it is; without it, standard input is read";
-
-pub(crate) const LINE_HELP: &str = "The words of the line; without any, the empty line";
-
-pub(crate) const WHY_AFTER_HELP: &str = "Examples:
+standard input, a line 'USER LINE' for each, and each is printed with its answer.",
+    after_help: "Examples:
   tacd why campus.policy ben show vlan
   tacd why campus.policy < questions
 
-'tacd why --help' describes what is printed; 'tacd replay --help' the lines of a policy.";
-
-/// What `tacd why --help` ends with.
-pub(crate) const WHY_AFTER_LONG_HELP: &str = "'tacd replay --help' describes the lines of a policy.
+'tacd why --help' describes what is printed; 'tacd replay --help' the lines of a policy.",
+    after_long_help: "'tacd replay --help' describes the lines of a policy.
 
 Answers, where OWNER is 'user NAME' or 'group NAME'; the rules of an OWNER count from 1:
   permitted by OWNER rule N
@@ -476,26 +458,24 @@ Exit status:
   1  something is refused, and why was printed
   2  the command line is wrong
   3  memory ran out
-  4  an input could not be read, or the output could not be written";
+  4  an input could not be read, or the output could not be written",
+};
 
-pub(crate) const TEST_ABOUT: &str = "Prints which cases of a table a policy doesn't meet";
+pub(crate) const USER_HELP: &str = "Whose line it is; without it, standard input is read";
 
-/// What `tacd test --help` begins with.
-pub(crate) const TEST_LONG_ABOUT: &str =
-    "Compares a policy with a table of cases, and prints each that isn't so with the rule that decided.
+pub(crate) const LINE_HELP: &str = "The words of the line; without any, the empty line";
+
+pub(crate) const TEST_PAGE: Page = Page {
+    about: "Prints which cases of a table a policy doesn't meet",
+    long_about: "Compares a policy with a table of cases, and prints each that isn't so with the rule that decided.
 
 A case is a line 'permit USER LINE' or 'deny USER LINE'. A user who isn't in the policy meets neither,
-so that a misspelt name is seen.";
-
-pub(crate) const CASES_HELP: &str = "The table's text, at most 268435456 bytes";
-
-pub(crate) const TEST_AFTER_HELP: &str = "Example:
+so that a misspelt name is seen.",
+    after_help: "Example:
   tacd test campus.policy campus.cases
 
-'tacd test --help' describes what is printed; 'tacd replay --help' the lines of a policy.";
-
-/// What `tacd test --help` ends with.
-pub(crate) const TEST_AFTER_LONG_HELP: &str = "'tacd replay --help' describes the lines of a policy.
+'tacd test --help' describes what is printed; 'tacd replay --help' the lines of a policy.",
+    after_long_help: "'tacd replay --help' describes the lines of a policy.
 
 Of CASES leading spaces, empty lines and lines that begin with '#' are passed over.
 
@@ -521,38 +501,30 @@ Exit status:
   1  a case isn't so, or something is refused, and that was printed
   2  the command line is wrong
   3  memory ran out
-  4  a file could not be read, or the output could not be written";
+  4  a file could not be read, or the output could not be written",
+};
 
-pub(crate) const REPLAY_ABOUT: &str =
-    "Reads a script on standard input and prints the server's replies";
+pub(crate) const CASES_HELP: &str = "The table's text, at most 268435456 bytes";
 
-/// What `tacd replay --help` begins with.
-pub(crate) const REPLAY_LONG_ABOUT: &str =
-    "Reads a script on standard input and prints the server's replies on standard output.
+pub(crate) const REPLAY_PAGE: Page = Page {
+    about: "Reads a script on standard input and prints the server's replies",
+    long_about: "Reads a script on standard input and prints the server's replies on standard output.
 
 The script gives the key that server and devices share, a policy, and what devices send over their
 connections: packets of TACACS+ authentication, authorisation and accounting (RFC 8907), of which
 every session asks for a login or a command line, or tells what was done. The whole script, at most
-268435456 bytes, is read before anything is printed.";
-
-pub(crate) const REPLAY_LOG_HELP: &str =
-    "The file that takes a line of JSON for each request of the script, as of 'serve --log'";
-
-pub(crate) const TIME_HELP: &str = "What each of these lines has as its time, in place of null";
-
-pub(crate) const REPLAY_AFTER_HELP: &str = "Example:
+268435456 bytes, is read before anything is printed.",
+    after_help: "Example:
   tacd replay < session.script
 
-'tacd replay --help' describes the lines of a script.";
-
-/// What `tacd replay --help` ends with.
-pub(crate) const REPLAY_AFTER_LONG_HELP: &str = with_policy_lines!(
-    "Lines of a script, in this order:
+'tacd replay --help' describes the lines of a script.",
+    after_long_help: with_policy_lines!(
+        "Lines of a script, in this order:
   key TEXT             line 1: the key, 1 to 128 printable ASCII characters
   policy 2, policy 3   line 2, or the first of a file that has a policy alone: its patterns may
                        count, as '{1,3}', and after 'policy 3' hashes may stand; it may be left out
   the policy, any number of these:",
-    "  run                  ends the policy
+        "  run                  ends the policy
   events, any number of these:
     open N               a device opens connection N, 0 to 65535
     packet N HEX ..      it sends packets: 12 bytes of header, then the body, in the clear
@@ -562,7 +534,7 @@ pub(crate) const REPLAY_AFTER_LONG_HELP: &str = with_policy_lines!(
     console LINE         an operator types LINE: an edit or a question, as at 'tacd serve'
 
 ",
-    "
+        "
 What is printed:
   reply N HEX          the server sends a packet on connection N, here with its body in the clear
   closed N             the server closes connection N; the number may be opened again
@@ -591,7 +563,13 @@ Exit status:
   2  the command line is wrong
   3  memory ran out
   4  the script could not be read, the output could not be written, or PATH can't be written"
-);
+    ),
+};
+
+pub(crate) const REPLAY_LOG_HELP: &str =
+    "The file that takes a line of JSON for each request of the script, as of 'serve --log'";
+
+pub(crate) const TIME_HELP: &str = "What each of these lines has as its time, in place of null";
 
 pub(crate) const AFTER_LONG_HELP: &str = "Examples:
   tacd check campus.policy

@@ -8,8 +8,8 @@ ghost use Rattle.tac_program.specs.Opening as opening;
 
 use crate::command_line::{
     ADDRESS, CONNECTIONS, CONNECTIONS_AT_ONCE, CONSOLE, FILE, IDLE, KEEP_EDITS, KEEP_RECORDS, KEY,
-    KEY_FILE, LOG, LOGIN_IDLE, NO_CONSOLE, PACKET_MEMORY, PER_ADDRESS, PORT, ROTATE_AT, SYNC,
-    WORKERS,
+    KEY_FILE, LOG, LOGIN_IDLE, MAX_CALLS, NO_CONSOLE, PACKET_MEMORY, PER_ADDRESS, PORT, ROTATE_AT,
+    SYNC, WORKERS, word_of,
 };
 use crate::opening::open_secret;
 use crate::status::Status;
@@ -30,9 +30,6 @@ const BAD_KEY: &str =
     "error: invalid value for '--key <K>': it is not 1 to 128 printable ASCII characters
 
 For more information, try '--help'.";
-
-/// The most calls of a segment of the history.
-const MAX_CALLS: usize = 65_536;
 
 /// The most bytes that a key's file has.
 const MAX_KEY_FILE: usize = 65_536;
@@ -84,7 +81,9 @@ fn key_of_word<R: Eprint>(rt: &R, word: &str) -> Result<Key, Status> {
 fn complain<R: Eprint>(rt: &R, path: &str, fault: InputFault) {
     let _ = match fault {
         InputFault::Failed => eprintln!(rt; "tacd: {path}: it could not be read"),
-        InputFault::TooLong => eprintln!(rt; "tacd: {path}: it is over 65536 bytes long"),
+        InputFault::TooLong => {
+            eprintln!(rt; "tacd: {path}: it is over {MAX_KEY_FILE} bytes long")
+        }
         InputFault::Memory => eprintln!(rt; "tacd: memory ran out"),
     };
 }
@@ -148,7 +147,7 @@ fn address_of<R: Eprint>(rt: &R, matches: &ArgMatches<'_>) -> Result<IpAddr, Sta
     match matches.get_one::<IpAddr>(ADDRESS) {
         Some(address) => Ok(address),
         None => {
-            let word = matches.get_str(ADDRESS).unwrap_or("");
+            let word = word_of(matches, ADDRESS);
             let _ = eprintln!(rt;
                 "error: invalid value '{word}' for '--address <ADDR>': invalid IP address syntax
 
@@ -200,7 +199,7 @@ fn settings_of(matches: &ArgMatches<'_>, key: Key, processors: usize) -> Option<
             login: matches.get_one::<u32>(LOGIN_IDLE)?,
         },
         limits: Limits {
-            calls: MAX_CALLS,
+            calls: MAX_CALLS as usize,
             rotate_at: matches.get_one::<u32>(ROTATE_AT)? as usize,
         },
     })
@@ -227,11 +226,11 @@ impl<'a> Options<'a> {
     ) -> Result<Options<'a>, Status> {
         let address = address_of(rt, matches)?;
         let key = key_of(rt, matches)?;
-        match (settings_of(matches, key, processors), matches.get_str(FILE)) {
-            (Some(settings), Some(path)) => Ok(Options {
+        match settings_of(matches, key, processors) {
+            Some(settings) => Ok(Options {
                 address: SocketAddr::from((address, settings.port)),
                 settings,
-                path,
+                path: word_of(matches, FILE),
                 record_limit: record_limit_of(matches.get_one::<u32>(KEEP_RECORDS)),
                 log: matches.get_str(LOG),
                 syncs: matches.get_flag(SYNC),
@@ -241,7 +240,7 @@ impl<'a> Options<'a> {
                 counts: Counts::new(),
                 tray: Tray::new(),
             }),
-            _ => Err(Status::BadCommandLine),
+            None => Err(Status::BadCommandLine),
         }
     }
 }

@@ -3,7 +3,9 @@
 ghost use Rattle.std.specs.Prelude.{◌≡◌, ◌≢◌, ◌⊎◌};
 ghost use Rattle.clap.specs.Values.{kind_of};
 
-use crate::command_line::{CHECK, CONSOLE, DIFF, FILE, LINT, REPLAY, SERVE, TEST, WHY, command};
+use crate::command_line::{
+    CHECK, CONSOLE, DIFF, FILE, LINT, REPLAY, SERVE, TEST, WHY, command, word_of,
+};
 use crate::complaint::{complain, name_lint};
 use crate::console_client::type_at_console;
 use crate::opening::open_file;
@@ -108,11 +110,10 @@ where
     R: Files + Input + Print + Eprint + AllocGlobal,
 {
     if let Some(options) = matches.subcommand_matches(CHECK) {
-        // the file is required
-        return Some(check_policy(rt, options.get_str(FILE).unwrap_or("")));
+        return Some(check_policy(rt, word_of(options, FILE)));
     }
     if let Some(options) = matches.subcommand_matches(LINT) {
-        return Some(lint_policy(rt, options.get_str(FILE).unwrap_or("")));
+        return Some(lint_policy(rt, word_of(options, FILE)));
     }
     if let Some(options) = matches.subcommand_matches(DIFF) {
         return Some(diff(rt, options));

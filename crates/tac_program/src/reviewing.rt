@@ -1,6 +1,6 @@
 //! The reviews of policies in files.
 
-use crate::command_line::{CASES, EDITS, EXIT_CODE, FILE, LINE, NEW, OLD, USER};
+use crate::command_line::{CASES, EDITS, EXIT_CODE, FILE, LINE, NEW, OLD, USER, word_of};
 use crate::complaint::{complain, name_lint, tell_batches};
 use crate::opening::open_file;
 use crate::status::Status;
@@ -79,10 +79,8 @@ where
     } else {
         Review::Diff
     };
-    // both files are required
-    let old = matches.get_str(OLD).unwrap_or("");
-    let new = matches.get_str(NEW).unwrap_or("");
-    review_files(rt, what, (old, new), differs)
+    let files = (word_of(matches, OLD), word_of(matches, NEW));
+    review_files(rt, what, files, differs)
 }
 
 /// Prints the cases of a table that aren't so.
@@ -90,15 +88,8 @@ pub(crate) fn test<R>(rt: &R, matches: &ArgMatches<'_>) -> Status
 where
     R: Files + Print + Eprint + AllocGlobal,
 {
-    // both files are required
-    let file = matches.get_str(FILE).unwrap_or("");
-    let cases = matches.get_str(CASES).unwrap_or("");
-    review_files(
-        rt,
-        Review::Each(Table::Cases),
-        (file, cases),
-        Status::Refused,
-    )
+    let files = (word_of(matches, FILE), word_of(matches, CASES));
+    review_files(rt, Review::Each(Table::Cases), files, Status::Refused)
 }
 
 // `USER`, or `USER LINE`: the words of a line are one blank apart, as a router joins them. A user
@@ -160,8 +151,7 @@ pub(crate) fn why<R>(rt: &R, matches: &ArgMatches<'_>) -> Status
 where
     R: Files + Input + Print + Eprint + AllocGlobal,
 {
-    // the file is required
-    let path = matches.get_str(FILE).unwrap_or("");
+    let path = word_of(matches, FILE);
     match (matches.get_str(USER), matches.get_strs(LINE)) {
         (Some(user), Some(words)) => explain_one(rt, path, user, words),
         (Some(user), None) => explain_one(rt, path, user, &[]),
