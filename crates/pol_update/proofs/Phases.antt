@@ -15,12 +15,10 @@ use Rattle.pol_text.specs.Change.{with_changed, with_parent, is_parent}
 use Rattle.pol_text.specs.Text.{new_subject}
 use Rattle.pol_text.proofs.Keeps.{same_id_is, same_id_self, all_found}
 use Rattle.pol_text.proofs.KeepsAdd.{absent_any}
-use Rattle.pol_edit.specs.Applying.{has_group}
-use Rattle.pol_edit.specs.Batches.{applied_all}
-use Rattle.pol_update.specs.Update.{IsAlike, HaveSame, AreSteps, Updates}
+use Rattle.pol_update.specs.Update.{IsAlike, Updates}
 use Rattle.pol_update.specs.Planning.{Claim, IsTurned, AreLeft, IsUnderWay, IsThrough, IsLoose, IsUnder, IsWithin, IsOld, IsOut, IsOldOut, IsGone, IsNew, IsThere, IsNewThere, IsSet}
 use Rattle.pol_update.specs.declared.plan.Plan.{Plan}
-use Rattle.pol_update.proofs.Same.{found_first, found_after, found_any}
+use Rattle.pol_update.proofs.Same.{found_first, found_after}
 use Rattle.pol_update.proofs.Stepping.{steps_make}
 use Rattle.pol_update.proofs.Turns.{same_back}
 use Rattle.pol_update.proofs.Within.{under_changed, no_parent}

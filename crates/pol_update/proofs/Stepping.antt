@@ -1,12 +1,11 @@
 -- Edits, a step at a time.
-use Rattle.std.proofs.Common.{◌≡◌, ◌≢◌, ℕ, suc, ◌+◌, ◌<◌, ◌≤◌, Bool, true, false, not, true≢false, List, [], ◌∷◌, ◌++◌, length, take, get_or, Result, Ok, Err, refl, sym, subst, ap, ◌∙◌, arith}
+use Rattle.std.proofs.Common.{◌≡◌, ◌≢◌, ℕ, suc, ◌+◌, ◌<◌, ◌≤◌, Bool, true, false, true≢false, List, [], ◌∷◌, ◌++◌, length, take, get_or, Result, Ok, refl, sym, subst, ap, ◌∙◌, arith}
 use Rattle.std.proofs.Math.Seq.{take-suc}
 use Rattle.std.proofs.lemmas.List.{take_all}
 use Rattle.pol_names.specs.declared.subject_id.SubjectId.{SubjectId}
 use Rattle.pol_text.specs.Policy.{WellFormed, find_subject}
 use Rattle.pol_text.specs.declared.subject.Subject.{Subject}
-use Rattle.pol_edit.specs.Applying.{applied}
-use Rattle.pol_edit.specs.Batches.{applied_from, applied_all, then}
+use Rattle.pol_edit.specs.Batches.{applied_from, then}
 use Rattle.pol_edit.specs.declared.edit.Edit.{Edit}
 use Rattle.pol_edit.specs.declared.fault.EditFault.{EditFault}
 use Rattle.pol_update.specs.Update.{IsAlike, HaveSame, subject_of, IsStep, AreSteps, Updates}

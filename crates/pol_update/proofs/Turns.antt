@@ -1,5 +1,5 @@
 -- What edits do to the subjects of a policy.
-use Rattle.std.proofs.Common.{◌≡◌, ℕ, Bool, true, false, true≢false, List, [], ◌∷◌, ◌++◌, map, Option, Some, None, Result, Ok, Err, OnOk, refl, sym, ap, subst, ◌∙◌, if◌then◌else◌}
+use Rattle.std.proofs.Common.{◌≡◌, Bool, true, false, true≢false, List, [], ◌∷◌, ◌++◌, Option, Some, None, Result, Ok, Err, OnOk, refl, sym, ap, subst, ◌∙◌, if◌then◌else◌}
 use Rattle.std.specs.Option.{option_map}
 use Rattle.pol_names.specs.SubjectId.{same_id}
 use Rattle.pol_names.specs.declared.subject_id.SubjectId.{SubjectId}
@@ -9,7 +9,7 @@ use Rattle.pol_text.specs.Change.{with_changed, without}
 use Rattle.pol_text.proofs.Keeps.{same_id_is, same_id_self}
 use Rattle.pol_edit.specs.declared.edit.Edit.{Edit}
 use Rattle.pol_edit.specs.Applying.{applied}
-use Rattle.pol_update.specs.Update.{IsAlike, IsStep, AreSteps, subject_of}
+use Rattle.pol_update.specs.Update.{IsAlike, AreSteps, subject_of}
 use Rattle.pol_update.specs.Planning.{Turns, IsTurned}
 use Rattle.pol_update.specs.declared.plan.Plan.{Plan}
 use Rattle.pol_update.proofs.Stepping.{one_more}

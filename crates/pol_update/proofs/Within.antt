@@ -1,14 +1,14 @@
 -- Chains that are no longer than those of another policy, and who isn't a parent.
-use Rattle.std.proofs.Common.{◌≡◌, ◌⊎◌, inl, inr, ℕ, zero, suc, ◌<◌, ◌≤◌, ◌&&◌, ◌||◌, Bool, true, false, not, true≢false, List, [], ◌∷◌, length, map, Option, Some, None, is_some, refl, sym, ap, subst, ◌∙◌, arith, if◌then◌else◌}
+use Rattle.std.proofs.Common.{◌≡◌, ◌⊎◌, inl, inr, ℕ, zero, suc, Bool, true, false, not, List, [], ◌∷◌, length, map, Option, Some, None, refl, sym, ap, subst, ◌∙◌, if◌then◌else◌}
 use Rattle.std.specs.Option.{option_map, option_map_or, option_and_then}
 use Rattle.std.specs.List.{list_all, list_any}
 use Rattle.std.specs.Str.{bytes_eq}
 use Rattle.std.specs.Cmp.Lexicographic.{bytes_decides}
-use Rattle.std.proofs.lemmas.Bool.{and_parts, and_from, or_parts, or_from, not-true, false_from_ne_true}
+use Rattle.std.proofs.lemmas.Bool.{and_parts, and_from, or_from, not-true, false_from_ne_true}
 use Rattle.pol_names.specs.SubjectId.{same_id, group_id}
 use Rattle.pol_names.specs.declared.subject_id.SubjectId.{SubjectId}
 use Rattle.pol_text.specs.declared.subject.Subject.{Subject}
-use Rattle.pol_text.specs.Policy.{WellFormed, id_of, find_subject, parent_of, ends_within, all_distinct, all_of, has_parent}
+use Rattle.pol_text.specs.Policy.{WellFormed, id_of, find_subject, ends_within, all_distinct}
 use Rattle.pol_text.specs.Change.{with_changed, is_parent, chain_fault}
 use Rattle.pol_text.proofs.DepthFacts.{all_end}
 use Rattle.pol_text.proofs.Keeps.{same_id_is, all_found, changes, changes_keep, ids_map}

@@ -1,4 +1,4 @@
-use Rattle.std.proofs.Common.{◌≡◌, ◌∙◌, ◌+◌, true≢false, List, None, drop, sym, subst, refl}
+use Rattle.std.proofs.Common.{◌+◌, List, drop, subst}
 use Rattle.pol_text.specs.declared.subject.Subject.{Subject}
 use Rattle.pol_text.specs.Policy.{find_subject}
 use Rattle.pol_update.specs.Planning.{IsUnderWay, IsOldOut, IsGone}

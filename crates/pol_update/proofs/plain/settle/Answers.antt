@@ -1,4 +1,4 @@
-use Rattle.std.proofs.Common.{◌≡◌, ◌∙◌, ◌+◌, true≢false, List, None, drop, sym, subst, refl}
+use Rattle.std.proofs.Common.{◌∙◌, ◌+◌, true≢false, List, drop, sym, subst}
 use Rattle.pol_text.specs.declared.subject.Subject.{Subject}
 use Rattle.pol_update.specs.Planning.{IsUnderWay, IsNewThere, IsSet}
 use Rattle.pol_update.proofs.Phases.{item_left, set_there, set_within, set_next, set_passed}

@@ -1,5 +1,4 @@
-use Rattle.std.proofs.Common.{[], refl}
-use Rattle.pol_update.specs.Update.{Updates}
+use Rattle.std.proofs.Common.{refl}
 use Rattle.pol_update.proofs.updating.edits_between.Goals as goal
 
 pub returns-then-have_same-clause-found : goal.returns-then-have_same-clause-found
