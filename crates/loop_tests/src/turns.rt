@@ -88,8 +88,8 @@ fn is_written(alloc: Global, written: &[u8], wanted: &str) -> Result<(), Fail> {
     }
 }
 
-// The first asks and the second logs in, a byte at a time, and every other call finds the socket not
-// ready.
+// The first asks and the second logs in, a byte at a time, and every other call finds the socket
+// not ready.
 #[test]
 fn each_has_its_own(rt: HostRuntime) -> Result<(), Fail> {
     let pace = Pace {

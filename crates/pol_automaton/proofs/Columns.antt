@@ -1,5 +1,5 @@
--- Columns that are classes of symbols: what reading and spelling a text leaves of it, finer alphabets, and how many
--- columns there are.
+-- Columns that are classes of symbols: what reading and spelling a text leaves of it, finer
+-- alphabets, and how many columns there are.
 use Rattle.std.proofs.Common.{◌≡◌, ◌⊎◌, inl, inr, ◌<◌, ◌≤◌, ℕ, IsTrue, List, [], ◌∷◌, length, take, refl, sym, ap, subst, ◌∙◌, arith}
 use Rattle.std.specs.List.{slice_index_or}
 use Rattle.std.proofs.lemmas.Bool.{cases_lt}

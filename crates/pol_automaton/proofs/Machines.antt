@@ -1,4 +1,5 @@
--- What the scan finds of any machine that tells words apart by the residuals of entries is the Decider of these.
+-- What the scan finds of any machine that tells words apart by the residuals of entries is the
+-- Decider of these.
 use Rattle.std.proofs.Common.{◌≡◌, ◌<◌, ◌↔◌, ℕ, Bool, IsTrue, List, [], map, Option, Some, length, sym, subst, ap, ◌∙◌, arith}
 use Rattle.std.specs.Prelude.{Any}
 use Rattle.std.specs.List.{slice_index_or}
@@ -19,7 +20,8 @@ use Rattle.pol_automaton.proofs.Alikes.{same_alike}
 use Rattle.pol_automaton.proofs.Counting.{same_symmetric, same_transitive}
 use Rattle.pol_automaton.proofs.Columns.{by_classes, spelled_related}
 
--- the machine reads texts by the alphabet, and words are the same if their texts have the same residuals
+-- the machine reads texts by the alphabet, and words are the same if their texts have the same
+-- residuals
 pub record TellsResiduals (alphabet : Alphabet) (machine : Congruence) (sources : List (List ℕ)) : Type 0 where
   pub letters : IsAlphabet alphabet
   pub columns : machine.width ≡ alphabet.width

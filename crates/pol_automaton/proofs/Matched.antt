@@ -1,4 +1,5 @@
--- The first item, in order, of whose term something holds: so the first entry that accepts, and the first that is sure.
+-- The first item, in order, of whose term something holds: so the first entry that accepts, and the
+-- first that is sure.
 use Rattle.std.proofs.Common.{◌≡◌, ◌<◌, ◌≤◌, ◌+◌, ◌⊎◌, inl, inr, ℕ, List, [], ◌∷◌, ◌++◌, Contains, Less, Greater, length, get_or, take, sym, subst, ap, ◌∙◌, arith, rules}
 use Rattle.std.specs.Ordering.{nat_cmp}
 use Rattle.std.proofs.lemmas.Bool.{cases_lt}

@@ -1,4 +1,5 @@
--- A term holds a symbol followed by a text exactly if one of its derivatives by the symbol holds the text.
+-- A term holds a symbol followed by a text exactly if one of its derivatives by the symbol holds
+-- the text.
 use Rattle.std.proofs.Common.{◌≡◌, ℕ, IsTrue, List, [], ◌∷◌, ◌++◌, refl, sym, ap, subst, ◌∙◌, inl, inr, append_assoc, append-nil}
 use Rattle.std.specs.List.{AllByRecursion, concat}
 use Rattle.pol_pattern.specs.Flat.{holds_symbol, class, group, star, Term, empty, put, Terms, none, alt, join_term}

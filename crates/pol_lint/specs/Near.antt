@@ -1,4 +1,5 @@
--- Which word a line was probably meant to begin with, where no line of a policy begins with its own.
+-- Which word a line was probably meant to begin with, where no line of a policy begins with its
+-- own.
 use Rattle.std.specs.Prelude.{ℕ, ◌/◌, List, [], ◌∷◌, length, map, find, codes, nat_eq, nat_le, min}
 use Rattle.std.specs.Prelude.{Option, None, if◌then◌else◌}
 use Rattle.std.specs.Option.{option_or}

@@ -1,4 +1,5 @@
--- What edits leave as it was: rules and groups of all subjects that they don't touch, and so the rules along most chains.
+-- What edits leave as it was: rules and groups of all subjects that they don't touch, and so the
+-- rules along most chains.
 use Rattle.std.proofs.Common.{◌≡◌, ℕ, zero, suc, ◌+◌, ◌-◌, ◌<◌, ◌≤◌, Bool, true, false, true≢false, cond, not, ◌&&◌, ◌||◌, List, [], ◌∷◌, ◌++◌, map, Option, None, Some, refl, sym, ap, subst, ◌∙◌, is_some, slice_get, nat_lt, length, IsTrue, if◌then◌else◌}
 use Rattle.std.specs.Option.{option_map, option_map_or, option_and_then}
 use Rattle.std.specs.List.{list_any, list_all}

@@ -27,8 +27,8 @@ fn is_large(alloc: Global, policy: &Policy, subject: &Subject) -> Result<bool, A
     }
 }
 
-// The same of the subject at a place. Its automata are made and kept, if those of its groups can be:
-// so subjects of one group share what that takes.
+// The same of the subject at a place. Its automata are made and kept, if those of its groups can
+// be: so subjects of one group share what that takes.
 fn is_large_at(
     alloc: Global,
     policy: &Policy,

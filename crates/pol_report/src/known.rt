@@ -8,8 +8,8 @@ use crate::difference::Difference;
 use std::alloc::{AllocError, Global};
 use std::collections::BTreeMap;
 
-/// What was found to differ between two policies, by where the keepers in the old one and in the new
-/// one stand, if there are any. Those with one keeper now may have had several before.
+/// What was found to differ between two policies, by where the keepers in the old one and in the
+/// new one stand, if there are any. Those with one keeper now may have had several before.
 #[derive(Drop)]
 pub(crate) struct Differences {
     by_keepers: BTreeMap<(Option<usize>, Option<usize>), Difference>,

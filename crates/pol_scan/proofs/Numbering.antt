@@ -6,8 +6,8 @@ use Rattle.basics.specs.Symbol.{is_symbol}
 use Rattle.pol_scan.specs.Alphabet.{IsAlphabet, HasClasses, label_of}
 use Rattle.pol_scan.proofs.AlphabetFacts.{symbol_range, in_range}
 
--- What is known when so many keys were read: the column of each of these symbols, and of each column its key and its
--- least symbol
+-- What is known when so many keys were read: the column of each of these symbols, and of each
+-- column its key and its least symbol
 pub record AreNumbered (keys firsts columns least : List ℕ) (width count : ℕ) : Type 0 where
   pub few : width ≤ count
   pub firsts_size : length firsts ≡ 95

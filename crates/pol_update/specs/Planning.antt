@@ -22,8 +22,8 @@ use Rattle.pol_update.specs.declared.plan.Plan.{Plan}
 
 -- ---- one edit
 
--- whether an edit was taken that changes the subject that it is of. Where it wasn't, no edit is left
--- that would
+-- whether an edit was taken that changes the subject that it is of. Where it wasn't, no edit is
+-- left that would
 abbrev pub IsTaken : Bool → List Subject → Edit → List Subject → Type 0
 IsTaken true old edit new = (applied old edit ≡ Ok new) × ¬ IsAlike new old (subject_of edit)
 IsTaken false old edit new =
@@ -134,8 +134,8 @@ bare_edit User name = AddUser name None
 abbrev pub with_rules : List Rule → Subject → Subject
 with_rules rules subject = record subject { rules = rules }
 
--- each subject of a policy belongs to no group, or to the same as in another that is well formed: so
--- its chain is no longer
+-- each subject of a policy belongs to no group, or to the same as in another that is well formed:
+-- so its chain is no longer
 pub record IsWithin (policy : List Subject) : Type 0 where
   pub upper : List Subject
   pub well_formed : WellFormed upper

@@ -45,8 +45,8 @@ fn has_all(policy: &Policy, subjects: &[Subject]) -> bool
     subjects.iter().all(|subject| has_subject(policy, subject))
 }
 
-/// Whether the policies have the same subjects, with the same parents, secrets, levels and rules, in
-/// whatever order. A look-up for each subject of both.
+/// Whether the policies have the same subjects, with the same parents, secrets, levels and rules,
+/// in whatever order. A look-up for each subject of both.
 pub(crate) fn have_same(one: &Policy, other: &Policy) -> bool
     ensures { IsTrue result ↔ HaveSame one.now other.now }
 {

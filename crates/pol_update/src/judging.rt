@@ -59,8 +59,8 @@ pub(crate) fn take(alloc: Global, policy: &mut Policy, edit: &Edit) -> Result<bo
     }
 }
 
-/// Whether the edits make of the old policy one that has the same as the new one, where each of them
-/// changes something, and none is of a subject that both have alike. Makes them on a copy.
+/// Whether the edits make of the old policy one that has the same as the new one, where each of
+/// them changes something, and none is of a subject that both have alike. Makes them on a copy.
 pub(crate) fn are_right(
     alloc: Global,
     old: &Policy,

@@ -25,8 +25,8 @@ fn top_first(alloc: Global, policy: &Policy) -> Result<Vec<&Subject>, AllocError
     Ok(subjects)
 }
 
-// Removes the subjects that the new policy doesn't have, except groups that are still parents. Those
-// that come last in the list go first.
+// Removes the subjects that the new policy doesn't have, except groups that are still parents.
+// Those that come last in the list go first.
 fn remove(
     alloc: Global,
     plan: &mut Plan,

@@ -76,8 +76,9 @@ fn settle(alloc: Global, plan: &mut Plan, old: &Policy, new: &Policy) -> Result<
 /// its group, its secrets, its level and its rules, one after another.
 ///
 /// No limit is exceeded in between. A subject that is in no group has no chain, and one that is put
-/// below a group of the new policy has no longer a chain than there; what is there when a subject is
-/// added is in the new policy too; and a subject has no rules when the first of the new ones comes.
+/// below a group of the new policy has no longer a chain than there; what is there when a subject
+/// is added is in the new policy too; and a subject has no rules when the first of the new ones
+/// comes.
 pub(crate) fn plain(alloc: Global, old: &Policy, new: &Policy) -> Result<Sequence<Edit>, AllocError>
     ensures { IfOk result (λ edits. Updates old.now edits new.now) }
 {

@@ -1,5 +1,5 @@
-//! Tests of residuals, of automata, of policies that decide by them and of their reports, against answers that
-//! were worked out by hand.
+//! Tests of residuals, of automata, of policies that decide by them and of their reports, against
+//! answers that were worked out by hand.
 
 mod deciders;
 mod differences;

@@ -115,8 +115,8 @@ size_told size = if nat_lt most_told size then Some size else None
 
 -- ---- both
 
--- what was typed, by whom, and the lines of the first bytes of its answer. Secrets are hidden before it is
--- cut, so neither the cut nor the size tells how long they are
+-- what was typed, by whom, and the lines of the first bytes of its answer. Secrets are hidden
+-- before it is cut, so neither the cut nor the size tells how long they are
 unfoldable pub typed_of : List ℕ → Typist → List ℕ → List ℕ → Typed
 typed_of time typist line answer =
     record {

@@ -22,8 +22,9 @@ replied packet reply = notices.Packet packet (Some reply)
 abbrev pub unreplied : Packet → Notice
 unreplied packet = notices.Packet packet None
 
--- of a packet of this outcome, and of those after it by the answers that it leaves: an ask takes the
--- next answer, and where none is left nothing more is told; nor is it once the connection closes
+-- of a packet of this outcome, and of those after it by the answers that it leaves: an ask takes
+-- the next answer, and where none is left nothing more is told; nor is it once the connection
+-- closes
 abbrev pub notices_for : Packet → Outcome → List Answer → (List Answer → List Notice) → List Notice
 notices_for packet (Question reply session) answers later = replied packet reply ∷ later answers
 notices_for packet (Reply reply closes) answers later =

@@ -90,10 +90,10 @@ fn starred(alloc: Global, shown: &[u8]) -> Result<Bytes, AllocError>
 }
 
 /// A line of the console, without its LF, that shows no secret: what follows `login NAME `,
-/// `enable NAME `, `login-hash NAME ` and `enable-hash NAME ` is a star. So it is where the line isn't
-/// quite one, as in capitals or with more blanks. A line with another first word stands as it is;
-/// where the name was left out, the secret's first word shows. The error means that memory ran out.
-/// Linear.
+/// `enable NAME `, `login-hash NAME ` and `enable-hash NAME ` is a star. So it is where the line
+/// isn't quite one, as in capitals or with more blanks. A line with another first word stands as it
+/// is; where the name was left out, the secret's first word shows. The error means that memory ran
+/// out. Linear.
 #[tactic(auto, using(crate::proofs::MaskingFacts::hides), unfolding(crate::specs::Masking::masked))]
 pub fn masked(alloc: Global, line: &[u8]) -> Result<Bytes, AllocError>
     ensures line { IfOk result (λ text. text ≡ words.masked line.now) }
@@ -118,8 +118,8 @@ fn is_setting(word: &[u8]) -> bool
 }
 
 /// A line of an answer, without its LF, that shows no secret: of the lines `login TEXT`,
-/// `enable TEXT`, `login-hash HASH` and `enable-hash HASH` of a policy all that follows the first word
-/// is a star. The error means that memory ran out. Linear.
+/// `enable TEXT`, `login-hash HASH` and `enable-hash HASH` of a policy all that follows the first
+/// word is a star. The error means that memory ran out. Linear.
 #[tactic(auto, using(crate::proofs::MaskingFacts::hides_setting), unfolding(crate::specs::Masking::masked_answer))]
 pub fn masked_answer(alloc: Global, line: &[u8]) -> Result<Bytes, AllocError>
     ensures line { IfOk result (λ text. text ≡ words.masked_answer line.now) }

@@ -91,9 +91,10 @@ fn texts_of(alloc: Global, text: &[u8]) -> Result<Sequence<Bytes>, AllocError>
     Ok(texts)
 }
 
-/// What was typed at the console, by whom, and what it was answered, without secrets: the lines of the
-/// answer's first 4,096 bytes, and how many bytes it has where that is more. The error means that
-/// memory ran out. Linear; an answer takes no more memory than its longest line and these bytes.
+/// What was typed at the console, by whom, and what it was answered, without secrets: the lines of
+/// the answer's first 4,096 bytes, and how many bytes it has where that is more. The error means
+/// that memory ran out. Linear; an answer takes no more memory than its longest line and these
+/// bytes.
 #[tactic(auto, unfolding(crate::specs::Masking::typed_of))]
 pub fn typed(
     alloc: Global,

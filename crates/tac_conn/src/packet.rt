@@ -14,8 +14,8 @@ pub struct Packet {
 }
 
 impl Packet {
-    /// The packet of a frame: the pad is taken off where it stands (RFC 8907, section 4.5). Takes no
-    /// memory.
+    /// The packet of a frame: the pad is taken off where it stands (RFC 8907, section 4.5). Takes
+    /// no memory.
     pub fn clear(key: &Key, frame: Frame) -> Packet
         ensures { result ≡ clear key.now frame }
     {

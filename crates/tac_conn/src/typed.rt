@@ -144,8 +144,8 @@ impl Typed {
     }
 
     /// Works out what the password makes under the rounds and the salt of this hash, and keeps it,
-    /// in place of what was kept. Does nothing where [`Typed::takes_rounds`] is false; else the time
-    /// is linear in the rounds.
+    /// in place of what was kept. Does nothing where [`Typed::takes_rounds`] is false; else the
+    /// time is linear in the rounds.
     pub fn work_out(&mut self, hash: &Hash)
         ensures { self.new ≡ self.old }
     {

@@ -1,4 +1,5 @@
--- A user whom the changes of an edit don't list has no line on which the two policies differ, so that marks stay right.
+-- A user whom the changes of an edit don't list has no line on which the two policies differ, so
+-- that marks stay right.
 use Rattle.std.proofs.Common.{◌≡◌, ℕ, Bool, true, false, not, ◌&&◌, cond, is_some, List, [], ◌∷◌, ◌++◌, map, filter, Option, Some, None, refl, sym, ap, subst, ◌∙◌}
 use Rattle.std.specs.List.{AllZip}
 use Rattle.std.specs.Option.{option_map, option_map_or, option_and_then}

@@ -26,7 +26,8 @@ counted_first opening meaning history none same = rw (none, same) (record {
 
 -- ---- a call
 
--- all that is known where a call is made: what is kept, that it may be made, where it stands then, and its answer
+-- all that is known where a call is made: what is kept, that it may be made, where it stands then,
+-- and its answer
 pub record Calling (opening : Opening) (history : List (ℕ × Event)) (was now : Meaning) (due : Bool) (segment entries : ℕ) (call : Call) (answer : CallAnswer) : Type 0 where
   pub lawful : IsLawful opening history was
   pub goes_on : is_closed (calls_in history) ≡ false

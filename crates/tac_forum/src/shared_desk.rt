@@ -61,9 +61,9 @@ impl<J: Run, D: Desk> SharedDesk<J, D> {
 
     /// The hash that the password of this ask is compared with by the policy of this moment, if it
     /// is one: what the password may be worked out under before the call. It is no call, and stands
-    /// in no history; the policy may be another one when the call is made. So no contract says which
-    /// policy it was, and nothing may rest on the answer but the time that a call takes. Takes the
-    /// lock for a look-up, and only where a password is asked about; and no memory.
+    /// in no history; the policy may be another one when the call is made. So no contract says
+    /// which policy it was, and nothing may rest on the answer but the time that a call takes.
+    /// Takes the lock for a look-up, and only where a password is asked about; and no memory.
     pub fn hash<R: Wait>(&self, rt: &R, ask: &Ask) -> Option<Hash> {
         match ask {
             Ask::Authenticate {

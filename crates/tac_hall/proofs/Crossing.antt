@@ -1,4 +1,5 @@
--- What may be handed to another thread, type by type: a pattern's factors hold one another, which no search sees through.
+-- What may be handed to another thread, type by type: a pattern's factors hold one another, which
+-- no search sees through.
 use denote.Param.Send.{IsSend, IsSync, sendable}
 use Rattle.std.proofs.Crossing.{crosses}
 use Rattle.pol_pattern.proofs.flat.Factor.TheLaws.TheKnot.{crosses as knot}

@@ -12,7 +12,8 @@ made_at segment place entry = record { segment = segment; place = place; call = 
 
 -- ---- what is left of a view
 
--- a list is the whole and then others, exactly if what is left of it is what is left of the whole and then those
+-- a list is the whole and then others, exactly if what is left of it is what is left of the whole
+-- and then those
 pub record IsLeft (list whole left part : List Made) : Type 0 where
   pub to : (rest : List Made) → list ≡ whole ++ rest → left ≡ part ++ rest
   pub back : (rest : List Made) → left ≡ part ++ rest → list ≡ whole ++ rest

@@ -260,8 +260,8 @@ impl Seat {
         true
     }
 
-    /// Sheds the segments that have the numbers from 0 on, with these logs: all of them or none, and
-    /// answers whether it did. Takes no memory. Linear in the logs and the view.
+    /// Sheds the segments that have the numbers from 0 on, with these logs: all of them or none,
+    /// and answers whether it did. Takes no memory. Linear in the logs and the view.
     pub fn shed_logs(&mut self, logs: &[Sequence<Entry>]) -> bool
         ensures { shedding.ShedAll self.old logs.now result self.new }
     {

@@ -117,8 +117,8 @@ no_memory_line = console.refused (edit_faults.fault_text edit_refusals.Memory)
 abbrev pub Unloads : List ℕ → Type 0
 Unloads line = Reads (Err line) ⊎ (line ≡ no_memory_line)
 
--- the call for a policy that some text says, in the place of the present one; or there was none, and
--- nothing was done
+-- the call for a policy that some text says, in the place of the present one; or there was none,
+-- and nothing was done
 abbrev pub IsReload : Opening → Seated → Outcome → Seated → Type 0
 IsReload opening was outcome now =
     ((policy : List Subject) × Reads (Ok policy)
@@ -127,8 +127,8 @@ IsReload opening was outcome now =
 
 -- ---- a line, by what it is
 
--- what may come of a line at a console with this batch and seat, and the seat after it: `rotate` and
--- `reload` are no lines of a desk's console
+-- what may come of a line at a console with this batch and seat, and the seat after it: `rotate`
+-- and `reload` are no lines of a desk's console
 abbrev pub LineComesTo : Opening → Option (List Edit) → Seated → List ℕ → Outcome → Seated → Type 0
 LineComesTo opening batch was line outcome now =
     MatchBool (is_rotate line) (IsRotation opening was outcome now)

@@ -11,8 +11,8 @@ pub trait Typists {
     /// Whom it may name.
     ghost names: { Self → TypistValue → Type 0 };
 
-    /// Who typed the line that the console answers now. It may wait for a lock. The error means that
-    /// memory ran out.
+    /// Who typed the line that the console answers now. It may wait for a lock. The error means
+    /// that memory ran out.
     fn typist(&self, alloc: Global) -> Result<Typist, AllocError>
         ensures { IfOk result (λ typist. names self.now typist) };
 }

@@ -252,7 +252,8 @@ module _ {V S : Type 0} (takes refuses_notice : V → Notice → V → Type 0) (
 
 -- ---- a seat
 
--- what a board has done whose witnesses tell a log, the seat has done for connections that are known by what was told
+-- what a board has done whose witnesses tell a log, the seat has done for connections that are
+-- known by what was told
 pub served_by : {V S : Type 0} (takes refuses_notice : V → Notice → V → Type 0) (opening : Opening) (key : List ℕ) (log : Keeping) (connections : ℕ) (board : Board Seated V S)
     → IsWorking (MakesOne opening) CatchesUp (Refuses opening) takes refuses_notice board → AreAll (λ line. (line.link.key ≡ key) × TellsLog takes refuses_notice log line.link.first) board → board.next ≤ connections
     → HasServed opening key log connections board.first board.caller

@@ -1,4 +1,5 @@
--- What is true of each connection by the key of its device and its witness at first, whatever is done on a board.
+-- What is true of each connection by the key of its device and its witness at first, whatever is
+-- done on a board.
 use Rattle.std.proofs.Common.{◌≡◌, ◌+◌, ℕ, suc, ◌<◌, List, [], ◌∷◌, map, length, Option, Some, None, slice_index_or, refl, sym, ap, subst, arith}
 use Rattle.tac_forum.specs.Seat.{Seated}
 use Rattle.tac_worker.specs.Worked.{Exchange}

@@ -16,8 +16,8 @@ use tac_journal::{DeviceLog, Log, LogFiles, LogWriter, Moments};
 use tac_status::RequestCounts;
 
 /// Who is told of the packets of one connection, each before its reply is sent: the auditor's log,
-/// where one is kept. What that takes is counted. It knows whether the last reply asked for something
-/// that a person types.
+/// where one is kept. What that takes is counted. It knows whether the last reply asked for
+/// something that a person types.
 #[derive(Drop)]
 pub(crate) struct DeviceWitness<'a, R, L> {
     log: Option<DeviceLog<'a, R, LogWriter<'a, R, L>>>,

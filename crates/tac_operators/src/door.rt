@@ -128,7 +128,8 @@ pub struct Door<'a> {
 }
 
 impl<'a> Door<'a> {
-    /// Listens at a path ([`ConsoleHost::open_door`]). A FIFO that nobody reads is taken away first.
+    /// Listens at a path ([`ConsoleHost::open_door`]). A FIFO that nobody reads is taken away
+    /// first.
     pub fn open<R>(rt: &R, path: &'a str) -> io::Result<Door<'a>>
     where
         R: ConsoleHost + Threads + Clock + Sync,

@@ -10,8 +10,8 @@ use Rattle.tac_desk.specs.Meaning.{max_records, opened}
 use Rattle.tac_desks.specs.Metered.{Metered}
 use Rattle.tac_review.specs.Judged.{refusal_line, ByJudged}
 
--- a server that is told how many records to keep keeps the latest; else the first that come are kept,
--- and no more
+-- a server that is told how many records to keep keeps the latest; else the first that come are
+-- kept, and no more
 abbrev pub record_limit : Option ℕ → RecordLimit
 record_limit None = refusing max_records
 record_limit (Some most) = forgetting most

@@ -274,7 +274,8 @@ fn with<'a>(
     command.subcommand(subcommand?)
 }
 
-/// The word of an argument that is required or has a default: any command line that is parsed has it.
+/// The word of an argument that is required or has a default: any command line that is parsed has
+/// it.
 pub(crate) fn word_of<'a>(matches: &ArgMatches<'a>, id: &str) -> &'a str {
     matches.get_str(id).unwrap_or("")
 }

@@ -47,8 +47,8 @@ impl<R: Eprint, I: Read> Read for ConsoleInput<'_, R, I> {
 /// How long a server without a console waits between two glances at its workers, in milliseconds.
 const GLANCE: u64 = 250;
 
-/// The input of a server without a console: no line comes. It ends once all workers have ended, each
-/// after the connections that it was to serve.
+/// The input of a server without a console: no line comes. It ends once all workers have ended,
+/// each after the connections that it was to serve.
 #[derive(Drop)]
 pub(crate) struct NoConsole<'a, H> {
     pub(crate) clock: &'a H,

@@ -185,8 +185,8 @@ pub(crate) fn ended<R: Eprint>(rt: &R, outcome: Result<(), ServeFault>) -> Resul
     }
 }
 
-/// Serves as the options say, until its console ends it: a socket's, the runtime's input and output,
-/// or no input at all. Threads, sockets and the log are the host's.
+/// Serves as the options say, until its console ends it: a socket's, the runtime's input and
+/// output, or no input at all. Threads, sockets and the log are the host's.
 pub(crate) fn serve_by<R, H>(rt: &R, host: &H, options: &Options<'_>) -> Result<(), Status>
 where
     R: Files + Input + Print + Eprint + AllocGlobal,

@@ -84,8 +84,8 @@ Takes policy (batch ∷ batches) made =
 -- ---- how the edits between two policies are printed
 
 -- the batches make of the old policy one that has the same as the new one. Each of their edits
--- changes something, and none is of a subject that both policies have alike. A console that is given
--- the lines makes the batches
+-- changes something, and none is of a subject that both policies have alike. A console that is
+-- given the lines makes the batches
 pub record ArePrinted (old new : List Subject) (output : List ℕ) (end : ReviewEnd) : Type 0 where
   pub batches : List (List Edit)
   pub made : List Subject

@@ -43,8 +43,8 @@ fn unread<W: Write>(writer: &mut W, fault: InputFault) -> AnswerFault
 }
 
 /// Reviews two inputs, of which the first is a policy's text, and writes what is found
-/// (docs/REVIEW.md). Each has a name, by which it is called where it is refused: the first is judged
-/// first. Both are read before anything is written.
+/// (docs/REVIEW.md). Each has a name, by which it is called where it is refused: the first is
+/// judged first. Both are read before anything is written.
 pub fn review<R: Read, S: Read, W: Write>(
     alloc: Global,
     review: Review,
@@ -58,15 +58,15 @@ pub fn review<R: Read, S: Read, W: Write>(
     ensures second { OnOk result (IsAtEnd (S.remaining second.new)) }
 
     // What was written is exactly the review's output, the end is the review's, and no others are,
-    // except where edits are printed; or what a fault leaves: nothing, a beginning of the output, or
-    // of the line that says Memory.
+    // except where edits are printed; or what a fault leaves: nothing, a beginning of the output,
+    // or of the line that says Memory.
     ensures answered { AreAnswered (λ one two output end. IsRight review
         (Reviews review names.entry.0.now names.entry.1.now one two) output end)
         (R.remaining first.old) (S.remaining second.old)
         (W.contents writer.old) (W.contents writer.new) result }
 
-    // Whether a pattern matches a line by the definitions is whether its set of texts has it: so the
-    // least line that a policy permits is the least of these sets.
+    // Whether a pattern matches a line by the definitions is whether its set of texts has it: so
+    // the least line that a policy permits is the least of these sets.
     ensures matching { MatchLaw }
 {
     let one = match read_whole(alloc, first, MAX_INPUT) {

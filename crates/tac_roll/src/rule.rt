@@ -27,8 +27,8 @@ impl<E> TableRule<(), View<E>, ()> for Law {
     ghost first = { λ _. keeper_of [] 0 };
 }
 
-/// What is added, which may be nothing. A view changes by functions of views alone, so an item comes
-/// in as a ghost member, which the call picks.
+/// What is added, which may be nothing. A view changes by functions of views alone, so an item
+/// comes in as a ghost member, which the call picks.
 pub(crate) trait Carries<E> {
     ghost use Rattle.std.specs.Prelude.{List};
 

@@ -119,8 +119,8 @@ fn run_body<W: Witness<Noticed>>(
     run_text(alloc, text, key, lines, out, witness)
 }
 
-/// Runs a script, and adds what that prints; a fault is left for the caller to print. The witness is
-/// told which connections are opened, and of the packets on them.
+/// Runs a script, and adds what that prints; a fault is left for the caller to print. The witness
+/// is told which connections are opened, and of the packets on them.
 #[tactic(auto, unfolding(crate::specs::Script::LinesRun))]
 pub(crate) fn run_script<W: Witness<Noticed>>(
     alloc: Global,

@@ -36,8 +36,8 @@ pub enum ServerFault {
     AlreadyOpen,
     /// Memory ran out.
     Memory {
-        /// Whether the edit of a line of the console, or the batch that it commits, was accepted all
-        /// the same.
+        /// Whether the edit of a line of the console, or the batch that it commits, was accepted
+        /// all the same.
         accepted: bool,
     },
 }

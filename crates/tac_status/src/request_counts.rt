@@ -9,7 +9,8 @@ use tac_request::{AcctReply, AcctStatus, AuthorReply, AuthorStatus};
 /// The text of a reply to a packet whose body is invalid.
 const BAD_BODY: &[u8] = b"bad body";
 
-/// A request, by its type and its status, or a packet that is refused, by why it is (docs/AUDIT.md).
+/// A request, by its type and its status, or a packet that is refused, by why it is
+/// (docs/AUDIT.md).
 #[derive(Clone, Copy, Debug, PartialEq, Eq)]
 pub enum Request {
     LoginPass,

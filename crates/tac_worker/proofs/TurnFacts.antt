@@ -345,7 +345,8 @@ module _ (refuses : Ask → HallFault → Type 0) (ask : Ask) where
 pub same_reply : (said reply : ReplyValue) → ◌≡◌ {A = Option ReplyValue} (Some said) (Some reply) → reply ≡ said
 same_reply said reply e = cc
 
--- what is so where the notice was taken and the connection stays open, where it was and the connection closes, and where it was refused, is so
+-- what is so where the notice was taken and the connection stays open, where it was and the
+-- connection closes, and where it was refused, is so
 noted : (P : Result Went End → Type 0) (result : Result Went End) (takes refuses : Type 0) (closing : Bool) → Notes result takes refuses closing
     → (closing ≡ false → takes → P (Ok On)) → (closing ≡ true → takes → P (Err ByProtocol)) → (refuses → P (Err Unwitnessed)) → P result
 noted P (Ok On) takes refuses closing n on shut untold = on n.1 n.0

@@ -20,8 +20,9 @@ use tac_keep::KeepFiles;
 use tac_operators::ConsoleHost;
 use tac_program::run;
 
-// What a device sends on one connection, and what it is answered: bob asks for `show version`, begins
-// a login and gives it up, asks again, and gives a login up that isn't open. The connection closes.
+// What a device sends on one connection, and what it is answered: bob asks for `show version`,
+// begins a login and gives it up, asks again, and gives a login up that isn't open. The connection
+// closes.
 const VISIT: [(&str, &str); 5] = [
     (
         "c00201040000000100000036d7cc6454be5ba68bc9f210f557d7ae8b726b5381a695029602c4b878ff8e59e05e4fc5c65065c4c62f3074105889424c197670190298",
@@ -121,8 +122,8 @@ fn shown<R: AllocGlobal>(rt: &R, text: &str, ports: (u64, u64)) -> Result<String
     Ok(shown.replace(alloc, second.as_str(), "127.0.0.1:Q\"")?)
 }
 
-// After a run with these options the file has the lines, its owner alone reads it, and it was sent to
-// the disk so often at least, or never.
+// After a run with these options the file has the lines, its owner alone reads it, and it was sent
+// to the disk so often at least, or never.
 fn logs<R>(rt: &R, path: &str, options: &str, least: u64) -> Result<(), Fail>
 where
     R: Abort

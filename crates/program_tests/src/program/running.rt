@@ -167,8 +167,8 @@ fn serves_on_no_port(rt: HostRuntime) -> Result<(), Fail> {
     Ok(())
 }
 
-// What is wrong with the file of `--log` is said after what is wrong with the policy, and before what
-// is wrong with the port.
+// What is wrong with the file of `--log` is said after what is wrong with the policy, and before
+// what is wrong with the port.
 #[test]
 fn serves_with_no_log(rt: HostRuntime) -> Result<(), Fail> {
     let listener = TcpListener::bind(&rt, "0.0.0.0:0")?;

@@ -347,8 +347,8 @@ fn with_eighty(alloc: Global, text: &str, group: &str) -> Result<String, AllocEr
     Ok(whole)
 }
 
-// After the first batch `s` is in `q`, and `t` is still in `s`. So `t` has the rule of `q` beside its
-// own, which neither policy puts together.
+// After the first batch `s` is in `q`, and `t` is still in `s`. So `t` has the rule of `q` beside
+// its own, which neither policy puts together.
 #[test]
 fn too_large_in_between(rt: HostRuntime) -> Result<(), Fail> {
     let old =

@@ -252,8 +252,8 @@ fn a_segment_begins_by_itself(rt: HostRuntime) -> Result<(), Fail> {
     )
 }
 
-// The hash of `blue-lake` is told by the policy of the moment, before and after a Stop, and takes no
-// place in the history.
+// The hash of `blue-lake` is told by the policy of the moment, before and after a Stop, and takes
+// no place in the history.
 #[test]
 fn the_hash_of_a_password_is_told_beside_the_calls(rt: HostRuntime) -> Result<(), Fail> {
     let desk = desk_of(rt.alloc(), OPS)?;

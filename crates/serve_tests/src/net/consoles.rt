@@ -36,8 +36,9 @@ struct Course {
     /// He asks as a client does, once for each letter, and goes on if he was permitted at each p,
     /// and at each x his connection was closed without a byte. At each v he makes a device's visit.
     /// At each h he makes it while somebody logs in by a hash, and at each m he asks many times at
-    /// once. At l he is asked for a name, and at b he sends the beginning of a long packet, and then
-    /// his connection is closed. At c it is closed at once. At g those are closed that he keeps.
+    /// once. At l he is asked for a name, and at b he sends the beginning of a long packet, and
+    /// then his connection is closed. At c it is closed at once. At g those are closed that he
+    /// keeps.
     asks: &'static str,
     /// Then he types this.
     types: &'static str,
@@ -588,8 +589,8 @@ fn a_visit_of_all_kinds(rt: HostRuntime) -> Result<(), Fail> {
     ends(&rt, course, printed, Ok(()))
 }
 
-// Without a seat for each worker, beside that of the console, no port is printed, and the end of the
-// input isn't waited for.
+// Without a seat for each worker, beside that of the console, no port is printed, and the end of
+// the input isn't waited for.
 #[test]
 fn seats_that_are_missing(rt: HostRuntime) -> Result<(), Fail> {
     let refused = "close refused\n";

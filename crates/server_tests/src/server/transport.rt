@@ -1,4 +1,5 @@
-//! Replays with readers that fail or give little at a time, and with writers that take little or fail.
+//! Replays with readers that fail or give little at a time, and with writers that take little or
+//! fail.
 
 use packet_notation::push_digits;
 use std::alloc::{AllocError, Global};
@@ -38,8 +39,8 @@ fn joined<R: AllocGlobal>(rt: &R, parts: &[&str]) -> Result<String, AllocError> 
     Ok(whole)
 }
 
-// The text of the parts, as a script and its output have it: its lines of packets are in the notation
-// of `packet_notation`.
+// The text of the parts, as a script and its output have it: its lines of packets are in the
+// notation of `packet_notation`.
 fn spelled_out<R: AllocGlobal>(rt: &R, parts: &[&str]) -> Result<String, AllocError> {
     let text = joined(rt, parts)?;
     let mut whole = String::new(rt.alloc());

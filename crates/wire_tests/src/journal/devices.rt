@@ -1,5 +1,5 @@
-//! The log of a device: what time its lines have, and when it is answered where they count only once
-//! they are on the disk.
+//! The log of a device: what time its lines have, and when it is answered where they count only
+//! once they are on the disk.
 
 ghost use Rattle.tac_journal.specs.Log.{somewhere};
 
@@ -94,8 +94,8 @@ fn exchange<W: Witness<Notice>>(
     Ok(())
 }
 
-// The device makes its request once, on a connection of its own, and again after a while where there
-// is one.
+// The device makes its request once, on a connection of its own, and again after a while where
+// there is one.
 fn asks<'a, R, L: Log>(
     host: &'a Host<'a, R>,
     log: &'a L,
@@ -149,8 +149,8 @@ fn each_line_has_its_time(rt: HostRuntime) -> Result<(), Fail> {
     }
 }
 
-// What a device does at a log whose lines are to be on the disk, and then how many turns the disk had,
-// how many answers the device has, and how many turns there were before the last.
+// What a device does at a log whose lines are to be on the disk, and then how many turns the disk
+// had, how many answers the device has, and how many turns there were before the last.
 const SYNCED: &str = "asks: 1 turns, 1 answers, the last after 1
 asks: 2 turns, 2 answers, the last after 2
 fails: 3 turns, 2 answers, the last after 2
@@ -165,8 +165,8 @@ const UNSYNCED: &str = "asks: 0 turns, 1 answers, the last after 0
 later: 0 turns, 2 answers, the last after 0
 ";
 
-// What a device does: it asks, also a second later, when the file is opened again, or while the disk
-// fails.
+// What a device does: it asks, also a second later, when the file is opened again, or while the
+// disk fails.
 fn begins<R>(host: &Host<'_, R>, event: &str) {
     if event.starts_with("later") {
         host.pass(1000);

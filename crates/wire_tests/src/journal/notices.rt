@@ -93,7 +93,8 @@ impl Clock for Stopped {
     }
 }
 
-// Tells a notice, and adds what the log has of it, or that it was refused. Nothing more is told then.
+// Tells a notice, and adds what the log has of it, or that it was refused. Nothing more is told
+// then.
 fn tells<W: Witness<Notice>>(
     log: &mut W,
     few: &Few,

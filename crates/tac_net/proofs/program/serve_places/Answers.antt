@@ -10,7 +10,8 @@ use Rattle.tac_net.proofs.FitFacts.{each_served_so}
 use Rattle.tac_net.proofs.ServingFacts.{ok_both}
 use Rattle.tac_net.proofs.program.serve_places.Goals as goal
 
--- what the closure lends to each thread, one capture after another; no search gets through them together
+-- what the closure lends to each thread, one capture after another; no search gets through them
+-- together
 pub map_vec-requires-sync-F : goal.map_vec-requires-sync-F
 map_vec-requires-sync-F g c κs within =
     let runtime = c.type_bounds.sync-R in

@@ -15,7 +15,8 @@ map_vec-requires-send-J g c κs within = search (Seat-send, crosses, sendable) d
 pub map_vec-requires-send-X : goal.map_vec-requires-send-X
 map_vec-requires-send-X g c κs within = search (Seat-send, ends.the_send, crosses, sendable) depth 60
 
--- what the closure lends to each thread, one capture after another; no search gets through them together
+-- what the closure lends to each thread, one capture after another; no search gets through them
+-- together
 pub map_vec-requires-sync-F : goal.map_vec-requires-sync-F
 map_vec-requires-sync-F g c κs within =
     let runtime = c.type_bounds.sync-R in
