@@ -5,7 +5,8 @@ use Rattle.std.specs.Io.KnownBytes.{Appends}
 use Rattle.tac_worker.specs.declared.due.Due.{Due}
 use Rattle.tac_worker.specs.declared.due.Due.TheVariants as next
 use Rattle.tac_worker.specs.declared.worked.End.{End}
-use Rattle.tac_worker.specs.Linked.{Linked, fresh, due_of, Turns, Hears, after_sending}
+use Rattle.tac_worker.specs.Linked.{Linked, fresh, due_of, AsksPassword, Turns, Hears}
+use Rattle.tac_worker.specs.Linked.{after_sending}
 use Rattle.tac_worker.specs.Worked.{Exchange}
 use Rattle.tac_loop.specs.declared.line.Line.{Line}
 use Rattle.tac_loop.specs.declared.stop.Stop.{Stop}
@@ -45,9 +46,10 @@ module _ {C V S : Type 0} where
   abbrev pub stopped : Line C V S → Stop
   stopped line = or_busy (stop_of line)
 
-  -- it is left so, or, where a turn is due, until a password is worked out
+  -- it is left so; or, where a turn is due and the next ask is of a password, until that is worked
+  -- out
   abbrev pub IsLeft : Stop → Line C V S → Type 0
-  IsLeft Digest line = due_of line.link ≡ next.Turn
+  IsLeft Digest line = (due_of line.link ≡ next.Turn) × AsksPassword line.link
   IsLeft stop line = stop ≡ stopped line
 
   -- its socket may be ready again

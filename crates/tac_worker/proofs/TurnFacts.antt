@@ -77,7 +77,7 @@ pub record IsNext (key bytes : List ℕ) (taken : ℕ) (packet : Packet) (it : S
   pub same : packet ≡ clear key frame
   pub serves : ServesBy it (outcome (packets_of key (take taken (cut bytes).packets)) (clear key frame))
 
-next_is : (key bytes : List ℕ) (taken : ℕ) (packet : Packet) (it : Step) → IsTurn key bytes taken (turns.Packet packet it) → IsNext key bytes taken packet it
+pub next_is : (key bytes : List ℕ) (taken : ℕ) (packet : Packet) (it : Step) → IsTurn key bytes taken (turns.Packet packet it) → IsNext key bytes taken packet it
 next_is key bytes taken packet it (inl f) =
     let came = outcome (packets_of key (take taken (cut bytes).packets)) (clear key f.frame) in
     record {
@@ -145,7 +145,7 @@ module _ (key : List ℕ) (earlier : List Packet) (frame : Frame) where
   unfolding served_to
   served_first more answers = refl
 
-  asks_first : (more : List Frame) → asks_in key earlier (frame ∷ more) ≡ asked_by (outcome earlier (clear key frame)) (asks_in key (clear key frame ∷ earlier) more)
+  pub asks_first : (more : List Frame) → asks_in key earlier (frame ∷ more) ≡ asked_by (outcome earlier (clear key frame)) (asks_in key (clear key frame ∷ earlier) more)
   unfolding asks_in
   asks_first more = refl
 

@@ -4,6 +4,9 @@ use Rattle.std.specs.Prelude.{Bool, true, false, Option, Some, None}
 use Rattle.std.specs.Io.KnownBytes.{Consumes, IsAtEnd}
 use Rattle.tac_conn.specs.declared.ask.Answer.{Answer}
 use Rattle.tac_conn.specs.declared.ask.Ask.{Ask}
+use Rattle.tac_conn.specs.declared.ask.Ask.TheVariants.{Authenticate, Authorise, Account}
+use Rattle.tac_conn.specs.declared.ask.Proof.{Proof}
+use Rattle.tac_conn.specs.declared.ask.Proof.TheVariants.{Plain, Chap}
 use Rattle.tac_audit.specs.declared.notice.Notice.{Notice}
 use Rattle.tac_audit.specs.Witness.{AreTold}
 use Rattle.tac_hall.specs.declared.fault.HallFault.{HallFault}
@@ -40,6 +43,18 @@ pub record Linked (S V : Type 0) : Type 0 where
   -- how it ended, if it has ended
   pub end : Option End
 
+-- ---- a password
+
+abbrev pub IsPassword : Proof → Type 0
+IsPassword (Plain password) = Unit {0}
+IsPassword (Chap id challenge response) = ⊥
+
+-- it is asked whether a password is the user's
+abbrev pub IsOfPassword : Ask → Type 0
+IsOfPassword (Authenticate user service proof) = IsPassword proof
+IsOfPassword (Authorise user line) = ⊥
+IsOfPassword (Account item) = ⊥
+
 -- ---- what is due
 
 -- what waits is sent first; so the next packet is neither read nor judged until then
@@ -73,6 +88,13 @@ module _ {S V : Type 0} where
   -- all that was put on it
   abbrev pub put : Linked S V → List ℕ
   put link = link.sent ++ link.pending
+
+  -- of what came on it the first ask that wasn't called is of a password
+  pub record AsksPassword (link : Linked S V) : Type 0 where
+    pub ask : Ask
+    pub later : List Ask
+    pub next : asks link.key link.heard ≡ map (λ call. call.0) link.called ++ ask ∷ later
+    pub password : IsOfPassword ask
 
   -- what came is all that was to be read, and nothing was written before what was put on it
   abbrev pub traffic_on : Linked S V → Traffic

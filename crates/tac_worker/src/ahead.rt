@@ -1,7 +1,9 @@
 //! The turn of what stands first on a connection, found before it is taken.
 
-ghost use Rattle.std.specs.Prelude.{◌≡◌, None};
-ghost use Rattle.tac_worker.specs.Ahead.{IsTurnOf, IsAhead, seen_by};
+ghost use Rattle.std.specs.Prelude.{◌≡◌, None, IfSome, OnSome, option_copied};
+ghost use Rattle.tac_worker.specs.Ahead as before;
+ghost use Rattle.tac_worker.specs.Ahead.{IsTurnOf, IsAhead, seen_by, IsSomeOfPassword};
+ghost use Rattle.tac_worker.specs.Linked.{IsOfPassword};
 
 use crate::caller::Caller;
 use std::alloc::AllocError;
@@ -51,7 +53,9 @@ pub(crate) fn first_turn(
 }
 
 // What is asked for the packet that stands first, if it was found and is to be asked.
-fn ask_ahead(ahead: &Option<Ahead>) -> Option<&Ask> {
+fn ask_ahead(ahead: &Option<Ahead>) -> Option<&Ask>
+    ensures { option_copied result ≡ before.ask_ahead ahead.now }
+{
     let Some(ahead) = ahead else {
         return None;
     };
@@ -68,7 +72,9 @@ fn ask_ahead(ahead: &Option<Ahead>) -> Option<&Ask> {
 }
 
 // The password that is asked about.
-fn password_in(ask: &Ask) -> Option<&Typed> {
+fn password_in(ask: &Ask) -> Option<&Typed>
+    ensures { OnSome result (IsOfPassword ask.now) }
+{
     match ask {
         Ask::Authenticate {
             proof: Proof::Plain(password),
@@ -79,13 +85,17 @@ fn password_in(ask: &Ask) -> Option<&Typed> {
 }
 
 /// The password of the packet that stands first, if it was found and has one.
-pub(crate) fn password_ahead(ahead: &Option<Ahead>) -> Option<&Typed> {
+pub(crate) fn password_ahead(ahead: &Option<Ahead>) -> Option<&Typed>
+    ensures { OnSome result (IsSomeOfPassword (before.ask_ahead ahead.now)) }
+{
     password_in(ask_ahead(ahead)?)
 }
 
 /// The hash under whose rounds and salt the password of the packet that stands first is to be
 /// worked out, if it was found, has one, and takes the rounds.
-pub(crate) fn hash_ahead<C: Caller>(ahead: &Option<Ahead>, caller: &C) -> Option<Hash> {
+pub(crate) fn hash_ahead<C: Caller>(ahead: &Option<Ahead>, caller: &C) -> Option<Hash>
+    ensures { OnSome result (IsSomeOfPassword (before.ask_ahead ahead.now)) }
+{
     let ask = ask_ahead(ahead)?;
     let password = password_in(ask)?;
     let hash = caller.hash(ask)?;

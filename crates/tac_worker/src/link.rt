@@ -1,7 +1,8 @@
 //! A connection that is served in turns, while others are served too.
 
-ghost use Rattle.std.specs.Prelude.{◌≡◌, ◌≤◌, length, take, IsTrue, IfOk, OnErr};
+ghost use Rattle.std.specs.Prelude.{◌≡◌, ◌≤◌, length, take, IsTrue, IfOk, OnErr, OnSome};
 ghost use Rattle.std.specs.Io.KnownBytes.{Appends, Keeps};
+ghost use Rattle.tac_worker.specs.Ahead.{IsSomeOfPassword, WaitsForIt, ask_ahead, waits};
 ghost use Rattle.tac_worker.specs.Linked as linked;
 ghost use Rattle.tac_worker.specs.declared.due.Due.TheVariants as dues;
 
@@ -39,8 +40,27 @@ enum Digest {
 }
 
 impl Digest {
+    // That of the password of the next packet, if it was found and has one.
+    fn of<C: Caller>(ahead: &Option<Ahead>, caller: &C) -> Digest
+        ensures { WaitsForIt result ahead.now }
+    {
+        match hash_ahead(ahead, caller) {
+            Some(hash) => Digest::Needed(hash),
+            None => Digest::Settled,
+        }
+    }
+
+    // Whether a password is to be worked out first.
+    fn waits(&self) -> bool
+        ensures { result ≡ waits self.now }
+    {
+        matches!(self, Digest::Needed(_) | Digest::Awaited)
+    }
+
     // What is to be worked out for the password of the next packet, which was found.
-    fn work(&self, alloc: Global, ahead: &Option<Ahead>) -> Result<Option<HashWork>, AllocError> {
+    fn work(&self, alloc: Global, ahead: &Option<Ahead>) -> Result<Option<HashWork>, AllocError>
+        ensures { IfOk result (λ work. OnSome work (IsSomeOfPassword (ask_ahead ahead.now))) }
+    {
         let (Digest::Needed(hash), Some(password)) = (self, password_ahead(ahead)) else {
             return Ok(None);
         };
@@ -181,18 +201,16 @@ impl<'a, C: Caller, V: Witness<Notice>> Link<'a, C, V> {
             _ => return,
         }
         look_ahead(self.key, &mut self.stream, &mut self.ahead);
-        self.digest = match hash_ahead(&self.ahead, caller) {
-            Some(hash) => Digest::Needed(hash),
-            None => Digest::Settled,
-        };
+        self.digest = Digest::of(&self.ahead, caller);
     }
 
     /// Whether a turn is due that waits until a password is worked out.
     pub fn awaits_digest(&self) -> bool
-        ensures { IsTrue result → linked.due_of self.now ≡ dues.Turn }
+        ensures due { IsTrue result → linked.due_of self.now ≡ dues.Turn }
+        ensures password { IsTrue result → linked.AsksPassword self.now }
     {
         match self.due() {
-            Due::Turn => matches!(self.digest, Digest::Needed(_) | Digest::Awaited),
+            Due::Turn => self.digest.waits(),
             _ => false,
         }
     }

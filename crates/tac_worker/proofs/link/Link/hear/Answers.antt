@@ -13,7 +13,7 @@ invariant_of-self g c =
     let linked = linked_bare g.C.Caller.refuses g.V.Witness.takes g.V.Witness.refuses c.self.inside none c.self.invariant in
     let opened = as_open g.C.Caller.refuses g.V.Witness.takes g.V.Witness.refuses c.self.inside.end link c.self.inside.stream due.1 linked in
     let noted = rw c.in-Ok.is at c.hear.ensures.noted in
-    kept_bare g.C.Caller.refuses g.V.Witness.takes g.V.Witness.refuses _ none
+    kept_bare g.C.Caller.refuses g.V.Witness.takes g.V.Witness.refuses _ none c.self.invariant.password
     (rw noted.1
     (open_still g.C.Caller.refuses g.V.Witness.takes g.V.Witness.refuses _ _ _ due.1
     (linked_more g.C.Caller.refuses g.V.Witness.takes g.V.Witness.refuses link noted.0 c.self.inside.stream c.hear.new.stream opened.0 (opened.1 due.2) noted.4)))
@@ -26,6 +26,6 @@ invariant_of-self-in-Err g c =
     let linked = linked_bare g.C.Caller.refuses g.V.Witness.takes g.V.Witness.refuses c.self.inside none c.self.invariant in
     let opened = as_open g.C.Caller.refuses g.V.Witness.takes g.V.Witness.refuses c.self.inside.end link c.self.inside.stream due.1 linked in
     let noted = rw c.in-Err.is at c.hear.ensures.noted in
-    kept_bare g.C.Caller.refuses g.V.Witness.takes g.V.Witness.refuses _ none
+    kept_bare g.C.Caller.refuses g.V.Witness.takes g.V.Witness.refuses _ none c.self.invariant.password
     (rw noted.1
     (linked_heard g.C.Caller.refuses g.V.Witness.takes g.V.Witness.refuses link noted.0 c.self.inside.stream c.hear.new.stream opened.0 (opened.1 due.2) c.in-Err.end noted.4))

@@ -9,4 +9,5 @@ invariant_of-self g c = record {
       (linked_sent g.C.Caller.refuses g.V.Witness.takes g.V.Witness.refuses c.in_ok-n.n c.self.inside.end _ (seen_by c.self.inside.ahead c.self.inside.stream) c.self.invariant.linked);
   ahead = c.self.invariant.ahead;
   due = c.self.invariant.due;
+  password = c.self.invariant.password;
 }

@@ -13,7 +13,7 @@ invariant_of-self g c =
     let opened = as_open g.C.Caller.refuses g.V.Witness.takes g.V.Witness.refuses c.self.inside.end link (seen_by c.self.inside.ahead c.self.inside.stream) due.1 c.self.invariant.linked in
     let s = opened.0 in
     let went = rw c.in-Ok-On.is at c.in-Ok-On.field-0-is in
-    kept_bare g.C.Caller.refuses g.V.Witness.takes g.V.Witness.refuses _ c.first_turn-turn.ensures.none
+    kept_bare g.C.Caller.refuses g.V.Witness.takes g.V.Witness.refuses _ c.first_turn-turn.ensures.none (λ e. absurd cc)
     (rw c.of.ensures
     (open_still g.C.Caller.refuses g.V.Witness.takes g.V.Witness.refuses _ _ _ due.1
     (linked_on g.C.Caller.makes g.C.Caller.rests g.met.C.Caller.rests_so g.C.Caller.refuses g.V.Witness.takes g.V.Witness.refuses link c.args.caller.now c.serve_turn-went.new.caller c.serve_turn-went.new.called
@@ -27,7 +27,7 @@ invariant_of-self-in-Ok-Rests g c =
     let opened = as_open g.C.Caller.refuses g.V.Witness.takes g.V.Witness.refuses c.self.inside.end link (seen_by c.self.inside.ahead c.self.inside.stream) due.1 c.self.invariant.linked in
     let s = opened.0 in
     let went = rw c.in-Ok-Rests.is at c.in-Ok-Rests.field-0-is in
-    kept_bare g.C.Caller.refuses g.V.Witness.takes g.V.Witness.refuses _ c.first_turn-turn.ensures.none
+    kept_bare g.C.Caller.refuses g.V.Witness.takes g.V.Witness.refuses _ c.first_turn-turn.ensures.none (λ e. absurd cc)
     (rw c.of.ensures
     (open_still g.C.Caller.refuses g.V.Witness.takes g.V.Witness.refuses _ _ _ due.1
     (linked_rests g.C.Caller.makes g.C.Caller.rests g.met.C.Caller.rests_so g.C.Caller.refuses g.V.Witness.takes g.V.Witness.refuses link c.args.caller.now c.serve_turn-went.new.caller c.serve_turn-went.new.called
@@ -40,7 +40,7 @@ invariant_of-self-in-Err g c =
     let due = turn_due _ _ _ (ap due_of c.self.view_is ∙ sym c.due.ensures ∙ c.in-Turn.is) in
     let opened = as_open g.C.Caller.refuses g.V.Witness.takes g.V.Witness.refuses c.self.inside.end link (seen_by c.self.inside.ahead c.self.inside.stream) due.1 c.self.invariant.linked in
     let s = opened.0 in
-    kept_bare g.C.Caller.refuses g.V.Witness.takes g.V.Witness.refuses _ c.first_turn-turn.ensures.none
+    kept_bare g.C.Caller.refuses g.V.Witness.takes g.V.Witness.refuses _ c.first_turn-turn.ensures.none (λ e. absurd cc)
     (rw c.of.ensures
     (linked_over g.C.Caller.makes g.C.Caller.rests g.met.C.Caller.rests_so g.C.Caller.refuses g.V.Witness.takes g.V.Witness.refuses link c.args.caller.now c.serve_turn-went.new.caller c.serve_turn-went.new.called
     c.serve_turn-went.new.witness c.serve_turn-went.new.writer c.serve_turn-went.new.stream (seen_by c.self.inside.ahead c.self.inside.stream) s c.in-Err.end
