@@ -1,6 +1,6 @@
 //! Passwords on their way, no more than there may be.
 
-ghost use Rattle.std.specs.Prelude.{◌≡◌, ◌==◌, nat_lt, length, IfOk, IfSome};
+ghost use Rattle.std.specs.Prelude.{◌≡◌, ◌==◌, nat_lt, length, IfOk};
 ghost use Rattle.tac_digests.specs.Backlog as on_their_way;
 
 use crate::job::{Done, Job};
@@ -38,6 +38,13 @@ impl Model for Backlog {
       at_work = log.at_work;
       done = log.done.items;
     }) ≤ 256) × (256 ≤ deque_capacity log.waiting) × (256 ≤ deque_capacity log.done) };
+}
+
+// Where the first of these stands that was worked out for this worker.
+fn first_for(all: &VecDeque<Done>, worker: usize) -> Option<usize>
+    ensures { result ≡ on_their_way.first_for worker all.now.items }
+{
+    all.iter().position(|done| done.place.worker == worker)
 }
 
 impl Backlog {
@@ -103,13 +110,11 @@ impl Backlog {
 
     /// The first that was worked out for this worker. Linear in those that were.
     pub fn collect(&mut self, worker: usize) -> Option<Done>
-        ensures whose { IfSome result (λ done. done.place.worker ≡ worker) }
-        ensures after { on_their_way.Collects result self.old self.new }
+        ensures { on_their_way.Collects worker result self.old self.new }
     {
-        let at = self
-            .done
-            .iter()
-            .position(|done| done.place.worker == worker)?;
+        let Some(at) = first_for(&self.done, worker) else {
+            return None;
+        };
         self.done.remove(at)
     }
 }
