@@ -29,6 +29,7 @@ const TAKES: u64 = 10;
 const HELP: &[u8] = b"policy | shadow | reach SUBJECT | why NAME LINE | tally SUBJECT | records
 add SUBJECT [in GROUP] | remove SUBJECT | move SUBJECT in GROUP | move SUBJECT out
 login NAME TEXT | enable NAME TEXT | clear login NAME | clear enable NAME
+login-hash NAME HASH | enable-hash NAME HASH
 priv SUBJECT N | clear priv SUBJECT
 insert SUBJECT N permit PATTERN | insert SUBJECT N deny PATTERN
 drop SUBJECT N | shift SUBJECT N M

@@ -86,8 +86,8 @@ nothing, or for a user who types a password. A connection is closed where the de
 had no reply for so many seconds as --idle or --login-idle says, at most 10 before the first reply.
 One beyond --connections-at-once or --per-address is closed as it comes, and none is given up for it.
 
-Standard output has 'listening PORT' first, and then what the console's lines are answered. Standard
-error says so where too few files may be open for so many connections, as by 'ulimit -n'.
+Standard output has 'listening PORT' first, and then the answers of a console on standard input.
+Standard error says so where too few files may be open for so many connections, as by 'ulimit -n'.
 
 Signals aren't seen: SIGTERM ends the server, and SIGHUP too. To run it in the background or in a
 container, give --console PATH, where operators type by 'tacd console PATH', or --no-console. The
@@ -154,9 +154,9 @@ Exit status:
   2  the command line or the key is wrong
   3  memory ran out, a thread could not be made, or too few files may be open
   4  a file could not be read, that of --log could not be opened, what is at the path of
-     --keep-edits is no regular file or is FILE, the port could not be had, the console could not be
-     read, or the output could not be written, or 'close refused' was printed: a worker or the
-     console had no place in the history"
+     --keep-edits is no regular file or is FILE, the port or the socket of --console could not be
+     had, the console could not be read, or the output could not be written, or 'close refused' was
+     printed: a worker or the console had no place in the history"
     ),
 };
 
@@ -313,10 +313,11 @@ pub(crate) const LINT_PAGE: Page = Page {
 and subjects, each with its line and column. What it says never changes what the policy means.
 
 It asks about what other pattern languages read otherwise ('^', '$', '\\d', '[[:alpha:]]', '{1,3}'),
-about ' # ' in a pattern, about spaces round patterns and secrets, rules without the word <cr> that
-Cisco IOS ends each line with, groups that nobody is in, users without a login, an empty policy, and
-it names rules that decide nothing. Of a policy that is refused it prints every wrong line, and not
-only the first, and why each is wrong; where it is too large, which rules may double its states.",
+about ' # ' in a pattern, about spaces round patterns and secrets, passwords that look like hashes,
+hashes of over 20000 rounds, rules without the word <cr> that Cisco IOS ends each line with, groups
+that nobody is in, users without a login, an empty policy, and it names rules that decide nothing.
+Of a policy that is refused it prints every wrong line, and not only the first, and why each is
+wrong; where it is too large, which rules may double its states.",
     after_help: "Example:
   tacd lint campus.policy
 
@@ -359,7 +360,7 @@ to edits that make the one policy into the other. With --edits it prints such ed
 into a server that has OLD.",
     after_help: "Examples:
   tacd diff campus.policy campus-next.policy
-  tacd diff --edits saved.policy campus-next.policy > changes && cat changes > /run/tacd/console
+  tacd diff --edits saved.policy campus-next.policy | tacd console /run/tacd/console
 
 'tacd diff --help' describes what is printed; 'tacd replay --help' the lines of a policy.",
     after_long_help: "'tacd replay --help' describes the lines of a policy.
