@@ -112,7 +112,7 @@ def label_of(line):
     words = line.split(" ")
     if words[0] in ("login", "enable", "login-hash", "enable-hash"):
         return f"user {words[1]}"
-    if words[0] == "clear" and words[1] != "priv":
+    if words[0] == "clear" and words[1] in ("login", "enable"):
         return f"user {words[2]}"
     return " ".join(words[2:4] if words[0] == "clear" else words[1:3])
 

@@ -151,6 +151,48 @@ WRONG_BODIES = [
         "return isinstance(subject.login, Hash)",
     ),
     WrongBody(
+        "a line about a service may stand in a text of version 2",
+        "policy.py",
+        'elif word == "service" and self.version == 3:',
+        'elif word == "service" and self.version >= 2:',
+    ),
+    WrongBody(
+        "a service is refused beside its attributes",
+        "services.py",
+        "return self == other or None in (self.attribute, other.attribute)",
+        "return self.attribute == other.attribute",
+    ),
+    WrongBody(
+        "an attribute that is mandatory is that which is optional",
+        "services.py",
+        "self == other or",
+        're.split("[=*]", self.attribute or "") == re.split("[=*]", other.attribute or "") or',
+    ),
+    WrongBody(
+        "a name of an attribute may have a blank",
+        "services.py",
+        'name == "" or " " in name or',
+        'name == "" or',
+    ),
+    WrongBody(
+        "a shell may be refused",
+        "services.py",
+        'return self.service != "shell"',
+        "return True",
+    ),
+    WrongBody(
+        "a cleared attribute clears a refusal too",
+        "edits.py",
+        "attribute not in (None, line.attribute)",
+        'line.word != "refuse" and attribute not in (None, line.attribute)',
+    ),
+    WrongBody(
+        "a subject may have 65 lines about services",
+        "policy.py",
+        "if len(services) == MOST_SERVICES:",
+        "if len(services) > MOST_SERVICES:",
+    ),
+    WrongBody(
         "rounds are ignored",
         "hashes.py",
         "crypted(self.rounds or ROUNDS, self.salt, password)",

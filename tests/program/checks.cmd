@@ -36,3 +36,37 @@ file policy
 $ tacd check policy
 policy ok: 0 subjects, 0 rules
 none
+
+# Lines about services are counted where there are any.
+file policy
+policy 3
+group ops
+service shell shell:roles*"network-admin"
+permit show .*
+user bob in ops
+service shell
+refuse junos-exec
+
+$ tacd check policy
+policy ok: 2 subjects, 1 rules, 3 service lines
+none
+
+file policy
+policy 2
+group ops
+service shell
+
+$ tacd check policy
+fault line 3 1 BadLine
+! tacd: 'tacd lint policy' says more
+status 1
+
+file policy
+policy 3
+group ops
+service shell priv-lvl=15
+
+$ tacd check policy
+fault line 3 6 BadValue
+! tacd: 'tacd lint policy' says more
+status 1

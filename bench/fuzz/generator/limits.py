@@ -5,7 +5,8 @@ from reference.wire import AUTHORISATION, Header
 
 def policy(choices):
     states_or_searches = [states, states, searches, searches]
-    return choices.choice(states_or_searches + [subjects, rules, chain, lines])(choices)
+    others = [subjects, rules, services, chain, lines]
+    return choices.choice(states_or_searches + others)(choices)
 
 
 def states(choices):
@@ -42,6 +43,11 @@ def subjects(choices):
 def rules(choices):
     number = choices.choice([255, 256, 257])
     return ["group g"] + [f"permit a{n % 10}" for n in range(number)] + ["user u in g"]
+
+
+def services(choices):
+    number = choices.choice([64, 65])
+    return ["policy 3", "group g"] + [f"service x a{n}=" for n in range(number)] + ["user u in g"]
 
 
 def chain(choices):
@@ -105,6 +111,8 @@ def size_edits(choices):
             "drop group g 256",
             "remove user u1",
             "shift group g 256 1",
+            "service group g x b=",
+            "clear service group g x a0=",
         ]
     )
     return [f"console {edit}", f"console {edit}", "console why u1 ab", "console reach user u"]

@@ -1,7 +1,18 @@
 """What an operator types: edits and questions of all kinds, with a thing wrong at times."""
 
 from .patterns import line, pattern
-from .policies import GROUPS, HASHES, NO_HASHES, NO_NAMES, SECRETS, USERS
+from .policies import (
+    ATTRIBUTES,
+    GROUPS,
+    HASHES,
+    NO_ATTRIBUTES,
+    NO_HASHES,
+    NO_NAMES,
+    NO_SERVICES,
+    SECRETS,
+    SERVICES,
+    USERS,
+)
 
 WORDS = [
     "add",
@@ -15,6 +26,10 @@ WORDS = [
     "clear enable",
     "priv",
     "clear priv",
+    "service",
+    "service",
+    "refuse",
+    "clear service",
     "insert",
     "insert",
     "insert",
@@ -103,6 +118,11 @@ class Operator:
                 return f"priv {kind} {name} {level}"
             case "clear priv":
                 return f"clear priv {kind} {name}"
+            case "service" | "clear service":
+                said = f"{word} {kind} {name} {self.service()}"
+                return said + (f" {self.attribute()}" if choices.chance(0.6) else "")
+            case "refuse":
+                return f"refuse {kind} {name} {self.service()}"
             case "insert":
                 verdict = choices.choice(["permit", "deny"])
                 at = self.place(rules + 1)
@@ -126,6 +146,14 @@ class Operator:
     def hash(self):
         choices = self.choices
         return choices.choice(NO_HASHES if choices.chance(0.1) else HASHES)
+
+    def service(self):
+        choices = self.choices
+        return choices.choice(NO_SERVICES if choices.chance(0.05) else SERVICES[:5])
+
+    def attribute(self):
+        choices = self.choices
+        return choices.choice(NO_ATTRIBUTES if choices.chance(0.1) else ATTRIBUTES)
 
     def question(self):
         choices = self.choices
@@ -152,4 +180,5 @@ def odd_line(choices):
         ["", " ", "quit", "help", "policy ", "records x", "why", "why ", "tally", "reach user"]
         + ["shadow group g", " policy", "Policy", "#", "\xe9", "insert", "why u\t", "clear", "run"]
         + ["clear priv", "clear login", "add", "add group", "move user u out ", "in"]
+        + ["service", "refuse", "clear service", "service user u", "refuse user u x y"]
     )

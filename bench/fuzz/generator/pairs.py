@@ -3,7 +3,7 @@
 from reference.hashes import hash_of
 from reference.policy import BadPolicy, printed, read_policy
 
-from .policies import GROUPS, HASHES, SECRETS, USERS, policy
+from .policies import GROUPS, HASHES, SECRETS, USERS, policy, service_lines
 
 LEVELS = [0, 0, 1, 7, 15, None]
 SECRETS_OR_NONE = SECRETS + [hash_of(text) for text in HASHES[:2]] + [None]
@@ -36,7 +36,7 @@ def eight(choices):
 
 
 def changed(choices, old):
-    """The subjects in another order, with some secrets, levels and rules changed."""
+    """The subjects in another order, with some secrets, levels, services and rules changed."""
     new = [with_changes(choices, subject) for subject in old]
     choices.shuffle(new)
     return tuple(new)
@@ -49,11 +49,24 @@ def with_changes(choices, subject):
         for word in ("login", "enable"):
             if choices.chance(0.4):
                 subject = subject._replace(**{word: choices.choice(SECRETS_OR_NONE)})
+    if choices.chance(0.4):
+        subject = subject._replace(services=other_services(choices, subject))
     if subject.rules and choices.chance(0.4):
         rules = list(subject.rules)
         choices.shuffle(rules)
         subject = subject._replace(rules=tuple(rules[: choices.randrange(len(rules) + 1)]))
     return subject
+
+
+def other_services(choices, subject):
+    """Other lines, or some of those that are there, with what else there may be beside them."""
+    (other,) = read_policy(["policy 3", "group g"] + service_lines(choices))
+    if choices.chance(0.5):
+        return other.services
+    kept = tuple(line for line in subject.services if choices.chance(0.7))
+    return kept + tuple(
+        line for line in other.services if not any(line.clashes(it) for it in kept)
+    )
 
 
 def text_of_policy(choices, subjects):

@@ -34,6 +34,10 @@ NO_HASHES = [
     HASHES[1].replace("0123", "01234"),
     HASHES[2].replace("$x$", "$$"),
 ]
+SERVICES = ["shell", "exec", "junos-exec", "x", "x/y", "x/z", "n" * 32 + "/" + "p" * 32]
+NO_SERVICES = ["", "shell/x", "x/", "/x", "x/y/z", "x:y", "n" * 33, "\xe9"]
+ATTRIBUTES = ["a=", "a*", "a=b", 'a=b c = "*"', "a= ", "b*c=d", "priv-lvl=15", "a=" + "v" * 253]
+NO_ATTRIBUTES = ["", " ", "a", "=b", "*", " a=b", "a b=c", "a =b", "a=" + "v" * 254]
 NO_NAMES = ["", "n" * 33, "a/b", "a:b", "\xe9", "a\tb", "é"]
 
 
@@ -45,7 +49,7 @@ def policy(choices):
     lines = []
     for first in subjects:
         lines.append(first)
-        lines.extend(settings(choices, first, 0.5 if version == "policy 3" else 0))
+        lines.extend(settings(choices, first, version == "policy 3"))
         if searched is not None:
             lines.extend(searches(choices, searched))
     if choices.chance(0.2):
@@ -78,14 +82,16 @@ def chain(length):
     return groups + [f"user deep in c{length - 1}"]
 
 
-def settings(choices, first, hashed):
+def settings(choices, first, is_third):
     lines = []
     if first.startswith("user"):
         for word in ("login", "enable"):
             if choices.chance(0.5):
-                lines.append(secret_line(choices, word, hashed))
+                lines.append(secret_line(choices, word, 0.5 if is_third else 0))
     if choices.chance(0.35):
         lines.append(f"priv {choices.choice(['0', '1', '15', '7', '0015', '015'])}")
+    if is_third and choices.chance(0.5):
+        lines.extend(service_lines(choices))
     for _ in range(choices.choice([0, 0, 1, 1, 1, 2, 2, 3, 4])):
         lines.append(f"{choices.choice(['permit', 'permit', 'deny'])} {pattern(choices)}")
     if choices.chance(0.1):
@@ -100,6 +106,23 @@ def secret_line(choices, word, hashed):
     if choices.chance(hashed):
         return f"{word}-hash {choices.choice(HASHES)}"
     return f"{word} {choices.choice(SECRETS)}"
+
+
+def service_lines(choices):
+    """Lines about some services, none of which clash."""
+    lines = []
+    for service in choices.sample(SERVICES, choices.count(1, 4)):
+        if service != "shell" and choices.chance(0.2):
+            lines.append(f"refuse {service}")
+        elif choices.chance(0.2):
+            lines.append(f"service {service}")
+        else:
+            for attribute in choices.sample(ATTRIBUTES, choices.count(1, 4)):
+                if (service, attribute) != ("shell", "priv-lvl=15"):
+                    lines.append(f"service {service} {attribute}")
+    if choices.chance(0.5):
+        choices.shuffle(lines)
+    return lines
 
 
 def searches(choices, command):
@@ -172,6 +195,14 @@ def wrong_line(choices):
             f"enable-hash {choices.choice(HASHES)}",
             f"login-hash {choices.choice(NO_HASHES)}",
             f"enable-hash {choices.choice(NO_HASHES)}",
+            "service",
+            "refuse",
+            f"{choices.choice(['service', 'refuse'])} {choices.choice(SERVICES)}",
+            f"{choices.choice(['service', 'refuse'])} {choices.choice(NO_SERVICES)}",
+            f"service {choices.choice(SERVICES)} {choices.choice(ATTRIBUTES)}",
+            f"service {choices.choice(SERVICES)} {choices.choice(NO_ATTRIBUTES)}",
+            f"service {choices.choice(NO_SERVICES)} {choices.choice(NO_ATTRIBUTES)}",
+            f"refuse {choices.choice(SERVICES)} {choices.choice(ATTRIBUTES)}",
             "priv",
             "priv ",
             "priv 16",

@@ -18,5 +18,9 @@ def check(text):
     if large is not None:
         return bytes_of(f"fault TooManyStates {large.label()}\n"), FAULT
     rules = sum(len(subject.rules) for subject in policy)
-    lines = [f"policy ok: {len(policy)} subjects, {rules} rules"] + shadow_lines(policy)
+    services = sum(len(subject.services) for subject in policy)
+    counts = f"policy ok: {len(policy)} subjects, {rules} rules"
+    if services > 0:
+        counts += f", {services} service lines"
+    lines = [counts] + shadow_lines(policy)
     return bytes_of("".join(line + "\n" for line in lines)), DONE

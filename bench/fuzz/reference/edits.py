@@ -13,6 +13,7 @@ from .policy import (
     HIGHEST_LEVEL,
     LONGEST_CHAIN,
     MOST_RULES,
+    MOST_SERVICES,
     MOST_SUBJECTS,
     PERMIT,
     USER,
@@ -23,6 +24,7 @@ from .policy import (
     find,
     refuse,
 )
+from .services import ServiceLine, is_attribute, is_service
 from .texts import is_name, is_secret, is_text, number_of
 
 WORDS = (
@@ -35,6 +37,8 @@ WORDS = (
     "enable-hash",
     "clear",
     "priv",
+    "service",
+    "refuse",
     "insert",
     "drop",
     "shift",
@@ -119,6 +123,20 @@ def read_clear(line):
             return lambda policy: clear(policy, word, USER, name)
         case [_, "priv", kind, name] if is_subject(kind, name):
             return lambda policy: clear(policy, "level", kind, name)
+    match line.split(" ", 5)[1:]:
+        case ["service", kind, name, service, *rest] if is_subject(kind, name):
+            if is_service(service):
+                attribute = rest[0] if rest else None
+                return lambda policy: clear_service(policy, kind, name, service, attribute)
+    return None
+
+
+def read_service(line):
+    match line.split(" ", 4):
+        case [word, kind, name, service, *rest] if is_subject(kind, name) and is_service(service):
+            if word == "service" or not rest:
+                said = ServiceLine(word, service, rest[0] if rest else None)
+                return lambda policy: add_service(policy, kind, name, said)
     return None
 
 
@@ -168,6 +186,8 @@ READERS = {
     "enable-hash": read_secret,
     "clear": read_clear,
     "priv": read_level,
+    "service": read_service,
+    "refuse": read_service,
     "insert": read_insert,
     "drop": read_drop,
     "shift": read_shift,
@@ -234,6 +254,30 @@ def set_level(policy, kind, name, level):
     if level > HIGHEST_LEVEL:
         refuse(9, "BadValue")
     return changed(policy, place, level=level)
+
+
+def add_service(policy, kind, name, said):
+    place = place_of(policy, kind, name)
+    services = policy[place].services
+    if any(said.clashes(other) for other in services):
+        refuse(3, "Exists")
+    if not said.is_right():
+        refuse(9, "BadValue")
+    if len(services) == MOST_SERVICES:
+        refuse(10, "Limit")
+    return changed(policy, place, services=services + (said,))
+
+
+def clear_service(policy, kind, name, service, attribute):
+    place = place_of(policy, kind, name)
+    if attribute is not None and not is_attribute(service, attribute):
+        refuse(9, "BadValue")
+    others = [
+        line
+        for line in policy[place].services
+        if line.service != service or attribute not in (None, line.attribute)
+    ]
+    return changed(policy, place, services=tuple(others))
 
 
 def insert(policy, kind, name, at, verdict, source):

@@ -4,10 +4,12 @@ from typing import NamedTuple, Optional, Union
 
 from .hashes import Hash, hash_of
 from .patterns import BadPattern, Pattern, read_pattern
+from .services import ServiceLine, is_service
 from .texts import is_name, is_secret, is_text, number_of
 
 MOST_SUBJECTS = 1024
 MOST_RULES = 256
+MOST_SERVICES = 64
 LONGEST_CHAIN = 8
 HIGHEST_LEVEL = 15
 VERSION_LINES = {"policy 2": 2, "policy 3": 3}
@@ -28,6 +30,7 @@ class Subject(NamedTuple):
     login: Optional[Union[str, Hash]] = None
     enable: Optional[Union[str, Hash]] = None
     level: Optional[int] = None
+    services: tuple = ()
     rules: tuple = ()
 
     def label(self):
@@ -85,6 +88,13 @@ class Reader:
             self.set_secret(word.removesuffix("-hash"), hash_of(rest))
         elif word == "priv":
             self.set_level(rest)
+        elif word == "service" and self.version == 3:
+            service, blank, attribute = rest.partition(" ")
+            self.add_service(word, service, attribute if blank else None)
+        elif word == "refuse" and self.version == 3:
+            if " " in rest:
+                refuse(1, "BadLine")
+            self.add_service(word, rest, None)
         elif word in (PERMIT, DENY):
             self.add_rule(word, rest)
         else:
@@ -125,6 +135,19 @@ class Reader:
         if level is None or level > HIGHEST_LEVEL:
             refuse(6, "BadValue")
         self.subjects[-1] = self.last()._replace(level=level)
+
+    def add_service(self, word, service, attribute):
+        if not is_service(service):
+            refuse(2, "BadName")
+        line = ServiceLine(word, service, attribute)
+        services = self.last().services
+        if any(line.clashes(other) for other in services):
+            refuse(3, "Repeated")
+        if not line.is_right():
+            refuse(6, "BadValue")
+        if len(services) == MOST_SERVICES:
+            refuse(10, "Limit")
+        self.subjects[-1] = self.last()._replace(services=services + (line,))
 
     def add_rule(self, verdict, source):
         subject = self.last()
@@ -176,8 +199,12 @@ def has_hash(subject):
     return isinstance(subject.login, Hash) or isinstance(subject.enable, Hash)
 
 
+def needs_third(subject):
+    return has_hash(subject) or subject.services != ()
+
+
 def printed(policy):
-    lines = ["policy 3" if any(has_hash(subject) for subject in policy) else "policy 2"]
+    lines = ["policy 3" if any(needs_third(subject) for subject in policy) else "policy 2"]
     for subject in policy:
         lines.append(subject.label() + (f" in {subject.parent}" if subject.parent else ""))
         if subject.login is not None:
@@ -186,5 +213,6 @@ def printed(policy):
             lines.append(secret_line("enable", subject.enable))
         if subject.level is not None:
             lines.append(f"priv {subject.level}")
+        lines.extend(str(line) for line in subject.services)
         lines.extend(f"{rule.verdict} {rule.pattern.source}" for rule in subject.rules)
     return "".join(line + "\n" for line in lines)

@@ -10,10 +10,10 @@ use Rattle.pol_pattern.specs.declared.fault.PatternFault.{PatternFault}
 use Rattle.pol_text.specs.declared.subject.Subject.{Subject}
 use Rattle.pol_text.specs.declared.fault.ChainFault.{ChainFault}
 use Rattle.pol_text.specs.declared.fault.ChainFault.TheVariants as chains
-use Rattle.pol_edit.specs.Applying.{◌>>=◌, applied, is_missing, is_number, unless_chain, pattern_read, added_to, removed_from, moved_in, set_in, inserted_in, dropped_in, shifted_in}
+use Rattle.pol_edit.specs.Applying.{◌>>=◌, applied, is_missing, is_number, unless_chain, pattern_read, added_to, removed_from, moved_in, set_in, said_in, inserted_in, dropped_in, shifted_in}
 use Rattle.pol_edit.specs.Batches.{IsFirstMissing, applied_all, of_edit}
 use Rattle.pol_edit.specs.declared.edit.Edit.{Edit}
-use Rattle.pol_edit.specs.declared.edit.Edit.TheVariants.{AddGroup, AddUser, Remove, SetParent, SetLogin, SetEnable, SetHash, SetPriv, InsertRule, RemoveRule, MoveRule}
+use Rattle.pol_edit.specs.declared.edit.Edit.TheVariants.{AddGroup, AddUser, Remove, SetParent, SetLogin, SetEnable, SetHash, SetPriv, AddService, ClearService, InsertRule, RemoveRule, MoveRule}
 use Rattle.pol_edit.specs.declared.fault.EditFault.{EditFault}
 use Rattle.pol_edit.specs.declared.fault.EditFault.TheVariants as faults
 
@@ -93,7 +93,7 @@ inserted policy id at verdict text s =
     else (pattern_read (pattern_of text) >>= placed policy id at verdict s)
 
 pub missing : (policy : List Subject) (edit : Edit) → IsTrue (is_missing policy edit) ↔ (applied policy edit ≡ Err faults.NoSuch)
-unfolding applied added_to removed_from moved_in set_in inserted_in dropped_in shifted_in
+unfolding applied added_to removed_from moved_in set_in said_in inserted_in dropped_in shifted_in
 missing policy (AddGroup name parent) = of_test _ _ (other_if _ (never _ exists) (other_if _ (never _ deep) (other_if _ (never _ limit) (made _))))
 missing policy (AddUser name parent) = of_test _ _ (other_if _ (never _ exists) (other_if _ (never _ deep) (other_if _ (never _ limit) (made _))))
 missing policy (Remove subject) = of_subject _ _ (λ s. other_if _ (never _ used) (made _))
@@ -102,6 +102,8 @@ missing policy (SetLogin user secret) = of_subject _ _ (λ s. other_if _ (made _
 missing policy (SetEnable user secret) = of_subject _ _ (λ s. other_if _ (made _) (never _ value))
 missing policy (SetHash user credential hash) = of_subject _ _ (λ s. other_if _ (made _) (never _ value))
 missing policy (SetPriv subject level) = of_subject _ _ (λ s. other_if _ (made _) (never _ value))
+missing policy (AddService subject line) = of_subject _ _ (λ s. other_if _ (never _ exists) (other_if _ (never _ value) (other_if _ (never _ limit) (made _))))
+missing policy (ClearService subject service attribute) = of_subject _ _ (λ s. other_if _ (made _) (never _ value))
 missing policy (InsertRule subject at verdict pattern) =
     of_subject (find_subject subject policy) (inserted policy subject at verdict pattern)
     (λ s. other_if (not (is_number at (length s.rules + 1))) (never _ index)

@@ -11,10 +11,15 @@ use Rattle.pol_names.specs.declared.decision.Verdict.{Verdict}
 use Rattle.pol_names.specs.declared.decision.Verdict.TheVariants.{Permit, Deny}
 use Rattle.pol_names.specs.declared.subject_id.SubjectId.{SubjectId}
 use Rattle.pol_edit.specs.declared.edit.Edit.{Edit}
-use Rattle.pol_edit.specs.declared.edit.Edit.TheVariants.{AddGroup, AddUser, Remove, SetParent, SetLogin, SetEnable, SetHash, SetPriv, InsertRule, RemoveRule, MoveRule}
-use Rattle.pol_edit.specs.EditText.{◌>>=◌, parted, subject_of, subject_before, parent_of_text, add_edit, add_of, move_of, secret_for, hash_for, clear_of, priv_of, insert_of, drop_of, shift_of, edit_by, edit_of}
+use Rattle.pol_edit.specs.declared.edit.Edit.TheVariants.{AddGroup, AddUser, Remove, SetParent, SetLogin, SetEnable, SetHash, SetPriv, AddService, ClearService, InsertRule, RemoveRule, MoveRule}
+use Rattle.pol_edit.specs.EditText.{◌>>=◌, parted, subject_of, subject_before, parent_of_text, add_edit, add_of, move_of, secret_for, hash_for, service_allowed, service_refused, service_cleared, clear_of, priv_of, insert_of, drop_of, shift_of, edit_by, edit_of}
 use Rattle.pol_names.specs.SubjectId.{subject_text}
-use Rattle.pol_edit.specs.Spelling.{IsName, IsParent, SpellsNumber, parent_text, SpellsWords, Spells}
+use Rattle.pol_names.specs.Service.{service_text, attributed_text, attribute_in, says_word, allowing, refusing}
+use Rattle.pol_names.specs.declared.service.ServiceId.{ServiceId}
+use Rattle.pol_names.specs.declared.service.Says.{Says}
+use Rattle.pol_names.specs.declared.service.Says.TheVariants.{Allows, Refuses}
+use Rattle.pol_names.proofs.ServiceFacts.{again as service_again, attributed_again}
+use Rattle.pol_edit.specs.Spelling.{IsName, IsParent, IsService, SpellsNumber, parent_text, SpellsWords, Spells}
 use Rattle.pol_edit.proofs.Spaces.{joined_4, joined_6, joined_7, split_whole, split_front, name_spaceless, number_spaceless}
 
 name_whole : (name : List ℕ) → IsName name → parted name ≡ None
@@ -82,6 +87,24 @@ clear_priv : (subject : SubjectId) → IsName subject.name → clear_of (codes "
 unfolding clear_of
 clear_priv subject right = rw (subject_whole subject.kind subject.name right) refl
 
+allow_back : (subject : SubjectId) (service : ServiceId) (attribute : Option (List ℕ)) → IsName subject.name → IsService service
+    → service_allowed (subject_text subject ++ 32 ∷ attributed_text service attribute) ≡ Some (AddService subject (allowing service attribute))
+unfolding service_allowed
+allow_back subject service attribute right known =
+    rw (subject_front subject.kind subject.name (attributed_text service attribute) right, attributed_again service attribute known) refl
+
+refuse_back : (subject : SubjectId) (service : ServiceId) → IsName subject.name → IsService service
+    → service_refused (subject_text subject ++ 32 ∷ attributed_text service None) ≡ Some (AddService subject (refusing service))
+unfolding service_refused
+refuse_back subject service right known =
+    rw (append-nil (service_text service), subject_front subject.kind subject.name (service_text service) right, service_again service known) refl
+
+unsay_back : (subject : SubjectId) (service : ServiceId) (attribute : Option (List ℕ)) → IsName subject.name → IsService service
+    → clear_of (codes "service " ++ (subject_text subject ++ 32 ∷ attributed_text service attribute)) ≡ Some (ClearService subject service attribute)
+unfolding clear_of service_cleared
+unsay_back subject service attribute right known =
+    rw (subject_front subject.kind subject.name (attributed_text service attribute) right, attributed_again service attribute known) refl
+
 priv_back : (subject : SubjectId) (digits : List ℕ) (level : ℕ) → IsName subject.name → SpellsNumber digits level
     → priv_of (subject_text subject ++ 32 ∷ digits) ≡ Some (SetPriv subject (Some level))
 unfolding priv_of
@@ -111,6 +134,14 @@ shift_back subject here there from to right first second =
 abbrev by_words : List ℕ → Option Edit
 by_words line = parted line >>= λ parts. edit_by parts.0 parts.1
 
+said_back : (line : List ℕ) (subject : SubjectId) (service : ServiceId) (says : Says) → line ≡ says_word says ++ subject_text subject ++ codes " " ++ attributed_text service (attribute_in says)
+    → IsName subject.name → IsService service → by_words line ≡ Some (AddService subject (record { service = service; says = says }))
+unfolding edit_by
+said_back line subject service (Allows attribute) e right known =
+    ap by_words (e ∙ joined_4 (codes "service ") (subject_text subject) (codes " ") (attributed_text service attribute)) ∙ allow_back subject service attribute right known
+said_back line subject service Refuses e right known =
+    ap by_words (e ∙ joined_4 (codes "refuse ") (subject_text subject) (codes " ") (attributed_text service None)) ∙ refuse_back subject service right known
+
 words_back : (line : List ℕ) (edit : Edit) → SpellsWords line edit → by_words line ≡ Some edit
 unfolding edit_by
 words_back line (AddGroup name parent) h = ap by_words (h.0 ∙ append_assoc (codes "add group ") name (parent_text parent [])) ∙ add_back Group name parent h.1 h.2
@@ -129,6 +160,9 @@ words_back line (SetHash user Enable text) h =
 words_back line (SetPriv subject (Some level)) h =
     ap by_words (h.1 ∙ joined_4 (codes "priv ") (subject_text subject) (codes " ") h.0) ∙ priv_back subject h.0 level h.2 h.3
 words_back line (SetPriv subject None) h = rw h.0 (clear_priv subject h.1)
+words_back line (AddService subject said) h = said_back line subject said.service said.says h.0 h.1 h.2
+words_back line (ClearService subject service attribute) h =
+    ap by_words (h.0 ∙ joined_4 (codes "clear service ") (subject_text subject) (codes " ") (attributed_text service attribute)) ∙ unsay_back subject service attribute h.1 h.2
 words_back line (InsertRule subject at verdict pattern) h =
     ap by_words (h.1 ∙ joined_7 (codes "insert ") (subject_text subject) (codes " ") h.0 (codes " ") (verdict_word verdict) pattern)
     ∙ insert_back subject h.0 at verdict pattern h.2 h.3

@@ -8,6 +8,8 @@ use Rattle.pol_names.specs.Name.{is_name, name_of}
 use Rattle.pol_names.specs.SubjectId.{kind_word, subject_text}
 use Rattle.pol_names.specs.Decision.{verdict_word}
 use Rattle.pol_names.specs.Secret.{hash_word}
+use Rattle.pol_names.specs.Service.{service_of, service_text, attributed_of, attributed_text, allowing, refusing}
+use Rattle.pol_names.proofs.ServiceFacts.{found as service_found, attributed_found}
 use Rattle.pol_names.specs.declared.secret.Credential.{Credential}
 use Rattle.pol_names.specs.declared.secret.Credential.TheVariants.{Login, Enable}
 use Rattle.pol_names.specs.declared.subject_id.Kind.{Kind}
@@ -16,8 +18,8 @@ use Rattle.pol_names.specs.declared.decision.Verdict.{Verdict}
 use Rattle.pol_names.specs.declared.decision.Verdict.TheVariants.{Permit, Deny}
 use Rattle.pol_names.specs.declared.subject_id.SubjectId.{SubjectId}
 use Rattle.pol_edit.specs.declared.edit.Edit.{Edit}
-use Rattle.pol_edit.specs.declared.edit.Edit.TheVariants.{Remove, SetParent, SetLogin, SetEnable, SetHash, SetPriv, InsertRule, RemoveRule, MoveRule}
-use Rattle.pol_edit.specs.EditText.{◌>>=◌, parted, kind_of, verdict_of, count_of, subject_of, subject_before, parent_of_text, add_edit, added, add_of, move_of, secret_for, hash_for, clear_of, priv_of, insert_of, drop_of, shift_of, edit_by, edit_of}
+use Rattle.pol_edit.specs.declared.edit.Edit.TheVariants.{Remove, SetParent, SetLogin, SetEnable, SetHash, SetPriv, AddService, ClearService, InsertRule, RemoveRule, MoveRule}
+use Rattle.pol_edit.specs.EditText.{◌>>=◌, parted, kind_of, verdict_of, count_of, subject_of, subject_before, parent_of_text, add_edit, added, add_of, move_of, secret_for, hash_for, service_allowed, service_refused, service_cleared, setting_cleared, clear_of, priv_of, insert_of, drop_of, shift_of, edit_by, edit_of}
 use Rattle.pol_edit.specs.Spelling.{IsName, IsParent, parent_text, SpellsWords, Spells}
 use Rattle.pol_edit.proofs.Spaces.{joined_4, joined_6, joined_7, parts_joined}
 
@@ -201,12 +203,53 @@ hash_found credential rest edit e =
     (ap (λ (t : List ℕ). hash_word credential ++ t) (joined ∙ ap (λ (w : List ℕ). w ++ 32 ∷ parts.0.1) named.0))
     user.2 (sym (joined_4 (hash_word credential) user.0 (codes " ") parts.0.1), named.1)
 
+allow_found : (rest : List ℕ) (edit : Edit) → service_allowed rest ≡ Some edit → SpellsWords (codes "service " ++ rest) edit
+unfolding service_allowed
+allow_found rest edit e =
+    let front = bound (subject_before rest) _ edit e in
+    let named = front_found rest front.0 front.1 in
+    let read = bound (attributed_of front.0.1) _ edit front.2 in
+    let spelled = attributed_found front.0.1 read.0 read.1 in
+    let made : Edit = AddService front.0.0 (allowing read.0.0 read.0.1) in
+    respell _ (codes "service " ++ (subject_text front.0.0 ++ 32 ∷ attributed_text read.0.0 read.0.1)) edit made
+    (ap (λ (t : List ℕ). codes "service " ++ t) (named.0 ∙ ap (λ (t : List ℕ). subject_text front.0.0 ++ 32 ∷ t) spelled.1)) (done_is made edit read.2)
+    (sym (joined_4 (codes "service ") (subject_text front.0.0) (codes " ") (attributed_text read.0.0 read.0.1)), named.1, spelled.0)
+
+refuse_found : (rest : List ℕ) (edit : Edit) → service_refused rest ≡ Some edit → SpellsWords (codes "refuse " ++ rest) edit
+unfolding service_refused
+refuse_found rest edit e =
+    let front = bound (subject_before rest) _ edit e in
+    let named = front_found rest front.0 front.1 in
+    let service = mapped (service_of front.0.1) (λ service. AddService front.0.0 (refusing service)) edit front.2 in
+    let spelled = service_found front.0.1 service.0 service.1 in
+    let whole : front.0.1 ≡ attributed_text service.0 None = spelled.1 ∙ sym (append-nil (service_text service.0)) in
+    respell _ (codes "refuse " ++ (subject_text front.0.0 ++ 32 ∷ attributed_text service.0 None)) edit (AddService front.0.0 (refusing service.0))
+    (ap (λ (t : List ℕ). codes "refuse " ++ t) (named.0 ∙ ap (λ (t : List ℕ). subject_text front.0.0 ++ 32 ∷ t) whole)) service.2
+    (sym (joined_4 (codes "refuse ") (subject_text front.0.0) (codes " ") (attributed_text service.0 None)), named.1, spelled.0)
+
+unsay_found : (rest : List ℕ) (edit : Edit) → service_cleared rest ≡ Some edit → SpellsWords (codes "clear service " ++ rest) edit
+unfolding service_cleared
+unsay_found rest edit e =
+    let front = bound (subject_before rest) _ edit e in
+    let named = front_found rest front.0 front.1 in
+    let read = bound (attributed_of front.0.1) _ edit front.2 in
+    let spelled = attributed_found front.0.1 read.0 read.1 in
+    let made : Edit = ClearService front.0.0 read.0.0 read.0.1 in
+    respell _ (codes "clear service " ++ (subject_text front.0.0 ++ 32 ∷ attributed_text read.0.0 read.0.1)) edit made
+    (ap (λ (t : List ℕ). codes "clear service " ++ t) (named.0 ∙ ap (λ (t : List ℕ). subject_text front.0.0 ++ 32 ∷ t) spelled.1)) (done_is made edit read.2)
+    (sym (joined_4 (codes "clear service ") (subject_text front.0.0) (codes " ") (attributed_text read.0.0 read.0.1)), named.1, spelled.0)
+
 clear_found : (rest : List ℕ) (edit : Edit) → clear_of rest ≡ Some edit → SpellsWords (codes "clear " ++ rest) edit
 unfolding clear_of
 clear_found rest edit e =
     let parts = bound (parted rest) _ edit e in
     let joined = parted_at rest parts.0 parts.1 in
-    choice _ (bytes_eq parts.0.0 (codes "login")) (option_map (λ user. SetLogin user None) (name_of parts.0.1)) _ (done edit) parts.2
+    choice _ (bytes_eq parts.0.0 (codes "service")) (service_cleared parts.0.1) _ (done edit) parts.2
+    (λ is made.
+    respell _ (codes "clear service " ++ parts.0.1) edit edit
+    (ap (λ (t : List ℕ). codes "clear " ++ t) (joined ∙ ap (λ (w : List ℕ). w ++ 32 ∷ parts.0.1) (word_is parts.0.0 (codes "service") is))) refl
+    (unsay_found parts.0.1 edit made))
+    (λ more. choice _ (bytes_eq parts.0.0 (codes "login")) (option_map (λ user. SetLogin user None) (name_of parts.0.1)) _ (done edit) more
     (λ is made.
     let user = mapped (name_of parts.0.1) (λ user. SetLogin user None) edit made in
     let named = name_found parts.0.1 user.0 user.1 in
@@ -227,7 +270,7 @@ clear_found rest edit e =
     respell _ (codes "clear priv " ++ subject_text subject.0) edit (SetPriv subject.0 None)
     (ap (λ (t : List ℕ). codes "clear " ++ t) (joined ∙ ap (λ (w : List ℕ). w ++ 32 ∷ parts.0.1) (word_is parts.0.0 (codes "priv") is) ∙ ap (λ (t : List ℕ). codes "priv " ++ t) named.0))
     subject.2 (refl, named.1))
-    (λ none. absurd cc)))
+    (λ none. absurd cc))))
 
 priv_found : (rest : List ℕ) (edit : Edit) → priv_of rest ≡ Some edit → SpellsWords (codes "priv " ++ rest) edit
 unfolding priv_of
@@ -291,12 +334,14 @@ words_found word rest edit e =
     (λ e. on (codes "enable") (secret_for SetEnable rest) _ e (enable_found rest edit)
     (λ e. on (codes "login-hash") (hash_for Login rest) _ e (hash_found Login rest edit)
     (λ e. on (codes "enable-hash") (hash_for Enable rest) _ e (hash_found Enable rest edit)
+    (λ e. on (codes "service") (service_allowed rest) _ e (allow_found rest edit)
+    (λ e. on (codes "refuse") (service_refused rest) _ e (refuse_found rest edit)
     (λ e. on (codes "clear") (clear_of rest) _ e (clear_found rest edit)
     (λ e. on (codes "priv") (priv_of rest) _ e (priv_found rest edit)
     (λ e. on (codes "insert") (insert_of rest) _ e (insert_found rest edit)
     (λ e. on (codes "drop") (drop_of rest) _ e (drop_found rest edit)
     (λ e. on (codes "shift") (shift_of rest) None e (shift_found rest edit)
-    (λ none. absurd cc))))))))))))
+    (λ none. absurd cc))))))))))))))
   where
     on : (wanted : List ℕ) (x y : Option Edit) → cond (bytes_eq word wanted) x y ≡ Some edit
         → (x ≡ Some edit → SpellsWords (wanted ++ 32 ∷ rest) edit) → (y ≡ Some edit → SpellsWords (word ++ 32 ∷ rest) edit) → SpellsWords (word ++ 32 ∷ rest) edit

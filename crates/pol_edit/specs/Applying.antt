@@ -10,11 +10,15 @@ use Rattle.pol_pattern.specs.declared.fault.PatternFault.{PatternFault}
 use Rattle.sha_crypt.specs.HashText.{hash_of}
 use Rattle.pol_names.specs.Secret.{is_secret}
 use Rattle.pol_names.specs.SubjectId.{same_kind, group_id, user_id}
-use Rattle.pol_text.specs.Policy.{find_subject, all_of, max_subjects, max_rules, max_level}
+use Rattle.pol_names.specs.Service.{any_clash, is_right_line, allowing}
+use Rattle.pol_names.specs.declared.service.ServiceLine.{ServiceLine}
+use Rattle.pol_text.specs.Policy.{find_subject, all_of, max_subjects, max_rules, max_services}
+use Rattle.pol_text.specs.Policy.{max_level}
 use Rattle.pol_text.specs.Text.{new_subject}
 use Rattle.pol_text.specs.Change.{with_changed, without, is_parent, has_room_below, chain_fault}
 use Rattle.pol_text.specs.Change.{with_parent, with_secret, with_priv, with_rule_at}
-use Rattle.pol_text.specs.Change.{without_rule_at, with_rule_moved}
+use Rattle.pol_text.specs.Change.{without_rule_at, with_rule_moved, with_line_last}
+use Rattle.pol_text.specs.Change.{without_service}
 use Rattle.pol_names.specs.declared.secret.Credential.TheVariants.{Login, Enable}
 use Rattle.pol_names.specs.declared.secret.Secret.TheVariants.{Clear, Hashed}
 use Rattle.pol_names.specs.declared.subject_id.Kind.{Kind}
@@ -27,7 +31,8 @@ use Rattle.pol_text.specs.declared.fault.ChainFault.TheVariants as chains
 use Rattle.pol_edit.specs.declared.edit.Edit.{Edit}
 use Rattle.pol_edit.specs.declared.edit.Edit.TheVariants.{AddGroup, AddUser, Remove, SetParent}
 use Rattle.pol_edit.specs.declared.edit.Edit.TheVariants.{SetLogin, SetEnable, SetPriv, InsertRule}
-use Rattle.pol_edit.specs.declared.edit.Edit.TheVariants.{SetHash, RemoveRule, MoveRule}
+use Rattle.pol_edit.specs.declared.edit.Edit.TheVariants.{SetHash, AddService, ClearService}
+use Rattle.pol_edit.specs.declared.edit.Edit.TheVariants.{RemoveRule, MoveRule}
 use Rattle.pol_edit.specs.declared.fault.EditFault.{EditFault}
 use Rattle.pol_edit.specs.declared.fault.EditFault.TheVariants as faults
 
@@ -80,6 +85,14 @@ unfoldable pub set_in : List Subject → SubjectId → Bool → (Subject → Sub
 set_in policy id is_right change = present id policy >>= λ subject.
     if is_right then Ok (with_changed id change policy) else Err faults.BadValue
 
+-- a line about a service goes last, where it clashes with none and there is room
+unfoldable pub said_in : List Subject → SubjectId → ServiceLine → Result (List Subject) EditFault
+said_in policy id line = present id policy >>= λ subject.
+    if any_clash subject.services line then Err faults.Exists
+    else if not (is_right_line line) then Err faults.BadValue
+    else if nat_le max_services (length subject.services) then Err faults.Limit
+    else Ok (with_changed id (with_line_last line) policy)
+
 abbrev pub pattern_read : Result (List ℕ) PatternFault → Result (List ℕ) EditFault
 pattern_read (Ok source) = Ok source
 pattern_read (Err fault) = Err (faults.BadPattern fault)
@@ -125,6 +138,10 @@ applied policy (SetHash user credential text) =
     (with_secret credential (option_map Hashed (hash_of text)))
 applied policy (SetPriv subject level) =
     set_in policy subject (all_of (λ n. nat_le n max_level) level) (with_priv level)
+applied policy (AddService subject line) = said_in policy subject line
+applied policy (ClearService subject service attribute) =
+    set_in policy subject (is_right_line (allowing service attribute))
+    (without_service service attribute)
 applied policy (InsertRule subject at verdict pattern) =
     inserted_in policy subject at verdict pattern
 applied policy (RemoveRule subject at) = dropped_in policy subject at
@@ -143,6 +160,9 @@ is_missing policy (SetHash user credential text) =
     not (is_some (find_subject (user_id user) policy))
 is_missing policy (Remove subject) = not (is_some (find_subject subject policy))
 is_missing policy (SetPriv subject level) = not (is_some (find_subject subject policy))
+is_missing policy (AddService subject line) = not (is_some (find_subject subject policy))
+is_missing policy (ClearService subject service attribute) =
+    not (is_some (find_subject subject policy))
 is_missing policy (InsertRule subject at verdict pattern) =
     not (is_some (find_subject subject policy))
 is_missing policy (RemoveRule subject at) = not (is_some (find_subject subject policy))
@@ -161,9 +181,9 @@ has_place policy id at =
     option_map_or (λ subject. is_number at (length subject.rules + 1))
     (find_subject id policy) false
 
--- whether the edit takes memory: a subject that is added and a secret in the clear that is set
--- do, and a pattern that is read, which it is once its rule has a place. No other
--- edit does, nor one that is refused before
+-- whether the edit takes memory: a subject that is added, a secret in the clear that is set and a
+-- line about a service that is added do, and a pattern that is read, which it is once its rule has
+-- a place. No other edit does, nor one that is refused before
 abbrev pub takes_memory : List Subject → Edit → Bool
 takes_memory policy (AddGroup name parent) = is_ok (applied policy (AddGroup name parent))
 takes_memory policy (AddUser name parent) = is_ok (applied policy (AddUser name parent))
@@ -171,6 +191,7 @@ takes_memory policy (SetLogin user secret) =
     is_some secret && is_ok (applied policy (SetLogin user secret))
 takes_memory policy (SetEnable user secret) =
     is_some secret && is_ok (applied policy (SetEnable user secret))
+takes_memory policy (AddService subject line) = is_ok (applied policy (AddService subject line))
 takes_memory policy (InsertRule subject at verdict pattern) = has_place policy subject at
 takes_memory policy edit = false
 

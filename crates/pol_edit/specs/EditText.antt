@@ -7,6 +7,7 @@ use Rattle.basics.specs.Symbol.{is_text}
 use Rattle.basics.specs.Lines.{split_at_first}
 use Rattle.basics.specs.Number.{number_of}
 use Rattle.pol_names.specs.Name.{name_of}
+use Rattle.pol_names.specs.Service.{service_of, attributed_of, attribute_in, allowing, refusing}
 use Rattle.pol_names.specs.declared.secret.Credential.{Credential}
 use Rattle.pol_names.specs.declared.secret.Credential.TheVariants.{Login, Enable}
 use Rattle.pol_names.specs.declared.subject_id.Kind.{Kind}
@@ -17,7 +18,8 @@ use Rattle.pol_names.specs.declared.subject_id.SubjectId.{SubjectId}
 use Rattle.pol_edit.specs.declared.edit.Edit.{Edit}
 use Rattle.pol_edit.specs.declared.edit.Edit.TheVariants.{AddGroup, AddUser, Remove, SetParent}
 use Rattle.pol_edit.specs.declared.edit.Edit.TheVariants.{SetLogin, SetEnable, SetPriv, InsertRule}
-use Rattle.pol_edit.specs.declared.edit.Edit.TheVariants.{SetHash, RemoveRule, MoveRule}
+use Rattle.pol_edit.specs.declared.edit.Edit.TheVariants.{SetHash, AddService, ClearService}
+use Rattle.pol_edit.specs.declared.edit.Edit.TheVariants.{RemoveRule, MoveRule}
 
 infixl 10 ◌>>=◌
 abbrev pub ◌>>=◌ : {A B : Type 0} → Option A → (A → Option B) → Option B
@@ -102,16 +104,41 @@ hash_for credential rest =
     parted rest
     >>= λ parts. option_map (λ user. SetHash user credential parts.1) (name_of parts.0)
 
--- `login NAME`, `enable NAME` or `priv KIND NAME`
+-- `KIND NAME S` or `KIND NAME S ATTRIBUTE`: the attribute is the whole rest
+unfoldable pub service_allowed : List ℕ → Option Edit
+service_allowed rest = do
+  front ← subject_before rest
+  read ← attributed_of front.1
+  Some (AddService front.0 (allowing read.0 read.1))
+
+-- `KIND NAME S`
+unfoldable pub service_refused : List ℕ → Option Edit
+service_refused rest =
+    subject_before rest
+    >>= λ front. option_map (λ service. AddService front.0 (refusing service)) (service_of front.1)
+
+-- `KIND NAME S` or `KIND NAME S ATTRIBUTE`
+unfoldable pub service_cleared : List ℕ → Option Edit
+service_cleared rest = do
+  front ← subject_before rest
+  read ← attributed_of front.1
+  Some (ClearService front.0 read.0 read.1)
+
+-- `login NAME`, `enable NAME` or `priv KIND NAME`, split at its first space
+abbrev pub setting_cleared : List ℕ → List ℕ → Option Edit
+setting_cleared word rest =
+    if bytes_eq word (codes "login") then option_map (λ user. SetLogin user None) (name_of rest)
+    else if bytes_eq word (codes "enable")
+    then option_map (λ user. SetEnable user None) (name_of rest)
+    else if bytes_eq word (codes "priv")
+    then option_map (λ subject. SetPriv subject None) (subject_of rest)
+    else None
+
+-- such a setting, or `service KIND NAME S`, perhaps with an attribute
 unfoldable pub clear_of : List ℕ → Option Edit
 clear_of rest = parted rest >>= λ parts.
-    if bytes_eq parts.0 (codes "login")
-    then option_map (λ user. SetLogin user None) (name_of parts.1)
-    else if bytes_eq parts.0 (codes "enable")
-    then option_map (λ user. SetEnable user None) (name_of parts.1)
-    else if bytes_eq parts.0 (codes "priv")
-    then option_map (λ subject. SetPriv subject None) (subject_of parts.1)
-    else None
+    if bytes_eq parts.0 (codes "service") then service_cleared parts.1
+    else setting_cleared parts.0 parts.1
 
 -- `KIND NAME LEVEL`
 unfoldable pub priv_of : List ℕ → Option Edit
@@ -152,6 +179,8 @@ edit_by word rest =
     else if bytes_eq word (codes "enable") then secret_for SetEnable rest
     else if bytes_eq word (codes "login-hash") then hash_for Login rest
     else if bytes_eq word (codes "enable-hash") then hash_for Enable rest
+    else if bytes_eq word (codes "service") then service_allowed rest
+    else if bytes_eq word (codes "refuse") then service_refused rest
     else if bytes_eq word (codes "clear") then clear_of rest
     else if bytes_eq word (codes "priv") then priv_of rest
     else if bytes_eq word (codes "insert") then insert_of rest
@@ -165,13 +194,19 @@ edit_of line = if is_text line then (parted line >>= λ parts. edit_by parts.0 p
 
 -- ---- memory
 
--- whether an edit has a secret, a hash or a pattern, which take memory to keep
+-- whether an edit has a secret, a hash, an attribute or a pattern, which take memory to keep
 abbrev pub has_text : Edit → Bool
 has_text (SetLogin user secret) = is_some secret
 has_text (SetEnable user secret) = is_some secret
 has_text (SetHash user credential hash) = true
+has_text (AddService subject line) = is_some (attribute_in line.says)
+has_text (ClearService subject service attribute) = is_some attribute
 has_text (InsertRule subject at verdict pattern) = true
 has_text edit = false
+
+-- whether an attribute follows a service
+abbrev pub has_attribute : List ℕ → Bool
+has_attribute text = option_map_or (λ read. is_some read.1) (attributed_of text) false
 
 abbrev pub has_text_in : Option Edit → Bool
 has_text_in edit = option_map_or has_text edit false

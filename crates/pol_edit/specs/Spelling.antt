@@ -7,6 +7,9 @@
 --           | "enable " name " " text
 --           | "login-hash " name " " text
 --           | "enable-hash " name " " text
+--           | "service " subject " " service [ " " text ]
+--           | "refuse " subject " " service
+--           | "clear service " subject " " service [ " " text ]
 --           | "clear login " name
 --           | "clear enable " name
 --           | "clear priv " subject
@@ -15,6 +18,7 @@
 --           | "drop " subject " " number
 --           | "shift " subject " " number " " number
 --   subject = ( "group" | "user" ) " " name
+--   service = name [ "/" name ]
 --   number  = 1 to 4 digits
 --   text    = { symbol }
 use Rattle.std.specs.Prelude.{◌≡◌, ℕ, List, [], ◌++◌, codes, IsTrue, Option, Some, None}
@@ -26,16 +30,22 @@ use Rattle.pol_text.specs.Policy.{all_of}
 use Rattle.pol_names.specs.SubjectId.{subject_text}
 use Rattle.pol_names.specs.Decision.{verdict_word}
 use Rattle.pol_names.specs.Secret.{hash_word}
+use Rattle.pol_names.specs.Service.{is_service, says_word, attributed_text, attribute_in}
+use Rattle.pol_names.specs.declared.service.ServiceId.{ServiceId}
 use Rattle.pol_edit.specs.declared.edit.Edit.{Edit}
 use Rattle.pol_edit.specs.declared.edit.Edit.TheVariants.{AddGroup, AddUser, Remove, SetParent}
 use Rattle.pol_edit.specs.declared.edit.Edit.TheVariants.{SetLogin, SetEnable, SetPriv, InsertRule}
-use Rattle.pol_edit.specs.declared.edit.Edit.TheVariants.{SetHash, RemoveRule, MoveRule}
+use Rattle.pol_edit.specs.declared.edit.Edit.TheVariants.{SetHash, AddService, ClearService}
+use Rattle.pol_edit.specs.declared.edit.Edit.TheVariants.{RemoveRule, MoveRule}
 
 abbrev pub IsName : List ℕ → Type 0
 IsName name = IsTrue (is_name name)
 
 abbrev pub IsParent : Option (List ℕ) → Type 0
 IsParent parent = IsTrue (all_of is_name parent)
+
+abbrev pub IsService : ServiceId → Type 0
+IsService service = IsTrue (is_service service)
 
 -- the digits spell the number, also with leading zeros
 abbrev pub SpellsNumber : List ℕ → ℕ → Type 0
@@ -69,6 +79,14 @@ SpellsWords line (SetPriv subject (Some level)) =
     × IsName subject.name × SpellsNumber digits level
 SpellsWords line (SetPriv subject None) =
     (line ≡ codes "clear priv " ++ subject_text subject) × IsName subject.name
+SpellsWords line (AddService subject said) =
+    (line ≡ says_word said.says ++ subject_text subject ++ codes " "
+    ++ attributed_text said.service (attribute_in said.says))
+    × IsName subject.name × IsService said.service
+SpellsWords line (ClearService subject service attribute) =
+    (line ≡ codes "clear service " ++ subject_text subject ++ codes " "
+    ++ attributed_text service attribute)
+    × IsName subject.name × IsService service
 SpellsWords line (InsertRule subject at verdict pattern) =
     (digits : List ℕ)
     × (line ≡ codes "insert " ++ subject_text subject ++ codes " " ++ digits ++ codes " "

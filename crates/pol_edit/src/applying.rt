@@ -1,17 +1,18 @@
 //! Applying an edit to a policy: the refusals in their order, and then the one change.
 
-ghost use Rattle.std.specs.Prelude.{◌≡◌, ◌⊎◌, ◌&&◌, Ok, Err, false, nat_le, is_some, IsTrue, IfOk};
-ghost use Rattle.std.specs.Prelude.{IfErr, OnErr};
+ghost use Rattle.std.specs.Prelude.{◌≡◌, ◌⊎◌, ◌&&◌, Ok, Err, false, nat_le, is_some, IsTrue};
+ghost use Rattle.std.specs.Prelude.{IfOk, IfErr, OnErr};
 ghost use Rattle.std.specs.Option.{option_map};
 ghost use Rattle.std.specs.Result.{is_ok};
 ghost use Rattle.basics.specs.Memory.{GivesUnlessMemory};
 ghost use Rattle.pol_pattern.specs.Reading.{pattern_of};
 ghost use Rattle.sha_crypt.specs.HashText.{hash_of};
 ghost use Rattle.pol_names.specs.Secret.{is_secret};
+ghost use Rattle.pol_names.specs.Service.{is_right_line, allowing};
 ghost use Rattle.pol_names.specs.declared.secret.Secret.TheVariants.{Clear, Hashed};
 ghost use Rattle.pol_names.specs.SubjectId.{user_id};
 ghost use Rattle.pol_text.specs.Policy.{WellFormed, all_of, find_subject};
-ghost use Rattle.pol_text.specs.Change.{has_room_below, with_secret, with_priv};
+ghost use Rattle.pol_text.specs.Change.{has_room_below, with_secret, with_priv, without_service};
 ghost use Rattle.pol_edit.specs.declared.fault.EditFault.TheVariants.{BadValue, Memory};
 ghost use Rattle.pol_edit.specs.Applying as applying;
 ghost use Rattle.pol_edit.specs.Applying.{Applies};
@@ -19,7 +20,9 @@ ghost use Rattle.pol_edit.specs.Applying.{Applies};
 use crate::edit::Edit;
 use crate::fault::EditFault;
 use basics::Bytes;
-use pol_names::{ClearSecret, Credential, Hash, Kind, Name, Secret, SubjectId, Verdict};
+use pol_names::{
+    ClearSecret, Credential, Hash, Kind, Name, Secret, ServiceId, ServiceLine, SubjectId, Verdict,
+};
 use pol_pattern::{Pattern, PatternFault};
 use pol_text::{ChainFault, Policy, Rule};
 use std::alloc::Global;
@@ -75,6 +78,8 @@ pub(crate) fn is_missing(policy: &Policy, edit: &Edit) -> bool
             !has_subject(policy, &SubjectId::user(*user)),
         Edit::Remove { subject }
         | Edit::SetPriv { subject, .. }
+        | Edit::AddService { subject, .. }
+        | Edit::ClearService { subject, .. }
         | Edit::InsertRule { subject, .. }
         | Edit::RemoveRule { subject, .. }
         | Edit::MoveRule { subject, .. } => !has_subject(policy, subject),
@@ -249,6 +254,58 @@ fn set_priv(policy: &mut Policy, id: &SubjectId, level: Option<u16>) -> Result<(
     Ok(())
 }
 
+#[tactic(auto, unfolding(crate::specs::Applying::said_in))]
+fn add_service(
+    alloc: Global,
+    policy: &mut Policy,
+    id: &SubjectId,
+    line: &ServiceLine,
+) -> Result<(), EditFault>
+    ensures exact { let wanted = applying.said_in policy.old id.now line.now in
+        Applies (is_ok wanted) policy.old policy.new result wanted }
+    ensures well_formed { WellFormed policy.new }
+{
+    let Some(subject) = policy.find(id) else {
+        return Err(EditFault::NoSuch);
+    };
+    if subject.has_clash(line) {
+        return Err(EditFault::Exists);
+    }
+    if !line.is_right() {
+        return Err(EditFault::BadValue);
+    }
+    if subject.services.len() >= Policy::MAX_SERVICES {
+        return Err(EditFault::Limit);
+    }
+    let line = line.copy(alloc)?;
+    policy.add_service(id, line)?;
+    Ok(())
+}
+
+#[tactic(auto, unfolding(crate::specs::Applying::set_in))]
+fn clear_service(
+    alloc: Global,
+    policy: &mut Policy,
+    id: &SubjectId,
+    service: &ServiceId,
+    attribute: &Option<Bytes>,
+) -> Result<(), EditFault>
+    ensures exact { let right = is_right_line (allowing service.now attribute.now) in
+        let change = without_service service.now attribute.now in
+        Applies false policy.old policy.new result
+        (applying.set_in policy.old id.now right change) }
+    ensures well_formed { WellFormed policy.new }
+{
+    if policy.find(id).is_none() {
+        return Err(EditFault::NoSuch);
+    }
+    if !service.may_give(attribute) {
+        return Err(EditFault::BadValue);
+    }
+    policy.clear_service(alloc, id, service, attribute);
+    Ok(())
+}
+
 #[tactic(auto, unfolding(crate::specs::Applying::inserted_in))]
 fn insert_rule(
     alloc: Global,
@@ -342,6 +399,12 @@ fn make(alloc: Global, policy: &mut Policy, edit: &Edit) -> Result<(), EditFault
             hash,
         } => set_hash(policy, *user, *credential, hash.as_slice()),
         Edit::SetPriv { subject, level } => set_priv(policy, subject, *level),
+        Edit::AddService { subject, line } => add_service(alloc, policy, subject, line),
+        Edit::ClearService {
+            subject,
+            service,
+            attribute,
+        } => clear_service(alloc, policy, subject, service, attribute),
         Edit::InsertRule {
             subject,
             at,
@@ -354,8 +417,8 @@ fn make(alloc: Global, policy: &mut Policy, edit: &Edit) -> Result<(), EditFault
 }
 
 /// Applies an edit. A refused edit leaves the policy as it was, also where memory ran out. Only a
-/// subject that is added, a secret that is set in the clear and a rule that is inserted take
-/// memory.
+/// subject that is added, a secret that is set in the clear, a line about a service that is added
+/// and a rule that is inserted take memory.
 pub fn apply(alloc: Global, policy: &mut Policy, edit: &Edit) -> Result<(), EditFault>
     // Which policy it becomes, or which refusal comes first. Memory runs out only where it is
     // taken.

@@ -3,10 +3,10 @@
 ghost use Rattle.std.specs.Prelude.{◌≡◌};
 
 use basics::{Bytes, StructuralEq};
-use pol_names::{Credential, Name, SubjectId, Verdict};
+use pol_names::{Credential, Name, ServiceId, ServiceLine, SubjectId, Verdict};
 
-/// An edit. Secrets, hashes and patterns are kept as they were written, and judged when the edit is
-/// applied; rules are counted from 1.
+/// An edit. Secrets, hashes, attributes and patterns are kept as they were written, and judged when
+/// the edit is applied; rules are counted from 1.
 #[derive(PartialEq, Eq)]
 pub enum Edit {
     /// Adds a group, last, without rules.
@@ -48,6 +48,17 @@ pub enum Edit {
     SetPriv {
         subject: SubjectId,
         level: Option<u16>,
+    },
+    /// Adds a line about a service to the subject, last.
+    AddService {
+        subject: SubjectId,
+        line: ServiceLine,
+    },
+    /// Clears the subject's lines about a service, or the one that gives this attribute.
+    ClearService {
+        subject: SubjectId,
+        service: ServiceId,
+        attribute: Option<Bytes>,
     },
     /// Inserts a rule, so that it has this number.
     InsertRule {
@@ -91,6 +102,15 @@ impl Drop for Edit {
                 subject: _,
                 level: _,
             } => {}
+            Edit::AddService {
+                subject: _,
+                line: _,
+            } => {}
+            Edit::ClearService {
+                subject: _,
+                service: _,
+                attribute: _,
+            } => {}
             Edit::InsertRule {
                 subject: _,
                 at: _,
@@ -107,8 +127,33 @@ impl Drop for Edit {
     }
 }
 
+// Of each kind by itself: the prover doesn't split all pairs of kinds at once.
 impl StructuralEq for Edit {
+    ghost use Rattle.std.specs.Prelude.{true};
     ghost use Rattle.std.proofs.Common.{rules};
+    ghost use Rattle.pol_edit.specs.declared.edit.Edit.{Edit as EditValue};
+    ghost use Rattle.pol_names.specs.SameService.{same_service-identical, same_line-identical};
+    ghost use Rattle.pol_edit.specs.declared.edit.Edit.TheVariants.{AddGroup, AddUser, Remove};
+    ghost use Rattle.pol_edit.specs.declared.edit.Edit.TheVariants.{SetParent, SetLogin};
+    ghost use Rattle.pol_edit.specs.declared.edit.Edit.TheVariants.{SetEnable, SetHash, SetPriv};
+    ghost use Rattle.pol_edit.specs.declared.edit.Edit.TheVariants.{AddService, ClearService};
+    ghost use Rattle.pol_edit.specs.declared.edit.Edit.TheVariants.{InsertRule, RemoveRule};
+    ghost use Rattle.pol_edit.specs.declared.edit.Edit.TheVariants.{MoveRule};
 
-    ghost identical = { Prim.search rules };
+    ghost identical = { λ x. elim x as (λ k.
+        (y : EditValue) → ⟦<Edit as PartialEq>⟧.eq k y ≡ true → k ≡ y) [
+          | AddGroup a b ↦ λ y e. Prim.search rules
+          | AddUser a b ↦ λ y e. Prim.search rules
+          | Remove a ↦ λ y e. Prim.search rules
+          | SetParent a b ↦ λ y e. Prim.search rules
+          | SetLogin a b ↦ λ y e. Prim.search rules
+          | SetEnable a b ↦ λ y e. Prim.search rules
+          | SetHash a b c ↦ λ y e. Prim.search rules
+          | SetPriv a b ↦ λ y e. Prim.search rules
+          | AddService a b ↦ λ y e. Prim.search (rules, same_line-identical)
+          | ClearService a b c ↦ λ y e. Prim.search (rules, same_service-identical)
+          | InsertRule a b c d ↦ λ y e. Prim.search rules
+          | RemoveRule a b ↦ λ y e. Prim.search rules
+          | MoveRule a b c ↦ λ y e. Prim.search rules
+        ] };
 }

@@ -9,13 +9,16 @@ ghost use Rattle.pol_edit.specs.declared.fault.EditFault.TheVariants.{BadEdit, M
 ghost use Rattle.pol_edit.specs.Spelling.{Spells};
 ghost use Rattle.pol_edit.specs.EditText.{parted, added as added_by, add_of, move_of, secret_for};
 ghost use Rattle.pol_edit.specs.EditText.{hash_for, clear_of, priv_of, insert_of, drop_of};
-ghost use Rattle.pol_edit.specs.EditText.{shift_of, edit_by, edit_of, has_text_in};
+ghost use Rattle.pol_edit.specs.EditText.{shift_of, edit_by, edit_of, has_text_in, has_attribute};
+ghost use Rattle.pol_edit.specs.EditText.{service_allowed, service_refused, service_cleared};
+ghost use Rattle.pol_edit.specs.EditText.{setting_cleared};
+ghost use Rattle.pol_names.specs.Service.{attributed_of};
 
 use crate::edit::Edit;
 use crate::fault::EditFault;
 use crate::fields::{count, kind, parent, subject, subject_before, verdict};
 use basics::{Bytes, is_text, split_once};
-use pol_names::{Credential, Kind, Name, SubjectId, Verdict};
+use pol_names::{Credential, Kind, Name, Says, ServiceId, ServiceLine, SubjectId, Verdict};
 use std::alloc::{AllocError, Global};
 
 // `NAME` or `NAME in PARENT`, after the kind.
@@ -125,12 +128,80 @@ fn hash(alloc: Global, credential: Credential, rest: &[u8]) -> Result<Option<Edi
     }))
 }
 
-// `clear login NAME`, `clear enable NAME` or `clear priv KIND NAME`.
-#[tactic(auto, unfolding(crate::specs::EditText::clear_of))]
-fn clear(rest: &[u8]) -> Option<Edit>
-    ensures { result ≡ clear_of rest.now }
+// A service, and the attribute that follows after a space.
+fn attributed(alloc: Global, text: &[u8]) -> Result<Option<(ServiceId, Option<Bytes>)>, AllocError>
+    ensures read { IfOk result (λ read. read ≡ attributed_of text.now) }
+    ensures memory { OnErr result (IsTrue (has_attribute text.now)) }
 {
-    let (word, rest) = split_once(rest, b' ')?;
+    match split_once(text, b' ') {
+        Some((name, text)) => {
+            let Some(service) = ServiceId::read(name) else {
+                return Ok(None);
+            };
+            let attribute = Bytes::from_slice(alloc, text)?;
+            Ok(Some((service, Some(attribute))))
+        }
+        None => match ServiceId::read(text) {
+            Some(service) => Ok(Some((service, None))),
+            None => Ok(None),
+        },
+    }
+}
+
+// `service KIND NAME S` or `service KIND NAME S ATTRIBUTE`.
+#[tactic(auto, unfolding(crate::specs::EditText::service_allowed))]
+fn allow_service(alloc: Global, rest: &[u8]) -> Result<Option<Edit>, AllocError>
+    ensures edit { IfOk result (λ edit. edit ≡ service_allowed rest.now) }
+    ensures memory { OnErr result (IsTrue (has_text_in (service_allowed rest.now))) }
+{
+    let Some((subject, rest)) = subject_before(rest) else {
+        return Ok(None);
+    };
+    let Some((service, attribute)) = attributed(alloc, rest)? else {
+        return Ok(None);
+    };
+    let says = Says::Allows(attribute);
+    let line = ServiceLine { service, says };
+    Ok(Some(Edit::AddService { subject, line }))
+}
+
+// `refuse KIND NAME S`.
+#[tactic(auto, unfolding(crate::specs::EditText::service_refused))]
+fn refuse_service(rest: &[u8]) -> Option<Edit>
+    ensures { result ≡ service_refused rest.now }
+{
+    let Some((subject, rest)) = subject_before(rest) else {
+        return None;
+    };
+    let service = ServiceId::read(rest)?;
+    let says = Says::Refuses;
+    let line = ServiceLine { service, says };
+    Some(Edit::AddService { subject, line })
+}
+
+// `clear service KIND NAME S` or `clear service KIND NAME S ATTRIBUTE`, after its second word.
+#[tactic(auto, unfolding(crate::specs::EditText::service_cleared))]
+fn clear_service(alloc: Global, rest: &[u8]) -> Result<Option<Edit>, AllocError>
+    ensures edit { IfOk result (λ edit. edit ≡ service_cleared rest.now) }
+    ensures memory { OnErr result (IsTrue (has_text_in (service_cleared rest.now))) }
+{
+    let Some((subject, rest)) = subject_before(rest) else {
+        return Ok(None);
+    };
+    let Some((service, attribute)) = attributed(alloc, rest)? else {
+        return Ok(None);
+    };
+    Ok(Some(Edit::ClearService {
+        subject,
+        service,
+        attribute,
+    }))
+}
+
+// `clear login NAME`, `clear enable NAME` or `clear priv KIND NAME`.
+fn clear_setting(word: &[u8], rest: &[u8]) -> Option<Edit>
+    ensures { result ≡ setting_cleared word.now rest.now }
+{
     if word == b"login".as_slice() {
         let user = Name::read(rest)?;
         return Some(Edit::SetLogin { user, secret: None });
@@ -147,6 +218,21 @@ fn clear(rest: &[u8]) -> Option<Edit>
         });
     }
     None
+}
+
+// The lines of `clear`.
+#[tactic(auto, unfolding(crate::specs::EditText::clear_of))]
+fn clear(alloc: Global, rest: &[u8]) -> Result<Option<Edit>, AllocError>
+    ensures edit { IfOk result (λ edit. edit ≡ clear_of rest.now) }
+    ensures memory { OnErr result (IsTrue (has_text_in (clear_of rest.now))) }
+{
+    let Some((word, rest)) = split_once(rest, b' ') else {
+        return Ok(None);
+    };
+    if word == b"service".as_slice() {
+        return clear_service(alloc, rest);
+    }
+    Ok(clear_setting(word, rest))
 }
 
 // `priv KIND NAME LEVEL`.
@@ -247,8 +333,14 @@ fn worded(alloc: Global, word: &[u8], rest: &[u8]) -> Result<Option<Edit>, Alloc
     if word == b"enable-hash".as_slice() {
         return hash(alloc, Credential::Enable, rest);
     }
+    if word == b"service".as_slice() {
+        return allow_service(alloc, rest);
+    }
+    if word == b"refuse".as_slice() {
+        return Ok(refuse_service(rest));
+    }
     if word == b"clear".as_slice() {
-        return Ok(clear(rest));
+        return clear(alloc, rest);
     }
     if word == b"priv".as_slice() {
         return Ok(level(rest));

@@ -13,7 +13,7 @@ use Rattle.pol_lint.specs.Habits.{pattern_habits}
 use Rattle.pol_lint.specs.Remarks as wanted
 use Rattle.pol_lint.specs.Remarks.{same_rule, shadow_finding}
 use Rattle.pol_lint.specs.declared.words.Keyword.{Keyword}
-use Rattle.pol_lint.specs.declared.words.Keyword.TheVariants.{Opens, Secret, Hash, Level, Rule, Nothing}
+use Rattle.pol_lint.specs.declared.words.Keyword.TheVariants.{Opens, Secret, Hash, Level, Service, Rule, Nothing}
 use Rattle.pol_lint.specs.declared.remarks.Present.{Present}
 use Rattle.pol_lint.specs.declared.finding.Finding.{Finding}
 use Rattle.pol_lint.specs.declared.finding.Finding.TheVariants as findings
@@ -33,6 +33,7 @@ by_alike version policy others a b alike present number line (Opens kind) rest =
 by_alike version policy others a b alike present number line Secret rest = refl
 by_alike version policy others a b alike present number line Hash rest = refl
 by_alike version policy others a b alike present number line Level rest = refl
+by_alike version policy others a b alike present number line Service rest = refl
 by_alike version policy others a b alike present number line Rule rest =
     ap (λ (finding : Option Finding). pattern_habits version number line rest ++ noted number (length line + 1) (wanted.end_finding version others rest) ++ noted number (column_of line rest) finding) (shadow_alike a b alike present)
 by_alike version policy others a b alike present number line Nothing rest = refl

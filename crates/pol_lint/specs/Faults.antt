@@ -1,8 +1,8 @@
 -- What keeps the lines of a text from being a policy's (docs/REVIEW.md). Each line is judged by
 -- itself, in a text of the same version: as the only one, or after one that begins a subject.
-use Rattle.std.specs.Prelude.{ℕ, ◌+◌, List, [], ◌∷◌, ◌++◌, ◌==◌, drop, map, codes, Bool, true}
-use Rattle.std.specs.Prelude.{false}
-use Rattle.std.specs.Prelude.{not, is_some, ◌&&◌, Option, Some, None, Result, Ok, Err}
+use Rattle.std.specs.Prelude.{ℕ, ◌+◌, List, [], ◌∷◌, ◌++◌, ◌==◌, length, drop, map, codes, Bool}
+use Rattle.std.specs.Prelude.{true, false}
+use Rattle.std.specs.Prelude.{nat_lt, not, is_some, ◌&&◌, Option, Some, None, Result, Ok, Err}
 use Rattle.std.specs.Prelude.{if◌then◌else◌}
 use Rattle.std.specs.Char.{to_ascii_lowercase}
 use Rattle.std.specs.Str.{is_utf8}
@@ -26,7 +26,7 @@ use Rattle.pol_lint.specs.Words.{column_of, noted, begins, words_of, words_in, p
 use Rattle.pol_lint.specs.Words.{keyword_of}
 use Rattle.pol_lint.specs.Reasons.{line_reason, reason_column}
 use Rattle.pol_lint.specs.declared.words.Keyword.{Keyword}
-use Rattle.pol_lint.specs.declared.words.Keyword.TheVariants.{Opens, Nothing}
+use Rattle.pol_lint.specs.declared.words.Keyword.TheVariants.{Opens, Service, Nothing}
 use Rattle.pol_lint.specs.declared.finding.Finding.{Finding}
 use Rattle.pol_lint.specs.declared.finding.Finding.TheVariants.{CarriageReturn, Tab, ByteOrderMark}
 use Rattle.pol_lint.specs.declared.finding.Finding.TheVariants.{NotUtf8, NotSymbol, Capitals}
@@ -129,11 +129,19 @@ name_column line rest =
     if is_some (name_of (words_of rest).0) then column_of line (parent_text rest)
     else column_of line rest
 
--- where it is: in the pattern, at the name, at what comes after the first word, or at that word
+-- a value that is wrong: an attribute, or else all that comes after the first word
+abbrev pub value_column : List ℕ → Keyword → List ℕ → ℕ
+value_column line Service rest =
+    if nat_lt 0 (length (words_of rest).1) then column_of line (words_of rest).1
+    else column_of line rest
+value_column line _ rest = column_of line rest
+
+-- where it is: in the pattern, at the name, at the value, or at the first word
 abbrev pub refusal_column : List ℕ → PolicyRefusal → ℕ
 refusal_column line (BadPattern fault) = column_of line (drop (place_in fault) (words_in line).1)
 refusal_column line BadName = name_column line (words_in line).1
-refusal_column line BadValue = column_of line (words_in line).1
+refusal_column line BadValue =
+    value_column line (keyword_of (words_in line).0) (words_in line).1
 refusal_column line _ = column_of line (without_leading_spaces line)
 
 -- why it isn't a line of a policy

@@ -24,6 +24,11 @@ finding_text findings.HashInClear =
     codes "this text itself is the password: is a hash meant, as after 'login-hash'?"
 finding_text findings.ManyRounds =
     codes "over 20000 rounds: each login takes a processor for 8 milliseconds or more"
+finding_text findings.Exec = codes "tac_plus calls the shell so: is 'shell' meant?"
+finding_text findings.Mandatory =
+    codes "devices that don't know it refuse the shell: is '*' meant in place of '='?"
+finding_text findings.OddQuotes =
+    codes "an odd number of '\"': is one more meant, or one less?"
 finding_text findings.NoEnd = codes "other rules end in ' <cr>': is it meant that this one doesn't?"
 finding_text findings.NoEnds =
     codes "no rule ends in ' <cr>', with which Cisco IOS ends each line: is that meant?"

@@ -4,6 +4,7 @@ pub mod Near
 pub mod Reasons
 pub mod Places
 pub mod Habits
+pub mod Services
 pub mod Endings
 pub mod Remarks
 pub mod Faults

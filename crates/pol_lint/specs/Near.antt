@@ -7,7 +7,8 @@ use Rattle.std.specs.Char.{to_ascii_lowercase}
 use Rattle.strsim.specs.Edits.{levenshtein_row}
 use Rattle.pol_lint.specs.declared.near.Word.{Word}
 use Rattle.pol_lint.specs.declared.near.Word.TheVariants.{Group, User, Login, Enable, Priv}
-use Rattle.pol_lint.specs.declared.near.Word.TheVariants.{LoginHash, EnableHash, Permit, Deny, Policy}
+use Rattle.pol_lint.specs.declared.near.Word.TheVariants.{LoginHash, EnableHash, Service}
+use Rattle.pol_lint.specs.declared.near.Word.TheVariants.{Refuse, Permit, Deny, Policy}
 
 abbrev pub word_text : Word → List ℕ
 word_text Group = codes "group"
@@ -17,6 +18,8 @@ word_text Enable = codes "enable"
 word_text LoginHash = codes "login-hash"
 word_text EnableHash = codes "enable-hash"
 word_text Priv = codes "priv"
+word_text Service = codes "service"
+word_text Refuse = codes "refuse"
 word_text Permit = codes "permit"
 word_text Deny = codes "deny"
 word_text Policy = codes "policy"
@@ -24,7 +27,8 @@ word_text Policy = codes "policy"
 -- the words with which lines of a policy begin, in the order of docs/POLICY.md
 abbrev pub known_words : List Word
 known_words =
-    Group ∷ User ∷ Login ∷ Enable ∷ LoginHash ∷ EnableHash ∷ Priv ∷ Permit ∷ Deny ∷ Policy ∷ []
+    Group ∷ User ∷ Login ∷ Enable ∷ LoginHash ∷ EnableHash ∷ Priv ∷ Service ∷ Refuse ∷ Permit
+    ∷ Deny ∷ Policy ∷ []
 
 -- how many bytes have to be put in, taken out or exchanged to make the one word of the other: their
 -- Levenshtein distance

@@ -1,19 +1,19 @@
 -- Why a line isn't one of a policy, where it is refused as BadLine (docs/REVIEW.md). Of several
 -- reasons the first of this order is told: it is another program's; no line begins with its first
--- word; it is a hash, in a text of version 1 or 2; nothing follows its first word; it is a secret,
--- which stands under a group; it ends with a space; it has two spaces in a row; its fields are
--- wrong.
+-- word; it is a hash or is about a service, in a text of version 1 or 2; nothing follows its first
+-- word; it is a secret, which stands under a group; it ends with a space; it has two spaces in a
+-- row; its fields are wrong.
 use Rattle.std.specs.Prelude.{ℕ, List, [], ◌∷◌, ◌++◌, ◌==◌, length, codes, Bool, is_some}
 use Rattle.std.specs.Prelude.{◌&&◌, ◌||◌, Option, Some, None, if◌then◌else◌}
 use Rattle.std.specs.Str.{bytes_eq}
 use Rattle.basics.specs.Lines.{split_at_first, without_leading_spaces}
 use Rattle.pol_text.specs.declared.version.TextVersion.{TextVersion}
-use Rattle.pol_text.specs.Versions.{has_hashes}
+use Rattle.pol_text.specs.Versions.{has_hashes, has_services}
 use Rattle.pol_lint.specs.Words.{begins, ends, column_of, words_of, keyword_of}
 use Rattle.pol_lint.specs.Near.{word_text, nearest}
 use Rattle.pol_lint.specs.declared.near.Word.{Word}
 use Rattle.pol_lint.specs.declared.words.Keyword.{Keyword}
-use Rattle.pol_lint.specs.declared.words.Keyword.TheVariants.{Opens, Secret, Hash, Nothing}
+use Rattle.pol_lint.specs.declared.words.Keyword.TheVariants.{Opens, Secret, Hash, Service, Nothing}
 use Rattle.pol_lint.specs.declared.reason.LineReason.{LineReason}
 use Rattle.pol_lint.specs.declared.reason.LineReason.TheVariants as reasons
 
@@ -52,6 +52,7 @@ from_two_blanks (byte ∷ rest) =
 abbrev pub form_reason : Keyword → List ℕ → LineReason
 form_reason (Opens kind) rest =
     if bytes_eq (words_of rest).1 (codes "in") then reasons.NoValue else reasons.Heading
+form_reason Service rest = reasons.Refused
 form_reason _ rest = reasons.Level
 
 abbrev pub fields_reason : List ℕ → Keyword → List ℕ → LineReason
@@ -75,6 +76,8 @@ abbrev pub reason_by : TextVersion → List ℕ → Keyword → List ℕ × List
 reason_by version line Nothing words = unknown_reason words.0
 reason_by version line Hash words =
     if has_hashes version then known_reason line Hash words.1 else reasons.OfVersion3
+reason_by version line Service words =
+    if has_services version then known_reason line Service words.1 else reasons.OfVersion3
 reason_by version line says words = known_reason line says words.1
 
 -- of a line without the spaces that it begins with, in a text of this version
@@ -106,4 +109,5 @@ reason_text reasons.OfUsers = codes "this is a setting of users, and it stands u
 reason_text reasons.BlankAtEnd = codes "it ends with a space"
 reason_text reasons.TwoBlanks = codes "two spaces in a row, where words are set apart by one"
 reason_text reasons.Heading = codes "after the name nothing may follow but 'in PARENT'"
+reason_text reasons.Refused = codes "after 'refuse' one service may follow, and nothing else"
 reason_text reasons.Level = codes "after 'priv' one number may follow, and nothing else"

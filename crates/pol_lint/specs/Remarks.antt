@@ -21,9 +21,10 @@ use Rattle.pol_text.specs.Change.{is_parent}
 use Rattle.pol_meaning.specs.declared.Shadowed.{Shadowed}
 use Rattle.pol_lint.specs.Words.{column_of, noted, words_of, words_in, keyword_of}
 use Rattle.pol_lint.specs.Habits.{pattern_habits, secret_habits, rounds_finding}
+use Rattle.pol_lint.specs.Services.{service_remarks}
 use Rattle.pol_lint.specs.Endings.{names_end, lacks_end}
 use Rattle.pol_lint.specs.declared.words.Keyword.{Keyword}
-use Rattle.pol_lint.specs.declared.words.Keyword.TheVariants.{Opens, Secret, Hash, Rule}
+use Rattle.pol_lint.specs.declared.words.Keyword.TheVariants.{Opens, Secret, Hash, Service, Rule}
 use Rattle.pol_lint.specs.declared.finding.Finding.{Finding}
 use Rattle.pol_lint.specs.declared.finding.Finding.TheVariants.{NoEnd, NoEnds, NoSubjects}
 use Rattle.pol_lint.specs.declared.finding.Finding.TheVariants.{NoMembers, NoLogin}
@@ -122,6 +123,8 @@ remarks_by version policy others hidden present number line Secret rest =
     secret_habits number line rest
 remarks_by version policy others hidden present number line Hash rest =
     noted number (column_of line rest) (rounds_finding rest)
+remarks_by version policy others hidden present number line Service rest =
+    service_remarks number line rest
 remarks_by version policy others hidden present number line Rule rest =
     rule_remarks version others hidden present number line rest
 remarks_by version policy others hidden present number line _ rest = []

@@ -8,7 +8,7 @@ use Rattle.basics.specs.Lines.{split_at_first, without_leading_spaces}
 use Rattle.pol_names.specs.declared.subject_id.Kind.TheVariants.{Group, User}
 use Rattle.pol_lint.specs.declared.words.Keyword.{Keyword}
 use Rattle.pol_lint.specs.declared.words.Keyword.TheVariants.{Opens, Secret, Hash, Level, Rule}
-use Rattle.pol_lint.specs.declared.words.Keyword.TheVariants.{Nothing}
+use Rattle.pol_lint.specs.declared.words.Keyword.TheVariants.{Service, Nothing}
 use Rattle.pol_lint.specs.declared.finding.Finding.{Finding}
 use Rattle.pol_lint.specs.declared.remark.Remark.{Remark}
 
@@ -48,5 +48,6 @@ keyword_of word =
     else if bytes_eq word (codes "login") || bytes_eq word (codes "enable") then Secret
     else if bytes_eq word (codes "login-hash") || bytes_eq word (codes "enable-hash") then Hash
     else if bytes_eq word (codes "priv") then Level
+    else if bytes_eq word (codes "service") || bytes_eq word (codes "refuse") then Service
     else if bytes_eq word (codes "permit") || bytes_eq word (codes "deny") then Rule
     else Nothing

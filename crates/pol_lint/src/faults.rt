@@ -194,14 +194,25 @@ fn name_column(line: &[u8], rest: &[u8]) -> usize
     }
 }
 
+// A value that is wrong: an attribute, or else all that comes after the first word.
+fn value_column(line: &[u8], says: Keyword, rest: &[u8]) -> usize
+    ensures { result ≡ faults.value_column line.now says rest.now }
+{
+    let (_, attribute) = words_of(rest);
+    match says {
+        Keyword::Service if !attribute.is_empty() => column_of(line, attribute),
+        _ => column_of(line, rest),
+    }
+}
+
 fn refusal_column(line: &[u8], refusal: PolicyRefusal) -> usize
     ensures { result ≡ faults.refusal_column line.now refusal }
 {
-    let (_, rest) = words_in(line);
+    let (word, rest) = words_in(line);
     match refusal {
         PolicyRefusal::BadPattern(fault) => column_of(line, after_first(rest, place_in(fault))),
         PolicyRefusal::BadName => name_column(line, rest),
-        PolicyRefusal::BadValue => column_of(line, rest),
+        PolicyRefusal::BadValue => value_column(line, keyword_of(word), rest),
         _ => column_of(line, without_leading_spaces(line)),
     }
 }

@@ -29,12 +29,18 @@ pub enum Finding {
     Comment,
     /// A secret or a pattern begins with a space.
     BlankBefore,
-    /// A secret or a pattern ends with a space.
+    /// A secret, an attribute or a pattern ends with a space.
     BlankAfter,
     /// A secret in the clear looks like a hash.
     HashInClear,
     /// A hash has over 20,000 rounds.
     ManyRounds,
+    /// A service is called as tac_plus calls the shell.
+    Exec,
+    /// A shell has a mandatory attribute that not all devices know.
+    Mandatory,
+    /// An attribute has an odd number of quotation marks.
+    OddQuotes,
     /// A rule doesn't end in ` <cr>`, where others do.
     NoEnd,
     /// No rule ends in ` <cr>`.
@@ -129,6 +135,16 @@ impl fmt::Display for Finding {
                     f,
                     "over 20000 rounds: each login takes a processor for 8 milliseconds or more"
                 )
+            }
+            Finding::Exec => write!(f, "tac_plus calls the shell so: is 'shell' meant?"),
+            Finding::Mandatory => {
+                write!(
+                    f,
+                    "devices that don't know it refuse the shell: is '*' meant in place of '='?"
+                )
+            }
+            Finding::OddQuotes => {
+                write!(f, "an odd number of '\"': is one more meant, or one less?")
             }
             Finding::NoEnd => {
                 write!(

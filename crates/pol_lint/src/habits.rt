@@ -123,7 +123,8 @@ fn blank_before(text: &[u8]) -> Option<Finding>
     }
 }
 
-fn blank_after(text: &[u8]) -> Option<Finding>
+/// A text that ends with a space.
+pub(crate) fn blank_after(text: &[u8]) -> Option<Finding>
     ensures { result ≡ habits.blank_after text.now }
 {
     if text.ends_with(b" ") {

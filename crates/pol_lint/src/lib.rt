@@ -13,6 +13,7 @@ mod reason;
 mod remark;
 mod remarks;
 mod searching;
+mod services;
 mod words;
 
 pub use chains::{size_faults, text_faults};

@@ -23,7 +23,7 @@ pub enum LineReason {
     Unknown,
     /// No line of a policy begins with its first word, but lines begin with this one.
     Misspelt(Word),
-    /// A hash, in a text of version 1 or 2.
+    /// A hash or what is said of a service, in a text of version 1 or 2.
     OfVersion3,
     /// Nothing follows its first word, or the `in` after a name.
     NoValue,
@@ -35,6 +35,8 @@ pub enum LineReason {
     TwoBlanks,
     /// Something else than `in PARENT` follows a subject's name.
     Heading,
+    /// More than one word follows `refuse`.
+    Refused,
     /// More than one word follows `priv`.
     Level,
 }
@@ -79,6 +81,9 @@ impl fmt::Display for LineReason {
             }
             LineReason::Heading => {
                 write!(f, "after the name nothing may follow but 'in PARENT'")
+            }
+            LineReason::Refused => {
+                write!(f, "after 'refuse' one service may follow, and nothing else")
             }
             LineReason::Level => {
                 write!(f, "after 'priv' one number may follow, and nothing else")
@@ -136,6 +141,7 @@ fn form_reason(says: Keyword, rest: &[u8]) -> LineReason
     match says {
         Keyword::Opens(_) if below == b"in".as_slice() => LineReason::NoValue,
         Keyword::Opens(_) => LineReason::Heading,
+        Keyword::Service => LineReason::Refused,
         _ => LineReason::Level,
     }
 }
@@ -181,6 +187,7 @@ pub(crate) fn line_reason(
     match keyword_of(word) {
         Keyword::Nothing => unknown_reason(alloc, word),
         Keyword::Hash if !version.has_hashes() => Ok(LineReason::OfVersion3),
+        Keyword::Service if !version.has_services() => Ok(LineReason::OfVersion3),
         says => Ok(known_reason(line, says, rest)),
     }
 }

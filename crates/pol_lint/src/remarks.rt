@@ -11,6 +11,7 @@ use crate::finding::Finding;
 use crate::habits::{note_pattern, note_secret, rounds_finding};
 use crate::hidden::hidden_of;
 use crate::remark::{Remark, column_of, note};
+use crate::services::note_service;
 use crate::words::{Keyword, keyword_of, words_in, words_of};
 use basics::{Lines, Sequence};
 use indexmap::IndexSet;
@@ -239,6 +240,7 @@ fn note_line(
         Keyword::Secret => note_secret(remarks, number, line, rest),
         Keyword::Hash => note(remarks, number, column_of(line, rest), rounds_finding(rest)),
         Keyword::Rule => note_rule(alloc, remarks, known, *present, number, line, rest),
+        Keyword::Service => note_service(remarks, number, line, rest),
         Keyword::Level | Keyword::Nothing => Ok(()),
     }
 }

@@ -17,6 +17,8 @@ pub(crate) enum Keyword {
     Hash,
     /// A level.
     Level,
+    /// What is said of a service.
+    Service,
     /// A rule.
     Rule,
     /// No line of a policy begins with the word.
@@ -67,6 +69,9 @@ pub(crate) fn keyword_of(word: &[u8]) -> Keyword
     }
     if word == b"priv".as_slice() {
         return Keyword::Level;
+    }
+    if word == b"service".as_slice() || word == b"refuse".as_slice() {
+        return Keyword::Service;
     }
     if word == b"permit".as_slice() || word == b"deny".as_slice() {
         return Keyword::Rule;

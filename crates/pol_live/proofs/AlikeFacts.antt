@@ -15,19 +15,21 @@ use Rattle.pol_names.specs.declared.subject_id.Kind.{Kind}
 use Rattle.pol_names.specs.declared.subject_id.Kind.TheVariants.{Group, User}
 use Rattle.pol_names.specs.declared.subject_id.SubjectId.{SubjectId}
 use Rattle.pol_names.specs.declared.decision.Verdict.{Verdict}
+use Rattle.pol_names.specs.Service.{any_clash, is_right_line}
+use Rattle.pol_names.specs.declared.service.ServiceLine.{ServiceLine}
 use Rattle.pol_names.specs.SubjectId.{same_id, same_kind, user_id}
 use Rattle.pol_pattern.specs.Reading.{pattern_of}
 use Rattle.pol_text.specs.declared.subject.Subject.{Subject}
 use Rattle.pol_text.specs.declared.fault.ChainFault.{ChainFault}
 use Rattle.pol_text.specs.declared.fault.ChainFault.TheVariants as chains
-use Rattle.pol_text.specs.Policy.{id_of, find_subject, all_of, max_rules, max_subjects}
+use Rattle.pol_text.specs.Policy.{id_of, find_subject, all_of, max_rules, max_services, max_subjects}
 use Rattle.pol_text.specs.Text.{new_subject}
-use Rattle.pol_text.specs.Change.{with_changed, without, is_parent, has_room_below, chain_fault, with_parent, with_secret, with_priv, with_rule_at, without_rule_at, with_rule_moved}
+use Rattle.pol_text.specs.Change.{with_changed, without, is_parent, has_room_below, chain_fault, with_parent, with_secret, with_priv, with_line_last, without_service, with_rule_at, without_rule_at, with_rule_moved}
 use Rattle.pol_edit.specs.Batches as batches
 use Rattle.pol_edit.specs.Batches.{applied_from}
-use Rattle.pol_edit.specs.Applying.{◌>>=◌, present, has_group, added_to, removed_from, unless_chain, moved_in, set_in, pattern_read, is_number, inserted_in, dropped_in, shifted_in, applied}
+use Rattle.pol_edit.specs.Applying.{◌>>=◌, present, has_group, added_to, removed_from, unless_chain, moved_in, set_in, said_in, pattern_read, is_number, inserted_in, dropped_in, shifted_in, applied}
 use Rattle.pol_edit.specs.declared.edit.Edit.{Edit}
-use Rattle.pol_edit.specs.declared.edit.Edit.TheVariants.{AddGroup, AddUser, Remove, SetParent, SetLogin, SetEnable, SetHash, SetPriv, InsertRule, RemoveRule, MoveRule}
+use Rattle.pol_edit.specs.declared.edit.Edit.TheVariants.{AddGroup, AddUser, Remove, SetParent, SetLogin, SetEnable, SetHash, SetPriv, AddService, ClearService, InsertRule, RemoveRule, MoveRule}
 use Rattle.pol_edit.specs.declared.fault.EditFault.{EditFault}
 use Rattle.pol_live.specs.declared.touching.Touched.{Touched}
 use Rattle.pol_live.specs.Renewing.{touches, rewrites, touched_by, is_among, IsAlike}
@@ -272,6 +274,16 @@ alike_shift id from to old new made =
 alike_secret : (which : Credential) (user : List ℕ) (right : Bool) (secret : Option Secret) (old new : List Subject) → set_in old (user_id user) right (with_secret which secret) ≡ Ok new → IsAlike nothing old new
 alike_secret which user right secret old new made = alike_setting (user_id user) right (with_secret which secret) old new (secret_keeps which secret) (secret_rules which secret) (secret_parent which secret) made
 
+alike_said : (id : SubjectId) (line : ServiceLine) (old new : List Subject) → said_in old id line ≡ Ok new → IsAlike nothing old new
+unfolding said_in
+alike_said id line old new made =
+    let there = then_ok (present id old) _ new made in
+    let apart = unless_ok (any_clash there.0.services line) _ _ new there.1 in
+    let right = unless_ok (not (is_right_line line)) _ _ new apart in
+    let room = unless_ok (nat_le max_services (length there.0.services)) _ _ new right in
+    let is : new ≡ with_changed id (with_line_last line) old = cc in
+    alike_set id (with_line_last line) old new (λ _. refl) (λ _. refl) (λ _. refl) is
+
 alike : (old : List Subject) (edit : Edit) (new : List Subject) → applied old edit ≡ Ok new → IsAlike (touched_by (edit ∷ [])) old new
 unfolding applied
 alike old (AddGroup name parent) new made = alike_add Group name parent old new made
@@ -282,6 +294,8 @@ alike old (SetLogin user text) new made = alike_secret Login user _ (option_map 
 alike old (SetEnable user text) new made = alike_secret Enable user _ (option_map Clear text) old new made
 alike old (SetHash user which text) new made = alike_secret which user _ (option_map Hashed (hash_of text)) old new made
 alike old (SetPriv id level) new made = alike_setting id _ (with_priv level) old new (λ _. refl) (λ _. refl) (λ _. refl) made
+alike old (AddService id line) new made = alike_said id line old new made
+alike old (ClearService id service attribute) new made = alike_setting id _ (without_service service attribute) old new (λ _. refl) (λ _. refl) (λ _. refl) made
 alike old (InsertRule id at verdict text) new made = alike_insert id at verdict text old new made
 alike old (RemoveRule id at) new made = alike_drop id at old new made
 alike old (MoveRule id from to) new made = alike_shift id from to old new made

@@ -37,7 +37,9 @@ fn touches(edit: &Edit) -> Option<SubjectId>
         | Edit::SetLogin { .. }
         | Edit::SetEnable { .. }
         | Edit::SetHash { .. }
-        | Edit::SetPriv { .. } => None,
+        | Edit::SetPriv { .. }
+        | Edit::AddService { .. }
+        | Edit::ClearService { .. } => None,
     }
 }
 

@@ -3,3 +3,5 @@ pub mod Secret
 pub mod SubjectId
 pub mod Decision
 pub mod Kept
+pub mod SameService
+pub mod Service

@@ -62,7 +62,7 @@ module _ {id : SubjectId} {now p : List Subject} {keys : List SubjectId} {i : �
       let group_here : all_of (λ name. is_some (find_subject (group_id name) p)) parent ≡ true = subst (λ l. all_of (λ name. is_some (find_subject (group_id name) l)) parent ≡ true) (sym h.view) group in
       let r = right_now h in
       let short : list_all (ends_within 8 new) new ≡ true = no_fault (list_all (ends_within (length new) new) new) (list_all (ends_within 8 new) new) fine in
-      let right = right_from (with_parent parent s) (record { name = r.name; parent = group_name p h.fields.0 parent group_here; login = r.login; enable = r.enable; secrets = r.secrets; level = r.level; few = r.few; rules = r.rules }) in (
+      let right = right_from (with_parent parent s) (record { name = r.name; parent = group_name p h.fields.0 parent group_here; login = r.login; enable = r.enable; secrets = r.secrets; level = r.level; services = r.services; few = r.few; rules = r.rules }) in (
         subst WellFormed (sym here) (kept_but_short id (with_parent parent) (λ t. refl) p i s h.at h.same right group_here h.fields.0 (subst (λ l. list_all (ends_within 8 l) l ≡ true) here short)),
         keys_changed,
       )

@@ -3,6 +3,7 @@ pub mod ChainFacts
 pub mod RefusalLines
 pub mod Keeps
 pub mod RightSubject
+pub mod ServiceLines
 pub mod Placed
 pub mod Rules
 pub mod KeepsAdd
@@ -16,6 +17,7 @@ pub mod LevelFacts
 pub mod PatternFacts
 pub mod PrintFacts
 pub mod RightFacts
+pub mod SaidFacts
 pub mod RoundFacts
 pub mod SettingFacts
 pub mod SpelledSo

@@ -4,6 +4,8 @@ use Rattle.std.proofs.lemmas.List.{take_more, map-append}
 use Rattle.pol_text.specs.declared.subject.Rule.{Rule}
 use Rattle.pol_text.specs.declared.subject.Subject.{Subject}
 use Rattle.pol_names.specs.Decision.{verdict_word}
+use Rattle.pol_names.specs.Service.{line_text}
+use Rattle.pol_names.specs.declared.service.ServiceLine.{ServiceLine}
 use Rattle.pol_text.specs.Text.{text_of_lines, policy_lines, subject_lines, rule_line}
 
 pub text_of_lines-append : (a b : List (List ℕ)) → text_of_lines (a ++ b) ≡ text_of_lines a ++ text_of_lines b
@@ -20,6 +22,13 @@ policy_lines-append (subject ∷ a) b =
 line_more : (start text next : List ℕ) (lines more : List (List ℕ)) → text ≡ start ++ text_of_lines lines → next ≡ text ++ text_of_lines more → next ≡ start ++ text_of_lines (lines ++ more)
 line_more start text next lines more was told =
     told ∙ ap (λ (t : List ℕ). t ++ text_of_lines more) was ∙ append_assoc start (text_of_lines lines) (text_of_lines more) ∙ ap (λ (t : List ℕ). start ++ t) (sym (text_of_lines-append lines more))
+
+pub services_more : (start text next : List ℕ) (lines : List ServiceLine) (i : ℕ) (line : ServiceLine) → i < length lines → line ≡ get_or lines i line
+    → text ≡ start ++ text_of_lines (map line_text (take i lines)) → next ≡ text ++ text_of_lines (line_text line ∷ [])
+    → next ≡ start ++ text_of_lines (map line_text (take (i + 1) lines))
+services_more start text next lines i line lt is was told =
+    let step : take (i + 1) lines ≡ take i lines ++ line ∷ [] = take_more lines i line lt ∙ ap (λ (l : ServiceLine). take i lines ++ l ∷ []) (sym is) in
+    rw (step, map-append line_text (take i lines) (line ∷ [])) (line_more start text next (map line_text (take i lines)) (line_text line ∷ []) was told)
 
 pub rules_more : (start text next front back : List ℕ) (rules : List Rule) (i : ℕ) (rule : Rule) → i < length rules → rule ≡ get_or rules i rule
     → text ≡ start ++ text_of_lines (map rule_line (take i rules)) → next ≡ text ++ text_of_lines ((front ++ back) ∷ []) → front ≡ verdict_word rule.verdict → back ≡ rule.pattern
@@ -41,10 +50,11 @@ subjects_more first text next subjects i subject lt is was told =
     append_nil_lines [] = refl
     append_nil_lines (line ∷ lines) = ap (λ (rest : List (List ℕ)). line ∷ rest) (append_nil_lines lines)
 
-pub subject_text : (t0 t1 t2 t3 t4 t5 heading : List ℕ) (login enable level rules : List (List ℕ)) → t1 ≡ t0 ++ text_of_lines (heading ∷ []) → t2 ≡ t1 ++ text_of_lines login → t3 ≡ t2 ++ text_of_lines enable
-    → t4 ≡ t3 ++ text_of_lines level → t5 ≡ t4 ++ text_of_lines rules → t5 ≡ t0 ++ text_of_lines (heading ∷ (login ++ enable ++ level ++ rules))
-subject_text t0 t1 t2 t3 t4 t5 heading login enable level rules e1 e2 e3 e4 e5 =
-    line_more t0 t4 t5 (heading ∷ (login ++ enable ++ level)) rules
+pub subject_text : (t0 t1 t2 t3 t4 t5 t6 heading : List ℕ) (login enable level services rules : List (List ℕ)) → t1 ≡ t0 ++ text_of_lines (heading ∷ []) → t2 ≡ t1 ++ text_of_lines login → t3 ≡ t2 ++ text_of_lines enable
+    → t4 ≡ t3 ++ text_of_lines level → t5 ≡ t4 ++ text_of_lines services → t6 ≡ t5 ++ text_of_lines rules → t6 ≡ t0 ++ text_of_lines (heading ∷ (login ++ enable ++ level ++ services ++ rules))
+subject_text t0 t1 t2 t3 t4 t5 t6 heading login enable level services rules e1 e2 e3 e4 e5 e6 =
+    line_more t0 t5 t6 (heading ∷ (login ++ enable ++ level ++ services)) rules
+    (line_more t0 t4 t5 (heading ∷ (login ++ enable ++ level)) services
     (line_more t0 t3 t4 (heading ∷ (login ++ enable)) level
     (line_more t0 t2 t3 (heading ∷ login) enable
-    (line_more t0 t1 t2 (heading ∷ []) login e1 e2) e3) e4) e5
+    (line_more t0 t1 t2 (heading ∷ []) login e1 e2) e3) e4) e5) e6

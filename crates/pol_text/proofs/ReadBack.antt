@@ -14,6 +14,11 @@ use Rattle.sha_crypt.proofs.TextFacts.{again}
 use Rattle.pol_names.specs.declared.secret.Secret.TheVariants.{Clear, Hashed}
 use Rattle.pol_names.specs.SubjectId.{kind_word}
 use Rattle.pol_names.specs.Decision.{verdict_word}
+use Rattle.pol_names.specs.Service.{is_service, is_right_line, may_say, says_word, attribute_in, attributed_text, line_text}
+use Rattle.pol_names.specs.declared.service.ServiceId.{ServiceId}
+use Rattle.pol_names.specs.declared.service.Says.{Says}
+use Rattle.pol_names.specs.declared.service.Says.TheVariants.{Allows, Refuses}
+use Rattle.pol_names.specs.declared.service.ServiceLine.{ServiceLine}
 use Rattle.pol_names.specs.declared.subject_id.Kind.{Kind}
 use Rattle.pol_names.specs.declared.subject_id.Kind.TheVariants.{Group, User}
 use Rattle.pol_names.specs.declared.decision.Verdict.{Verdict}
@@ -22,12 +27,13 @@ use Rattle.pol_text.specs.declared.version.TextVersion.{TextVersion as Version}
 use Rattle.pol_text.specs.declared.subject.Subject.{Subject}
 use Rattle.pol_text.specs.declared.fault.PolicyRefusal.{PolicyRefusal}
 use Rattle.pol_text.specs.Policy.{find_subject, all_of, max_subjects}
-use Rattle.pol_text.specs.Text.{◌>>=◌, Draft, subjects_of, is_field, heading, new_subject, with_subject, after_first, split_last, with_present, with_login, with_enable, with_login_hash, with_enable_hash, level_of, with_priv, with_rule, with_words, is_blank, with_trimmed, with_line, with_lines, policy_of, body_of}
-use Rattle.pol_text.specs.Versions.{has_hashes}
-use Rattle.pol_text.specs.Spelling.{Sets, login, enable, login_hash, enable_hash, level, rule, Adds, begins, sets, Extends, meaningful, Spells}
-use Rattle.pol_text.proofs.SettingFacts.{and_left, and_right, rule_read}
+use Rattle.pol_text.specs.Text.{◌>>=◌, Draft, subjects_of, is_field, heading, new_subject, with_subject, after_first, split_last, with_present, with_login, with_enable, with_login_hash, with_enable_hash, level_of, with_priv, with_service, allowed_by, refused_by, with_rule, with_words, is_blank, with_trimmed, with_line, with_lines, policy_of, body_of}
+use Rattle.pol_text.specs.Versions.{has_hashes, has_services}
+use Rattle.pol_text.specs.Spelling.{Sets, login, enable, login_hash, enable_hash, level, about, rule, Adds, begins, sets, Extends, meaningful, Spells}
+use Rattle.pol_text.proofs.SettingFacts.{and_left, and_right, service_taken, rule_read}
 use Rattle.pol_text.proofs.DraftFacts.{split_last-push, present_is}
 use Rattle.pol_text.proofs.RightFacts.{split_back, subjects-push}
+use Rattle.pol_text.proofs.SaidFacts.{allowed_again, refused_again}
 use Rattle.pol_text.proofs.RoundFacts.{after_name, heading_is, subject_new, chains_read}
 
 -- ---- the line that begins a subject
@@ -67,6 +73,25 @@ login_hash_line version number text draft third = rw third refl
 enable_hash_line : (version : Version) (number : ℕ) (text : List ℕ) (draft : Draft) → has_hashes version ≡ true → with_trimmed version number (codes "enable-hash " ++ text) draft ≡ with_present (with_enable_hash text) draft
 unfolding with_trimmed with_words
 enable_hash_line version number text draft third = rw third refl
+
+service_line : (version : Version) (number : ℕ) (text : List ℕ) (draft : Draft) → has_services version ≡ true → with_trimmed version number (codes "service " ++ text) draft ≡ (allowed_by text >>= λ line. with_present (with_service line) draft)
+unfolding with_trimmed with_words
+service_line version number text draft third = rw third refl
+
+refuse_line : (version : Version) (number : ℕ) (text : List ℕ) (draft : Draft) → has_services version ≡ true → with_trimmed version number (codes "refuse " ++ text) draft ≡ (refused_by text >>= λ line. with_present (with_service line) draft)
+unfolding with_trimmed with_words
+refuse_line version number text draft third = rw third refl
+
+said_parts : (version : Version) (number : ℕ) (service : ServiceId) (says : Says) (draft : Draft) → has_services version ≡ true → is_service service ≡ true
+    → with_trimmed version number (says_word says ++ attributed_text service (attribute_in says)) draft ≡ with_present (with_service (record { service = service; says = says })) draft
+said_parts version number service (Allows attribute) draft third right =
+    service_line version number (attributed_text service attribute) draft third ∙ ap (λ (r : Result ServiceLine PolicyRefusal). r >>= λ line. with_present (with_service line) draft) (allowed_again service attribute right)
+said_parts version number service Refuses draft third right =
+    refuse_line version number (attributed_text service None) draft third ∙ ap (λ (r : Result ServiceLine PolicyRefusal). r >>= λ line. with_present (with_service line) draft) (refused_again service right)
+
+said_line : (version : Version) (number : ℕ) (said : ServiceLine) (draft : Draft) → has_services version ≡ true → is_right_line said ≡ true → with_trimmed version number (line_text said) draft ≡ with_present (with_service said) draft
+said_line version number said draft third right =
+    said_parts version number said.service said.says draft third (and_left (is_service said.service) (may_say said.service said.says) right)
 
 level_line : (version : Version) (number : ℕ) (text : List ℕ) (draft : Draft) → is_field text ≡ true → with_trimmed version number (codes "priv " ++ text) draft ≡ with_present (with_priv text) draft
 unfolding with_trimmed with_words
@@ -134,6 +159,9 @@ module _ (version : Version) (number at : ℕ) (front : Draft) (old new : Subjec
       subst Goes (sym spelled) (enable_hash_line version number (hash_text hash) (front ++ (at, old) ∷ []) third ∙ changed (with_enable_hash (hash_text hash)) (enabled_hash hash right user none ∙ sym (ap (λ (s : Subject). Ok s) is)))
   set_read line (level text n right spelled none is) =
       subst Goes (sym spelled) (level_line version number text (front ++ (at, old) ∷ []) (level_field text n right) ∙ changed (with_priv text) (levelled text n right none ∙ sym (ap (λ (s : Subject). Ok s) is)))
+  set_read line (about said third right spelled apart room is) =
+      let test : nat_le 64 (length old.services) ≡ false = grind (arith, nat_tests) in
+      subst Goes (sym spelled) (said_line version number said (front ++ (at, old) ∷ []) third right ∙ changed (with_service said) (service_taken said old apart right test ∙ sym (ap (λ (s : Subject). Ok s) is)))
   set_read line (rule verdict text pattern right spelled room is) =
       let test : nat_le 256 (length old.rules) ≡ false = grind (arith, nat_tests) in
       let made : with_rule version verdict text old ≡ Ok (record old { rules = old.rules ++ record { verdict = verdict; pattern = pattern } ∷ [] }) =

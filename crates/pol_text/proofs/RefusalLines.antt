@@ -6,7 +6,7 @@ use Rattle.std.specs.Str.{bytes_eq}
 use Rattle.basics.specs.Symbol.{is_text}
 use Rattle.basics.specs.Lines.{lines_of, onto_first, split_at_first, without_leading_spaces}
 use Rattle.pol_text.specs.Policy.{has_parent, ends_within}
-use Rattle.pol_text.specs.Text.{◌>>=◌, Draft, subjects_of, heading, is_blank, new_subject, with_subject, split_last, after_first, with_present, with_login, with_enable, with_login_hash, with_enable_hash, with_priv, with_rule, with_words, with_trimmed, with_line, with_lines, at_line, checked, with_right_chains, policy_of, IsUnlessMemory, version_line, third_line, Body, body_of, with_body}
+use Rattle.pol_text.specs.Text.{◌>>=◌, Draft, subjects_of, heading, is_blank, new_subject, with_subject, split_last, after_first, with_present, with_login, with_enable, with_login_hash, with_enable_hash, with_priv, with_service, allowed_by, refused_by, with_rule, with_words, with_trimmed, with_line, with_lines, at_line, checked, with_right_chains, policy_of, IsUnlessMemory, version_line, third_line, Body, body_of, with_body}
 use Rattle.pol_text.specs.declared.version.TextVersion.{TextVersion as Version}
 use Rattle.pol_text.specs.declared.version.TextVersion.TheVariants.{One, Two, Three}
 use Rattle.pol_names.specs.declared.subject_id.Kind.{Kind}
@@ -82,10 +82,12 @@ words_keep version n word rest draft h =
     let enable = present_keeps (n + 1) (with_enable rest) draft h in
     let login_hash = present_keeps (n + 1) (with_login_hash rest) draft h in
     let enable_hash = present_keeps (n + 1) (with_enable_hash rest) draft h in
+    let service = keeps_then (n + 1) (allowed_by rest) (λ line. with_present (with_service line) draft) (λ line. present_keeps (n + 1) (with_service line) draft h) in
+    let refuse = keeps_then (n + 1) (refused_by rest) (λ line. with_present (with_service line) draft) (λ line. present_keeps (n + 1) (with_service line) draft h) in
     let level = present_keeps (n + 1) (with_priv rest) draft h in
     let permit = present_keeps (n + 1) (with_rule version Permit rest) draft h in
     let deny = present_keeps (n + 1) (with_rule version Deny rest) draft h in
-    search (keeps_if, group, user, login, enable, login_hash, enable_hash, level, permit, deny) depth 16
+    search (keeps_if, group, user, login, enable, login_hash, enable_hash, service, refuse, level, permit, deny) depth 20
 
 trimmed_keeps : (version : Version) (n : ℕ) (line : List ℕ) (draft : Draft) → AllBefore (n + 1) draft → Keeps (n + 1) (with_trimmed version n line draft)
 unfolding with_trimmed

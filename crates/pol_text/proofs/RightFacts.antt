@@ -20,11 +20,12 @@ use Rattle.pol_text.specs.declared.fault.PolicyRefusal.TheVariants.{BadLine, Bad
 use Rattle.pol_text.specs.declared.fault.PolicyFault.TheVariants.{Refused}
 use Rattle.pol_text.specs.Draft.{RightDraft}
 use Rattle.pol_names.specs.Name.{is_name, name_of}
+use Rattle.pol_names.specs.declared.service.ServiceLine.{ServiceLine}
 use Rattle.pol_names.specs.SubjectId.{same_kind, same_id}
 use Rattle.pol_text.specs.Policy.{id_of, find_subject, all_distinct, all_of, is_right_subject, has_parent, ends_within, WellFormed, max_subjects}
-use Rattle.pol_text.specs.Text.{◌>>=◌, Draft, subjects_of, named, is_field, with_parent, heading, new_subject, with_subject, after_first, split_last, with_present, with_login, with_enable, with_login_hash, with_enable_hash, with_priv, with_rule, with_words, is_blank, with_trimmed, with_line, at_line, with_lines, checked, with_right_chains, body_of, with_body, policy_of}
-use Rattle.pol_text.specs.Versions.{has_hashes}
-use Rattle.pol_text.proofs.SettingFacts.{and_left, and_right, right_parts, right_whole, Kept, login_kept, enable_kept, login_hash_kept, enable_hash_kept, priv_kept, rule_kept}
+use Rattle.pol_text.specs.Text.{◌>>=◌, Draft, subjects_of, named, is_field, with_parent, heading, new_subject, with_subject, after_first, split_last, with_present, with_login, with_enable, with_login_hash, with_enable_hash, with_priv, with_service, allowed_by, refused_by, with_rule, with_words, is_blank, with_trimmed, with_line, at_line, with_lines, checked, with_right_chains, body_of, with_body, policy_of}
+use Rattle.pol_text.specs.Versions.{has_hashes, has_services}
+use Rattle.pol_text.proofs.SettingFacts.{and_left, and_right, right_parts, right_whole, Kept, login_kept, enable_kept, login_hash_kept, enable_hash_kept, priv_kept, service_kept, rule_kept}
 
 -- ---- steps that go well
 
@@ -115,8 +116,8 @@ subject_right line kind name parent draft next named belongs r h =
     })
   where
     new_right : (k : Kind) → is_right_subject (new_subject k name parent) ≡ true
-    new_right Group = right_whole (new_subject Group name parent) (record { name = named; parent = belongs; login = refl; enable = refl; secrets = refl; level = refl; few = refl; rules = refl })
-    new_right User = right_whole (new_subject User name parent) (record { name = named; parent = belongs; login = refl; enable = refl; secrets = refl; level = refl; few = refl; rules = refl })
+    new_right Group = right_whole (new_subject Group name parent) (record { name = named; parent = belongs; login = refl; enable = refl; secrets = refl; level = refl; services = refl; few = refl; rules = refl })
+    new_right User = right_whole (new_subject User name parent) (record { name = named; parent = belongs; login = refl; enable = refl; secrets = refl; level = refl; services = refl; few = refl; rules = refl })
 
 -- a list with a last element
 pub split_back : {A : Type 0} (xs : List A) (parts : List A × A) → split_last xs ≡ Some parts → xs ≡ parts.0 ++ parts.1 ∷ []
@@ -201,18 +202,25 @@ begun_right number kind rest draft next r h =
     let named = heading_right rest (split_at_first 32 rest) p.0 p.1 in
     subject_right number kind p.0.0 p.0.1 draft next named.0 named.1 r p.2
 
+said_right : (said : Result ServiceLine PolicyRefusal) (draft next : Draft) → RightDraft draft → (said >>= λ line. with_present (with_service line) draft) ≡ Ok next → RightDraft next
+said_right said draft next r h =
+    let p = bind_ok said _ next h in
+    present_right (with_service p.0) draft next (service_kept p.0) r p.2
+
 words_right : (version : Version) (number : ℕ) (word rest : List ℕ) (draft next : Draft) → RightDraft draft → with_words version number word rest draft ≡ Ok next → RightDraft next
 unfolding with_words
 words_right version number word rest draft next r h =
     either_ok (bytes_eq word (codes "group")) _ _ next (λ k. begun_right number Group rest draft next r k) (λ k.
     either_ok (bytes_eq word (codes "user")) _ _ next (λ k. begun_right number User rest draft next r k) (λ k.
+    either_ok (bytes_eq word (codes "service") && has_services version) _ _ next (λ k. said_right (allowed_by rest) draft next r k) (λ k.
+    either_ok (bytes_eq word (codes "refuse") && has_services version) _ _ next (λ k. said_right (refused_by rest) draft next r k) (λ k.
     either_ok (bytes_eq word (codes "login")) _ _ next (λ k. present_right (with_login rest) draft next (login_kept rest) r k) (λ k.
     either_ok (bytes_eq word (codes "enable")) _ _ next (λ k. present_right (with_enable rest) draft next (enable_kept rest) r k) (λ k.
     either_ok (bytes_eq word (codes "login-hash") && has_hashes version) _ _ next (λ k. present_right (with_login_hash rest) draft next (login_hash_kept rest) r k) (λ k.
     either_ok (bytes_eq word (codes "enable-hash") && has_hashes version) _ _ next (λ k. present_right (with_enable_hash rest) draft next (enable_hash_kept rest) r k) (λ k.
     either_ok (bytes_eq word (codes "priv")) _ _ next (λ k. present_right (with_priv rest) draft next (priv_kept rest) r (first_ok (is_field rest) _ BadLine next k).1) (λ k.
     either_ok (bytes_eq word (codes "permit")) _ _ next (λ k. present_right (with_rule version Permit rest) draft next (rule_kept version Permit rest) r k) (λ k.
-    present_right (with_rule version Deny rest) draft next (rule_kept version Deny rest) r (first_ok (bytes_eq word (codes "deny")) _ BadLine next k).1) k) k) k) k) k) k) k) h
+    present_right (with_rule version Deny rest) draft next (rule_kept version Deny rest) r (first_ok (bytes_eq word (codes "deny")) _ BadLine next k).1) k) k) k) k) k) k) k) k) k) h
 
 trimmed_right : (version : Version) (number : ℕ) (line : List ℕ) (draft next : Draft) → RightDraft draft → with_trimmed version number line draft ≡ Ok next → RightDraft next
 unfolding with_trimmed

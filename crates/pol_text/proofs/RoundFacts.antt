@@ -1,5 +1,5 @@
 -- What was printed is read as the same policy.
-use Rattle.std.proofs.Common.{◌≡◌, if◌then◌else◌, ℕ, suc, ◌+◌, Bool, true, false, not, eqb, ◌||◌, List, [], ◌∷◌, ◌++◌, length, map, find, codes, nat_le, Option, None, Some, Ok, is_some, refl, sym, ap, ◌∙◌, arith, ◌<◌, ◌≤◌, length-append, append-nil, append_assoc}
+use Rattle.std.proofs.Common.{◌≡◌, if◌then◌else◌, ℕ, suc, ◌+◌, Bool, true, false, not, eqb, ◌||◌, List, [], ◌∷◌, ◌++◌, length, map, find, codes, nat_le, nat_lt, Option, None, Some, Result, Ok, is_some, refl, sym, ap, ◌∙◌, arith, ◌<◌, ◌≤◌, length-append, append-nil, append_assoc}
 use Rattle.std.specs.List.{list_all, list_any}
 use Rattle.std.specs.Option.{option_map_or}
 use Rattle.std.specs.Result.{is_ok}
@@ -31,11 +31,19 @@ use Rattle.pol_names.specs.declared.secret.Credential.TheVariants.{Login, Enable
 use Rattle.pol_names.specs.declared.secret.Secret.{Secret}
 use Rattle.pol_names.specs.declared.secret.Secret.TheVariants.{Clear, Hashed}
 use Rattle.pol_names.specs.SubjectId.{same_kind, same_id}
-use Rattle.pol_text.specs.Policy.{id_of, find_subject, all_distinct, all_of, is_right_rule, is_right_subject, has_parent, ends_within, WellFormed, max_rules, max_subjects}
+use Rattle.pol_text.specs.Policy.{id_of, find_subject, all_distinct, all_of, is_right_rule, is_right_subject, has_parent, ends_within, WellFormed, none_clash, max_rules, max_services, max_subjects}
 use Rattle.pol_names.specs.SubjectId.{kind_word}
 use Rattle.pol_names.specs.Decision.{verdict_word}
-use Rattle.pol_text.specs.Text.{◌>>=◌, Draft, subjects_of, named, is_field, with_parent, heading, new_subject, with_subject, with_present, with_login, with_enable, with_login_hash, with_enable_hash, pattern_in, is_hashed, needs_third, version_line, third_line, with_priv, with_rule, with_words, with_trimmed, with_line, at_line, with_lines, checked, with_right_chains, policy_of, heading_line, line_for, rule_line, subject_lines, policy_lines, text_of_lines, text_of}
-use Rattle.pol_text.proofs.SettingFacts.{and_left, and_right, and_both, right_parts, rule_read}
+use Rattle.pol_names.specs.Service.{is_service, is_right_line, any_clash, may_say, says_word, attribute_in, attributed_text, line_text}
+use Rattle.pol_names.specs.declared.service.ServiceId.{ServiceId}
+use Rattle.pol_names.specs.declared.service.Says.{Says}
+use Rattle.pol_names.specs.declared.service.Says.TheVariants.{Allows, Refuses}
+use Rattle.pol_names.specs.declared.service.ServiceLine.{ServiceLine}
+use Rattle.pol_names.proofs.ServiceFacts.{line_symbols}
+use Rattle.pol_text.specs.Text.{◌>>=◌, Draft, subjects_of, named, is_field, with_parent, heading, new_subject, with_subject, with_present, with_login, with_enable, with_login_hash, with_enable_hash, pattern_in, is_hashed, needs_third, version_line, third_line, with_priv, with_service, allowed_by, refused_by, with_rule, with_words, with_trimmed, with_line, at_line, with_lines, checked, with_right_chains, policy_of, heading_line, line_for, rule_line, subject_lines, policy_lines, text_of_lines, text_of}
+use Rattle.pol_text.proofs.SettingFacts.{and_left, and_right, and_both, right_parts, service_taken, rule_read}
+use Rattle.pol_text.proofs.ServiceLines.{lines_parts, none_before}
+use Rattle.pol_text.proofs.SaidFacts.{allowed_again, refused_again}
 use Rattle.pol_text.proofs.DraftFacts.{present_is}
 use Rattle.pol_text.proofs.RightFacts.{bind_ok, first_ok, placed_ok, any_is, id_same, or_false, subjects-push}
 use Rattle.pol_text.proofs.PatternFacts.{pattern_same, pattern_text}
@@ -191,9 +199,30 @@ unfolding with_line with_trimmed with_words
 enable_hash_line true number text draft third h = rw h refl
 enable_hash_line false number text draft third h = absurd cc
 
-abbrev made : Kind → List ℕ → Option (List ℕ) → Option Secret → Option Secret → Option ℕ → List Rule → Subject
-made kind name parent login enable level rules =
-    record { kind = kind; name = name; parent = parent; login = login; enable = enable; priv_lvl = level; rules = rules }
+service_line : (b : Bool) (number : ℕ) (text : List ℕ) (draft : Draft) → b ≡ true → is_text text ≡ true → with_line (version_of b) number (codes "service " ++ text) draft ≡ (allowed_by text >>= λ line. with_present (with_service line) draft)
+unfolding with_line with_trimmed with_words
+service_line true number text draft third h = rw h refl
+service_line false number text draft third h = absurd cc
+
+refuse_line : (b : Bool) (number : ℕ) (text : List ℕ) (draft : Draft) → b ≡ true → is_text text ≡ true → with_line (version_of b) number (codes "refuse " ++ text) draft ≡ (refused_by text >>= λ line. with_present (with_service line) draft)
+unfolding with_line with_trimmed with_words
+refuse_line true number text draft third h = rw h refl
+refuse_line false number text draft third h = absurd cc
+
+said_parts : (b : Bool) (number : ℕ) (service : ServiceId) (says : Says) (draft : Draft) → b ≡ true → is_service service ≡ true → may_say service says ≡ true
+    → with_line (version_of b) number (says_word says ++ attributed_text service (attribute_in says)) draft ≡ with_present (with_service (record { service = service; says = says })) draft
+said_parts b number service (Allows attribute) draft third right may =
+    service_line b number (attributed_text service attribute) draft third (line_symbols service (Allows attribute) right may) ∙ ap (λ (r : Result ServiceLine PolicyRefusal). r >>= λ line. with_present (with_service line) draft) (allowed_again service attribute right)
+said_parts b number service Refuses draft third right may =
+    refuse_line b number (attributed_text service None) draft third (line_symbols service Refuses right may) ∙ ap (λ (r : Result ServiceLine PolicyRefusal). r >>= λ line. with_present (with_service line) draft) (refused_again service right)
+
+said_line : (b : Bool) (number : ℕ) (line : ServiceLine) (draft : Draft) → b ≡ true → is_right_line line ≡ true → with_line (version_of b) number (line_text line) draft ≡ with_present (with_service line) draft
+said_line b number line draft third right =
+    said_parts b number line.service line.says draft third (and_left (is_service line.service) (may_say line.service line.says) right) (and_right (is_service line.service) (may_say line.service line.says) right)
+
+abbrev made : Kind → List ℕ → Option (List ℕ) → Option Secret → Option Secret → Option ℕ → List ServiceLine → List Rule → Subject
+made kind name parent login enable level services rules =
+    record { kind = kind; name = name; parent = parent; login = login; enable = enable; priv_lvl = level; services = services; rules = rules }
 
 secret_text : (secret : List ℕ) → is_secret secret ≡ true → is_text secret ≡ true
 secret_text secret h = and_right _ _ h
@@ -203,70 +232,98 @@ module _ (b : Bool) (number at : ℕ) (front : Draft) (name : List ℕ) (parent 
   with_last subject = front ++ (at, subject) ∷ []
 
   logged : (kind : Kind) (login enable : Option Secret) → (is_hashed login ≡ true → b ≡ true) → all_of is_right_secret login ≡ true → (same_kind kind User || not (is_some login || is_some enable)) ≡ true
-      → with_lines (version_of b) number (line_for (secret_line Login) login) (with_last (made kind name parent None None None [])) ≡ Ok (with_last (made kind name parent login None None []))
+      → with_lines (version_of b) number (line_for (secret_line Login) login) (with_last (made kind name parent None None None [] [])) ≡ Ok (with_last (made kind name parent login None None [] []))
   unfolding with_lines
   logged kind None enable fits right user = refl
   logged Group (Some secret) enable fits right user = absurd cc
   logged User (Some (Clear secret)) enable fits right user =
-      one_line b number (codes "login " ++ secret) (with_last (made User name parent None None None [])) (with_last (made User name parent (Some (Clear secret)) None None []))
-      (login_line b number secret (with_last (made User name parent None None None [])) (secret_text secret right)
-      ∙ present_is (with_login secret) front at (made User name parent None None None []) ∙ rw right refl)
+      one_line b number (codes "login " ++ secret) (with_last (made User name parent None None None [] [])) (with_last (made User name parent (Some (Clear secret)) None None [] []))
+      (login_line b number secret (with_last (made User name parent None None None [] [])) (secret_text secret right)
+      ∙ present_is (with_login secret) front at (made User name parent None None None [] []) ∙ rw right refl)
   logged User (Some (Hashed hash)) enable fits right user =
-      one_line b number (codes "login-hash " ++ hash_text hash) (with_last (made User name parent None None None [])) (with_last (made User name parent (Some (Hashed hash)) None None []))
-      (login_hash_line b number (hash_text hash) (with_last (made User name parent None None None [])) (fits refl) (hash_is_text hash right)
-      ∙ present_is (with_login_hash (hash_text hash)) front at (made User name parent None None None []) ∙ rw (again hash right) refl)
+      one_line b number (codes "login-hash " ++ hash_text hash) (with_last (made User name parent None None None [] [])) (with_last (made User name parent (Some (Hashed hash)) None None [] []))
+      (login_hash_line b number (hash_text hash) (with_last (made User name parent None None None [] [])) (fits refl) (hash_is_text hash right)
+      ∙ present_is (with_login_hash (hash_text hash)) front at (made User name parent None None None [] []) ∙ rw (again hash right) refl)
 
   enabled : (kind : Kind) (login enable : Option Secret) → (is_hashed enable ≡ true → b ≡ true) → all_of is_right_secret enable ≡ true → (same_kind kind User || not (is_some login || is_some enable)) ≡ true
-      → with_lines (version_of b) number (line_for (secret_line Enable) enable) (with_last (made kind name parent login None None [])) ≡ Ok (with_last (made kind name parent login enable None []))
+      → with_lines (version_of b) number (line_for (secret_line Enable) enable) (with_last (made kind name parent login None None [] [])) ≡ Ok (with_last (made kind name parent login enable None [] []))
   unfolding with_lines
   enabled kind login None fits right user = refl
   enabled Group None (Some secret) fits right user = absurd cc
   enabled Group (Some login) (Some secret) fits right user = absurd cc
   enabled User login (Some (Clear secret)) fits right user =
-      one_line b number (codes "enable " ++ secret) (with_last (made User name parent login None None [])) (with_last (made User name parent login (Some (Clear secret)) None []))
-      (enable_line b number secret (with_last (made User name parent login None None [])) (secret_text secret right)
-      ∙ present_is (with_enable secret) front at (made User name parent login None None []) ∙ rw right refl)
+      one_line b number (codes "enable " ++ secret) (with_last (made User name parent login None None [] [])) (with_last (made User name parent login (Some (Clear secret)) None [] []))
+      (enable_line b number secret (with_last (made User name parent login None None [] [])) (secret_text secret right)
+      ∙ present_is (with_enable secret) front at (made User name parent login None None [] []) ∙ rw right refl)
   enabled User login (Some (Hashed hash)) fits right user =
-      one_line b number (codes "enable-hash " ++ hash_text hash) (with_last (made User name parent login None None [])) (with_last (made User name parent login (Some (Hashed hash)) None []))
-      (enable_hash_line b number (hash_text hash) (with_last (made User name parent login None None [])) (fits refl) (hash_is_text hash right)
-      ∙ present_is (with_enable_hash (hash_text hash)) front at (made User name parent login None None []) ∙ rw (again hash right) refl)
+      one_line b number (codes "enable-hash " ++ hash_text hash) (with_last (made User name parent login None None [] [])) (with_last (made User name parent login (Some (Hashed hash)) None [] []))
+      (enable_hash_line b number (hash_text hash) (with_last (made User name parent login None None [] [])) (fits refl) (hash_is_text hash right)
+      ∙ present_is (with_enable_hash (hash_text hash)) front at (made User name parent login None None [] []) ∙ rw (again hash right) refl)
 
   levelled : (kind : Kind) (login enable : Option Secret) (level : Option ℕ) → all_of (λ level. nat_le level 15) level ≡ true
-      → with_lines (version_of b) number (line_for (λ level. codes "priv " ++ decimal level) level) (with_last (made kind name parent login enable None [])) ≡ Ok (with_last (made kind name parent login enable level []))
+      → with_lines (version_of b) number (line_for (λ level. codes "priv " ++ decimal level) level) (with_last (made kind name parent login enable None [] [])) ≡ Ok (with_last (made kind name parent login enable level [] []))
   unfolding with_lines
   levelled kind login enable None right = refl
   levelled kind login enable (Some level) right =
       let r = level_read level right in
-      one_line b number (codes "priv " ++ decimal level) (with_last (made kind name parent login enable None [])) (with_last (made kind name parent login enable (Some level) []))
-      (priv_line b number (decimal level) (with_last (made kind name parent login enable None [])) r.text r.field
-      ∙ present_is (with_priv (decimal level)) front at (made kind name parent login enable None []) ∙ rw r.read refl)
+      one_line b number (codes "priv " ++ decimal level) (with_last (made kind name parent login enable None [] [])) (with_last (made kind name parent login enable (Some level) [] []))
+      (priv_line b number (decimal level) (with_last (made kind name parent login enable None [] [])) r.text r.field
+      ∙ present_is (with_priv (decimal level)) front at (made kind name parent login enable None [] []) ∙ rw r.read refl)
 
-  ruled : (kind : Kind) (login enable : Option Secret) (level : Option ℕ) (verdict : Verdict) (pattern : List ℕ) (done : List Rule) → is_ok (pattern_of pattern) ≡ true → length done < max_rules
-      → with_line (version_of b) number (verdict_word verdict ++ pattern) (with_last (made kind name parent login enable level done))
-      ≡ Ok (with_last (made kind name parent login enable level (done ++ record { verdict = verdict; pattern = pattern } ∷ [])))
-  ruled kind login enable level verdict pattern done right room =
+  said : (kind : Kind) (login enable : Option Secret) (level : Option ℕ) (line : ServiceLine) (done : List ServiceLine) → b ≡ true → is_right_line line ≡ true → any_clash done line ≡ false → length done < max_services
+      → with_line (version_of b) number (line_text line) (with_last (made kind name parent login enable level done [])) ≡ Ok (with_last (made kind name parent login enable level (done ++ line ∷ []) []))
+  said kind login enable level line done third right apart room =
+      let test : nat_le max_services (length done) ≡ false = grind (arith, nat_tests) in
+      said_line b number line (with_last (made kind name parent login enable level done [])) third right
+      ∙ present_is (with_service line) front at (made kind name parent login enable level done [])
+      ∙ rw (service_taken line (made kind name parent login enable level done []) apart right test) refl
+
+  ruled : (kind : Kind) (login enable : Option Secret) (level : Option ℕ) (services : List ServiceLine) (verdict : Verdict) (pattern : List ℕ) (done : List Rule) → is_ok (pattern_of pattern) ≡ true → length done < max_rules
+      → with_line (version_of b) number (verdict_word verdict ++ pattern) (with_last (made kind name parent login enable level services done))
+      ≡ Ok (with_last (made kind name parent login enable level services (done ++ record { verdict = verdict; pattern = pattern } ∷ [])))
+  ruled kind login enable level services verdict pattern done right room =
       let test : nat_le max_rules (length done) ≡ false = grind (arith, nat_tests) in
-      verdict_line b number verdict pattern (with_last (made kind name parent login enable level done)) (pattern_text pattern right)
-      ∙ present_is (with_rule (version_of b) verdict pattern) front at (made kind name parent login enable level done)
-      ∙ rw (rule_read (version_of b) verdict pattern pattern (made kind name parent login enable level done) (pattern_modern b pattern ∙ pattern_same pattern right), test) refl
+      verdict_line b number verdict pattern (with_last (made kind name parent login enable level services done)) (pattern_text pattern right)
+      ∙ present_is (with_rule (version_of b) verdict pattern) front at (made kind name parent login enable level services done)
+      ∙ rw (rule_read (version_of b) verdict pattern pattern (made kind name parent login enable level services done) (pattern_modern b pattern ∙ pattern_same pattern right), test) refl
 
-all_ruled : (b : Bool) (number at : ℕ) (front : Draft) (name : List ℕ) (parent : Option (List ℕ)) (kind : Kind) (login enable : Option Secret) (level : Option ℕ) (done rules : List Rule)
-    → list_all is_right_rule rules ≡ true → length done + length rules ≤ max_rules
-    → with_lines (version_of b) number (map rule_line rules) (front ++ (at, made kind name parent login enable level done) ∷ []) ≡ Ok (front ++ (at, made kind name parent login enable level (done ++ rules)) ∷ [])
+all_said : (b : Bool) (number at : ℕ) (front : Draft) (name : List ℕ) (parent : Option (List ℕ)) (kind : Kind) (login enable : Option Secret) (level : Option ℕ) (done lines : List ServiceLine)
+    → (nat_lt 0 (length lines) ≡ true → b ≡ true) → list_all is_right_line lines ≡ true → none_clash (done ++ lines) ≡ true → length done + length lines ≤ max_services
+    → with_lines (version_of b) number (map line_text lines) (front ++ (at, made kind name parent login enable level done []) ∷ []) ≡ Ok (front ++ (at, made kind name parent login enable level (done ++ lines) []) ∷ [])
 unfolding with_lines
-all_ruled b number at front name parent kind login enable level done [] right room =
+all_said b number at front name parent kind login enable level done [] fits right apart room =
+    let whole : done ++ [] ≡ done = lines-nil done in rw whole refl
+  where
+    lines-nil : (lines : List ServiceLine) → lines ++ [] ≡ lines
+    lines-nil [] = refl
+    lines-nil (line ∷ lines) = ap (λ (rest : List ServiceLine). line ∷ rest) (lines-nil lines)
+all_said b number at front name parent kind login enable level done (line ∷ lines) fits right apart room =
+    let some : nat_lt 0 (suc (length lines)) ≡ true = grind (arith, nat_tests) in
+    let third : b ≡ true = fits some in
+    let lengths = length-append done (line ∷ []) in
+    let few : length done < max_services = omega arith in
+    let step = said b number at front name parent kind login enable level line done third (and_left (is_right_line line) _ right) (none_before done lines line apart) few in
+    let moved : (done ++ line ∷ []) ++ lines ≡ done ++ line ∷ lines = append_assoc done (line ∷ []) lines in
+    rw step (all_said b (number + 1) at front name parent kind login enable level (done ++ line ∷ []) lines (λ more. third) (and_right (is_right_line line) _ right) (ap none_clash moved ∙ apart) (omega arith)
+    ∙ ap (λ (lines : List ServiceLine). Ok (front ++ (at, made kind name parent login enable level lines []) ∷ [])) moved)
+
+all_ruled : (b : Bool) (number at : ℕ) (front : Draft) (name : List ℕ) (parent : Option (List ℕ)) (kind : Kind) (login enable : Option Secret) (level : Option ℕ) (services : List ServiceLine) (done rules : List Rule)
+    → list_all is_right_rule rules ≡ true → length done + length rules ≤ max_rules
+    → with_lines (version_of b) number (map rule_line rules) (front ++ (at, made kind name parent login enable level services done) ∷ []) ≡ Ok (front ++ (at, made kind name parent login enable level services (done ++ rules)) ∷ [])
+unfolding with_lines
+all_ruled b number at front name parent kind login enable level services done [] right room =
     let whole : done ++ [] ≡ done = rules-nil done in rw whole refl
   where
     rules-nil : (rules : List Rule) → rules ++ [] ≡ rules
     rules-nil [] = refl
     rules-nil (rule ∷ rules) = ap (λ (rest : List Rule). rule ∷ rest) (rules-nil rules)
-all_ruled b number at front name parent kind login enable level done (rule ∷ rules) right room =
+all_ruled b number at front name parent kind login enable level services done (rule ∷ rules) right room =
     let lengths = length-append done (rule ∷ []) in
     let few : length done < max_rules = omega arith in
-    let step = ruled b number at front name parent kind login enable level rule.verdict rule.pattern done (and_left (is_right_rule rule) _ right) few in
+    let step = ruled b number at front name parent kind login enable level services rule.verdict rule.pattern done (and_left (is_right_rule rule) _ right) few in
     let moved : (done ++ rule ∷ []) ++ rules ≡ done ++ rule ∷ rules = append_assoc done (rule ∷ []) rules in
-    rw step (all_ruled b (number + 1) at front name parent kind login enable level (done ++ rule ∷ []) rules (and_right (is_right_rule rule) _ right) (omega arith)
-    ∙ ap (λ (rules : List Rule). Ok (front ++ (at, made kind name parent login enable level rules) ∷ [])) moved)
+    rw step (all_ruled b (number + 1) at front name parent kind login enable level services (done ++ rule ∷ []) rules (and_right (is_right_rule rule) _ right) (omega arith)
+    ∙ ap (λ (rules : List Rule). Ok (front ++ (at, made kind name parent login enable level services rules) ∷ [])) moved)
 
 -- ---- a subject
 
@@ -288,18 +345,23 @@ subject_read b number draft subject fits right none room =
     let login = line_for (secret_line Login) subject.login in
     let enable = line_for (secret_line Enable) subject.enable in
     let level = line_for (λ (level : ℕ). codes "priv " ++ decimal level) subject.priv_lvl in
+    let services = map line_text subject.services in
     let rules = map rule_line subject.rules in
-    let d0 = draft ++ (number, made kind name parent None None None []) ∷ [] in
-    let d1 = draft ++ (number, made kind name parent subject.login None None []) ∷ [] in
-    let d2 = draft ++ (number, made kind name parent subject.login subject.enable None []) ∷ [] in
-    let d3 = draft ++ (number, made kind name parent subject.login subject.enable subject.priv_lvl []) ∷ [] in
+    let d0 = draft ++ (number, made kind name parent None None None [] []) ∷ [] in
+    let d1 = draft ++ (number, made kind name parent subject.login None None [] []) ∷ [] in
+    let d2 = draft ++ (number, made kind name parent subject.login subject.enable None [] []) ∷ [] in
+    let d3 = draft ++ (number, made kind name parent subject.login subject.enable subject.priv_lvl [] []) ∷ [] in
+    let d4 = draft ++ (number, made kind name parent subject.login subject.enable subject.priv_lvl subject.services []) ∷ [] in
+    let said = lines_parts subject.services r.services in
     let few : 0 + length subject.rules ≤ max_rules = let test = r.few in grind (arith, nat_tests) in
     let h0 = one_line b number heading draft d0 (begun b number kind name parent draft r.name r.parent none room) in
-    let h1 = both b number (heading ∷ []) login draft d0 d1 h0 (logged b (number + 1) number draft name parent kind subject.login subject.enable (λ e. fits (or_left _ _ e)) r.login r.secrets) in
-    let h2 = both b number (heading ∷ login) enable draft d1 d2 h1 (enabled b (number + length (heading ∷ login)) number draft name parent kind subject.login subject.enable (λ e. fits (or_right _ _ e)) r.enable r.secrets) in
+    let h1 = both b number (heading ∷ []) login draft d0 d1 h0 (logged b (number + 1) number draft name parent kind subject.login subject.enable (λ e. fits (or_left _ _ (or_left _ _ e))) r.login r.secrets) in
+    let h2 = both b number (heading ∷ login) enable draft d1 d2 h1 (enabled b (number + length (heading ∷ login)) number draft name parent kind subject.login subject.enable (λ e. fits (or_left _ _ (or_right _ _ e))) r.enable r.secrets) in
     let h3 = both b number (heading ∷ (login ++ enable)) level draft d2 d3 h2 (levelled b (number + length (heading ∷ (login ++ enable))) number draft name parent kind subject.login subject.enable subject.priv_lvl r.level) in
-    both b number (heading ∷ (login ++ enable ++ level)) rules draft d3 (draft ++ (number, subject) ∷ []) h3
-    (all_ruled b (number + length (heading ∷ (login ++ enable ++ level))) number draft name parent kind subject.login subject.enable subject.priv_lvl [] subject.rules r.rules few)
+    let h4 = both b number (heading ∷ (login ++ enable ++ level)) services draft d3 d4 h3
+    (all_said b (number + length (heading ∷ (login ++ enable ++ level))) number draft name parent kind subject.login subject.enable subject.priv_lvl [] subject.services (λ e. fits (or_right _ _ e)) said.each said.apart (let some = said.few in omega arith)) in
+    both b number (heading ∷ (login ++ enable ++ level ++ services)) rules draft d4 (draft ++ (number, subject) ∷ []) h4
+    (all_ruled b (number + length (heading ∷ (login ++ enable ++ level ++ services))) number draft name parent kind subject.login subject.enable subject.priv_lvl subject.services [] subject.rules r.rules few)
 
 -- ---- a policy
 

@@ -1,5 +1,5 @@
 -- A change of a subject keeps its kind and name, and that it is right.
-use Rattle.std.proofs.Common.{◌≡◌, ℕ, Bool, true, false, cond, ◌&&◌, List, [], ◌∷◌, ◌++◌, length, nat_le, Option, None, Some, Result, Ok, Err, OnErr, refl, sym, ap, ◌∙◌, arith, if◌then◌else◌, length-append}
+use Rattle.std.proofs.Common.{◌≡◌, ℕ, Bool, true, false, not, cond, ◌&&◌, List, [], ◌∷◌, ◌++◌, length, nat_le, Option, None, Some, Result, Ok, Err, OnErr, refl, sym, ap, ◌∙◌, arith, if◌then◌else◌, length-append}
 use Rattle.std.specs.List.{list_all}
 use Rattle.std.specs.Result.{is_ok}
 use Rattle.std.specs.Option.{option_and_then}
@@ -17,7 +17,7 @@ use Rattle.pol_names.specs.declared.subject_id.Kind.{Kind}
 use Rattle.pol_names.specs.declared.subject_id.Kind.TheVariants.{Group, User}
 use Rattle.pol_names.specs.declared.decision.Verdict.{Verdict}
 use Rattle.pol_text.specs.declared.subject.Subject.{Subject}
-use Rattle.pol_text.specs.declared.fault.PolicyRefusal.TheVariants.{BadLine, BadPattern, Limit}
+use Rattle.pol_text.specs.declared.fault.PolicyRefusal.TheVariants.{BadLine, BadPattern, BadValue, Limit, Repeated}
 use Rattle.pol_text.specs.declared.fault.LineFault.{LineFault}
 use Rattle.pol_text.specs.Draft.{LineMakes}
 use Rattle.pol_text.specs.declared.setting.Setting.{Setting}
@@ -31,10 +31,14 @@ use Rattle.pol_names.specs.Secret.{is_secret, secret_of}
 use Rattle.sha_crypt.specs.HashText.{HashParts, hash_of}
 use Rattle.sha_crypt.proofs.TextFacts.{found}
 use Rattle.pol_names.specs.Kept.{is_right_secret}
+use Rattle.pol_names.specs.Service.{any_clash, is_right_line}
+use Rattle.pol_names.specs.declared.service.ServiceLine.{ServiceLine}
 use Rattle.pol_names.specs.SubjectId.{same_kind}
-use Rattle.pol_text.specs.Policy.{id_of, all_of, is_right_rule, has_right_secrets, is_right_subject, max_rules}
+use Rattle.pol_text.specs.Policy.{id_of, all_of, is_right_rule, has_right_secrets, are_right_lines, is_right_subject, max_rules, max_services}
+use Rattle.pol_text.specs.Change.{with_line_last}
 use Rattle.pol_text.specs.Setting.{changed_by}
-use Rattle.pol_text.specs.Text.{set_once, with_login, with_enable, with_login_hash, with_enable_hash, with_priv, with_rule, level_of, pattern_in}
+use Rattle.pol_text.specs.Text.{set_once, with_login, with_enable, with_login_hash, with_enable_hash, with_priv, with_service, with_rule, level_of, pattern_in}
+use Rattle.pol_text.proofs.ServiceLines.{lines_push}
 
 -- ---- tests
 
@@ -57,12 +61,14 @@ pub record Right (subject : Subject) : Type 0 where
   pub enable : all_of is_right_secret subject.enable ≡ true
   pub secrets : has_right_secrets subject ≡ true
   pub level : all_of (λ level. nat_le level 15) subject.priv_lvl ≡ true
+  pub services : are_right_lines subject.services ≡ true
   pub few : nat_le (length subject.rules) max_rules ≡ true
   pub rules : list_all is_right_rule subject.rules ≡ true
 
 pub right_parts : (subject : Subject) → is_right_subject subject ≡ true → Right subject
 right_parts subject h =
-    let h7 = and_left _ _ h in
+    let h8 = and_left _ _ h in
+    let h7 = and_left _ _ h8 in
     let h6 = and_left _ _ h7 in
     let h5 = and_left _ _ h6 in
     let h4 = and_left _ _ h5 in
@@ -75,13 +81,14 @@ right_parts subject h =
       enable = and_right _ _ h4;
       secrets = and_right _ _ h5;
       level = and_right _ _ h6;
-      few = and_right _ _ h7;
+      services = and_right _ _ h7;
+      few = and_right _ _ h8;
       rules = and_right _ _ h;
     }
 
 pub right_whole : (subject : Subject) → Right subject → is_right_subject subject ≡ true
 right_whole subject r =
-    and_both _ _ (and_both _ _ (and_both _ _ (and_both _ _ (and_both _ _ (and_both _ _ (and_both _ _ r.name r.parent) r.login) r.enable) r.secrets) r.level) r.few) r.rules
+    and_both _ _ (and_both _ _ (and_both _ _ (and_both _ _ (and_both _ _ (and_both _ _ (and_both _ _ (and_both _ _ r.name r.parent) r.login) r.enable) r.secrets) r.level) r.services) r.few) r.rules
 
 -- ---- settings
 
@@ -171,6 +178,7 @@ login_kept text subject next h = by subject.kind refl h
             enable = r.enable;
             secrets = user_secrets (record subject { login = Some m.0 }) e;
             level = r.level;
+            services = r.services;
             few = r.few;
             rules = r.rules;
           } in rw m.2 made;
@@ -194,6 +202,7 @@ enable_kept text subject next h = by subject.kind refl h
             enable = clear_right text m.0 (secret_of text) refl m.1;
             secrets = user_secrets (record subject { enable = Some m.0 }) e;
             level = r.level;
+            services = r.services;
             few = r.few;
             rules = r.rules;
           } in rw m.2 made;
@@ -217,6 +226,7 @@ login_hash_kept text subject next h = by subject.kind refl h
             enable = r.enable;
             secrets = user_secrets (record subject { login = Some m.0 }) e;
             level = r.level;
+            services = r.services;
             few = r.few;
             rules = r.rules;
           } in rw m.2 made;
@@ -240,6 +250,7 @@ enable_hash_kept text subject next h = by subject.kind refl h
             enable = hashed_right text m.0 (hash_of text) refl m.1;
             secrets = user_secrets (record subject { enable = Some m.0 }) e;
             level = r.level;
+            services = r.services;
             few = r.few;
             rules = r.rules;
           } in rw m.2 made;
@@ -257,9 +268,52 @@ priv_kept text subject next h =
         enable = r.enable;
         secrets = r.secrets;
         level = level_right text m.0 m.1;
+        services = r.services;
         few = r.few;
         rules = r.rules;
       } in rw m.2 made;
+    }
+
+-- what a line about a service that is taken has shown
+pub record Said (line : ServiceLine) (subject next : Subject) : Type 0 where
+  pub apart : any_clash subject.services line ≡ false
+  pub right : is_right_line line ≡ true
+  pub room : nat_le max_services (length subject.services) ≡ false
+  pub is : next ≡ with_line_last line subject
+
+pub service_said : (line : ServiceLine) (subject next : Subject) → with_service line subject ≡ Ok next → Said line subject next
+unfolding with_service
+service_said line subject next h = by (any_clash subject.services line) (is_right_line line) (nat_le max_services (length subject.services)) refl refl refl h
+  where
+    by : (a b c : Bool) → any_clash subject.services line ≡ a → is_right_line line ≡ b → nat_le max_services (length subject.services) ≡ c
+        → cond a (Err Repeated) (cond (not b) (Err BadValue) (cond c (Err Limit) (Ok (with_line_last line subject)))) ≡ Ok next → Said line subject next
+    by true b c apart right room k = absurd cc
+    by false false c apart right room k = absurd cc
+    by false true true apart right room k = absurd cc
+    by false true false apart right room k = record { apart = apart; right = right; room = room; is = cc }
+
+pub service_taken : (line : ServiceLine) (subject : Subject) → any_clash subject.services line ≡ false → is_right_line line ≡ true → nat_le max_services (length subject.services) ≡ false
+    → with_service line subject ≡ Ok (with_line_last line subject)
+unfolding with_service
+service_taken line subject apart right room = rw (apart, right, room) refl
+
+pub service_kept : (line : ServiceLine) (subject next : Subject) → with_service line subject ≡ Ok next → Kept subject next
+service_kept line subject next h =
+    let s = service_said line subject next h in
+    let test = s.room in
+    record {
+      same = ap id_of s.is;
+      right = λ (r : Right subject). let made : Right (with_line_last line subject) = record {
+        name = r.name;
+        parent = r.parent;
+        login = r.login;
+        enable = r.enable;
+        secrets = r.secrets;
+        level = r.level;
+        services = lines_push subject.services line r.services s.right s.apart (grind (arith, nat_tests));
+        few = r.few;
+        rules = r.rules;
+      } in rw s.is made;
     }
 
 pub rule_read : (version : Version) (verdict : Verdict) (text pattern : List ℕ) (subject : Subject) → pattern_in version text ≡ Ok pattern
@@ -284,6 +338,7 @@ rule_kept version verdict text subject next h = by (pattern_in version text) ref
           enable = r.enable;
           secrets = r.secrets;
           level = r.level;
+          services = r.services;
           few = rw (length-append subject.rules (record { verdict = verdict; pattern = pattern } ∷ [])) (grind (arith, nat_tests));
           rules = list_all-append is_right_rule subject.rules (record { verdict = verdict; pattern = pattern } ∷ []) ∙ rw (r.rules, one) refl;
         }
@@ -311,3 +366,8 @@ change_kept (settings.Rule version verdict text) subject next h = rule_kept vers
 pub made_kept : (r : Result Unit LineFault) (setting : Setting) (subject next : Subject) → LineMakes r next (changed_by setting subject) → OnErr r (next ≡ subject) → id_of next ≡ id_of subject
 made_kept (Ok made) setting subject next h same = (change_kept setting subject next h).same
 made_kept (Err fault) setting subject next h same = ap id_of same
+
+-- and so it does where a line about a service is added or refused
+pub said_kept : (r : Result Unit LineFault) (line : ServiceLine) (subject next : Subject) → LineMakes r next (with_service line subject) → OnErr r (next ≡ subject) → id_of next ≡ id_of subject
+said_kept (Ok made) line subject next h same = (service_kept line subject next h).same
+said_kept (Err fault) line subject next h same = ap id_of same

@@ -19,6 +19,8 @@ use Rattle.pol_names.specs.declared.secret.Secret.{Secret}
 use Rattle.pol_names.specs.declared.secret.Secret.TheVariants.{Clear, Hashed}
 use Rattle.pol_names.specs.SubjectId.{same_kind, kind_word}
 use Rattle.pol_names.specs.Decision.{verdict_word}
+use Rattle.pol_names.specs.Service.{line_text}
+use Rattle.pol_names.specs.declared.service.ServiceLine.{ServiceLine}
 use Rattle.pol_names.specs.declared.subject_id.Kind.{Kind}
 use Rattle.pol_names.specs.declared.subject_id.Kind.TheVariants.{Group, User}
 use Rattle.pol_names.specs.declared.decision.Verdict.{Verdict}
@@ -26,12 +28,13 @@ use Rattle.pol_names.specs.declared.decision.Verdict.TheVariants.{Permit, Deny}
 use Rattle.pol_text.specs.declared.subject.Subject.{Subject}
 use Rattle.pol_text.specs.declared.fault.PolicyRefusal.{PolicyRefusal}
 use Rattle.pol_text.specs.declared.fault.PolicyRefusal.TheVariants.{BadLine, BadName, Repeated, Limit, NoSubject}
-use Rattle.pol_text.specs.Policy.{find_subject, max_rules, max_subjects}
-use Rattle.pol_text.specs.Text.{◌>>=◌, Draft, subjects_of, named, is_field, with_parent, heading, new_subject, with_subject, split_last, with_present, set_once, with_login, with_enable, with_login_hash, with_enable_hash, level_of, with_priv, with_rule, with_words, is_blank, with_trimmed, with_line, at_line, with_lines, with_right_chains, policy_of, pattern_in, body_of, with_body}
-use Rattle.pol_text.specs.Versions.{has_hashes}
-use Rattle.pol_text.specs.Spelling.{Sets, login, enable, login_hash, enable_hash, level, rule, Adds, begins, sets, Extends, meaningful, Spells}
-use Rattle.pol_text.proofs.SettingFacts.{and_left, and_right, rule_read, rule_refused}
+use Rattle.pol_text.specs.Policy.{find_subject, max_rules, max_services, max_subjects}
+use Rattle.pol_text.specs.Text.{◌>>=◌, Draft, subjects_of, named, is_field, with_parent, heading, new_subject, with_subject, split_last, with_present, set_once, with_login, with_enable, with_login_hash, with_enable_hash, level_of, with_priv, with_service, allowed_by, refused_by, with_rule, with_words, is_blank, with_trimmed, with_line, at_line, with_lines, with_right_chains, policy_of, pattern_in, body_of, with_body}
+use Rattle.pol_text.specs.Versions.{has_hashes, has_services}
+use Rattle.pol_text.specs.Spelling.{Sets, login, enable, login_hash, enable_hash, level, about, rule, Adds, begins, sets, Extends, meaningful, Spells}
+use Rattle.pol_text.proofs.SettingFacts.{and_left, and_right, service_said, rule_read, rule_refused}
 use Rattle.pol_text.proofs.RightFacts.{bind_ok, some_of, first_ok, second_ok, placed_ok, heading_right, split_back, subjects-push, chains_same, read_well_formed}
+use Rattle.pol_text.proofs.SaidFacts.{allowed_found, refused_found}
 use Rattle.pol_text.proofs.RoundFacts.{after_name, read_text}
 
 -- ---- words and fields
@@ -187,6 +190,13 @@ level_sets version line text old new spelled h =
     let m = once old.priv_lvl (level_of text) (λ level. record old { priv_lvl = Some level }) new h in
     level text m.1.0 m.1.1 spelled m.0 m.1.2
 
+service_sets : (version : Version) (line : List ℕ) (said : ServiceLine) (old new : Subject) → has_services version ≡ true → line ≡ line_text said → with_service said old ≡ Ok new → Sets version old line new
+service_sets version line said old new third spelled h =
+    let s = service_said said old new h in
+    let test = s.room in
+    let room : length old.services < max_services = grind (arith, nat_tests) in
+    about said third s.right spelled s.apart room s.is
+
 rule_sets : (version : Version) (verdict : Verdict) (line text : List ℕ) (old new : Subject) → line ≡ verdict_word verdict ++ text → with_rule version verdict text old ≡ Ok new → Sets version old line new
 rule_sets version verdict line text old new spelled h = by (pattern_in version text) refl
   where
@@ -210,6 +220,12 @@ set_adds version line change draft next each h =
     sets (subjects_of p.0.0) p.0.1.1 q.0 (each p.0.1.1 q.0 q.1)
     (ap subjects_of was ∙ subjects-push p.0.0 p.0.1.0 p.0.1.1) (ap subjects_of is ∙ subjects-push p.0.0 p.0.1.0 q.0)
 
+said_adds : (version : Version) (line : List ℕ) (said : Result ServiceLine PolicyRefusal) (draft next : Draft) → has_services version ≡ true → ((x : ServiceLine) → said ≡ Ok x → line ≡ line_text x)
+    → (said >>= λ x. with_present (with_service x) draft) ≡ Ok next → Adds version (subjects_of draft) line (subjects_of next)
+said_adds version line said draft next third spelled h =
+    let p = bind_ok said _ next h in
+    set_adds version line (with_service p.0) draft next (λ old new. service_sets version line p.0 old new third (spelled p.0 p.1)) p.2
+
 -- ---- lines
 
 abbrev after_word : List ℕ → List ℕ → List ℕ
@@ -220,6 +236,8 @@ unfolding with_words
 words_add version number word rest draft next h =
     either (bytes_eq word (codes "group")) _ _ next (λ w k. begun_adds version number Group (word ++ 32 ∷ rest) rest draft next (ap (after_word rest) (word_is word (codes "group") w)) k) (λ k.
     either (bytes_eq word (codes "user")) _ _ next (λ w k. begun_adds version number User (word ++ 32 ∷ rest) rest draft next (ap (after_word rest) (word_is word (codes "user") w)) k) (λ k.
+    either (bytes_eq word (codes "service") && has_services version) _ _ next (λ w k. said_adds version (word ++ 32 ∷ rest) (allowed_by rest) draft next (and_right (bytes_eq word (codes "service")) _ w) (λ x read. ap (after_word rest) (word_is word (codes "service") (and_left _ _ w)) ∙ allowed_found rest x read) k) (λ k.
+    either (bytes_eq word (codes "refuse") && has_services version) _ _ next (λ w k. said_adds version (word ++ 32 ∷ rest) (refused_by rest) draft next (and_right (bytes_eq word (codes "refuse")) _ w) (λ x read. ap (after_word rest) (word_is word (codes "refuse") (and_left _ _ w)) ∙ refused_found rest x read) k) (λ k.
     either (bytes_eq word (codes "login")) _ _ next (λ w k. set_adds version (word ++ 32 ∷ rest) (with_login rest) draft next (λ old new. login_sets version (word ++ 32 ∷ rest) rest old new (ap (after_word rest) (word_is word (codes "login") w))) k) (λ k.
     either (bytes_eq word (codes "enable")) _ _ next (λ w k. set_adds version (word ++ 32 ∷ rest) (with_enable rest) draft next (λ old new. enable_sets version (word ++ 32 ∷ rest) rest old new (ap (after_word rest) (word_is word (codes "enable") w))) k) (λ k.
     either (bytes_eq word (codes "login-hash") && has_hashes version) _ _ next (λ w k. set_adds version (word ++ 32 ∷ rest) (with_login_hash rest) draft next (λ old new. login_hash_sets version (word ++ 32 ∷ rest) rest old new (and_right (bytes_eq word (codes "login-hash")) _ w) (ap (after_word rest) (word_is word (codes "login-hash") (and_left _ _ w)))) k) (λ k.
@@ -227,7 +245,7 @@ words_add version number word rest draft next h =
     either (bytes_eq word (codes "priv")) _ _ next (λ w k. set_adds version (word ++ 32 ∷ rest) (with_priv rest) draft next (λ old new. level_sets version (word ++ 32 ∷ rest) rest old new (ap (after_word rest) (word_is word (codes "priv") w))) (first_ok (is_field rest) _ BadLine next k).1) (λ k.
     either (bytes_eq word (codes "permit")) _ _ next (λ w k. set_adds version (word ++ 32 ∷ rest) (with_rule version Permit rest) draft next (λ old new. rule_sets version Permit (word ++ 32 ∷ rest) rest old new (ap (after_word rest) (word_is word (codes "permit") w))) k) (λ k.
     let q = first_ok (bytes_eq word (codes "deny")) _ BadLine next k in
-    set_adds version (word ++ 32 ∷ rest) (with_rule version Deny rest) draft next (λ old new. rule_sets version Deny (word ++ 32 ∷ rest) rest old new (ap (after_word rest) (word_is word (codes "deny") q.0))) q.1) k) k) k) k) k) k) k) h
+    set_adds version (word ++ 32 ∷ rest) (with_rule version Deny rest) draft next (λ old new. rule_sets version Deny (word ++ 32 ∷ rest) rest old new (ap (after_word rest) (word_is word (codes "deny") q.0))) q.1) k) k) k) k) k) k) k) k) k) h
 
 trimmed_adds : (version : Version) (number : ℕ) (line : List ℕ) (draft next : Draft) → is_blank line ≡ false → with_trimmed version number line draft ≡ Ok next → Adds version (subjects_of draft) line (subjects_of next)
 unfolding with_trimmed

@@ -1,11 +1,14 @@
 -- What a change makes of a policy.
-use Rattle.std.specs.Prelude.{ℕ, ◌-◌, List, [], ◌∷◌, length, map, insert, remove, slice_get, Bool}
-use Rattle.std.specs.Prelude.{false, not, Option, Some, None, if◌then◌else◌}
+use Rattle.std.specs.Prelude.{ℕ, ◌-◌, List, [], ◌∷◌, ◌++◌, length, map, filter, insert, remove}
+use Rattle.std.specs.Prelude.{slice_get, Bool, false, not, Option, Some, None, if◌then◌else◌}
 use Rattle.std.specs.Option.{option_map_or}
 use Rattle.std.specs.List.{list_any, list_all}
 use Rattle.std.specs.Str.{bytes_eq}
 use Rattle.pol_names.specs.SubjectId.{same_id, group_id}
+use Rattle.pol_names.specs.Service.{is_cleared}
 use Rattle.pol_text.specs.Policy.{id_of, find_subject, ends_within, max_chain}
+use Rattle.pol_names.specs.declared.service.ServiceId.{ServiceId}
+use Rattle.pol_names.specs.declared.service.ServiceLine.{ServiceLine}
 use Rattle.pol_names.specs.declared.secret.Credential.{Credential}
 use Rattle.pol_names.specs.declared.secret.Secret.{Secret}
 use Rattle.pol_names.specs.declared.secret.Credential.TheVariants.{Login, Enable}
@@ -52,6 +55,17 @@ with_secret Enable secret subject = record subject { enable = secret }
 
 abbrev pub with_priv : Option ℕ → Subject → Subject
 with_priv level subject = record subject { priv_lvl = level }
+
+-- a line about a service goes last
+abbrev pub with_line_last : ServiceLine → Subject → Subject
+with_line_last line subject = record subject { services = subject.services ++ line ∷ [] }
+
+-- the lines about a service go, or the one that gives this attribute
+abbrev pub without_service : ServiceId → Option (List ℕ) → Subject → Subject
+without_service service attribute subject =
+    record subject {
+      services = filter (λ line. not (is_cleared service attribute line)) subject.services;
+    }
 
 -- the rule stands at this place, counted from 0
 abbrev pub with_rule_at : ℕ → Rule → Subject → Subject

@@ -10,9 +10,11 @@ use Rattle.pol_pattern.specs.Reading.{pattern_of}
 use Rattle.pol_pattern.specs.Matching.{matches}
 use Rattle.pol_names.specs.Name.{is_name}
 use Rattle.pol_names.specs.Kept.{is_right_secret}
+use Rattle.pol_names.specs.Service.{is_right_line, clash}
 use Rattle.pol_names.specs.SubjectId.{same_kind, same_id, group_id, user_id}
 use Rattle.pol_names.specs.declared.subject_id.Kind.TheVariants.{User}
 use Rattle.pol_names.specs.declared.decision.Verdict.TheVariants.{Deny}
+use Rattle.pol_names.specs.declared.service.ServiceLine.{ServiceLine}
 use Rattle.pol_names.specs.declared.subject_id.SubjectId.{SubjectId}
 use Rattle.pol_text.specs.declared.subject.Rule.{Rule}
 use Rattle.pol_text.specs.declared.subject.Subject.{Subject}
@@ -28,6 +30,10 @@ max_subjects = 1024
 -- how many rules a subject has at most
 abbrev pub max_rules : ℕ
 max_rules = 256
+
+-- how many lines about services a subject has at most
+abbrev pub max_services : ℕ
+max_services = 64
 
 -- how many subjects a chain has at most
 abbrev pub max_chain : ℕ
@@ -176,11 +182,21 @@ abbrev pub has_right_secrets : Subject → Bool
 has_right_secrets subject =
     same_kind subject.kind User || not (is_some subject.login || is_some subject.enable)
 
+-- no two of these lines clash
+abbrev pub none_clash : List ServiceLine → Bool
+none_clash [] = true
+none_clash (line ∷ rest) = not (list_any (clash line) rest) && none_clash rest
+
+abbrev pub are_right_lines : List ServiceLine → Bool
+are_right_lines lines =
+    nat_le (length lines) max_services && list_all is_right_line lines && none_clash lines
+
 abbrev pub is_right_subject : Subject → Bool
 is_right_subject subject =
     is_name subject.name && all_of is_name subject.parent && all_of is_right_secret subject.login
     && all_of is_right_secret subject.enable
     && has_right_secrets subject && all_of (λ level. nat_le level max_level) subject.priv_lvl
+    && are_right_lines subject.services
     && nat_le (length subject.rules) max_rules && list_all is_right_rule subject.rules
 
 -- the parent, if there is one, is a group of the policy

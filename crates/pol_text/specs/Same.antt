@@ -15,6 +15,8 @@ use Rattle.pol_names.specs.declared.decision.Verdict.{Verdict}
 use Rattle.pol_names.specs.declared.decision.Verdict.TheVariants.{Permit, Deny}
 use Rattle.pol_names.specs.declared.secret.Secret.{Secret}
 use Rattle.pol_names.specs.Kept.{same_secret, same_secret-Decides}
+use Rattle.pol_names.specs.SameService.{same_line, same_line-Decides}
+use Rattle.pol_names.specs.declared.service.ServiceLine.{ServiceLine}
 use Rattle.pol_text.specs.declared.subject.Rule.{Rule}
 use Rattle.pol_text.specs.declared.subject.Subject.{Subject}
 
@@ -31,7 +33,8 @@ abbrev pub same_subject : Subject → Subject → Bool
 same_subject a b =
     same_kind a.kind b.kind && (bytes_eq a.name b.name && (option_eq bytes_eq a.parent b.parent
     && (option_eq same_secret a.login b.login && (option_eq same_secret a.enable b.enable
-    && (option_eq (λ m n. m == n) a.priv_lvl b.priv_lvl && pointwise same_rule a.rules b.rules)))))
+    && (option_eq (λ m n. m == n) a.priv_lvl b.priv_lvl
+    && (pointwise same_line a.services b.services && pointwise same_rule a.rules b.rules))))))
 
 -- ---- the tests tell
 
@@ -76,11 +79,12 @@ AreSame a b =
     × ((a.name ≡ b.name)
     × ((a.parent ≡ b.parent)
     × ((a.login ≡ b.login)
-    × ((a.enable ≡ b.enable) × ((a.priv_lvl ≡ b.priv_lvl) × (a.rules ≡ b.rules))))))
+    × ((a.enable ≡ b.enable)
+    × ((a.priv_lvl ≡ b.priv_lvl) × ((a.services ≡ b.services) × (a.rules ≡ b.rules)))))))
 
 abbrev of_parts : Kind → List ℕ → Option (List ℕ) → Option Secret → Option Secret → Option ℕ
-    → List Rule → Subject
-of_parts kind name parent login enable level rules =
+    → List ServiceLine → List Rule → Subject
+of_parts kind name parent login enable level services rules =
     record {
       kind = kind;
       name = name;
@@ -88,21 +92,28 @@ of_parts kind name parent login enable level rules =
       login = login;
       enable = enable;
       priv_lvl = level;
+      services = services;
       rules = rules;
     }
 
 made_so : (a b : Subject) → AreSame a b → a ≡ b
-made_so a b (kind, (name, (parent, (login, (enable, (level, rules)))))) =
-    ap (λ (x : Kind). of_parts x a.name a.parent a.login a.enable a.priv_lvl a.rules) kind
-    ∙ ap (λ (x : List ℕ). of_parts b.kind x a.parent a.login a.enable a.priv_lvl a.rules) name
+made_so a b (kind, (name, (parent, (login, (enable, (level, (services, rules))))))) =
+    ap (λ (x : Kind).
+    of_parts x a.name a.parent a.login a.enable a.priv_lvl a.services a.rules) kind
+    ∙ ap (λ (x : List ℕ).
+    of_parts b.kind x a.parent a.login a.enable a.priv_lvl a.services a.rules) name
     ∙ ap (λ (x : Option (List ℕ)).
-    of_parts b.kind b.name x a.login a.enable a.priv_lvl a.rules) parent
+    of_parts b.kind b.name x a.login a.enable a.priv_lvl a.services a.rules) parent
     ∙ ap (λ (x : Option Secret).
-    of_parts b.kind b.name b.parent x a.enable a.priv_lvl a.rules) login
+    of_parts b.kind b.name b.parent x a.enable a.priv_lvl a.services a.rules) login
     ∙ ap (λ (x : Option Secret).
-    of_parts b.kind b.name b.parent b.login x a.priv_lvl a.rules) enable
-    ∙ ap (λ (x : Option ℕ). of_parts b.kind b.name b.parent b.login b.enable x a.rules) level
-    ∙ ap (λ (x : List Rule). of_parts b.kind b.name b.parent b.login b.enable b.priv_lvl x) rules
+    of_parts b.kind b.name b.parent b.login x a.priv_lvl a.services a.rules) enable
+    ∙ ap (λ (x : Option ℕ).
+    of_parts b.kind b.name b.parent b.login b.enable x a.services a.rules) level
+    ∙ ap (λ (x : List ServiceLine).
+    of_parts b.kind b.name b.parent b.login b.enable b.priv_lvl x a.rules) services
+    ∙ ap (λ (x : List Rule).
+    of_parts b.kind b.name b.parent b.login b.enable b.priv_lvl b.services x) rules
 
 parts_so : (a b : Subject) → a ≡ b → AreSame a b
 parts_so a b e = (
@@ -117,7 +128,10 @@ parts_so a b e = (
           ap (λ (s : Subject). s.enable) e,
           (
             ap (λ (s : Subject). s.priv_lvl) e,
-            ap (λ (s : Subject). s.rules) e,
+            (
+              ap (λ (s : Subject). s.services) e,
+              ap (λ (s : Subject). s.rules) e,
+            ),
           ),
         ),
       ),
@@ -135,8 +149,10 @@ same_subject-Decides a b =
     (Decides-and _ _ (option-Decides same_secret same_secret-Decides a.login b.login)
     (Decides-and _ _ (option-Decides same_secret same_secret-Decides a.enable b.enable)
     (Decides-and _ _ (option-Decides (λ m n. m == n) unsigned_Decides a.priv_lvl b.priv_lvl)
+    (Decides-and _ _ (slice_eq-Decides same_line-Decides a.services b.services
+    (pointwise same_line a.services b.services) refl)
     (slice_eq-Decides same_rule-Decides a.rules b.rules
-    (pointwise same_rule a.rules b.rules) refl)))))))
+    (pointwise same_rule a.rules b.rules) refl))))))))
 
 pub same_rule-identical : (a b : Rule) → same_rule a b ≡ true → a ≡ b
 same_rule-identical a b e = (same_rule-Decides a b).0 e

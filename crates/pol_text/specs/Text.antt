@@ -1,8 +1,8 @@
 -- The text of a policy: which policy its lines make, or the first refusal and its line
 -- (docs/POLICY.md). It is of version 2 or 3 if its first line says so, else of version 1. Version 1
--- has another grammar of patterns, and version 3 alone has hashes.
+-- has another grammar of patterns, and version 3 alone has hashes and services.
 use Rattle.std.specs.Prelude.{◌≡◌, ℕ, ◌+◌, List, [], ◌∷◌, ◌++◌, length, map, find, codes, Bool}
-use Rattle.std.specs.Prelude.{true, false, not, ◌&&◌, ◌||◌, nat_le, nat_eq, is_some, ok_or}
+use Rattle.std.specs.Prelude.{true, false, not, ◌&&◌, ◌||◌, nat_le, nat_eq, nat_lt, is_some, ok_or}
 use Rattle.std.specs.Prelude.{Option, Some, None, Result, Ok, Err, if◌then◌else◌}
 use Rattle.std.specs.Option.{option_and_then, option_map, option_map_or}
 use Rattle.std.specs.List.{list_any}
@@ -24,9 +24,13 @@ use Rattle.pol_names.specs.declared.secret.Secret.{Secret}
 use Rattle.pol_names.specs.declared.secret.Secret.TheVariants.{Clear, Hashed}
 use Rattle.pol_names.specs.SubjectId.{same_kind, kind_word}
 use Rattle.pol_names.specs.Decision.{verdict_word}
-use Rattle.pol_text.specs.Versions.{has_hashes}
+use Rattle.pol_names.specs.Service.{service_of, attributed_of, allowing, refusing, any_clash}
+use Rattle.pol_names.specs.Service.{is_right_line, line_text}
+use Rattle.pol_names.specs.declared.service.ServiceLine.{ServiceLine}
+use Rattle.pol_text.specs.Versions.{has_hashes, has_services}
 use Rattle.pol_text.specs.Policy.{find_subject, has_parent, ends_within, max_subjects, max_rules}
-use Rattle.pol_text.specs.Policy.{max_chain, max_level}
+use Rattle.pol_text.specs.Policy.{max_services, max_chain, max_level}
+use Rattle.pol_text.specs.Change.{with_line_last}
 use Rattle.pol_names.specs.declared.subject_id.Kind.{Kind}
 use Rattle.pol_names.specs.declared.subject_id.Kind.TheVariants.{Group, User}
 use Rattle.pol_names.specs.declared.decision.Verdict.{Verdict}
@@ -85,6 +89,7 @@ new_subject kind name parent =
       login = None;
       enable = None;
       priv_lvl = None;
+      services = [];
       rules = [];
     }
 
@@ -158,6 +163,23 @@ abbrev pub with_priv : List ℕ → Subject → Result Subject PolicyRefusal
 with_priv text subject =
     set_once subject.priv_lvl (level_of text) (λ level. record subject { priv_lvl = Some level })
 
+-- a line about a service goes last, where it clashes with none and there is room
+unfoldable pub with_service : ServiceLine → Subject → Result Subject PolicyRefusal
+with_service line subject =
+    if any_clash subject.services line then Err Repeated
+    else if not (is_right_line line) then Err BadValue
+    else if nat_le max_services (length subject.services) then Err Limit
+    else Ok (with_line_last line subject)
+
+-- what follows `service `: a service, and perhaps an attribute
+abbrev pub allowed_by : List ℕ → Result ServiceLine PolicyRefusal
+allowed_by text = ok_or (option_map (λ read. allowing read.0 read.1) (attributed_of text)) BadName
+
+-- what follows `refuse `: a service alone
+abbrev pub refused_by : List ℕ → Result ServiceLine PolicyRefusal
+refused_by text =
+    if is_field text then ok_or (option_map refusing (service_of text)) BadName else Err BadLine
+
 -- the pattern that a rule of a text of this version spells: version 3 has the patterns of version
 -- 2, of which a pattern's own source is
 abbrev pub pattern_in : Version → List ℕ → Result (List ℕ) PatternFault
@@ -193,6 +215,10 @@ with_words version number word rest draft =
     else if bytes_eq word (codes "user")
     then (heading rest (split_at_first 32 rest)
     >>= λ ids. with_subject number User ids.0 ids.1 draft)
+    else if bytes_eq word (codes "service") && has_services version
+    then (allowed_by rest >>= λ line. with_present (with_service line) draft)
+    else if bytes_eq word (codes "refuse") && has_services version
+    then (refused_by rest >>= λ line. with_present (with_service line) draft)
     else if bytes_eq word (codes "login") then with_present (with_login rest) draft
     else if bytes_eq word (codes "enable") then with_present (with_enable rest) draft
     else if bytes_eq word (codes "login-hash") && has_hashes version
@@ -297,13 +323,13 @@ line_for line (Some value) = line value ∷ []
 abbrev pub rule_line : Rule → List ℕ
 rule_line rule = verdict_word rule.verdict ++ rule.pattern
 
--- its line, then its secrets and its level where set, then its rules
+-- its line, then its secrets and its level where set, then its services, then its rules
 abbrev pub subject_lines : Subject → List (List ℕ)
 subject_lines subject =
     heading_line subject ∷ (line_for (secret_line Login) subject.login
     ++ line_for (secret_line Enable) subject.enable
     ++ line_for (λ level. codes "priv " ++ decimal level) subject.priv_lvl
-    ++ map rule_line subject.rules)
+    ++ map line_text subject.services ++ map rule_line subject.rules)
 
 abbrev pub policy_lines : List Subject → List (List ℕ)
 policy_lines [] = []
@@ -321,7 +347,8 @@ is_hashed (Some (Hashed hash)) = true
 
 -- whether a subject has what only version 3 can say
 abbrev pub needs_third : Subject → Bool
-needs_third subject = is_hashed subject.login || is_hashed subject.enable
+needs_third subject =
+    is_hashed subject.login || is_hashed subject.enable || nat_lt 0 (length subject.services)
 
 -- the first line of the least version that can say the policy
 abbrev pub first_line : List Subject → List ℕ

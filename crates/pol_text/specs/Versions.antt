@@ -16,3 +16,9 @@ abbrev pub has_hashes : TextVersion → Bool
 has_hashes One = false
 has_hashes Two = false
 has_hashes Three = true
+
+-- whether a text of this version may have lines about services
+abbrev pub has_services : TextVersion → Bool
+has_services One = false
+has_services Two = false
+has_services Three = true

@@ -1,17 +1,20 @@
 //! Changes of a policy, each of which keeps it well formed.
 
 ghost use Rattle.std.specs.Prelude.{◌≡◌, List, ◌<◌, ◌≤◌, ◌∷◌, ◌++◌, ◌&&◌, [], length, map};
-ghost use Rattle.std.specs.Prelude.{position, slice_get, nat_lt, nat_le, false, is_some, IsTrue};
-ghost use Rattle.std.specs.Prelude.{Ok, Err, None, OnOk, OnErr};
+ghost use Rattle.std.specs.Prelude.{position, slice_get, nat_lt, nat_le, not, false, is_some};
+ghost use Rattle.std.specs.Prelude.{IsTrue, Ok, Err, None, OnOk, OnErr};
 ghost use Rattle.std.specs.List.{list_all, list_any};
 ghost use Rattle.std.specs.Option.{option_map_or};
 ghost use Rattle.std.specs.Result.{result_err};
 ghost use Rattle.pol_names.specs.SubjectId.{same_id, group_id};
 ghost use Rattle.pol_text.specs.Policy.{id_of, find_subject, ends_within as ends_test, all_of};
-ghost use Rattle.pol_text.specs.Policy.{WellFormed, TellsEndless, max_rules, max_subjects};
+ghost use Rattle.pol_names.specs.Service.{is_right_line, any_clash};
+ghost use Rattle.pol_text.specs.Policy.{WellFormed, TellsEndless, max_rules, max_services};
+ghost use Rattle.pol_text.specs.Policy.{max_subjects};
 ghost use Rattle.pol_text.specs.Change.{with_changed, without, is_parent, has_room_below};
 ghost use Rattle.pol_text.specs.Change.{chain_fault, with_parent, with_secret, with_priv};
 ghost use Rattle.pol_text.specs.Change.{with_rule_at, without_rule_at, with_rule_moved};
+ghost use Rattle.pol_text.specs.Change.{with_line_last, without_service};
 ghost use Rattle.pol_text.specs.Places.{changed_at};
 ghost use Rattle.pol_text.specs.Text.{new_subject};
 ghost use Rattle.pol_names.specs.declared.subject_id.Kind.TheVariants.{Group, User};
@@ -21,9 +24,9 @@ use crate::chains::{ends_within, find_mut};
 use crate::fault::ChainFault;
 use crate::policy::Policy;
 use crate::subject::{Rule, Subject};
-use basics::Sequence;
+use basics::{Bytes, Sequence};
 use indexmap::IndexSet;
-use pol_names::{Credential, Kind, Name, Secret, SubjectId};
+use pol_names::{Credential, Kind, Name, Secret, ServiceId, ServiceLine, SubjectId};
 use std::alloc::{AllocError, Global};
 
 // Where the subject stands among all subjects, counted from 0.
@@ -176,6 +179,44 @@ impl Policy {
             return;
         };
         subject.priv_lvl = level;
+    }
+
+    /// Adds a line about a service, last among those of a subject. Constant time, amortised.
+    pub fn add_service(&mut self, id: &SubjectId, line: ServiceLine) -> Result<(), AllocError>
+        requires right { IsTrue (is_right_line line) }
+        requires room { IsTrue (option_map_or
+            (λ subject. not (any_clash subject.services line)
+            && nat_lt (length subject.services) max_services)
+            (find_subject id.now self.old) false) }
+        ensures ok { OnOk result (self.new ≡ with_changed id.now (with_line_last line) self.old) }
+        ensures err { OnErr result (self.new ≡ self.old) }
+        ensures well_formed { WellFormed self.new }
+    {
+        let Some(subject) = find_mut(&mut self.subjects, &self.places, id) else {
+            return Ok(());
+        };
+        subject.push_service(line)?;
+        Ok(())
+    }
+
+    /// Takes the lines about a service out of a subject's, or the one that gives this attribute.
+    /// Takes no memory. Linear.
+    pub fn clear_service(
+        &mut self,
+        alloc: Global,
+        id: &SubjectId,
+        service: &ServiceId,
+        attribute: &Option<Bytes>,
+    )
+        requires there { IsTrue (is_some (find_subject id.now self.old)) }
+        ensures changed { self.new
+            ≡ with_changed id.now (without_service service.now attribute.now) self.old }
+        ensures well_formed { WellFormed self.new }
+    {
+        let Some(subject) = find_mut(&mut self.subjects, &self.places, id) else {
+            return;
+        };
+        subject.clear_service(alloc, service, attribute);
     }
 
     /// Puts a rule at a place among a subject's rules, counted from 0; those from there on move up.

@@ -5,18 +5,18 @@ ghost use Rattle.std.specs.List.{list_any};
 ghost use Rattle.pol_names.specs.SubjectId.{same_id};
 ghost use Rattle.pol_text.specs.Draft.{LineMakes, RightDraft, place_given};
 ghost use Rattle.pol_text.specs.Setting.{changed_by};
-ghost use Rattle.pol_text.specs.Text.{IsUnlessMemory, with_subject, with_present};
+ghost use Rattle.pol_text.specs.Text.{IsUnlessMemory, with_subject, with_present, with_service};
 ghost use Rattle.pol_text.specs.Text.{with_right_chains};
 
 use crate::change::push_subject;
 use crate::checking::check_chains;
 use crate::fault::{LineFault, PolicyFault, PolicyRefusal};
 use crate::policy::Policy;
-use crate::setting::Setting;
+use crate::setting::{Setting, add_line};
 use crate::subject::Subject;
 use basics::Sequence;
 use indexmap::IndexSet;
-use pol_names::{Kind, Name, SubjectId};
+use pol_names::{Kind, Name, ServiceLine, SubjectId};
 use std::alloc::Global;
 use std::marker::Model;
 
@@ -114,6 +114,17 @@ impl Draft {
             return Err(LineFault::Refused(PolicyRefusal::NoSubject));
         };
         setting.make(alloc, subject)
+    }
+
+    /// Adds a line about a service to the present subject. No names are looked up.
+    pub(crate) fn say(&mut self, line: ServiceLine) -> Result<(), LineFault>
+        ensures { LineMakes result self.new (with_present (with_service line) self.old) }
+    {
+        let last = self.subjects.len().saturating_sub(1);
+        let Some(subject) = self.subjects.get_mut(last) else {
+            return Err(LineFault::Refused(PolicyRefusal::NoSubject));
+        };
+        add_line(subject, line)
     }
 
     /// The policy that the draft is.

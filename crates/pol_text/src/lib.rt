@@ -17,7 +17,8 @@ mod version;
 
 pub use fault::{ChainFault, PolicyFault, PolicyRefusal};
 pub use pol_names::{
-    By, ClearSecret, Credential, Decision, Hash, Kind, Name, Secret, SubjectId, Verdict,
+    By, ClearSecret, Credential, Decision, Hash, Kind, Name, Says, Secret, ServiceId, ServiceLine,
+    SubjectId, Verdict,
 };
 pub use policy::Policy;
 pub use reading::body_of;

@@ -79,6 +79,9 @@ impl Policy {
     /// The most rules that a subject has.
     pub const MAX_RULES: usize = 256;
 
+    /// The most lines about services that a subject has.
+    pub const MAX_SERVICES: usize = 64;
+
     /// The most subjects that a chain has.
     pub const MAX_CHAIN: usize = 8;
 

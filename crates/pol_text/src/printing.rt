@@ -4,6 +4,7 @@ ghost use Rattle.std.specs.Prelude.{◌≡◌, Ok, ◌++◌, ◌∷◌, [], code
 ghost use Rattle.std.specs.Fmt.{decimal};
 ghost use Rattle.std.specs.List.{list_any};
 ghost use Rattle.pol_names.specs.Kept.{secret_line};
+ghost use Rattle.pol_names.specs.Service.{line_text, service_text};
 ghost use Rattle.pol_text.specs.Text.{heading_line, line_for, rule_line, subject_lines};
 ghost use Rattle.pol_text.specs.Text.{text_of_lines, text_of, policy_of};
 ghost use Rattle.pol_text.specs.Text.{is_hashed as hashed_test, needs_third as third_test};
@@ -12,7 +13,7 @@ ghost use Rattle.pol_text.specs.Text.{first_line as first_wanted};
 use crate::policy::Policy;
 use crate::subject::{Rule, Subject};
 use basics::Bytes;
-use pol_names::{Credential, Secret};
+use pol_names::{Credential, Says, Secret, ServiceId, ServiceLine};
 use std::alloc::{AllocError, Global};
 
 // Two parts of a line, and LF.
@@ -91,6 +92,41 @@ fn print_level(alloc: Global, text: &mut Bytes, level: Option<u8>) -> Result<(),
     }
 }
 
+// A line about a service.
+fn print_service(text: &mut Bytes, line: &ServiceLine) -> Result<(), AllocError>
+    ensures { OnOk result (text.new ≡ text.old ++ text_of_lines (line_text line.now ∷ [])) }
+{
+    text.extend_from_slice(line.keyword().as_bytes())?;
+    print_name(text, &line.service)?;
+    match &line.says {
+        Says::Allows(Some(attribute)) => print_line(text, b" ", attribute.as_slice()),
+        Says::Allows(None) | Says::Refuses => print_line(text, b"", b""),
+    }
+}
+
+// A service, without an end of line.
+fn print_name(text: &mut Bytes, service: &ServiceId) -> Result<(), AllocError>
+    ensures { OnOk result (text.new ≡ text.old ++ service_text service.now) }
+{
+    text.extend_from_slice(service.name.as_slice())?;
+    match &service.protocol {
+        Some(protocol) => {
+            text.extend_from_slice(b"/")?;
+            text.extend_from_slice(protocol.as_slice())
+        }
+        None => Ok(()),
+    }
+}
+
+fn print_services(text: &mut Bytes, lines: &[ServiceLine]) -> Result<(), AllocError>
+    ensures { OnOk result (text.new ≡ text.old ++ text_of_lines (map line_text lines.now)) }
+{
+    'lines: for line in lines {
+        print_service(text, line)?;
+    }
+    Ok(())
+}
+
 fn print_rules(text: &mut Bytes, rules: &[Rule]) -> Result<(), AllocError>
     ensures { OnOk result (text.new ≡ text.old ++ text_of_lines (map rule_line rules.now)) }
 {
@@ -104,7 +140,7 @@ fn print_rules(text: &mut Bytes, rules: &[Rule]) -> Result<(), AllocError>
     Ok(())
 }
 
-// A subject with its settings and rules.
+// A subject with its settings, services and rules.
 fn print_subject(alloc: Global, text: &mut Bytes, subject: &Subject) -> Result<(), AllocError>
     ensures { OnOk result (text.new ≡ text.old ++ text_of_lines (subject_lines subject.now)) }
 {
@@ -112,6 +148,7 @@ fn print_subject(alloc: Global, text: &mut Bytes, subject: &Subject) -> Result<(
     print_secret(text, Credential::Login, &subject.login)?;
     print_secret(text, Credential::Enable, &subject.enable)?;
     print_level(alloc, text, subject.priv_lvl)?;
+    print_services(text, subject.services.as_slice())?;
     print_rules(text, subject.rules.as_slice())
 }
 
@@ -126,7 +163,7 @@ fn is_hashed(secret: &Option<Secret>) -> bool
 fn needs_third(subject: &Subject) -> bool
     ensures { result ≡ third_test subject.now }
 {
-    is_hashed(&subject.login) || is_hashed(&subject.enable)
+    is_hashed(&subject.login) || is_hashed(&subject.enable) || !subject.services.is_empty()
 }
 
 fn any_needs_third(subjects: &[Subject]) -> bool

@@ -1,9 +1,9 @@
 //! Reading a policy's text: its lines, and then whether its chains are right.
 
-ghost use Rattle.std.specs.Prelude.{◌≡◌, ◌≤◌, ℕ, List, length, false, Ok, Err, IfOk, codes};
-ghost use Rattle.std.specs.Prelude.{bytes_eq};
+ghost use Rattle.std.specs.Prelude.{◌≡◌, ◌≤◌, ℕ, List, length, false, ok_or, Ok, Err, IfOk, codes};
+ghost use Rattle.std.specs.Prelude.{◌&&◌, bytes_eq};
 ghost use Rattle.basics.specs.Lines.{split_at_first, lines_of};
-ghost use Rattle.pol_text.specs.Draft.{LineMakes, at_place};
+ghost use Rattle.pol_text.specs.Draft.{LineGives, LineMakes, at_place};
 ghost use Rattle.pol_text.specs.Setting.{with_heading, with_setting};
 ghost use Rattle.pol_text.specs.Text.{Draft as DraftValue};
 ghost use Rattle.pol_text.specs.Policy.{WellFormed, TellsEndless};
@@ -11,7 +11,10 @@ ghost use Rattle.pol_text.specs.Spelling.{Spells};
 ghost use Rattle.pol_text.specs.Text.{IsUnlessMemory, named as name_wanted, is_field as field_test};
 ghost use Rattle.pol_text.specs.Text.{with_parent, heading as heading_wanted};
 ghost use Rattle.pol_text.specs.Text.{with_words, with_trimmed, with_line, with_body, policy_of};
-ghost use Rattle.pol_text.specs.Text.{body_of as body_wanted};
+ghost use Rattle.pol_text.specs.Text.{body_of as body_wanted, allowed_by, refused_by};
+ghost use Rattle.pol_text.specs.Versions.{has_services};
+ghost use Rattle.pol_names.specs.Service.{service_of};
+ghost use Rattle.pol_text.specs.declared.fault.PolicyRefusal.TheVariants.{BadName};
 ghost use Rattle.pol_text.specs.declared.fault.PolicyFault.TheVariants.{Refused};
 ghost use Rattle.pol_text.specs.declared.fault.PolicyRefusal.{PolicyRefusal as RefusalValue};
 ghost use Rattle.pol_text.specs.declared.subject.Subject.{Subject as SubjectValue};
@@ -21,8 +24,8 @@ use crate::fault::{LineFault, PolicyFault, PolicyRefusal};
 use crate::policy::Policy;
 use crate::setting::Setting;
 use crate::version::TextVersion;
-use basics::{Lines, is_text, split_once, without_leading_spaces};
-use pol_names::{Credential, Kind, Name, Verdict};
+use basics::{Bytes, Lines, is_text, split_once, without_leading_spaces};
+use pol_names::{Credential, Kind, Name, Says, ServiceId, ServiceLine, Verdict};
 use std::alloc::Global;
 
 fn named(text: &[u8]) -> Result<Name, PolicyRefusal>
@@ -84,11 +87,53 @@ fn add_subject(
     draft.add_subject(alloc, number, kind, name, parent)
 }
 
+fn service(text: &[u8]) -> Result<ServiceId, PolicyRefusal>
+    ensures { result ≡ ok_or (service_of text.now) BadName }
+{
+    match ServiceId::read(text) {
+        Some(service) => Ok(service),
+        None => Err(PolicyRefusal::BadName),
+    }
+}
+
+// The line that has this after `service `.
+fn allowed(alloc: Global, rest: &[u8]) -> Result<ServiceLine, LineFault>
+    ensures { LineGives result (allowed_by rest.now) }
+{
+    match split_once(rest, b' ') {
+        Some((name, text)) => {
+            let service = service(name)?;
+            let attribute = Bytes::from_slice(alloc, text)?;
+            let says = Says::Allows(Some(attribute));
+            Ok(ServiceLine { service, says })
+        }
+        None => {
+            let service = service(rest)?;
+            let says = Says::Allows(None);
+            Ok(ServiceLine { service, says })
+        }
+    }
+}
+
+// The line that has this after `refuse `.
+fn refused(rest: &[u8]) -> Result<ServiceLine, PolicyRefusal>
+    ensures { result ≡ refused_by rest.now }
+{
+    if !is_field(rest) {
+        return Err(PolicyRefusal::BadLine);
+    }
+    let service = service(rest)?;
+    let says = Says::Refuses;
+    Ok(ServiceLine { service, says })
+}
+
 // What a line of this first word sets; nothing for a word that begins no such line.
 #[tactic(auto, unfolding(crate::specs::Text::with_words))]
 fn setting_of<'a>(version: TextVersion, word: &[u8], rest: &'a [u8]) -> Option<Setting<'a>>
     requires group { bytes_eq word.now (codes "group") ≡ false }
     requires user { bytes_eq word.now (codes "user") ≡ false }
+    requires service { bytes_eq word.now (codes "service") && has_services version ≡ false }
+    requires refuse { bytes_eq word.now (codes "refuse") && has_services version ≡ false }
     ensures { (number : ℕ) (draft : DraftValue) →
         with_words version number word.now rest.now draft ≡ with_setting result draft }
 {
@@ -137,6 +182,14 @@ fn add_words(
     }
     if word == b"user".as_slice() {
         return add_subject(alloc, draft, number, Kind::User, rest);
+    }
+    if word == b"service".as_slice() && version.has_services() {
+        let line = allowed(alloc, rest)?;
+        return draft.say(line);
+    }
+    if word == b"refuse".as_slice() && version.has_services() {
+        let line = refused(rest)?;
+        return draft.say(line);
     }
     match setting_of(version, word, rest) {
         Some(setting) => draft.change_present(alloc, setting),

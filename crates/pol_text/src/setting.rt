@@ -12,7 +12,8 @@ ghost use Rattle.sha_crypt.specs.HashText.{hash_of};
 ghost use Rattle.std.specs.Option.{option_map};
 ghost use Rattle.pol_names.specs.declared.secret.Secret.TheVariants.{Clear, Hashed};
 ghost use Rattle.pol_text.specs.Setting.{changed_by, secret_given, hash_given};
-ghost use Rattle.pol_text.specs.Text.{level_of, pattern_read, with_priv as priv_set};
+ghost use Rattle.pol_text.specs.Text.{level_of, pattern_read, with_service};
+ghost use Rattle.pol_text.specs.Text.{with_priv as priv_set};
 ghost use Rattle.pol_text.specs.Text.{with_rule as rule_added, pattern_in as pattern_wanted};
 
 use crate::fault::{LineFault, PolicyRefusal};
@@ -20,7 +21,7 @@ use crate::policy::Policy;
 use crate::subject::{Rule, Subject};
 use crate::version::TextVersion;
 use basics::read_number;
-use pol_names::{ClearSecret, Credential, Hash, Kind, Secret, Verdict};
+use pol_names::{ClearSecret, Credential, Hash, Kind, Secret, ServiceLine, Verdict};
 use pol_pattern::{Pattern, PatternFault};
 use std::alloc::Global;
 
@@ -129,6 +130,25 @@ fn add_priv(subject: &mut Subject, text: &[u8]) -> Result<(), LineFault>
         return Err(LineFault::Refused(PolicyRefusal::BadValue));
     };
     subject.priv_lvl = Some(level);
+    Ok(())
+}
+
+/// Adds a line about a service, last. A subject stays as it is where that is refused.
+#[tactic(auto, unfolding(crate::specs::Text::with_service))]
+pub(crate) fn add_line(subject: &mut Subject, line: ServiceLine) -> Result<(), LineFault>
+    ensures made { LineMakes result subject.new (with_service line subject.old) }
+    ensures err { OnErr result (subject.new ≡ subject.old) }
+{
+    if subject.has_clash(&line) {
+        return Err(LineFault::Refused(PolicyRefusal::Repeated));
+    }
+    if !line.is_right() {
+        return Err(LineFault::Refused(PolicyRefusal::BadValue));
+    }
+    if subject.services.len() >= Policy::MAX_SERVICES {
+        return Err(LineFault::Refused(PolicyRefusal::Limit));
+    }
+    subject.push_service(line)?;
     Ok(())
 }
 

@@ -1,19 +1,25 @@
 //! Groups and users, and what decides.
 
-ghost use Rattle.std.specs.Prelude.{◌≡◌, ◌≤◌, length, is_some, IsTrue, IfOk, OnOk, OnErr};
+ghost use Rattle.std.specs.Prelude.{◌≡◌, ◌≤◌, length, filter, not, is_some, IsTrue, IfOk};
+ghost use Rattle.std.specs.Prelude.{OnOk, OnErr};
 ghost use Rattle.pol_names.specs.Kept.{is_right_secret};
+ghost use Rattle.pol_names.specs.Service.{any_clash, is_cleared};
 ghost use Rattle.pol_names.specs.SubjectId.{kind_word};
 ghost use Rattle.pol_names.specs.SubjectId.{group_id, user_id};
 ghost use Rattle.pol_text.specs.Policy.{id_of, all_of, is_right_rule, is_right_subject, max_rules};
 ghost use Rattle.pol_text.specs.Policy.{first_match as first_of};
-ghost use Rattle.pol_text.specs.Change.{with_secret, with_rule_at};
+ghost use Rattle.pol_text.specs.Change.{with_secret, with_line_last, without_service};
+ghost use Rattle.pol_text.specs.Change.{with_rule_at};
 ghost use Rattle.pol_text.specs.Setting.{secret_for};
 ghost use Rattle.pol_text.specs.Text.{new_subject};
 
-use basics::{Sequence, StructuralEq};
-use pol_names::{By, Credential, Decision, Kind, Name, Secret, SubjectId, Verdict};
+use basics::{Bytes, Sequence, StructuralEq};
+use pol_names::{
+    By, Credential, Decision, Kind, Name, Secret, ServiceId, ServiceLine, SubjectId, Verdict,
+};
 use pol_pattern::Pattern;
 use std::alloc::{AllocError, Global};
+use std::mem;
 
 /// A rule: what it says of the command lines that its pattern holds.
 #[derive(Drop)]
@@ -72,6 +78,8 @@ pub struct Subject {
     pub enable: Option<Secret>,
     /// The privilege level of a shell, 0 to 15 (RFC 8907, section 9).
     pub priv_lvl: Option<u8>,
+    /// What is said of services: at most 64 lines, of which no two clash.
+    pub services: Sequence<ServiceLine>,
     /// At most 256.
     pub rules: Sequence<Rule>,
 }
@@ -86,6 +94,7 @@ impl Drop for Subject {
             login: _,
             enable: _,
             priv_lvl: _,
+            services: _,
             rules: _,
         } = self;
     }
@@ -106,6 +115,7 @@ impl PartialEq for Subject {
             && self.login == other.login
             && self.enable == other.enable
             && self.priv_lvl == other.priv_lvl
+            && self.services == other.services
             && self.rules == other.rules
     }
 }
@@ -124,8 +134,8 @@ impl StructuralEq for Subject {
 }
 
 impl Subject {
-    /// A subject without secrets, level and rules, valid by the types of its names. Takes
-    /// no memory.
+    /// A subject without secrets, level, services and rules, valid by the types of its names.
+    /// Takes no memory.
     pub(crate) fn new(alloc: Global, kind: Kind, name: Name, parent: Option<Name>) -> Subject
         ensures subject { result ≡ new_subject kind name parent }
         ensures right { IsTrue (is_right_subject result) }
@@ -137,6 +147,7 @@ impl Subject {
             login: None,
             enable: None,
             priv_lvl: None,
+            services: Sequence::new(alloc),
             rules: Sequence::new(alloc),
         }
     }
@@ -170,6 +181,39 @@ impl Subject {
             Credential::Login => self.login = secret,
             Credential::Enable => self.enable = secret,
         }
+    }
+
+    /// Whether one of the subject's lines about services clashes with this one.
+    pub fn has_clash(&self, line: &ServiceLine) -> bool
+        ensures { result ≡ any_clash self.now.services line.now }
+    {
+        self.services
+            .as_slice()
+            .iter()
+            .any(|present| present.clashes(line))
+    }
+
+    /// Adds a line about a service, last.
+    pub(crate) fn push_service(&mut self, line: ServiceLine) -> Result<(), AllocError>
+        ensures ok { OnOk result (self.new ≡ with_line_last line self.old) }
+        ensures err { OnErr result (self.new ≡ self.old) }
+    {
+        self.services.push(line)?;
+        Ok(())
+    }
+
+    /// Takes out the lines about a service, or the one that gives this attribute. Takes no memory.
+    pub(crate) fn clear_service(
+        &mut self,
+        alloc: Global,
+        service: &ServiceId,
+        attribute: &Option<Bytes>,
+    )
+        ensures { self.new ≡ without_service service.now attribute.now self.old }
+    {
+        let mut lines = mem::replace(&mut self.services, Sequence::new(alloc)).into_vec();
+        keep_others(&mut lines, service, attribute);
+        self.services = Sequence::from(lines);
     }
 
     /// Puts a rule at a place, counted from 0; those from there on move up. Its type says that a
@@ -208,6 +252,7 @@ impl Subject {
     {
         let login = copy_secret(alloc, &self.login)?;
         let enable = copy_secret(alloc, &self.enable)?;
+        let services = copy_services(alloc, &self.services)?;
         let rules = copy_rules(alloc, &self.rules)?;
         Ok(Subject {
             kind: self.kind,
@@ -216,9 +261,32 @@ impl Subject {
             login,
             enable,
             priv_lvl: self.priv_lvl,
+            services,
             rules,
         })
     }
+}
+
+// Takes out the lines that are cleared.
+fn keep_others(lines: &mut Vec<ServiceLine>, service: &ServiceId, attribute: &Option<Bytes>)
+    ensures { lines.new.items
+        ≡ filter (λ line. not (is_cleared service.now attribute.now line)) lines.old.items }
+{
+    lines.retain(|line| !line.is_cleared(service, attribute));
+}
+
+fn copy_services(
+    alloc: Global,
+    services: &Sequence<ServiceLine>,
+) -> Result<Sequence<ServiceLine>, AllocError>
+    ensures { IfOk result (λ copy. copy ≡ services.now) }
+{
+    let mut copies = Sequence::new(alloc);
+    for line in services.as_slice() {
+        let copy = line.copy(alloc)?;
+        copies.push(copy)?;
+    }
+    Ok(copies)
 }
 
 fn copy_secret(alloc: Global, secret: &Option<Secret>) -> Result<Option<Secret>, AllocError>

@@ -10,7 +10,7 @@ use pol_pattern::Version;
 pub enum TextVersion {
     One,
     Two,
-    /// As version 2, and secrets may be hashes.
+    /// As version 2, and secrets may be hashes, and subjects may have lines about services.
     Three,
 }
 
@@ -28,6 +28,13 @@ impl TextVersion {
     /// Whether secrets may be hashes in such a text.
     pub fn has_hashes(self) -> bool
         ensures { result ≡ versions.has_hashes self }
+    {
+        self == TextVersion::Three
+    }
+
+    /// Whether subjects may have lines about services in such a text.
+    pub fn has_services(self) -> bool
+        ensures { result ≡ versions.has_services self }
     {
         self == TextVersion::Three
     }

@@ -13,6 +13,11 @@ use Rattle.sha_crypt.proofs.SymbolFacts.{hash_is_text}
 use Rattle.pol_names.specs.Secret.{is_secret}
 use Rattle.pol_names.specs.declared.secret.Credential.TheVariants.{Login, Enable}
 use Rattle.pol_names.specs.SubjectId.{subject_text, user_id}
+use Rattle.pol_names.specs.Service.{is_service, may_say, is_right_line, any_clash, says_word, attribute_in, attributed_text, allowing}
+use Rattle.pol_names.specs.declared.service.Says.{Says}
+use Rattle.pol_names.specs.declared.service.Says.TheVariants.{Allows, Refuses}
+use Rattle.pol_names.specs.declared.service.ServiceLine.{ServiceLine}
+use Rattle.pol_names.proofs.ServiceFacts.{line_symbols}
 use Rattle.pol_names.specs.Decision.{verdict_word}
 use Rattle.pol_names.specs.declared.decision.Verdict.{Verdict}
 use Rattle.pol_names.specs.declared.subject_id.SubjectId.{SubjectId}
@@ -21,10 +26,10 @@ use Rattle.pol_text.specs.declared.subject.Subject.{Subject}
 use Rattle.pol_text.proofs.Keeps.{all_found}
 use Rattle.pol_text.proofs.PatternFacts.{pattern_text}
 use Rattle.pol_text.proofs.RightSubject.{right_parts}
-use Rattle.pol_edit.specs.Applying.{◌>>=◌, applied, present, is_number, pattern_read, set_in, inserted_in, dropped_in, shifted_in}
+use Rattle.pol_edit.specs.Applying.{◌>>=◌, applied, present, is_number, pattern_read, set_in, said_in, inserted_in, dropped_in, shifted_in}
 use Rattle.pol_edit.specs.Spelling.{Spells, IsName, parent_text}
 use Rattle.pol_edit.specs.declared.edit.Edit.{Edit}
-use Rattle.pol_edit.specs.declared.edit.Edit.TheVariants.{AddGroup, AddUser, Remove, SetParent, SetLogin, SetEnable, SetHash, SetPriv, InsertRule, RemoveRule, MoveRule}
+use Rattle.pol_edit.specs.declared.edit.Edit.TheVariants.{AddGroup, AddUser, Remove, SetParent, SetLogin, SetEnable, SetHash, SetPriv, AddService, ClearService, InsertRule, RemoveRule, MoveRule}
 use Rattle.pol_edit.specs.declared.fault.EditFault.{EditFault}
 use Rattle.pol_edit.specs.declared.fault.EditFault.TheVariants as faults
 use Rattle.pol_update.specs.Line.{edit_line, HasNames}
@@ -114,7 +119,22 @@ shifted policy made id from to w h =
     let most = few id policy a.0 w a.1 in
     (omega arith, omega arith)
 
+said : (policy made : List Subject) (id : SubjectId) (line : ServiceLine) → said_in policy id line ≡ Ok made → is_right_line line ≡ true
+unfolding said_in
+said policy made id line h =
+    let a = after (present id policy) _ made h in
+    let b = second (any_clash a.0.services line) faults.Exists _ made a.2 in
+    let c = second (not (is_right_line line)) faults.BadValue _ made b.1 in
+    not_not _ c.0
+
 -- ---- lines
+
+says_text : (says : Says) → is_text (says_word says) ≡ true
+says_text (Allows attribute) = refl
+says_text Refuses = refl
+
+served : (word : List ℕ) (id : SubjectId) (text : List ℕ) → is_text word ≡ true → IsName id.name → is_text text ≡ true → is_text (word ++ subject_text id ++ codes " " ++ text) ≡ true
+served word id text h name is = both (word ++ subject_text id ++ codes " ") text (both (word ++ subject_text id) (codes " ") (both word (subject_text id) h (id_text id name)) refl) is
 
 numbered : (word : List ℕ) (id : SubjectId) (n : ℕ) → is_text word ≡ true → IsName id.name → n ≤ 257 → is_text (word ++ subject_text id ++ codes " " ++ decimal n) ≡ true
 numbered word id n h name small =
@@ -156,6 +176,13 @@ spelled policy made (SetPriv subject (Some level)) names w h =
     let small : level ≤ 257 = grind (arith, nat_tests) in
     (numbered (codes "priv ") subject level refl names small, (decimal level, refl, names, number_again level small))
 spelled policy made (SetPriv subject None) names w h = (both (codes "clear priv ") (subject_text subject) refl (id_text subject names), (refl, names))
+spelled policy made (AddService subject line) names w h =
+    let parts = and_parts (is_service line.service) (may_say line.service line.says) (said policy made subject line h) in
+    (served (says_word line.says) subject (attributed_text line.service (attribute_in line.says)) (says_text line.says) names (line_symbols line.service line.says parts.0 parts.1), (refl, names, parts.0))
+spelled policy made (ClearService subject service attribute) names w h =
+    let right = set_right policy made subject (is_right_line (allowing service attribute)) _ h in
+    let parts = and_parts (is_service service) (may_say service (Allows attribute)) right in
+    (served (codes "clear service ") subject (attributed_text service attribute) refl names (line_symbols service (Allows attribute) parts.0 parts.1), (refl, names, parts.0))
 spelled policy made (InsertRule subject at verdict pattern) names w h =
     let taken = inserted policy made subject at verdict pattern w h in
     let front = codes "insert " ++ subject_text subject ++ codes " " ++ decimal at in (

@@ -1,19 +1,26 @@
 -- Edits that a policy takes, and what they turn its subject into.
-use Rattle.std.proofs.Common.{◌≡◌, ℕ, zero, suc, ◌+◌, ◌-◌, ◌<◌, ◌&&◌, ◌||◌, ◌==◌, not, Bool, true, false, true≢false, is_some, get_or, nat_le, List, [], ◌∷◌, ◌++◌, length, insert, remove, take, drop, Option, Some, None, Result, Ok, Err, OnOk, refl, sym, ap, subst, ◌∙◌, arith}
+use Rattle.std.proofs.Common.{◌≡◌, ℕ, zero, suc, ◌+◌, ◌-◌, ◌<◌, ◌&&◌, ◌||◌, ◌==◌, not, Bool, true, false, true≢false, is_some, get_or, nat_le, List, [], ◌∷◌, ◌++◌, length, insert, remove, take, drop, Option, Some, None, Result, Ok, Err, OnOk, refl, sym, ap, subst, ◌∙◌, arith, ◌≤◌, length-append}
 use Rattle.std.specs.Option.{option_map, option_copied, option_eq}
 use Rattle.std.specs.Borrow.{Bor}
+use Rattle.std.specs.List.{filter, list_all}
 use Rattle.std.specs.Str.{bytes_eq}
 use Rattle.std.specs.Cmp.{unsigned_Decides}
 use Rattle.std.proofs.lemmas.Slice.Eq.{bytes_eq-Decides}
+use Rattle.std.proofs.lemmas.Bool.{and_parts, and_from}
 use Rattle.std.proofs.lemmas.Bool.Decides.{nat_tests}
 use Rattle.std.proofs.lemmas.List.Edits.{insert_end}
-use Rattle.std.proofs.lemmas.List.{length-take}
+use Rattle.std.proofs.lemmas.List.{length-take, take-append-drop}
+use Rattle.std.proofs.lemmas.List.Folds.{list_all-append}
 use Rattle.std.proofs.Math.Seq.{take-suc}
 use Rattle.pol_pattern.specs.Reading.{pattern_of}
 use Rattle.sha_crypt.proofs.TextFacts.{again}
 use Rattle.pol_names.specs.Kept.{is_right_secret, same_secret, same_secret-Decides}
 use Rattle.pol_names.specs.declared.secret.Secret.{Secret}
 use Rattle.pol_names.specs.declared.secret.Secret.TheVariants.{Clear, Hashed}
+use Rattle.pol_names.specs.Service.{is_service, may_say, is_right_line, any_clash, is_cleared, allowing}
+use Rattle.pol_names.specs.SameService.{same_service, same_service-Decides}
+use Rattle.pol_names.specs.declared.service.ServiceId.{ServiceId}
+use Rattle.pol_names.specs.declared.service.ServiceLine.{ServiceLine}
 use Rattle.pol_names.specs.SubjectId.{same_kind, user_id}
 use Rattle.pol_names.specs.declared.secret.Credential.{Credential}
 use Rattle.pol_names.specs.declared.secret.Credential.TheVariants.{Login, Enable}
@@ -23,17 +30,18 @@ use Rattle.pol_names.specs.declared.subject_id.SubjectId.{SubjectId}
 use Rattle.pol_names.specs.declared.decision.Verdict.{Verdict}
 use Rattle.pol_text.specs.declared.subject.Rule.{Rule}
 use Rattle.pol_text.specs.declared.subject.Subject.{Subject}
-use Rattle.pol_text.specs.Policy.{WellFormed, id_of, find_subject, all_of, is_right_subject, max_rules, max_subjects}
+use Rattle.pol_text.specs.Policy.{WellFormed, id_of, find_subject, all_of, is_right_subject, are_right_lines, max_rules, max_services, max_subjects}
 use Rattle.pol_text.proofs.Keeps.{same_id_is, all_found, found_same}
 use Rattle.pol_text.proofs.RightSubject.{right_parts}
+use Rattle.pol_text.proofs.ServiceLines.{lines_parts, lines_front, few_filter, none_before}
 use Rattle.pol_text.specs.Setting.{secret_for}
 use Rattle.pol_text.specs.Text.{new_subject}
-use Rattle.pol_text.specs.Change.{with_changed, without, is_parent, chain_fault, with_parent, with_secret, with_priv, with_rule_at, without_rule_at}
+use Rattle.pol_text.specs.Change.{with_changed, without, is_parent, chain_fault, with_parent, with_secret, with_priv, with_line_last, without_service, with_rule_at, without_rule_at}
 use Rattle.pol_edit.specs.declared.edit.Edit.{Edit}
-use Rattle.pol_edit.specs.declared.edit.Edit.TheVariants.{Remove, SetParent, SetPriv, InsertRule, RemoveRule}
-use Rattle.pol_edit.specs.Applying.{applied, added_to, removed_from, moved_in, set_in, inserted_in, dropped_in, has_group, is_number}
+use Rattle.pol_edit.specs.declared.edit.Edit.TheVariants.{Remove, SetParent, SetPriv, AddService, ClearService, InsertRule, RemoveRule}
+use Rattle.pol_edit.specs.Applying.{applied, added_to, removed_from, moved_in, set_in, said_in, inserted_in, dropped_in, has_group, is_number}
 use Rattle.pol_update.specs.Update.{IsAlike, subject_of}
-use Rattle.pol_update.specs.Planning.{IsTurned, secret_edit, bare_edit, with_rules, with_secrets}
+use Rattle.pol_update.specs.Planning.{IsTurned, secret_edit, bare_edit, of_others, with_others, with_services, with_rules, with_secrets}
 use Rattle.pol_update.specs.declared.plan.Plan.{Plan}
 use Rattle.pol_update.proofs.Turns.{turns_changed, turns_gone, turns_added, turned_by, turned_again, turned_own}
 
@@ -78,6 +86,16 @@ takes_rule : (p : List Subject) (id : SubjectId) (at : ℕ) (verdict : Verdict) 
     → applied p (InsertRule id at verdict pattern) ≡ Ok (with_changed id (with_rule_at (at - 1) (record { verdict = verdict; pattern = pattern })) p)
 unfolding applied inserted_in
 takes_rule p id at verdict pattern s found number reads room = rw (found, number, reads, room) refl
+
+takes_clear : (p : List Subject) (id : SubjectId) (service : ServiceId) (s : Subject) → find_subject id p ≡ Some s → is_right_line (allowing service None) ≡ true
+    → applied p (ClearService id service None) ≡ Ok (with_changed id (without_service service None) p)
+unfolding applied set_in
+takes_clear p id service s found right = rw (found, right) refl
+
+takes_said : (p : List Subject) (id : SubjectId) (line : ServiceLine) (s : Subject) → find_subject id p ≡ Some s → any_clash s.services line ≡ false → is_right_line line ≡ true
+    → nat_le max_services (length s.services) ≡ false → applied p (AddService id line) ≡ Ok (with_changed id (with_line_last line) p)
+unfolding applied said_in
+takes_said p id line s found apart right room = rw (found, apart, right, room) refl
 
 -- ---- the plan after it
 
@@ -179,6 +197,83 @@ rule_turned r id place at rule s before now w found last room number reads added
     place_is : at - 1 ≡ place
     place_is = omega (arith, number)
 
+-- ---- lines about services
+
+service_self : (service : ServiceId) → same_service service service ≡ true
+service_self service = (same_service-Decides service service).1 refl
+
+-- the first goes with those of its service
+first_goes : (line : ServiceLine) (rest : List ServiceLine) → of_others (line ∷ rest) ≡ filter (λ other. not (is_cleared line.service None other)) rest
+first_goes line rest = rw (service_self line.service) refl
+
+others_fewer : (lines : List ServiceLine) → length (of_others lines) ≤ length lines - 1
+others_fewer [] = omega arith
+others_fewer (line ∷ rest) =
+    let is : length (of_others (line ∷ rest)) ≡ length (filter (λ other. not (is_cleared line.service None other)) rest) = ap length (first_goes line rest) in
+    let fewer = few_filter (λ other. not (is_cleared line.service None other)) rest in
+    omega arith
+
+-- services cleared one after another
+pub cleared : ℕ → List ServiceLine → List ServiceLine
+cleared zero lines = lines
+cleared (suc k) lines = of_others (cleared k lines)
+
+cleared_fewer : (k : ℕ) (lines : List ServiceLine) → length (cleared k lines) ≤ length lines - k
+unfolding cleared
+cleared_fewer zero lines = omega arith
+cleared_fewer (suc k) lines =
+    let fewer = others_fewer (cleared k lines) in
+    let before = cleared_fewer k lines in
+    omega arith
+
+no_lines : (lines : List ServiceLine) → length lines ≤ 0 → lines ≡ []
+no_lines [] h = refl
+no_lines (line ∷ rest) h = absurd (omega (arith, h))
+
+cleared_all : (k : ℕ) (lines : List ServiceLine) → length lines ≤ k → cleared k lines ≡ []
+cleared_all k lines e = no_lines (cleared k lines) (let fewer = cleared_fewer k lines in omega arith)
+
+others_of : (lines rest : List ServiceLine) (line : ServiceLine) → lines ≡ line ∷ rest → of_others lines ≡ filter (λ other. not (is_cleared line.service None other)) lines
+others_of lines rest line e = rw e refl
+
+fewer_others : (lines rest : List ServiceLine) (line : ServiceLine) → lines ≡ line ∷ rest → ¬ (filter (λ other. not (is_cleared line.service None other)) lines ≡ lines)
+fewer_others lines rest line e same =
+    let others : of_others lines ≡ lines = others_of lines rest line e ∙ same in
+    let long : length (of_others lines) ≡ length lines = ap length others in
+    let some : length lines ≡ suc (length rest) = ap length e in
+    let fewer = others_fewer lines in
+    absurd (omega arith)
+
+pub first_turned : {E : Type 0} (r : Result (Unit {0}) E) (id : SubjectId) (line : ServiceLine) (rest : List ServiceLine) (s : Subject) (before now : Plan) → WellFormed before.made
+    → find_subject id before.made ≡ Some s → s.services ≡ line ∷ rest → Added r before now (ClearService id line.service None)
+    → OnOk r (IsTurned id (option_map with_others (find_subject id before.made)) before now)
+first_turned r id line rest s before now w found has added =
+    let clear : Subject → Subject = without_service line.service None in
+    let lines = lines_parts s.services (right_parts s (all_found is_right_subject id before.made s w.right found)).services in
+    let all : list_all is_right_line (line ∷ rest) ≡ true = sym (ap (list_all is_right_line) has) ∙ lines.each in
+    let first = (and_parts (is_right_line line) (list_all is_right_line rest) all).0 in
+    let right : is_right_line (allowing line.service None) ≡ true = and_from (is_service line.service) true (and_parts (is_service line.service) (may_say line.service line.says) first).0 refl in
+    let same : option_map with_others (find_subject id before.made) ≡ option_map clear (find_subject id before.made) =
+    rw found (ap (λ (l : List ServiceLine). Some (with_services l s)) (others_of s.services rest line has)) in
+    subst (λ (o : Option Subject). OnOk r (IsTurned id o before now)) (sym same)
+    (turned_by r (ClearService id line.service None) id (option_map clear (find_subject id before.made)) before now (with_changed id clear before.made) refl w
+    (takes_clear before.made id line.service s found right) (turns_changed id clear before.made (λ t. refl))
+    (is_other before.made id clear s found (λ e. fewer_others s.services rest line has (ap (λ (t : Subject). t.services) e))) added)
+
+pub line_turned : {E : Type 0} (r : Result (Unit {0}) E) (id : SubjectId) (line : ServiceLine) (s : Subject) (before now : Plan) → WellFormed before.made → find_subject id before.made ≡ Some s
+    → are_right_lines (s.services ++ line ∷ []) ≡ true → Added r before now (AddService id line)
+    → OnOk r (IsTurned id (option_map (with_line_last line) (find_subject id before.made)) before now)
+line_turned r id line s before now w found right added =
+    let lines = lines_parts (s.services ++ line ∷ []) right in
+    let all = sym (list_all-append is_right_line s.services (line ∷ [])) ∙ lines.each in
+    let last = (and_parts (list_all is_right_line s.services) (list_all is_right_line (line ∷ [])) all).1 in
+    let long = length-append s.services (line ∷ []) in
+    let few = lines.few in
+    let room : nat_le max_services (length s.services) ≡ false = grind (arith, nat_tests) in
+    turned_by r (AddService id line) id (option_map (with_line_last line) (find_subject id before.made)) before now (with_changed id (with_line_last line) before.made) refl w
+    (takes_said before.made id line s found (none_before s.services [] line lines.apart) (and_parts (is_right_line line) true last).0 room) (turns_changed id (with_line_last line) before.made (λ t. refl))
+    (is_other before.made id (with_line_last line) s found (λ e. longer s.services line (ap (λ (t : Subject). t.services) e))) added
+
 -- ---- rules, one after another
 
 pub drop_more : {X : Type 0} (k : ℕ) (xs : List X) → remove (drop k xs) 0 ≡ drop (suc k) xs
@@ -195,6 +290,32 @@ dropped_next k None = refl
 dropped_next k (Some s) =
     let next : k + 1 ≡ suc k = omega arith in
     rw next (ap (λ (rules : List Rule). Some (with_rules rules s)) (drop_more k s.rules))
+
+-- services are cleared one after another, until none is left
+pub cleared_next : (k : ℕ) (o : Option Subject) → option_map with_others (option_map (λ (s : Subject). with_services (cleared k s.services) s) o) ≡ option_map (λ (s : Subject). with_services (cleared (k + 1) s.services) s) o
+unfolding cleared
+cleared_next k None = refl
+cleared_next k (Some s) = let next : k + 1 ≡ suc k = omega arith in rw next refl
+
+pub cleared_start : (o : Option Subject) → o ≡ option_map (λ (s : Subject). with_services (cleared 0 s.services) s) o
+unfolding cleared
+cleared_start None = refl
+cleared_start (Some s) = refl
+
+pub cleared_end : (k n : ℕ) (o : Option Subject) → n ≤ k → ((s : Subject) → o ≡ Some s → n ≡ length s.services) → option_map (λ (s : Subject). with_services (cleared k s.services) s) o ≡ option_map (with_services []) o
+cleared_end k n None all counts = refl
+cleared_end k n (Some s) all counts =
+    let count = counts s refl in
+    ap (λ (l : List ServiceLine). Some (with_services l s)) (cleared_all k s.services (omega arith))
+
+-- a line comes after those before it
+pub lined_next : (k : ℕ) (lines : List ServiceLine) (line : ServiceLine) (o : Option Subject) → k < length lines → line ≡ get_or lines k line
+    → option_map (with_line_last line) (option_map (with_services (take k lines)) o) ≡ option_map (with_services (take (k + 1) lines)) o
+lined_next k lines line None lt item = refl
+lined_next k lines line (Some s) lt item =
+    let next : k + 1 ≡ suc k = omega arith in
+    let more : take (suc k) lines ≡ take k lines ++ line ∷ [] = take-suc lines k line lt ∙ ap (λ (l : ServiceLine). take k lines ++ l ∷ []) (sym item) in
+    rw (next, more) refl
 
 -- a rule comes after those before it
 pub ruled_next : (k : ℕ) (rules : List Rule) (rule : Rule) (o : Option Subject) → k < length rules → rule ≡ get_or rules k rule
@@ -272,23 +393,37 @@ pub rule_by : {E : Type 0} (r : Result (Unit {0}) E) (id : SubjectId) (o : Optio
 rule_by r id None place rule before now w found is there last room reads added = absurd (true≢false (sym (is ∙ ap not there)))
 rule_by r id (Some s) place rule before now w found is there last room reads added = rule_turned r id place (place + 1) rule s.now before now w (sym found) (last s.now (sym found)) room refl reads added
 
+pub line_by : {E : Type 0} (r : Result (Unit {0}) E) (id : SubjectId) (o : Option (Bor Subject)) {none : Bool} (line : ServiceLine) (before now : Plan) → WellFormed before.made
+    → option_copied o ≡ find_subject id before.made → is_some o ≡ not none → none ≡ false → ((s : Subject) → find_subject id before.made ≡ Some s → are_right_lines (s.services ++ line ∷ []) ≡ true)
+    → Added r before now (AddService id line) → OnOk r (IsTurned id (option_map (with_line_last line) (find_subject id before.made)) before now)
+line_by r id None line before now w found is there fits added = absurd (true≢false (sym (is ∙ ap not there)))
+line_by r id (Some s) line before now w found is there fits added = line_turned r id line s.now before now w (sym found) (fits s.now (sym found)) added
+
 -- all that a subject has is given to another, which so becomes it
-pub settled : {E : Type 0} (r : Result (Unit {0}) E) (x : Subject) (p a b d e f : Plan) → is_some (find_subject (id_of x) p.made) ≡ true
+pub settled : {E : Type 0} (r : Result (Unit {0}) E) (x : Subject) (p a b d g h e f : Plan) → is_some (find_subject (id_of x) p.made) ≡ true
     → IsTurned (id_of x) (option_map (with_parent x.parent) (find_subject (id_of x) p.made)) p a
     → IsTurned (id_of x) (option_map (with_secrets x) (find_subject (id_of x) a.made)) a b
     → IsTurned (id_of x) (option_map (with_priv x.priv_lvl) (find_subject (id_of x) b.made)) b d
-    → IsTurned (id_of x) (option_map (with_rules []) (find_subject (id_of x) d.made)) d e
+    → IsTurned (id_of x) (option_map (with_services []) (find_subject (id_of x) d.made)) d g
+    → IsTurned (id_of x) (option_map (with_services x.services) (find_subject (id_of x) g.made)) g h
+    → IsTurned (id_of x) (option_map (with_rules []) (find_subject (id_of x) h.made)) h e
     → OnOk r (IsTurned (id_of x) (option_map (with_rules x.rules) (find_subject (id_of x) e.made)) e f)
     → OnOk r (IsTurned (id_of x) (Some x) p f)
-settled {E = E} r x p a b d e f there below secrets level dropped ruled = by r ruled
+settled {E = E} r x p a b d g h e f there below secrets level cleared lined dropped ruled = by r ruled
   where
     id : SubjectId
     id = id_of x
 
-    whole : Option Subject → Option Subject
-    whole o = option_map (with_rules x.rules) (option_map (with_rules []) (option_map (with_priv x.priv_lvl) (option_map (with_secrets x) (option_map (with_parent x.parent) o))))
+    with_level : Option Subject → Option Subject
+    with_level o = option_map (with_priv x.priv_lvl) (option_map (with_secrets x) (option_map (with_parent x.parent) o))
 
-    is_x : (s : Subject) → s.kind ≡ x.kind → s.name ≡ x.name → with_rules x.rules (with_rules [] (with_priv x.priv_lvl (with_secrets x (with_parent x.parent s)))) ≡ x
+    with_lines : Option Subject → Option Subject
+    with_lines o = option_map (with_services x.services) (option_map (with_services []) o)
+
+    whole : Option Subject → Option Subject
+    whole o = option_map (with_rules x.rules) (option_map (with_rules []) (with_lines (with_level o)))
+
+    is_x : (s : Subject) → s.kind ≡ x.kind → s.name ≡ x.name → with_rules x.rules (with_rules [] (with_services x.services (with_services [] (with_priv x.priv_lvl (with_secrets x (with_parent x.parent s)))))) ≡ x
     is_x s kind name = ap (λ (k : Kind). record x { kind = k; name = s.name }) kind ∙ ap (λ (n : List ℕ). record x { name = n }) name
 
     end : (o : Option Subject) → find_subject id p.made ≡ o → is_some o ≡ true → whole o ≡ Some x
@@ -299,14 +434,17 @@ settled {E = E} r x p a b d e f there below secrets level dropped ruled = by r r
 
     last : option_map (with_rules x.rules) (find_subject id e.made) ≡ Some x
     last =
-        ap (option_map (with_rules x.rules)) (turned_own id _ d e dropped ∙ ap (option_map (with_rules [])) (turned_own id _ b d level ∙ ap (option_map (with_priv x.priv_lvl)) (turned_own id _ a b secrets
-        ∙ ap (option_map (with_secrets x)) (turned_own id _ p a below))))
+        ap (option_map (with_rules x.rules)) (turned_own id _ h e dropped ∙ ap (option_map (with_rules [])) (turned_own id _ g h lined ∙ ap (option_map (with_services x.services)) (turned_own id _ d g cleared
+        ∙ ap (option_map (with_services [])) (turned_own id _ b d level ∙ ap (option_map (with_priv x.priv_lvl)) (turned_own id _ a b secrets
+        ∙ ap (option_map (with_secrets x)) (turned_own id _ p a below))))))
         ∙ end (find_subject id p.made) refl there
 
+    until : IsTurned id (option_map (with_rules []) (find_subject id h.made)) p e
+    until =
+        turned_again id _ _ p h e (turned_again id _ _ p g h (turned_again id _ _ p d g (turned_again id _ _ p b d (turned_again id _ _ p a b below secrets) level) cleared) lined) dropped
+
     all : IsTurned id (option_map (with_rules x.rules) (find_subject id e.made)) e f → IsTurned id (Some x) p f
-    all turned =
-        subst (λ (o : Option Subject). IsTurned id o p f) last
-        (turned_again id _ _ p e f (turned_again id _ _ p d e (turned_again id _ _ p b d (turned_again id _ _ p a b below secrets) level) dropped) turned)
+    all turned = subst (λ (o : Option Subject). IsTurned id o p f) last (turned_again id _ _ p e f until turned)
 
     by : (r : Result (Unit {0}) E) → OnOk r (IsTurned id (option_map (with_rules x.rules) (find_subject id e.made)) e f) → OnOk r (IsTurned id (Some x) p f)
     by (Ok done) turned = all turned
@@ -358,3 +496,30 @@ pub rule_next : (id : SubjectId) (k : ℕ) (rules : List Rule) (rule : Rule) (p 
     → IsTurned id (option_map (with_rule_at k rule) (find_subject id a.made)) a b → IsTurned id (option_map (with_rules (take (k + 1) rules)) (find_subject id p.made)) p b
 rule_next id k rules rule p a b lt item so_far next =
     subst (λ (o : Option Subject). IsTurned id o p b) (ap (option_map (with_rule_at k rule)) (turned_own id _ p a so_far) ∙ ruled_next k rules rule (find_subject id p.made) lt item) (turned_again id _ _ p a b so_far next)
+
+-- ---- lines about services one after another
+
+pub clear_next : (id : SubjectId) (k : ℕ) (p a b : Plan) → IsTurned id (option_map (λ (s : Subject). with_services (cleared k s.services) s) (find_subject id p.made)) p a
+    → IsTurned id (option_map with_others (find_subject id a.made)) a b → IsTurned id (option_map (λ (s : Subject). with_services (cleared (k + 1) s.services) s) (find_subject id p.made)) p b
+clear_next id k p a b so_far next =
+    subst (λ (o : Option Subject). IsTurned id o p b) (ap (option_map with_others) (turned_own id _ p a so_far) ∙ cleared_next k (find_subject id p.made)) (turned_again id _ _ p a b so_far next)
+
+pub line_next : (id : SubjectId) (k : ℕ) (lines : List ServiceLine) (line : ServiceLine) (p a b : Plan) → k < length lines → line ≡ get_or lines k line
+    → IsTurned id (option_map (with_services (take k lines)) (find_subject id p.made)) p a
+    → IsTurned id (option_map (with_line_last line) (find_subject id a.made)) a b → IsTurned id (option_map (with_services (take (k + 1) lines)) (find_subject id p.made)) p b
+line_next id k lines line p a b lt item so_far next =
+    subst (λ (o : Option Subject). IsTurned id o p b) (ap (option_map (with_line_last line)) (turned_own id _ p a so_far) ∙ lined_next k lines line (find_subject id p.made) lt item) (turned_again id _ _ p a b so_far next)
+
+-- the next of right lines fits after those before it
+pub line_fits : (id : SubjectId) (k : ℕ) (lines : List ServiceLine) (line : ServiceLine) (p a : Plan) → k < length lines → line ≡ get_or lines k line → are_right_lines lines ≡ true
+    → IsTurned id (option_map (with_services (take k lines)) (find_subject id p.made)) p a
+    → (s : Subject) → find_subject id a.made ≡ Some s → are_right_lines (s.services ++ line ∷ []) ≡ true
+line_fits id k lines line p a lt item right so_far s found =
+    let next : take (suc k) lines ≡ take k lines ++ line ∷ [] = take-suc lines k line lt ∙ ap (λ (l : ServiceLine). take k lines ++ l ∷ []) (sym item) in
+    let front : are_right_lines (take (suc k) lines) ≡ true = lines_front (take (suc k) lines) (drop (suc k) lines) (ap are_right_lines (take-append-drop (suc k) lines) ∙ right) in
+    let services : s.services ≡ take k lines = by (find_subject id p.made) (sym (turned_own id _ p a so_far) ∙ found) in
+    rw services (sym (ap are_right_lines next) ∙ front)
+  where
+    by : (o : Option Subject) → option_map (with_services (take k lines)) o ≡ Some s → s.services ≡ take k lines
+    by None e = absurd cc
+    by (Some t) e = let same : with_services (take k lines) t ≡ s = cc in sym (ap (λ (u : Subject). u.services) same)

@@ -4,6 +4,7 @@ use Rattle.std.specs.Fmt.{decimal}
 use Rattle.pol_names.specs.SubjectId.{subject_text}
 use Rattle.pol_names.specs.Decision.{verdict_word}
 use Rattle.pol_names.specs.Secret.{credential_word, hash_word}
+use Rattle.pol_names.specs.Service.{says_word, attributed_text, attribute_in}
 use Rattle.pol_names.specs.declared.secret.Credential.{Credential}
 use Rattle.pol_names.specs.declared.secret.Credential.TheVariants.{Login, Enable}
 use Rattle.pol_names.specs.declared.subject_id.SubjectId.{SubjectId}
@@ -11,7 +12,8 @@ use Rattle.pol_edit.specs.Spelling.{parent_text, IsName, IsParent}
 use Rattle.pol_edit.specs.declared.edit.Edit.{Edit}
 use Rattle.pol_edit.specs.declared.edit.Edit.TheVariants.{AddGroup, AddUser, Remove, SetParent}
 use Rattle.pol_edit.specs.declared.edit.Edit.TheVariants.{SetLogin, SetEnable, SetPriv, InsertRule}
-use Rattle.pol_edit.specs.declared.edit.Edit.TheVariants.{SetHash, RemoveRule, MoveRule}
+use Rattle.pol_edit.specs.declared.edit.Edit.TheVariants.{SetHash, AddService, ClearService}
+use Rattle.pol_edit.specs.declared.edit.Edit.TheVariants.{RemoveRule, MoveRule}
 
 abbrev pub secret_line : Credential → List ℕ → Option (List ℕ) → List ℕ
 secret_line credential user (Some text) = credential_word credential ++ user ++ codes " " ++ text
@@ -34,6 +36,12 @@ edit_line (SetEnable user secret) = secret_line Enable user secret
 edit_line (SetHash user credential text) =
     hash_word credential ++ user ++ codes " " ++ text
 edit_line (SetPriv subject level) = level_line subject level
+edit_line (AddService subject said) =
+    says_word said.says ++ subject_text subject ++ codes " "
+    ++ attributed_text said.service (attribute_in said.says)
+edit_line (ClearService subject service attribute) =
+    codes "clear service " ++ subject_text subject ++ codes " "
+    ++ attributed_text service attribute
 edit_line (InsertRule subject at verdict pattern) =
     codes "insert " ++ subject_text subject ++ codes " " ++ decimal at ++ codes " "
     ++ verdict_word verdict ++ pattern
@@ -54,6 +62,8 @@ HasNames (SetLogin user secret) = IsName user
 HasNames (SetEnable user secret) = IsName user
 HasNames (SetHash user credential text) = IsName user
 HasNames (SetPriv subject level) = IsName subject.name
+HasNames (AddService subject said) = IsName subject.name
+HasNames (ClearService subject service attribute) = IsName subject.name
 HasNames (InsertRule subject at verdict pattern) = IsName subject.name
 HasNames (RemoveRule subject at) = IsName subject.name
 HasNames (MoveRule subject from to) = IsName subject.name

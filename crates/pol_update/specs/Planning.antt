@@ -1,7 +1,9 @@
 -- What the functions that plan edits do, one subject after another.
-use Rattle.std.specs.Prelude.{◌≡◌, ◌⊎◌, ℕ, List, [], ◌∷◌, map, Bool, true, false, IsTrue, Option, Some}
-use Rattle.std.specs.Prelude.{None, Ok, is_some, if◌then◌else◌}
+use Rattle.std.specs.Prelude.{◌≡◌, ◌⊎◌, ℕ, List, [], ◌∷◌, map, filter, Bool, true, false, not}
+use Rattle.std.specs.Prelude.{IsTrue, Option, Some, None, Ok, is_some, if◌then◌else◌}
 use Rattle.sha_crypt.specs.HashText.{hash_text}
+use Rattle.pol_names.specs.Service.{is_cleared}
+use Rattle.pol_names.specs.declared.service.ServiceLine.{ServiceLine}
 use Rattle.pol_names.specs.SubjectId.{same_id}
 use Rattle.pol_names.specs.declared.secret.Credential.{Credential}
 use Rattle.pol_names.specs.declared.secret.Credential.TheVariants.{Login, Enable}
@@ -130,6 +132,18 @@ secret_edit credential user (Some (Hashed hash)) = SetHash user credential (hash
 abbrev pub bare_edit : Kind → List ℕ → Edit
 bare_edit Group name = AddGroup name None
 bare_edit User name = AddUser name None
+
+abbrev pub with_services : List ServiceLine → Subject → Subject
+with_services lines subject = record subject { services = lines }
+
+-- the lines about other services than that of the first
+abbrev pub of_others : List ServiceLine → List ServiceLine
+of_others [] = []
+of_others (line ∷ rest) =
+    filter (λ other. not (is_cleared line.service None other)) (line ∷ rest)
+
+abbrev pub with_others : Subject → Subject
+with_others subject = with_services (of_others subject.services) subject
 
 abbrev pub with_rules : List Rule → Subject → Subject
 with_rules rules subject = record subject { rules = rules }

@@ -9,12 +9,13 @@ use Rattle.pol_text.specs.Same.{same_subject}
 use Rattle.pol_edit.specs.declared.edit.Edit.{Edit}
 use Rattle.pol_edit.specs.declared.edit.Edit.TheVariants.{AddGroup, AddUser, Remove, SetParent}
 use Rattle.pol_edit.specs.declared.edit.Edit.TheVariants.{SetLogin, SetEnable, SetPriv, InsertRule}
-use Rattle.pol_edit.specs.declared.edit.Edit.TheVariants.{SetHash, RemoveRule, MoveRule}
+use Rattle.pol_edit.specs.declared.edit.Edit.TheVariants.{SetHash, AddService, ClearService}
+use Rattle.pol_edit.specs.declared.edit.Edit.TheVariants.{RemoveRule, MoveRule}
 use Rattle.pol_edit.specs.Applying.{applied}
 use Rattle.pol_edit.specs.Batches.{applied_all}
 
--- both policies have the subject alike, with the same parent, secrets, level and rules, or neither
--- has it
+-- both policies have the subject alike, with the same parent, secrets, level, services and rules,
+-- or neither has it
 abbrev pub IsAlike : List Subject → List Subject → SubjectId → Type 0
 IsAlike one other id = find_subject id one ≡ find_subject id other
 
@@ -34,6 +35,8 @@ subject_of (SetLogin user secret) = user_id user
 subject_of (SetEnable user secret) = user_id user
 subject_of (SetHash user credential hash) = user_id user
 subject_of (SetPriv subject level) = subject
+subject_of (AddService subject said) = subject
+subject_of (ClearService subject service attribute) = subject
 subject_of (InsertRule subject at verdict pattern) = subject
 subject_of (RemoveRule subject at) = subject
 subject_of (MoveRule subject from to) = subject

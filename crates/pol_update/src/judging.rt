@@ -23,6 +23,8 @@ pub(crate) fn subject(edit: &Edit) -> SubjectId
         Edit::Remove { subject }
         | Edit::SetParent { subject, .. }
         | Edit::SetPriv { subject, .. }
+        | Edit::AddService { subject, .. }
+        | Edit::ClearService { subject, .. }
         | Edit::InsertRule { subject, .. }
         | Edit::RemoveRule { subject, .. }
         | Edit::MoveRule { subject, .. } => *subject,

@@ -9,6 +9,7 @@ mod plain;
 mod plan;
 mod row;
 mod ruling;
+mod serving;
 mod setting;
 mod turning;
 mod updating;

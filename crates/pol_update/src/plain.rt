@@ -73,12 +73,12 @@ fn settle(alloc: Global, plan: &mut Plan, old: &Policy, new: &Policy) -> Result<
 
 /// Edits that make the new policy of the old one, whatever these are: each subject that differs is
 /// taken out of its group, those that go are removed, those that come are added, and then each gets
-/// its group, its secrets, its level and its rules, one after another.
+/// its group, its secrets, its level, its services and its rules, one after another.
 ///
 /// No limit is exceeded in between. A subject that is in no group has no chain, and one that is put
 /// below a group of the new policy has no longer a chain than there; what is there when a subject
-/// is added is in the new policy too; and a subject has no rules when the first of the new ones
-/// comes.
+/// is added is in the new policy too; and a subject has no services when the first of the new ones
+/// comes, and no rules when the first of these does.
 pub(crate) fn plain(alloc: Global, old: &Policy, new: &Policy) -> Result<Sequence<Edit>, AllocError>
     ensures { IfOk result (λ edits. Updates old.now edits new.now) }
 {

@@ -1,15 +1,17 @@
 //! Edits of one subject, each of which is added only if it changes the subject.
 
-ghost use Rattle.std.specs.Prelude.{◌≡◌, ◌<◌, ◌≤◌, ◌&&◌, List, [], Some, None, length, nat_le};
+ghost use Rattle.std.specs.Prelude.{◌≡◌, ◌<◌, ◌≤◌, ◌&&◌, ◌∷◌, ◌++◌, List, [], Some, None, length};
+ghost use Rattle.std.specs.Prelude.{nat_le};
 ghost use Rattle.std.specs.Prelude.{false, is_some, IsTrue, IfOk, OnOk};
 ghost use Rattle.std.specs.Option.{option_map};
 ghost use Rattle.pol_names.specs.Kept.{is_right_secret};
 ghost use Rattle.pol_names.specs.SubjectId.{same_kind, user_id};
 ghost use Rattle.pol_names.specs.declared.subject_id.Kind.TheVariants.{Group};
 ghost use Rattle.pol_text.specs.Policy.{WellFormed, all_of, find_subject, id_of, is_right_subject};
-ghost use Rattle.pol_text.specs.Policy.{max_rules, max_subjects};
+ghost use Rattle.pol_text.specs.Policy.{are_right_lines, max_rules, max_subjects};
 ghost use Rattle.pol_text.specs.Change.{with_changed, is_parent, with_parent, with_secret};
-ghost use Rattle.pol_text.specs.Change.{with_priv, with_rule_at, without_rule_at};
+ghost use Rattle.pol_text.specs.Change.{with_priv, with_line_last, with_rule_at};
+ghost use Rattle.pol_text.specs.Change.{without_rule_at};
 ghost use Rattle.pol_text.specs.Setting.{secret_for};
 ghost use Rattle.pol_text.specs.Text.{new_subject};
 ghost use Rattle.pol_text.specs.declared.subject.Subject.{Subject as SubjectValue};
@@ -20,7 +22,7 @@ ghost use Rattle.pol_update.specs.Planning.{IsTurned, IsWithin, with_rules};
 use crate::plan::Plan;
 use basics::Bytes;
 use pol_edit::Edit;
-use pol_names::{Credential, Kind, Name, SubjectId};
+use pol_names::{Credential, Kind, Name, ServiceLine, SubjectId};
 use pol_text::{Rule, Secret, Subject};
 use std::alloc::{AllocError, Global};
 
@@ -197,6 +199,96 @@ impl Plan {
         self.add(alloc, Edit::SetPriv { subject, level })
     }
 
+    // Clears the service of the first line about one of a subject, if it has one.
+    fn clear_first(&mut self, alloc: Global, id: &SubjectId) -> Result<(), AllocError>
+        ensures { OnOk result (IsTurned id.now
+            (option_map planning.with_others (find_subject id.now self.old.made))
+            self.old self.new) }
+    {
+        let Some(present) = self.made.find(id) else {
+            return Ok(());
+        };
+        let Some(line) = present.services.as_slice().first() else {
+            return Ok(());
+        };
+        let subject = *id;
+        let service = line.service;
+        let attribute = None;
+        self.add(
+            alloc,
+            Edit::ClearService {
+                subject,
+                service,
+                attribute,
+            },
+        )
+    }
+
+    // How many lines about services a subject has; none if it isn't there.
+    fn count_services(&self, id: &SubjectId) -> usize
+        ensures { (subject : SubjectValue) → find_subject id.now self.now.made ≡ Some subject
+            → result ≡ length subject.services }
+    {
+        match self.made.find(id) {
+            Some(present) => present.services.len(),
+            None => 0,
+        }
+    }
+
+    // Clears all services of a subject.
+    fn clear_services(&mut self, alloc: Global, id: &SubjectId) -> Result<(), AllocError>
+        ensures { OnOk result (IsTurned id.now
+            (option_map (planning.with_services []) (find_subject id.now self.old.made))
+            self.old self.new) }
+    {
+        let count = self.count_services(id);
+        'lines: for _ in 0..count {
+            self.clear_first(alloc, id)?;
+        }
+        Ok(())
+    }
+
+    // Adds a line about a service to those of a subject.
+    fn add_line(
+        &mut self,
+        alloc: Global,
+        id: &SubjectId,
+        line: &ServiceLine,
+    ) -> Result<(), AllocError>
+        requires fits { (subject : SubjectValue) → find_subject id.now self.old.made ≡ Some subject
+            → IsTrue (are_right_lines (subject.services ++ line.now ∷ [])) }
+        ensures { OnOk result (IsTurned id.now
+            (option_map (with_line_last line.now) (find_subject id.now self.old.made))
+            self.old self.new) }
+    {
+        if self.made.find(id).is_none() {
+            return Ok(());
+        }
+        let subject = *id;
+        let line = line.copy(alloc)?;
+        self.add(alloc, Edit::AddService { subject, line })
+    }
+
+    // Adds lines about services to a subject that has none.
+    fn add_lines(
+        &mut self,
+        alloc: Global,
+        id: &SubjectId,
+        lines: &[ServiceLine],
+    ) -> Result<(), AllocError>
+        requires fresh { (subject : SubjectValue) → find_subject id.now self.old.made ≡ Some subject
+            → subject.services ≡ [] }
+        requires right { IsTrue (are_right_lines lines.now) }
+        ensures { OnOk result (IsTurned id.now
+            (option_map (planning.with_services lines.now) (find_subject id.now self.old.made))
+            self.old self.new) }
+    {
+        'lines: for line in lines {
+            self.add_line(alloc, id, line)?;
+        }
+        Ok(())
+    }
+
     // Drops the first rule of a subject, if it has one.
     fn drop_rule(&mut self, alloc: Global, id: &SubjectId) -> Result<(), AllocError>
         ensures { OnOk result (IsTurned id.now
@@ -321,6 +413,8 @@ impl Plan {
         self.put_below(alloc, &id, subject.parent)?;
         self.put_secrets(alloc, subject)?;
         self.put_level(alloc, &id, subject.priv_lvl)?;
+        self.clear_services(alloc, &id)?;
+        self.add_lines(alloc, &id, subject.services.as_slice())?;
         self.drop_rules(alloc, &id)?;
         self.add_rules(alloc, &id, subject.rules.as_slice())
     }

@@ -9,6 +9,7 @@ use crate::placing::place_subjects;
 use crate::plain::plain;
 use crate::plan::Plan;
 use crate::ruling::{arrange_rules, drop_rules};
+use crate::serving::arrange_services;
 use crate::setting::set;
 use basics::Sequence;
 use pol_edit::Edit;
@@ -24,6 +25,7 @@ fn found(alloc: Global, old: &Policy, new: &Policy) -> Result<Sequence<Edit>, Al
     place_subjects(alloc, &mut plan, old, new)?;
     for subject in new.subjects() {
         set(alloc, &mut plan, subject)?;
+        arrange_services(alloc, &mut plan, subject)?;
         arrange_rules(alloc, &mut plan, subject)?;
     }
     Ok(plan.into_edits())
@@ -33,10 +35,11 @@ fn found(alloc: Global, old: &Policy, new: &Policy) -> Result<Sequence<Edit>, Al
 /// made on a copy of the old policy, and what that became was compared with the new one.
 ///
 /// What is the same in both policies isn't touched: a rule that moved is one `MoveRule`, and of a
-/// subject's rules as many stay as can, where none stands twice. Rules are dropped first, then
-/// subjects go, come and move, and then secrets, levels and rules are set; so no limit is exceeded
-/// in between. The cost is quadratic in the rules of each subject that is changed, and a look
-/// through all chains for each subject that moves.
+/// subject's rules as many stay as can, where none stands twice. Of its lines about services those
+/// stay that both have first. Rules are dropped first, then subjects go, come and move, and then
+/// secrets, levels, services and rules are set; so no limit is exceeded in between. The cost is
+/// quadratic in the rules of each subject that is changed, and a look through all chains for each
+/// subject that moves.
 ///
 /// If these edits were not right, those of a plain plan would take their place, which make any
 /// policy of any other. The error is out of memory.

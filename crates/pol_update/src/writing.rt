@@ -3,6 +3,7 @@
 ghost use Rattle.std.specs.Prelude.{◌≡◌, ◌++◌, ◌∷◌, List, [], codes, Ok, OnOk};
 ghost use Rattle.std.specs.Fmt.{decimal};
 ghost use Rattle.pol_names.specs.Secret.{hash_word};
+ghost use Rattle.pol_names.specs.Service.{service_text, attributed_text, attribute_in};
 ghost use Rattle.pol_names.specs.SubjectId.{subject_text};
 ghost use Rattle.pol_text.specs.Policy.{WellFormed};
 ghost use Rattle.pol_text.specs.declared.subject.Subject.{Subject as SubjectValue};
@@ -12,7 +13,7 @@ ghost use Rattle.pol_update.specs.Line.{edit_line, secret_line, level_line, HasN
 
 use basics::Bytes;
 use pol_edit::Edit;
-use pol_names::{Credential, Name, SubjectId};
+use pol_names::{Credential, Name, Says, ServiceId, ServiceLine, SubjectId};
 use std::alloc::AllocError;
 use std::io::Write;
 
@@ -128,6 +129,47 @@ fn write_level(out: &mut Vec<u8>, subject: &SubjectId, level: Option<u16>) -> Re
     }
 }
 
+// A space and the service.
+fn write_service(out: &mut Vec<u8>, service: &ServiceId) -> Result<(), AllocError>
+    ensures { OnOk result
+        (out.new.items ≡ out.old.items ++ (codes " " ++ service_text service.now)) }
+{
+    match write!(out, " {service}") {
+        Ok(()) => Ok(()),
+        Err(_) => Err(AllocError),
+    }
+}
+
+// A space, the service, and its attribute after another space.
+fn write_attributed(
+    out: &mut Vec<u8>,
+    service: &ServiceId,
+    attribute: &Option<Bytes>,
+) -> Result<(), AllocError>
+    ensures { OnOk result (out.new.items
+        ≡ out.old.items ++ (codes " " ++ attributed_text service.now attribute.now)) }
+{
+    write_service(out, service)?;
+    match attribute {
+        Some(text) => {
+            out.extend_from_slice(b" ")?;
+            out.extend_from_slice(text.as_slice())
+        }
+        None => Ok(()),
+    }
+}
+
+// What follows the subject in the line of an edit that says this of a service.
+fn write_said(out: &mut Vec<u8>, line: &ServiceLine) -> Result<(), AllocError>
+    ensures { OnOk result (out.new.items ≡ out.old.items
+        ++ (codes " " ++ attributed_text line.now.service (attribute_in line.now.says))) }
+{
+    match &line.says {
+        Says::Allows(attribute) => write_attributed(out, &line.service, attribute),
+        Says::Refuses => write_service(out, &line.service),
+    }
+}
+
 // The edit's words.
 fn write_words(out: &mut Vec<u8>, edit: &Edit) -> Result<(), AllocError>
     ensures text { OnOk result (out.new.items ≡ out.old.items ++ edit_line edit.now) }
@@ -149,6 +191,18 @@ fn write_words(out: &mut Vec<u8>, edit: &Edit) -> Result<(), AllocError>
             hash,
         } => write_hash(out, *credential, user, hash.as_slice()),
         Edit::SetPriv { subject, level } => write_level(out, subject, *level),
+        Edit::AddService { subject, line } => {
+            write_subject(out, line.keyword(), subject)?;
+            write_said(out, line)
+        }
+        Edit::ClearService {
+            subject,
+            service,
+            attribute,
+        } => {
+            write_subject(out, "clear service ", subject)?;
+            write_attributed(out, service, attribute)
+        }
         Edit::InsertRule {
             subject,
             at,

@@ -1,8 +1,10 @@
-//! Tests of policies, of patterns, and of the automata that stand for them.
+//! Tests of policies, of hashed passwords, of patterns, and of the automata that stand for them.
 #![tactic(auto)]
 
 #[cfg(test)]
 mod automaton;
+#[cfg(test)]
+mod crypt;
 #[cfg(test)]
 mod policy;
 pub mod scan;

@@ -5,5 +5,6 @@ mod hashes;
 mod large;
 mod patterns;
 mod policies;
+mod services;
 mod sizes;
 mod support;

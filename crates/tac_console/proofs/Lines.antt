@@ -1,11 +1,17 @@
 -- A line is an edit, a question, a word of a batch, or none of them, in one way.
-use Rattle.std.proofs.Common.{◌≡◌, ℕ, Bool, true, false, List, [], ◌∷◌, Some, None, Result, Ok, Err, ◌⊎◌, codes, nat_eq, inl, inr, refl, sym, ◌∙◌, subst}
+use Rattle.std.proofs.Common.{◌≡◌, ℕ, Bool, true, false, List, [], ◌∷◌, ◌++◌, Some, None, Result, Ok, Err, ◌⊎◌, codes, nat_eq, inl, inr, refl, sym, ◌∙◌, subst}
 use Rattle.std.specs.List.{list_any, starts_with}
 use Rattle.std.specs.Str.{bytes_eq}
+use Rattle.pol_names.specs.SubjectId.{subject_text}
+use Rattle.pol_names.specs.Service.{says_word, attributed_text, attribute_in}
+use Rattle.pol_names.specs.declared.subject_id.SubjectId.{SubjectId}
+use Rattle.pol_names.specs.declared.service.ServiceId.{ServiceId}
+use Rattle.pol_names.specs.declared.service.Says.{Says}
+use Rattle.pol_names.specs.declared.service.Says.TheVariants.{Allows, Refuses}
 use Rattle.pol_names.specs.declared.secret.Credential.TheVariants.{Login, Enable}
 use Rattle.pol_edit.specs.Spelling.{SpellsWords as SpellsEditWords, Spells as SpellsEdit}
 use Rattle.pol_edit.specs.declared.edit.Edit.{Edit}
-use Rattle.pol_edit.specs.declared.edit.Edit.TheVariants.{AddGroup, AddUser, Remove, SetParent, SetLogin, SetEnable, SetHash, SetPriv, InsertRule, RemoveRule, MoveRule}
+use Rattle.pol_edit.specs.declared.edit.Edit.TheVariants.{AddGroup, AddUser, Remove, SetParent, SetLogin, SetEnable, SetHash, SetPriv, AddService, ClearService, InsertRule, RemoveRule, MoveRule}
 use Rattle.pol_edit.specs.declared.fault.EditFault.{EditFault}
 use Rattle.pol_edit.specs.declared.fault.EditFault.TheVariants.{BadEdit, Memory}
 use Rattle.tac_desk.specs.declared.query.Query.{Query}
@@ -22,7 +28,11 @@ use Rattle.tac_console.proofs.QueryBack as back
 abbrev begins_edit : List ℕ → Bool
 begins_edit line =
     list_any (starts_with nat_eq line)
-    (codes "add" ∷ codes "rem" ∷ codes "mov" ∷ codes "log" ∷ codes "ena" ∷ codes "cle" ∷ codes "pri" ∷ codes "ins" ∷ codes "dro" ∷ codes "shi" ∷ [])
+    (codes "add" ∷ codes "rem" ∷ codes "mov" ∷ codes "log" ∷ codes "ena" ∷ codes "ser" ∷ codes "ref" ∷ codes "cle" ∷ codes "pri" ∷ codes "ins" ∷ codes "dro" ∷ codes "shi" ∷ [])
+
+said_begins : (line : List ℕ) (subject : SubjectId) (service : ServiceId) (says : Says) → line ≡ says_word says ++ subject_text subject ++ codes " " ++ attributed_text service (attribute_in says) → begins_edit line ≡ true
+said_begins line subject service (Allows attribute) h = rw h refl
+said_begins line subject service Refuses h = rw h refl
 
 edits_begin : (line : List ℕ) (edit : Edit) → SpellsEditWords line edit → begins_edit line ≡ true
 edits_begin line (AddGroup name parent) h = rw h.0 refl
@@ -37,6 +47,8 @@ edits_begin line (SetHash user Login text) h = rw h.0 refl
 edits_begin line (SetHash user Enable text) h = rw h.0 refl
 edits_begin line (SetPriv subject (Some level)) h = rw h.1 refl
 edits_begin line (SetPriv subject None) h = rw h.0 refl
+edits_begin line (AddService subject said) h = said_begins line subject said.service said.says h.0
+edits_begin line (ClearService subject service attribute) h = rw h.0 refl
 edits_begin line (InsertRule subject at verdict pattern) h = rw h.1 refl
 edits_begin line (RemoveRule subject at) h = rw h.1 refl
 edits_begin line (MoveRule subject from to) h = rw h.2 refl

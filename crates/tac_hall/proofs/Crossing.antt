@@ -25,6 +25,7 @@ use Rattle.tac_hall.specs.contracts.hall.Hall as Hall
 use Rattle.basics.specs.contracts.sequence.Sequence as Sequence
 use Rattle.basics.proofs.sequence.Sequence.TheSendSync as sequence
 use Rattle.pol_names.proofs.decision.Decision.TheSendSync as decision
+use Rattle.pol_names.proofs.service.ServiceLine.TheSendSync as line
 use Rattle.pol_meaning.proofs.Reached.TheSendSync as reached
 use Rattle.pol_meaning.proofs.Shadowed.TheSendSync as shadowed
 use Rattle.pol_meaning.proofs.Changed.TheSendSync as changed
@@ -57,10 +58,10 @@ pub Rule-sync : IsSync Rule.the_row
 Rule-sync = search (Pattern-sync, crosses, sendable) depth 60
 
 pub Subject-send : IsSend Subject.the_row
-Subject-send = search (Rule-send, crosses, sendable) depth 60
+Subject-send = search (Rule-send, line.the_send, crosses, sendable) depth 60
 
 pub Subject-sync : IsSync Subject.the_row
-Subject-sync = search (Rule-sync, crosses, sendable) depth 60
+Subject-sync = search (Rule-sync, line.the_sync, crosses, sendable) depth 60
 
 pub Policy-send : IsSend Policy.the_row
 Policy-send = search (Subject-send, crosses, sendable) depth 60

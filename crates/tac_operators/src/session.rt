@@ -31,6 +31,7 @@ add SUBJECT [in GROUP] | remove SUBJECT | move SUBJECT in GROUP | move SUBJECT o
 login NAME TEXT | enable NAME TEXT | clear login NAME | clear enable NAME
 login-hash NAME HASH | enable-hash NAME HASH
 priv SUBJECT N | clear priv SUBJECT
+service SUBJECT S [ATTRIBUTE] | refuse SUBJECT S | clear service SUBJECT S [ATTRIBUTE]
 insert SUBJECT N permit PATTERN | insert SUBJECT N deny PATTERN
 drop SUBJECT N | shift SUBJECT N M
 begin | commit | abandon   edits between them are made all or none
@@ -39,8 +40,8 @@ rotate                     ends the present segment of the history
 operator NAME              who types, which others are told
 status                     how the server is, as Prometheus reads it
 quit                       the server stops
-A SUBJECT is 'user NAME' or 'group NAME'. An edit counts from the next packet on.
-'tacd serve --help' says more.
+A SUBJECT is 'user NAME' or 'group NAME', and S, a service, is 'NAME' or 'NAME/PROTOCOL'.
+An edit counts from the next packet on. 'tacd serve --help' says more.
 ";
 
 /// What the first block of a session is.

@@ -14,6 +14,9 @@ macro_rules! with_policy_lines {
     login-hash HASH      what he logs in with, as a hash that 'openssl passwd -6' makes
     enable-hash HASH     what he enables with, as such a hash
     priv N               the level, 0 to 15, of the shells of the user or group above it
+    service S            it may use the service S, a NAME or NAME/PROTOCOL; with ' ATTRIBUTE' after
+                         it, as ' role=ops', it is given that. No device is told of either yet
+    refuse S             it may not use S, whatever its groups say
     permit PATTERN       the next rule of the user or group above it
     deny PATTERN         the next rule of the user or group above it
 ",
@@ -106,6 +109,8 @@ Lines of the console, where a SUBJECT is 'user NAME' or 'group NAME':
   login NAME TEXT, enable NAME TEXT, clear login NAME, clear enable NAME
   login-hash NAME HASH, enable-hash NAME HASH
   priv SUBJECT N, clear priv SUBJECT
+  service SUBJECT S, service SUBJECT S ATTRIBUTE, refuse SUBJECT S
+  clear service SUBJECT S, clear service SUBJECT S ATTRIBUTE
   insert SUBJECT N permit PATTERN, or deny PATTERN
                        a new rule with this number
   drop SUBJECT N       removes rule N
@@ -127,8 +132,8 @@ answer, the edit counts all the same, and it is tried again before each later an
 there at a start, it is served in place of FILE. 'reload' takes FILE again, and removes PATH.
 
 Lines of a policy:
-  policy 2, policy 3   the first line, if it is there: patterns may count, as '{1,3}'; hashes may
-                       stand after 'policy 3' alone
+  policy 2, policy 3   the first line, if it is there: patterns may count, as '{1,3}'; hashes and
+                       services may stand after 'policy 3' alone
   any number of these:",
         "\n",
         "
@@ -267,13 +272,14 @@ it is the line of a subject whose group isn't there, whose groups run in a circl
 'tacd check --help' describes what is printed and the lines of a policy.",
     after_long_help: with_policy_lines!(
         "Lines of a policy:
-  policy 2, policy 3   the first line, if it is there: patterns may count, as '{1,3}'; hashes may
-                       stand after 'policy 3' alone
+  policy 2, policy 3   the first line, if it is there: patterns may count, as '{1,3}'; hashes and
+                       services may stand after 'policy 3' alone
   any number of these:",
         "\n",
         "
 What is printed of a policy that may stand, with the last line where no rule is shadowed:
-  policy ok: S subjects, R rules
+  policy ok: S subjects, R rules, N service lines
+                       the last count only where there are any
   shadowed in SUBJECT: OWNER rule N
                        rule N of OWNER decides no line of the user or group SUBJECT
   none
@@ -313,9 +319,11 @@ pub(crate) const LINT_PAGE: Page = Page {
 and subjects, each with its line and column. What it says never changes what the policy means.
 
 It asks about what other pattern languages read otherwise ('^', '$', '\\d', '[[:alpha:]]', '{1,3}'),
-about ' # ' in a pattern, about spaces round patterns and secrets, passwords that look like hashes,
-hashes of over 20000 rounds, rules without the word <cr> that Cisco IOS ends each line with, groups
-that nobody is in, users without a login, an empty policy, and it names rules that decide nothing.
+about ' # ' in a pattern, about spaces round patterns and secrets and at the end of attributes,
+passwords that look like hashes, hashes of over 20000 rounds, a service 'exec', mandatory attributes
+of shells, an odd number of '\"' in an attribute, rules without the word <cr> that Cisco IOS ends
+each line with, groups that nobody is in, users without a login, an empty policy, and it names rules
+that decide nothing.
 Of a policy that is refused it prints every wrong line, and not only the first, and why each is
 wrong; where it is too large, which rules may double its states.",
     after_help: "Example:
@@ -523,7 +531,8 @@ every session asks for a login or a command line, or tells what was done. The wh
         "Lines of a script, in this order:
   key TEXT             line 1: the key, 1 to 128 printable ASCII characters
   policy 2, policy 3   line 2, or the first of a file that has a policy alone: its patterns may
-                       count, as '{1,3}', and after 'policy 3' hashes may stand; it may be left out
+                       count, as '{1,3}', and after 'policy 3' hashes and services may stand; it may
+                       be left out
   the policy, any number of these:",
         "  run                  ends the policy
   events, any number of these:

@@ -1,5 +1,6 @@
 -- What the check of a policy's text prints, and how it ends (docs/POLICY.md, "Checking a policy").
-use Rattle.std.specs.Prelude.{◌≡◌, ℕ, List, [], ◌∷◌, ◌++◌, length, codes, Result, Ok, Err}
+use Rattle.std.specs.Prelude.{◌≡◌, ℕ, ◌==◌, List, [], ◌∷◌, ◌++◌, length, codes, Result, Ok, Err}
+use Rattle.std.specs.Prelude.{if◌then◌else◌}
 use Rattle.std.specs.List.{sum_by}
 use Rattle.std.specs.Fmt.{decimal}
 use Rattle.pol_text.specs.declared.subject.Subject.{Subject}
@@ -15,11 +16,19 @@ use Rattle.tac_review.specs.declared.checking.CheckEnd.TheVariants.{Sound, Refus
 abbrev pub count_rules : List Subject → ℕ
 count_rules policy = sum_by (λ subject. length subject.rules) policy
 
--- `policy ok: S subjects, R rules`
+-- and their lines about services
+abbrev pub count_lines : List Subject → ℕ
+count_lines policy = sum_by (λ subject. length subject.services) policy
+
+-- `, N service lines`, where there are any
+abbrev pub lines_text : ℕ → List ℕ
+lines_text lines = if lines == 0 then [] else codes ", " ++ decimal lines ++ codes " service lines"
+
+-- `policy ok: S subjects, R rules`, and what services there are
 abbrev pub ok_line : List Subject → List ℕ
 ok_line policy =
     codes "policy ok: " ++ decimal (length policy) ++ codes " subjects, "
-    ++ decimal (count_rules policy) ++ codes " rules" ++ 10 ∷ []
+    ++ decimal (count_rules policy) ++ codes " rules" ++ lines_text (count_lines policy) ++ 10 ∷ []
 
 -- the counts, and then the rules that decide nothing
 abbrev pub Reports : List Subject → List ℕ → Type 0

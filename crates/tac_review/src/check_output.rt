@@ -1,7 +1,9 @@
 //! What the check of a text prints.
 
-ghost use Rattle.std.specs.Prelude.{◌≡◌, ◌++◌, Ok, IfOk, OnOk};
-ghost use Rattle.tac_review.specs.Check.{count_rules as rules_in, ok_line, Prints, IsOnlyCheck};
+ghost use Rattle.std.specs.Prelude.{◌≡◌, ◌++◌, codes, Ok, IfOk, OnOk};
+ghost use Rattle.std.specs.Fmt.{decimal};
+ghost use Rattle.tac_review.specs.Check.{count_rules as rules_in, count_lines as lines_in};
+ghost use Rattle.tac_review.specs.Check.{lines_text, ok_line, Prints, IsOnlyCheck};
 ghost use Rattle.tac_review.specs.Judged.{IsOnly};
 
 use crate::checking::CheckEnd;
@@ -24,16 +26,49 @@ fn count_rules(policy: &Policy) -> usize
     rules
 }
 
+// The lines about services of all subjects.
+fn count_lines(policy: &Policy) -> usize
+    ensures { result ≡ lines_in policy.now }
+{
+    let mut lines = 0;
+    'subjects: for subject in policy.subjects() {
+        lines += subject.services.len();
+    }
+    lines
+}
+
+// How many lines about services there are, if any. The error means that memory ran out.
+fn write_lines(out: &mut Vec<u8>, lines: usize) -> Result<(), AllocError>
+    ensures { OnOk result (out.new.items ≡ out.old.items ++ lines_text lines) }
+{
+    if lines == 0 {
+        return Ok(());
+    }
+    match write!(out, ", {lines} service lines") {
+        Ok(()) => Ok(()),
+        Err(_) => Err(AllocError),
+    }
+}
+
+// The counts of subjects and rules. The error means that memory ran out.
+fn write_sizes(out: &mut Vec<u8>, subjects: usize, rules: usize) -> Result<(), AllocError>
+    ensures { OnOk result (out.new.items ≡ out.old.items ++ (codes "policy ok: "
+        ++ decimal subjects ++ codes " subjects, " ++ decimal rules ++ codes " rules")) }
+{
+    match write!(out, "policy ok: {subjects} subjects, {rules} rules") {
+        Ok(()) => Ok(()),
+        Err(_) => Err(AllocError),
+    }
+}
+
 // The error means that memory ran out.
 fn write_counts(out: &mut Vec<u8>, policy: &Policy) -> Result<(), AllocError>
     ensures { OnOk result (out.new.items ≡ out.old.items ++ ok_line policy.now) }
 {
-    let subjects = policy.len();
-    let rules = count_rules(policy);
-    match writeln!(out, "policy ok: {subjects} subjects, {rules} rules") {
-        Ok(()) => Ok(()),
-        Err(_) => Err(AllocError),
-    }
+    write_sizes(out, policy.len(), count_rules(policy))?;
+    write_lines(out, count_lines(policy))?;
+    out.push(b'\n')?;
+    Ok(())
 }
 
 // What is reported of a policy that may stand.

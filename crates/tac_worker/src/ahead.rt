@@ -1,6 +1,6 @@
 //! The turn of what stands first on a connection, found before it is taken.
 
-ghost use Rattle.std.specs.Prelude.{◌≡◌, None, IfSome, OnSome, option_copied};
+ghost use Rattle.std.specs.Prelude.{◌≡◌, None, OnSome, option_copied};
 ghost use Rattle.tac_worker.specs.Ahead as before;
 ghost use Rattle.tac_worker.specs.Ahead.{IsTurnOf, IsAhead, seen_by, IsSomeOfPassword};
 ghost use Rattle.tac_worker.specs.Linked.{IsOfPassword};

@@ -33,7 +33,7 @@ invariant_of-self-2 c =
     let both = and_parts (nat_le c.args.at (length c.in-Some.subject.now.rules)) (nat_lt (length c.in-Some.subject.now.rules) max_rules) (test_now h (λ (s : Subject). nat_le c.args.at (length s.rules) && nat_lt (length s.rules) max_rules) c.requires) in
     let r = right_now h in
     fields_to h (with_rule_at c.args.at c.args.rule) _ c.in_ok-insert_rule.ensures.ok (λ t. refl) (λ t. refl)
-    (record { name = r.name; parent = r.parent; login = r.login; enable = r.enable; secrets = r.secrets; level = r.level; few = few_inserted c.in-Some.subject.now.rules c.args.at c.args.rule (leb-true c.args.at (length c.in-Some.subject.now.rules) both.0) (ltb-true (length c.in-Some.subject.now.rules) max_rules both.1); rules = all_insert is_right_rule c.in-Some.subject.now.rules c.args.at c.args.rule r.rules c.in_ok-insert_rule.ensures.right })
+    (record { name = r.name; parent = r.parent; login = r.login; enable = r.enable; secrets = r.secrets; level = r.level; services = r.services; few = few_inserted c.in-Some.subject.now.rules c.args.at c.args.rule (leb-true c.args.at (length c.in-Some.subject.now.rules) both.0) (ltb-true (length c.in-Some.subject.now.rules) max_rules both.1); rules = all_insert is_right_rule c.in-Some.subject.now.rules c.args.at c.args.rule r.rules c.in_ok-insert_rule.ensures.right })
 
 pub returns-clause-ok : goal.returns-clause-ok
 returns-clause-ok c =

@@ -29,7 +29,7 @@ invariant_of-self-2 c =
     let both = and_parts (nat_lt c.args.from (length c.in-Some.subject.now.rules)) (nat_lt c.args.to (length c.in-Some.subject.now.rules)) (test_now h (λ (s : Subject). nat_lt c.args.from (length s.rules) && nat_lt c.args.to (length s.rules)) c.requires) in
     let r = right_now h in
     fields_to h (with_rule_moved c.args.from c.args.to) _ (ap (λ rules. record c.in-Some.subject.now { rules = rules }) c.move_item.ensures) (λ t. refl) (λ t. refl)
-    (record { name = r.name; parent = r.parent; login = r.login; enable = r.enable; secrets = r.secrets; level = r.level; few = few_moved c.in-Some.subject.now.rules c.args.from c.args.to (ltb-true c.args.to (length c.in-Some.subject.now.rules) both.1) r.few; rules = all_moved is_right_rule c.in-Some.subject.now.rules c.args.from c.args.to r.rules })
+    (record { name = r.name; parent = r.parent; login = r.login; enable = r.enable; secrets = r.secrets; level = r.level; services = r.services; few = few_moved c.in-Some.subject.now.rules c.args.from c.args.to (ltb-true c.args.to (length c.in-Some.subject.now.rules) both.1) r.few; rules = all_moved is_right_rule c.in-Some.subject.now.rules c.args.from c.args.to r.rules })
 
 pub returns-clause-changed : goal.returns-clause-changed
 returns-clause-changed c =

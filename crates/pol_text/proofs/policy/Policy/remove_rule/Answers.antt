@@ -21,7 +21,7 @@ invariant_of-self-2 c =
     let r = right_now h in
     let lt = ltb-true c.args.at (length c.in-Some.subject.now.rules) (test_now h (λ (s : Subject). nat_lt c.args.at (length s.rules)) c.requires) in
     fields_to h (without_rule_at c.args.at) _ (ap (λ rules. record c.in-Some.subject.now { rules = rules }) c.remove.ensures.rest) (λ t. refl) (λ t. refl)
-    (record { name = r.name; parent = r.parent; login = r.login; enable = r.enable; secrets = r.secrets; level = r.level; few = few_removed c.in-Some.subject.now.rules c.args.at lt r.few; rules = all_remove is_right_rule c.in-Some.subject.now.rules c.args.at r.rules })
+    (record { name = r.name; parent = r.parent; login = r.login; enable = r.enable; secrets = r.secrets; level = r.level; services = r.services; few = few_removed c.in-Some.subject.now.rules c.args.at lt r.few; rules = all_remove is_right_rule c.in-Some.subject.now.rules c.args.at r.rules })
 
 pub returns-clause-changed : goal.returns-clause-changed
 returns-clause-changed c =

@@ -12,7 +12,7 @@ invariant_of-self-2 c =
     let h = lent c.args.id.now c.args.self.now c.self.inside.subjects c.self.inside.places.keys c.in-Some.subject.now c.self.view_is c.self.invariant c.in-Some.ensures.found in
     let r = right_now h in
     fields_now h (with_priv c.args.level) (λ t. refl) (λ t. refl)
-    (record { name = r.name; parent = r.parent; login = r.login; enable = r.enable; secrets = r.secrets; level = c.requires.small; few = r.few; rules = r.rules })
+    (record { name = r.name; parent = r.parent; login = r.login; enable = r.enable; secrets = r.secrets; level = c.requires.small; services = r.services; few = r.few; rules = r.rules })
 
 pub returns-clause-changed : goal.returns-clause-changed
 returns-clause-changed c =

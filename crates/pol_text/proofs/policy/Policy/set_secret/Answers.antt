@@ -28,10 +28,10 @@ module _ {id : SubjectId} {now p : List Subject} {keys : List SubjectId} {i : â„
   still_right : (credential : Credential) â†’ Right (with_secret credential secret s)
   still_right Login =
       let r = right_now h in
-      record { name = r.name; parent = r.parent; login = right; enable = r.enable; secrets = user_now h user _; level = r.level; few = r.few; rules = r.rules }
+      record { name = r.name; parent = r.parent; login = right; enable = r.enable; secrets = user_now h user _; level = r.level; services = r.services; few = r.few; rules = r.rules }
   still_right Enable =
       let r = right_now h in
-      record { name = r.name; parent = r.parent; login = r.login; enable = right; secrets = user_now h user _; level = r.level; few = r.few; rules = r.rules }
+      record { name = r.name; parent = r.parent; login = r.login; enable = right; secrets = user_now h user _; level = r.level; services = r.services; few = r.few; rules = r.rules }
 
 pub invariant_of-self-2 : goal.invariant_of-self-2
 invariant_of-self-2 c =
