@@ -26,6 +26,17 @@ class Run(typing.NamedTuple):
     is_full: bool = False
 
 
+class Play(typing.NamedTuple):
+    """What is done with the program by a function, which takes its path, and raises Wrong where
+    something goes otherwise. Where all is right nothing is printed, and the status is 0."""
+
+    act: typing.Callable
+
+
+class Wrong(Exception):
+    """What went otherwise."""
+
+
 class Outcome(typing.NamedTuple):
     """What stands on standard output and on standard error, and the exit status."""
 
@@ -37,7 +48,7 @@ class Outcome(typing.NamedTuple):
 class Check(typing.NamedTuple):
     """A run, what has to come of it, and which part of its case it is."""
 
-    run: Run
+    run: Run | Play
     expected: Outcome
     part: str
 

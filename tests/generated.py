@@ -1,5 +1,6 @@
 """Cases that are too long to be written down, or too many: limits of a policy, the longest packets,
-a script of 6 MB, each beginning of a body, and the longest file of a key."""
+a script of 6 MB, each beginning of a body, and the longest file of a key. Some can't be written in
+a file of tests: a byte that isn't UTF-8, and words with ends of lines."""
 
 from cases import Case, Check, File, Outcome, Run, replay_check
 from notation import spelled_out
@@ -36,6 +37,8 @@ def cases(name):
         (65_537, b"tacd: key: it is over 65536 bytes long\n"),
     ):
         yield Case(f"{name}: a key's file of {length} bytes", [key_file(length, complained)])
+    for part, check in reviews():
+        yield Case(f"{name}: {part}", [check])
 
 
 def key_file(length, complained):
@@ -43,6 +46,34 @@ def key_file(length, complained):
     key = File("key", b"k \n".ljust(length, b"x"), 0o600)
     run = Run(("serve", "--port", "1", "--key-file", "key", "nobody"), b"", (key,))
     return Check(run, Outcome(b"", complained, 4), "the start of a server")
+
+
+def reviews():
+    """What no file of tests can write down: a byte that isn't UTF-8, and words of several lines."""
+    policy = File("policy", b"user b\xf6b\nlogin x\n", 0o600)
+    told = b"line 1 column 7: a byte that isn't UTF-8: a policy is printable ASCII\n"
+    run = Run(("lint", "policy"), b"", (policy,))
+    yield "a byte that isn't UTF-8", Check(run, Outcome(told, b"", 1), "lint")
+    policy = File("policy", OPS.encode(), 0o600)
+    for line in "show\n", "show\nbob show":
+        run = Run(("why", "policy", "bob", line), b"", (policy,))
+        yield f"why bob {line!r}", Check(run, Outcome(b"fault BadQuestion\n", b"", 1), "why")
+    yield "edits that are too large on their way", too_large_on_the_way()
+
+
+def too_large_on_the_way():
+    """After the first batch `s` is in `q`, and `t` is still in `s`: so `t` has the rule of `q` beside
+    its own, which neither policy puts together."""
+    groups = "group q\ndeny .*b........\ngroup o\ngroup x\ngroup y in x\ngroup z in y\n"
+    texts = [
+        f"{groups}group s in {above}\nuser t in {parent}\ndeny .*a........\n"
+        + "".join(f"user u{user} in {others}\n" for user in range(80))
+        for above, parent, others in (("o", "s", "o"), ("q", "z", "y"))
+    ]
+    files = [File(name, text.encode(), 0o600) for name, text in zip(("old", "new"), texts)]
+    told = b"batch 1: refused 11 TooManyStates user t\n"
+    run = Run(("diff", "--edits", "old", "new"), b"", tuple(files))
+    return Check(run, Outcome(told, b"", 1), "diff --edits")
 
 
 def opened(policy):

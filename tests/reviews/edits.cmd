@@ -80,3 +80,53 @@ commit
 # Secrets decide nothing.
 $ tacd diff policy next
 same
+
+# Of lines about services those stay that both policies have first. The rest is cleared from the end.
+file policy
+policy 3
+group ops
+service a x=1
+service a x=2
+refuse b
+service c
+user bob in ops
+
+file next
+policy 3
+group ops
+service a x=1
+service b y=1 2
+service c
+user bob in ops
+refuse a
+user eve
+service a x=1
+
+$ tacd diff --edits policy next
+begin
+add user eve
+clear service group ops c
+clear service group ops b
+clear service group ops a x=2
+service group ops b y=1 2
+service group ops c
+refuse user bob a
+service user eve a x=1
+commit
+
+$ tacd diff --edits next policy
+begin
+remove user eve
+clear service group ops c
+clear service group ops b y=1 2
+service group ops a x=2
+refuse group ops b
+service group ops c
+clear service user bob a
+commit
+
+$ tacd diff --edits next next
+
+# They decide nothing.
+$ tacd diff --exit-code policy next
+same

@@ -85,3 +85,93 @@ line 3 column 1: refused: 1 BadLine: this is a setting of users, and it stands u
 line 5 column 12: refused: 6 BadValue
 line 6 column 1: refused: 1 BadLine: no line of a policy begins with this word: is 'login-hash' meant?
 status 1
+
+# What is asked of lines about services.
+file policy
+policy 3
+group netops
+service exec
+service exec/x a=b
+service shell shell:roles="network-admin"
+|  service shell shell:roles*"network-admin"|
+service shell timeout=5
+service shell a*b=c
+service junos-exec local-user-name=ops
+|service x a=b |
+user bob in netops
+login x
+refuse exec
+
+$ tacd lint policy
+line 3 column 9: tac_plus calls the shell so: is 'shell' meant?
+line 5 column 15: devices that don't know it refuse the shell: is '*' meant in place of '='?
+line 10 column 14: it ends with a space: is that meant?
+line 13 column 8: tac_plus calls the shell so: is 'shell' meant?
+status 5
+
+file policy
+policy 2
+group netops
+service shell priv=15
+|  refuse x|
+service
+service = exec {
+
+$ tacd lint policy
+line 3 column 1: refused: 1 BadLine: such lines are of version 3: is 'policy 3' meant as the first line?
+line 4 column 3: refused: 1 BadLine: such lines are of version 3: is 'policy 3' meant as the first line?
+line 5 column 1: refused: 1 BadLine: such lines are of version 3: is 'policy 3' meant as the first line?
+line 6 column 1: refused: 1 BadLine: this is a line of another program's file, such as tac_plus's
+status 1
+
+file policy
+policy 3
+group netops
+service
+refuse x y
+|refuse x |
+refuse x  y
+service x:y a=b
+service shell/x
+|  service x a|
+refuse shell
+servise x
+refuze x
+Service x
+user bob
+
+$ tacd lint policy
+line 3 column 1: refused: 1 BadLine: a value is missing at its end
+line 4 column 1: refused: 1 BadLine: after 'refuse' one service may follow, and nothing else
+line 5 column 9: refused: 1 BadLine: it ends with a space
+line 6 column 9: refused: 1 BadLine: two spaces in a row, where words are set apart by one
+line 7 column 9: refused: 2 BadName
+line 8 column 9: refused: 2 BadName
+line 9 column 13: refused: 6 BadValue
+line 10 column 8: refused: 6 BadValue
+line 11 column 1: refused: 1 BadLine: no line of a policy begins with this word: is 'service' meant?
+line 12 column 1: refused: 1 BadLine: no line of a policy begins with this word: is 'refuse' meant?
+line 13 column 1: a keyword in capitals: keywords are in lower case
+status 1
+
+file policy
+policy 3
+user bob
+service x
+service x a=b
+
+$ tacd lint policy
+line 4 column 1: refused: 3 Repeated
+status 1
+
+# A quote that nothing ends.
+file policy
+policy 3
+user bob
+login x
+service a/b c="d" e
+service a/b c="d
+
+$ tacd lint policy
+line 5 column 15: an odd number of '"': is one more meant, or one less?
+status 5

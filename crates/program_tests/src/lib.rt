@@ -1,7 +1,5 @@
-//! Tests of the program: of what it prints and how it ends, and of its reviews of policies.
+//! Tests of the program over words, files and streams of the tests' own.
 #![tactic(auto)]
 
 #[cfg(test)]
 mod program;
-#[cfg(test)]
-mod review;

@@ -1,5 +1,5 @@
-//! Tests of the program: what it prints, and how it ends, over words, files and streams of the
-//! tests' own.
+//! Tests of the program over words, files and streams of the tests' own: a log after a run, a policy
+//! that changes, and a start without memory.
 
 mod devices;
 mod fake;

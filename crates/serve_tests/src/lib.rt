@@ -6,6 +6,6 @@ mod console;
 #[cfg(test)]
 mod hall;
 #[cfg(test)]
-mod net;
+mod operators;
 #[cfg(test)]
 mod work;

@@ -1,8 +1,11 @@
-//! Tests of desks, and of the server of scripts over desks of its own and of others.
+//! Tests of desks, of the server of scripts over desks of its own and of others, of the server on the
+//! network, and of reviews.
 #![tactic(auto)]
 
 #[cfg(test)]
 mod desk;
-mod server;
 #[cfg(test)]
-mod starved;
+mod net;
+#[cfg(test)]
+mod review;
+mod server;

@@ -18,25 +18,20 @@ fn write_with<D: Display>(out: &mut Vec<u8>, value: &D, end: &[u8]) -> io::Resul
     Ok(())
 }
 
-/// What was written to a stream that is open.
+/// What was written to a stream.
 #[derive(Drop)]
 pub(crate) struct Stream {
-    is_open: bool,
     written: RefCell<Vec<u8>>,
 }
 
 impl Stream {
-    pub(crate) fn new(alloc: Global, is_open: bool) -> Stream {
+    pub(crate) fn new(alloc: Global) -> Stream {
         Stream {
-            is_open,
             written: RefCell::new(Vec::new(alloc)),
         }
     }
 
     fn add<D: Display + Drop>(&self, value: D, end: &[u8]) -> io::Result<()> {
-        if !self.is_open {
-            return Err(io::Error::from(io::ErrorKind::BrokenPipe));
-        }
         match self.written.try_borrow_mut() {
             Ok(mut written) => write_with(&mut written, &value, end),
             Err(_) => Err(io::Error::from(io::ErrorKind::Other)),
@@ -48,17 +43,6 @@ impl Stream {
         match self.written.try_borrow() {
             Ok(written) => written.as_slice() == text.as_bytes(),
             Err(_) => false,
-        }
-    }
-
-    /// What was written, where it is a text.
-    pub(crate) fn text(&self, alloc: Global) -> Option<String> {
-        let Ok(written) = self.written.try_borrow() else {
-            return None;
-        };
-        match str::from_utf8(written.as_slice()) {
-            Ok(text) => format!(in alloc; "{text}").ok(),
-            Err(_) => None,
         }
     }
 }
@@ -108,10 +92,9 @@ impl BufRead for Typed<'_> {
     }
 }
 
-/// A runtime with these words, one blank between them, of which `~` is a blank within a word, this
-/// input, and this text in the file `policy`, which has others later. The first line of the file
-/// `key` is a key that ends in a blank. It may have 20,000 files open. For `no-memory` there is no
-/// memory, and there is no other file.
+/// A runtime with these words, one blank between them, this input, and this text in the file
+/// `policy`, which has others later. The first line of the file `key` is a key that ends in a blank.
+/// It may have 20,000 files open. For `no-memory` there is no memory, and there is no other file.
 #[derive(Drop)]
 pub(crate) struct Fake<'a> {
     pub(crate) alloc: Global,
@@ -150,30 +133,8 @@ impl<'a> Fake<'a> {
             then: None,
             later: &[],
             opened: Cell::new(0),
-            output: Stream::new(alloc, true),
-            complaints: Stream::new(alloc, true),
-        }
-    }
-
-    pub(crate) fn new(
-        alloc: Global,
-        words: &'a str,
-        policy: &'static str,
-        input: &'static str,
-        takes_output: bool,
-    ) -> Fake<'a> {
-        Fake {
-            alloc,
-            words,
-            input,
-            policy,
-            after: None,
-            more: "",
-            then: None,
-            later: &[],
-            opened: Cell::new(0),
-            output: Stream::new(alloc, takes_output),
-            complaints: Stream::new(alloc, true),
+            output: Stream::new(alloc),
+            complaints: Stream::new(alloc),
         }
     }
 }
@@ -196,7 +157,7 @@ impl Env for Fake<'_> {
             return Err(FillError::TooLong);
         }
         for (symbol, &byte) in buf.iter_mut().zip(bytes) {
-            *symbol = if byte == b'~' { b' ' } else { byte };
+            *symbol = byte;
         }
         Ok(bytes.len())
     }

@@ -97,6 +97,35 @@ fn segments_out_of_order(rt: HostRuntime) -> Result<(), Fail> {
     )
 }
 
+// A segment joins the one before it, and not one of a hall with another policy, though its number is
+// one less too.
+#[test]
+fn segments_of_two_halls(rt: HostRuntime) -> Result<(), Fail> {
+    let mut segments = Vec::new(rt.alloc());
+    let (one, other) = (hall_of(&rt, OPS, 9)?, hall_of(&rt, DENYING, 9)?);
+    let mut seats = seats_of(&rt, &one, 1)?;
+    talks_on(
+        &rt,
+        &one,
+        seats.as_mut_slice(),
+        &mut segments,
+        "0 rotate = 0 of 0",
+    )?;
+    let mut others = seats_of(&rt, &other, 1)?;
+    talks_on(
+        &rt,
+        &other,
+        others.as_mut_slice(),
+        &mut segments,
+        "
+        0 rotate = 0 of 0
+        0 rotate = 1 of 0
+        0 joins 1 2 = true
+        0 joins 0 2 = false
+        ",
+    )
+}
+
 #[test]
 fn a_log_with_a_stop_is_not_rotated(rt: HostRuntime) -> Result<(), Fail> {
     converses(

@@ -5,6 +5,7 @@ use std::sync::Wait;
 use std::test::Fail;
 use tac_desks::PlainDesk;
 use tac_hall::{Call, Hall, Seat};
+use tac_worker::End;
 
 #[test]
 fn by_what_comes(rt: HostRuntime) -> Result<(), Fail> {
@@ -86,5 +87,26 @@ fn by_a_seat_of_another_hall(rt: HostRuntime) -> Result<(), Fail> {
     let other = hall_of(&rt, 9)?;
     let seat = other.seat(&rt)?;
     ends(&rt, &hall, seat, "pp 99 9 = NoSeat 0 0 0")?;
+    Ok(())
+}
+
+#[test]
+fn before_another_connection(rt: HostRuntime) -> Result<(), Fail> {
+    let last = [End::Stopped, End::Held, End::NoSeat];
+    let others = [
+        End::Finished,
+        End::ByProtocol,
+        End::LogFull,
+        End::Memory,
+        End::ReadFault,
+        End::WriteFault,
+        End::Unwitnessed,
+    ];
+    for end in last {
+        assert!(rt; !end.goes_on(), "{end:?}");
+    }
+    for end in others {
+        assert!(rt; end.goes_on(), "{end:?}");
+    }
     Ok(())
 }

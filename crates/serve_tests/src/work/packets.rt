@@ -43,3 +43,10 @@ pub(crate) const PASSES: &str = "c00102040000000100000010522582b6289f913a6c4d9b8
      c00102040000000200000010d78a43cc0798d5d8e1c66296530a1cab\
      c0010404000000020000000603c43deb0a96\
      c0010404000000010000000694045fbcee3f";
+
+/// Bob logs in with a wrong password, on a connection that is kept.
+pub(crate) const WRONG_LOGIN: &str = "c1010104000000010000000c3dd7cba499eff4beeede7464";
+
+/// He fails.
+pub(crate) const FAILURE: &str =
+    "c1010204000000010000001ba720d52e2e340e0563c168c99a2278016c23b88209c6733cbaccba";

@@ -1,6 +1,8 @@
 //! Readers and writers that fail in mid-stream, that give or take little, and that are interrupted.
 
-use crate::work::packets::{LOGINS, PASSES, PERMISSION, PERMISSIONS, QUESTION, QUESTIONS};
+use crate::work::packets::{
+    FAILURE, LOGINS, PASSES, PERMISSION, PERMISSIONS, QUESTION, QUESTIONS, WRONG_LOGIN,
+};
 use crate::work::streams::{Manner, Sink, Source, WHOLE};
 use crate::work::support::{closes, hall_of, key};
 use std::alloc::Global;
@@ -183,12 +185,13 @@ fn all_trickle<R: Wait + Abort + AllocGlobal>(
     let seat = hall.seat(rt)?;
     let seat = trickles(rt, hall, seat, QUESTION, PERMISSION, End::ByProtocol, 1)?;
     let seat = trickles(rt, hall, seat, QUESTIONS, PERMISSIONS, End::Finished, 2)?;
-    trickles(rt, hall, seat, LOGINS, PASSES, End::Finished, 2)
+    let seat = trickles(rt, hall, seat, LOGINS, PASSES, End::Finished, 2)?;
+    trickles(rt, hall, seat, WRONG_LOGIN, FAILURE, End::Finished, 1)
 }
 
 #[test]
 fn a_byte_at_a_time(rt: HostRuntime) -> Result<(), Fail> {
     let hall = hall_of(&rt, 99)?;
     let seat = all_trickle(&rt, &hall)?;
-    closes(rt.alloc(), hall, seat, 5)
+    closes(rt.alloc(), hall, seat, 6)
 }

@@ -5,10 +5,11 @@ use std::alloc::Global;
 use std::sync::Wait;
 use std::test::Fail;
 use tac_audit::{Notice, Refused, Witness};
+use tac_conn::Packet;
 use tac_worker::HallCaller;
 
 /// Takes so many notices, and refuses the next. What it is told is a letter each: `p` of a packet
-/// with a reply, `n` of one without, `h` of a header that is refused.
+/// with a reply, `n` of one without, `c` of one whose body is cut, `h` of a header that is refused.
 #[derive(Drop)]
 pub(crate) struct Scribe {
     pub(crate) told: String,
@@ -24,8 +25,14 @@ impl Scribe {
     }
 }
 
+// Whether the body of a packet is as long as its header says.
+fn is_whole(packet: &Packet) -> bool {
+    u32::try_from(packet.body.len()) == Ok(packet.header.length)
+}
+
 fn letter_of(notice: &Notice) -> &'static str {
     match notice {
+        Notice::Packet(packet, _) if !is_whole(packet) => "c",
         Notice::Packet(_, Some(_)) => "p",
         Notice::Packet(_, None) => "n",
         Notice::BadHeader(_) => "h",

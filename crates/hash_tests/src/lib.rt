@@ -1,5 +1,0 @@
-//! Tests of hashed passwords.
-#![tactic(auto)]
-
-#[cfg(test)]
-mod hashes;
