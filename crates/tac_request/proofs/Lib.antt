@@ -1,3 +1,4 @@
+pub mod ArgumentsFacts
 pub mod ReplyFacts
 pub mod ArgumentFacts
 pub mod RequestFacts

@@ -1,3 +1,4 @@
+pub mod Arguments
 pub mod AuthorRequest
 pub mod AuthorReply
 pub mod AcctRequest

@@ -1,11 +1,15 @@
--- The command line that a request's arguments make (RFC 8907, section 8.2).
-use Rattle.std.specs.Prelude.{ℕ, Bool, List, ◌∷◌, ◌++◌, Option, Some, None, is_some, slice_get}
+-- The command line that a request's arguments make (RFC 8907, section 8.2), and what an
+-- authorisation request asks for.
+use Rattle.std.specs.Prelude.{ℕ, Bool, List, [], ◌∷◌, ◌++◌, Option, Some, None, is_some}
+use Rattle.std.specs.Prelude.{slice_get}
 use Rattle.std.specs.Prelude.{option_and_then, if◌then◌else◌, codes}
 use Rattle.std.specs.List.{filter_map, flat_map, list_all}
 use Rattle.std.specs.Str.{bytes_eq}
 use Rattle.tac_request.specs.Argument.{argument_of}
 use Rattle.tac_request.specs.declared.line.LineOf.{LineOf}
 use Rattle.tac_request.specs.declared.line.LineOf.TheVariants.{Line, BadArgument, NotShell}
+use Rattle.tac_request.specs.declared.line.Requested.{Requested}
+use Rattle.tac_request.specs.declared.line.Requested.TheVariants as asks
 
 abbrev pub has_sign : List ℕ → Bool
 has_sign arg = is_some (argument_of arg)
@@ -44,3 +48,40 @@ abbrev pub IsLine : LineOf → Type 0
 IsLine (Line line) = Unit {0}
 IsLine BadArgument = ⊥
 IsLine NotShell = ⊥
+
+-- ---- what is asked for
+
+abbrev pub unless_empty : List ℕ → Option (List ℕ)
+unless_empty [] = None
+unless_empty (byte ∷ text) = Some (byte ∷ text)
+
+-- the protocol that an argument names: the empty text is none
+abbrev pub protocol_in : List ℕ → Option (List ℕ)
+protocol_in arg = option_and_then unless_empty (value_under (codes "protocol") arg)
+
+-- the first of them
+abbrev pub protocol_of : List (List ℕ) → Option (List ℕ)
+protocol_of args = slice_get (filter_map protocol_in args) 0
+
+-- no line, of the first service, if there is one: of a shell a command has to be asked for
+abbrev pub without_line : Option (List ℕ) → Option (List ℕ) → Requested
+without_line None protocol = asks.NoService
+without_line (Some service) protocol =
+    if bytes_eq service (codes "shell") then asks.NoService else asks.Other service protocol
+
+abbrev pub requested_by : LineOf → List (List ℕ) → Requested
+requested_by (Line line) args = asks.Shell line
+requested_by BadArgument args = asks.NoSign
+requested_by NotShell args =
+    without_line (slice_get (values_under (codes "service") args) 0) (protocol_of args)
+
+-- what the arguments of a request ask for: the line of a shell, or another service
+abbrev pub requested : List (List ℕ) → Requested
+requested args = requested_by (line_of args) args
+
+-- what is asked for has a text
+abbrev pub HasText : Requested → Type 0
+HasText (asks.Shell line) = Unit {0}
+HasText (asks.Other service protocol) = Unit {0}
+HasText asks.NoSign = ⊥
+HasText asks.NoService = ⊥

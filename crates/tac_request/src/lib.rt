@@ -5,6 +5,7 @@
 mod acct_reply;
 mod acct_request;
 mod argument;
+mod arguments;
 mod author_reply;
 mod author_request;
 mod line;
@@ -13,7 +14,10 @@ mod record;
 pub use acct_reply::{AcctReply, AcctStatus, read_acct_reply, write_acct_reply};
 pub use acct_request::{AcctRequest, read_acct_request};
 pub use argument::{Arg, split_arg};
-pub use author_reply::{AuthorReply, AuthorStatus, read_author_reply, write_author_reply};
+pub use arguments::{Arguments, ReplyArguments, Spare, level_argument};
+pub use author_reply::{
+    AUTHOR_REPLY_MAX, AuthorReply, AuthorStatus, read_author_reply, write_author_reply,
+};
 pub use author_request::{AuthorRequest, read_author_request};
-pub use line::{LineOf, request_line};
+pub use line::{LineOf, Requested, asked_for, request_line};
 pub use record::{AcctKind, Record, acct_kind, task_id};

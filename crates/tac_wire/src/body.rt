@@ -21,8 +21,7 @@ pub enum BodyFault {
     LengthSum,
     /// Memory ran out for the fields of a valid body.
     Memory,
-    /// A reply that this server never sends: over 64 bytes of text, any data, or other arguments
-    /// than one privilege level.
+    /// A reply that this server never sends: over 64 bytes of text, or any data.
     TooLong,
 }
 
@@ -51,7 +50,7 @@ pub fn well_formed<T>(read: Result<T, BodyFault>) -> Result<Option<T>, AllocErro
 /// How many bytes the field server_msg of a reply has at most.
 pub const MESSAGE_MAX: usize = 64;
 
-/// How many bytes the body of a reply of this server has at most.
+/// How many bytes the body of a reply of this server has at most that carries no arguments.
 pub const REPLY_MAX: usize = 84;
 
 /// The field server_msg of a reply.

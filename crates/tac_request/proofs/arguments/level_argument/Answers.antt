@@ -1,7 +1,7 @@
 use Rattle.std.proofs.Common.{◌≤◌, length, arith}
 use Rattle.std.specs.Fmt.{decimal}
 use Rattle.std.proofs.lemmas.Fmt.{length-decimal-le}
-use Rattle.tac_request.proofs.author_reply.level_argument.Goals as goal
+use Rattle.tac_request.proofs.arguments.level_argument.Goals as goal
 
 pub unwrap-requires-2 : goal.unwrap-requires-2
 unwrap-requires-2 c =
