@@ -12,13 +12,13 @@ use Rattle.tac_request.specs.declared.author_request.AuthorRequest.{AuthorReques
 use Rattle.tac_request.specs.AuthorRequest.{author_request_of}
 use Rattle.tac_request.specs.declared.acct_request.AcctRequest.{AcctRequest}
 use Rattle.tac_request.specs.AcctRequest.{acct_request_of}
-use Rattle.tac_request.specs.declared.line.LineOf.{LineOf}
-use Rattle.tac_request.specs.declared.line.LineOf.TheVariants.{Line, BadArgument, NotShell}
-use Rattle.tac_request.specs.Line.{line_of}
+use Rattle.tac_request.specs.declared.line.Requested.{Requested}
+use Rattle.tac_request.specs.declared.line.Requested.TheVariants.{Shell, Other, NoSign, NoService}
+use Rattle.tac_request.specs.Line.{requested}
 use Rattle.tac_request.specs.declared.record.AcctKind.{AcctKind}
 use Rattle.tac_request.specs.Record.{kind_of as acct_kind_of}
 use Rattle.tac_conn.specs.declared.ask.Answer.{Answer}
-use Rattle.tac_conn.specs.declared.ask.Answer.TheVariants.{Pass, Fail, UnknownUser, Unprintable, Denied, Permitted, Stored, BookFull}
+use Rattle.tac_conn.specs.declared.ask.Answer.TheVariants.{Pass, Fail, UnknownUser, Unprintable, Denied, Permitted, Unserved, Refused, Granted, Stored, BookFull}
 use Rattle.tac_conn.specs.declared.ask.AskKind.{AskKind}
 use Rattle.tac_conn.specs.declared.ask.AskKind.TheVariants.{Authentication, Authorisation, Accounting}
 use Rattle.tac_conn.specs.declared.ask.Slot.{Slot}
@@ -27,7 +27,7 @@ use Rattle.tac_conn.specs.declared.session.Session.{Session}
 use Rattle.tac_conn.specs.declared.outcome.Outcome.{Outcome}
 use Rattle.tac_conn.specs.declared.outcome.Outcome.TheVariants.{Question, Reply, Asks, Silent, Close}
 use Rattle.tac_conn.specs.Reply.{answer_body}
-use Rattle.tac_conn.specs.Judging.{slot_for, breaks, max_sessions, is_supported, ascii_outcome, start_outcome, start_read, name_outcome, typed_outcome, continue_read, line_outcome, request_read, record_outcome, acct_read, kind_of, is_in_turn, body_outcome, kind_outcome, judged, leaves_open, reply_of}
+use Rattle.tac_conn.specs.Judging.{slot_for, breaks, max_sessions, is_supported, ascii_outcome, start_outcome, start_read, name_outcome, typed_outcome, continue_read, requested_outcome, request_read, record_outcome, acct_read, kind_of, is_in_turn, body_outcome, kind_outcome, judged, leaves_open, reply_of}
 use Rattle.tac_conn.specs.History.{is_single, is_closed, open_count, session_of, trail_of, judged_after, outcome}
 use Rattle.tac_audit.specs.Telling.{answered_by, answered_with, is_question}
 
@@ -83,14 +83,15 @@ module _ (slot : Slot) where
 
   -- ---- requests
 
-  line_asks : (user : List ℕ) (line : LineOf) → AsksRight (line_outcome slot user line)
-  line_asks user (Line line) = tt
-  line_asks user BadArgument = refl
-  line_asks user NotShell = refl
+  requested_asks : (user : List ℕ) (asks : Requested) → AsksRight (requested_outcome slot user asks)
+  requested_asks user (Shell line) = tt
+  requested_asks user (Other service protocol) = tt
+  requested_asks user NoSign = refl
+  requested_asks user NoService = refl
 
   request_asks : (r : Result AuthorRequest BodyFault) → AsksRight (request_read slot (result_ok r))
   request_asks (Err fault) = broken_asks slot slot.kind refl
-  request_asks (Ok request) = line_asks request.user (line_of request.args)
+  request_asks (Ok request) = requested_asks request.user (requested request.args)
 
   record_asks : (request : AcctRequest) (kind : Option AcctKind) → AsksRight (record_outcome slot request kind)
   record_asks request None = refl
@@ -130,6 +131,9 @@ answer_asks UnknownUser = refl
 answer_asks Unprintable = refl
 answer_asks (Denied by) = refl
 answer_asks (Permitted level) = refl
+answer_asks Unserved = refl
+answer_asks (Refused owner) = refl
+answer_asks (Granted arguments) = refl
 answer_asks Stored = refl
 answer_asks BookFull = refl
 

@@ -14,15 +14,15 @@ use Rattle.tac_request.specs.declared.author_request.AuthorRequest.{AuthorReques
 use Rattle.tac_request.specs.AuthorRequest.{author_request_of}
 use Rattle.tac_request.specs.declared.acct_request.AcctRequest.{AcctRequest}
 use Rattle.tac_request.specs.AcctRequest.{acct_request_of}
-use Rattle.tac_request.specs.declared.line.LineOf.{LineOf}
-use Rattle.tac_request.specs.declared.line.LineOf.TheVariants.{Line, BadArgument, NotShell}
-use Rattle.tac_request.specs.Line.{line_of}
+use Rattle.tac_request.specs.declared.line.Requested.{Requested}
+use Rattle.tac_request.specs.declared.line.Requested.TheVariants.{Shell, Other, NoSign, NoService}
+use Rattle.tac_request.specs.Line.{requested}
 use Rattle.tac_request.specs.declared.record.AcctKind.{AcctKind}
 use Rattle.tac_request.specs.Record.{kind_of as acct_kind_of, record_of}
 use Rattle.tac_conn.specs.declared.ask.AskKind.{AskKind}
 use Rattle.tac_conn.specs.declared.ask.AskKind.TheVariants.{Authentication, Authorisation, Accounting}
 use Rattle.tac_conn.specs.declared.ask.Ask.{Ask}
-use Rattle.tac_conn.specs.declared.ask.Ask.TheVariants.{Authenticate, Authorise, Account}
+use Rattle.tac_conn.specs.declared.ask.Ask.TheVariants.{Authenticate, Authorise, Serve, Account}
 use Rattle.tac_conn.specs.declared.ask.Proof.TheVariants.{Plain}
 use Rattle.tac_conn.specs.declared.ask.Slot.{Slot}
 use Rattle.tac_conn.specs.declared.packet.Packet.{Packet}
@@ -35,7 +35,7 @@ use Rattle.tac_conn.specs.Ask.{kind_of_ask}
 use Rattle.tac_conn.specs.History.{service_of, user_of, session_of}
 use Rattle.tac_conn.specs.Standing.{step_of, session_left, HasItsSlot, GrantsNothing}
 use Rattle.tac_conn.specs.Reply.{IsReplyTo, is_success, bad_body, fail, authen_error, question_to, secret_question, refusal, acct_error}
-use Rattle.tac_conn.specs.Judging.{slot_for, reply_in, ends, breaks, unserved, max_sessions, session_begun, chap_proof, is_supported, start_outcome, start_read, session_named, name_outcome, typed_outcome, continue_outcome, continue_read, line_outcome, request_read, record_outcome, acct_read, kind_of, is_in_turn, body_outcome, kind_outcome, judged, is_body, is_read, leaves_open, reply_of}
+use Rattle.tac_conn.specs.Judging.{slot_for, reply_in, ends, breaks, unserved, max_sessions, session_begun, chap_proof, is_supported, start_outcome, start_read, session_named, name_outcome, typed_outcome, continue_outcome, continue_read, requested_outcome, request_read, record_outcome, acct_read, kind_of, is_in_turn, body_outcome, kind_outcome, judged, is_body, is_read, leaves_open, reply_of}
 
 -- the outcome of a packet, on a connection that is single or isn't, by how many sessions are open,
 -- and its own, if it is
@@ -101,10 +101,11 @@ module _ (single : Bool) (count : ℕ) (packet : Packet) where
 
   -- ---- requests
 
-  line_comes : (user : List ℕ) (line : LineOf) → Comes None (line_outcome (slot Authorisation) user line)
-  line_comes user (Line line) = asked (Authorise user line)
-  line_comes user BadArgument = ended Authorisation (refusal (codes "bad argument")) refl
-  line_comes user NotShell = ended Authorisation (refusal (codes "unsupported service")) refl
+  requested_comes : (user : List ℕ) (asks : Requested) → Comes None (requested_outcome (slot Authorisation) user asks)
+  requested_comes user (Shell line) = asked (Authorise user line)
+  requested_comes user (Other service protocol) = asked (Serve user service protocol)
+  requested_comes user NoSign = ended Authorisation (refusal (codes "bad argument")) refl
+  requested_comes user NoService = ended Authorisation (refusal (codes "unsupported service")) refl
 
   record_comes : (request : AcctRequest) (kind : Option AcctKind) → Comes None (record_outcome (slot Accounting) request kind)
   record_comes request None = ended Accounting (acct_error (codes "bad flags")) refl
@@ -130,7 +131,7 @@ module _ (single : Bool) (count : ℕ) (packet : Packet) where
 
   request_comes : (r : Result AuthorRequest BodyFault) → Comes None (request_read (slot Authorisation) (result_ok r))
   request_comes (Err fault) = broken Authorisation
-  request_comes (Ok request) = line_comes request.user (line_of request.args)
+  request_comes (Ok request) = requested_comes request.user (requested request.args)
 
   acct_comes : (r : Result AcctRequest BodyFault) → Comes None (acct_read (slot Accounting) (result_ok r))
   acct_comes (Err fault) = broken Accounting

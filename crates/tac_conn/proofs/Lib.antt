@@ -1,3 +1,4 @@
+pub mod SentFacts
 pub mod JudgedFacts
 pub mod TableFacts
 pub mod CountFacts

@@ -18,15 +18,15 @@ use Rattle.tac_request.specs.declared.author_request.AuthorRequest.{AuthorReques
 use Rattle.tac_request.specs.AuthorRequest.{author_request_of}
 use Rattle.tac_request.specs.declared.acct_request.AcctRequest.{AcctRequest}
 use Rattle.tac_request.specs.AcctRequest.{acct_request_of}
-use Rattle.tac_request.specs.declared.line.LineOf.{LineOf}
-use Rattle.tac_request.specs.declared.line.LineOf.TheVariants.{Line, BadArgument, NotShell}
-use Rattle.tac_request.specs.Line.{line_of}
+use Rattle.tac_request.specs.declared.line.Requested.{Requested}
+use Rattle.tac_request.specs.declared.line.Requested.TheVariants.{Shell, Other, NoSign, NoService}
+use Rattle.tac_request.specs.Line.{requested}
 use Rattle.tac_request.specs.declared.record.AcctKind.{AcctKind}
 use Rattle.tac_request.specs.Record.{kind_of as acct_kind_of, record_of}
 use Rattle.tac_conn.specs.declared.ask.AskKind.{AskKind}
 use Rattle.tac_conn.specs.declared.ask.AskKind.TheVariants.{Authentication, Authorisation}
 use Rattle.tac_conn.specs.declared.ask.AskKind.TheVariants.{Accounting}
-use Rattle.tac_conn.specs.declared.ask.Ask.TheVariants.{Authenticate, Authorise, Account}
+use Rattle.tac_conn.specs.declared.ask.Ask.TheVariants.{Authenticate, Authorise, Serve, Account}
 use Rattle.tac_conn.specs.declared.ask.Answer.{Answer}
 use Rattle.tac_conn.specs.declared.ask.Proof.{Proof}
 use Rattle.tac_conn.specs.declared.ask.Proof.TheVariants.{Plain, Chap}
@@ -205,14 +205,16 @@ continue_read slot session (Some answer) = continue_outcome slot session answer
 
 -- ---- authorisation (section 6)
 
-abbrev pub line_outcome : Slot → List ℕ → LineOf → Outcome
-line_outcome slot user BadArgument = ends slot (refusal (codes "bad argument"))
-line_outcome slot user NotShell = ends slot (refusal (codes "unsupported service"))
-line_outcome slot user (Line line) = Asks (Authorise user line) slot
+-- the desk is asked where a line, or another service than a shell, is named
+abbrev pub requested_outcome : Slot → List ℕ → Requested → Outcome
+requested_outcome slot user NoSign = ends slot (refusal (codes "bad argument"))
+requested_outcome slot user NoService = ends slot (refusal (codes "unsupported service"))
+requested_outcome slot user (Shell line) = Asks (Authorise user line) slot
+requested_outcome slot user (Other service protocol) = Asks (Serve user service protocol) slot
 
 abbrev pub request_read : Slot → Option AuthorRequest → Outcome
 request_read slot None = breaks slot
-request_read slot (Some request) = line_outcome slot request.user (line_of request.args)
+request_read slot (Some request) = requested_outcome slot request.user (requested request.args)
 
 -- ---- accounting (section 7)
 

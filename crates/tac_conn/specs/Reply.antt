@@ -1,21 +1,25 @@
 -- The replies of the server (RFC 8907, sections 5.2, 6.2 and 7.2).
 use Rattle.std.specs.Prelude.{◌≡◌, ℕ, ◌+◌, List, [], ◌++◌, ◌∷◌, length, codes, Bool, true, false}
-use Rattle.std.specs.Prelude.{◌==◌, Option, None}
+use Rattle.std.specs.Prelude.{◌==◌}
 use Rattle.pol_names.specs.Decision.{verdict_text, by_text}
+use Rattle.pol_names.specs.SubjectId.{subject_text}
 use Rattle.pol_names.specs.declared.decision.By.{By}
 use Rattle.pol_names.specs.declared.decision.Verdict.TheVariants.{Deny}
+use Rattle.pol_names.specs.declared.subject_id.SubjectId.{SubjectId}
 use Rattle.tac_wire.specs.declared.header.Header.{Header}
 use Rattle.tac_authen.specs.declared.reply.AuthenStatus.{AuthenStatus}
 use Rattle.tac_authen.specs.Reply.{reply_bytes, authen_status_pass}
 use Rattle.tac_authen.specs.Reply.{authen_status_fail, authen_status_getuser}
 use Rattle.tac_authen.specs.Reply.{authen_status_getpass, authen_status_error}
+use Rattle.tac_request.specs.Arguments.{level_arguments}
 use Rattle.tac_request.specs.declared.author_reply.AuthorStatus.{AuthorStatus}
 use Rattle.tac_request.specs.AuthorReply.{author_reply, author_status_pass_add}
 use Rattle.tac_request.specs.AuthorReply.{author_status_fail, author_status_error}
 use Rattle.tac_request.specs.AcctReply.{acct_reply, acct_status_success, acct_status_error}
 use Rattle.tac_conn.specs.declared.ask.Answer.{Answer}
 use Rattle.tac_conn.specs.declared.ask.Answer.TheVariants.{Pass, Fail, UnknownUser, Unprintable}
-use Rattle.tac_conn.specs.declared.ask.Answer.TheVariants.{Denied, Permitted, Stored, BookFull}
+use Rattle.tac_conn.specs.declared.ask.Answer.TheVariants.{Denied, Permitted, Unserved, Refused}
+use Rattle.tac_conn.specs.declared.ask.Answer.TheVariants.{Granted, Stored, BookFull}
 use Rattle.tac_conn.specs.declared.ask.AskKind.{AskKind}
 use Rattle.tac_conn.specs.declared.ask.AskKind.TheVariants as about
 use Rattle.tac_conn.specs.declared.packet.Packet.{Packet}
@@ -87,21 +91,21 @@ question_to (byte ∷ name) = secret_question
 
 -- ---- authorisation
 
--- a reply without a level
+-- a reply without arguments
 abbrev pub author : AuthorStatus → List ℕ → ReplyBody
 author status text =
-    Authorisation (record { status = status; msg = record { items = text }; priv_lvl = None })
+    Authorisation (record { status = status; msg = record { items = text }; args = [] })
 
 abbrev pub refusal : List ℕ → ReplyBody
 refusal text = author (record { 0 = author_status_fail }) text
 
--- a PASS_ADD without text, perhaps with a level
-abbrev pub permission : Option ℕ → ReplyBody
-permission level =
+-- a PASS_ADD without text, with these arguments
+abbrev pub permission : List (List ℕ) → ReplyBody
+permission arguments =
     Authorisation (record {
       status = record { 0 = author_status_pass_add };
       msg = record { items = [] };
-      priv_lvl = level;
+      args = arguments;
     })
 
 abbrev pub author_error : List ℕ → ReplyBody
@@ -110,6 +114,10 @@ author_error text = author (record { 0 = author_status_error }) text
 -- that a line is denied, and by what
 abbrev pub denial : By → List ℕ
 denial by = verdict_text Deny ++ by_text by
+
+-- that a service is refused, and by whom
+abbrev pub refused_by : SubjectId → List ℕ
+refused_by owner = codes "refused by " ++ subject_text owner
 
 -- ---- accounting
 
@@ -143,6 +151,9 @@ answer_body Fail = fail
 answer_body UnknownUser = refusal (codes "unknown user")
 answer_body Unprintable = refusal (codes "unprintable command")
 answer_body (Denied by) = refusal (denial by)
-answer_body (Permitted level) = permission level
+answer_body (Permitted level) = permission (level_arguments level)
+answer_body Unserved = refusal (codes "unsupported service")
+answer_body (Refused owner) = refusal (refused_by owner)
+answer_body (Granted arguments) = permission arguments
 answer_body Stored = success
 answer_body BookFull = acct_error (codes "records full")

@@ -2,9 +2,10 @@
 
 use crate::typed::Typed;
 use basics::{Bytes, StructuralEq};
-use pol_names::By;
+use pol_names::{By, SubjectId};
+use std::alloc::AllocError;
 use tac_authen::Service;
-use tac_request::Record;
+use tac_request::{Arguments, Record, Spare};
 use tac_wire::Header;
 
 /// How a user proves to be the one named.
@@ -34,6 +35,12 @@ pub enum Ask {
         user: Bytes,
         line: Bytes,
     },
+    /// What this user is given for a service, perhaps with a protocol. Both may be any bytes.
+    Serve {
+        user: Bytes,
+        service: Bytes,
+        protocol: Option<Bytes>,
+    },
     /// That this record be stored.
     Account(Record),
 }
@@ -48,6 +55,11 @@ impl Drop for Ask {
                 proof: _,
             } => {}
             Ask::Authorise { user: _, line: _ } => {}
+            Ask::Serve {
+                user: _,
+                service: _,
+                protocol: _,
+            } => {}
             Ask::Account(_) => {}
         }
     }
@@ -68,7 +80,7 @@ pub enum AskKind {
 }
 
 /// An answer of the desk.
-#[derive(Clone, Copy, Debug, PartialEq, Eq)]
+#[derive(Debug, Drop, PartialEq, Eq)]
 pub enum Answer {
     /// The proof is the user's.
     Pass,
@@ -82,31 +94,114 @@ pub enum Answer {
     Denied(By),
     /// The command line is permitted, perhaps with the privilege level of a shell.
     Permitted(Option<u8>),
+    /// Nobody said anything of this service.
+    Unserved,
+    /// This subject refuses the service.
+    Refused(SubjectId),
+    /// The service is granted, or a shell starts, with these arguments.
+    Granted(Arguments),
     /// The record is stored.
     Stored,
     /// There is no room for the record, which isn't stored.
     BookFull,
 }
 
+// Of each kind by itself: the prover doesn't split all pairs of kinds at once.
 impl StructuralEq for Answer {
-    ghost use Rattle.std.proofs.Common.{rules};
+    ghost use Rattle.std.specs.Prelude.{◌≡◌, true};
+    ghost use Rattle.std.proofs.Common.{ap, rules};
+    ghost use Rattle.tac_request.specs.Arguments.{same_arguments-identical};
+    ghost use Rattle.tac_conn.specs.declared.ask.Answer.{Answer as AnswerValue};
+    ghost use Rattle.tac_conn.specs.declared.ask.Answer.TheVariants.{Pass, Fail, UnknownUser};
+    ghost use Rattle.tac_conn.specs.declared.ask.Answer.TheVariants.{Unprintable, Denied};
+    ghost use Rattle.tac_conn.specs.declared.ask.Answer.TheVariants.{Permitted, Unserved, Refused};
+    ghost use Rattle.tac_conn.specs.declared.ask.Answer.TheVariants.{Granted, Stored, BookFull};
 
-    ghost identical = { Prim.search rules };
+    ghost identical = { λ x. elim x as (λ k.
+        (y : AnswerValue) → ⟦<Answer as PartialEq>⟧.eq k y ≡ true → k ≡ y) [
+          | Pass ↦ λ y e. Prim.search rules
+          | Fail ↦ λ y e. Prim.search rules
+          | UnknownUser ↦ λ y e. Prim.search rules
+          | Unprintable ↦ λ y e. Prim.search rules
+          | Denied a ↦ λ y e. Prim.search rules
+          | Permitted a ↦ λ y e. Prim.search rules
+          | Unserved ↦ λ y e. Prim.search rules
+          | Refused a ↦ λ y e. Prim.search rules
+          | Granted a ↦ λ y. elim y as (λ k.
+              ⟦<Answer as PartialEq>⟧.eq (Granted a) k ≡ true → Granted a ≡ k) [
+                | Pass ↦ λ e. Prim.search rules
+                | Fail ↦ λ e. Prim.search rules
+                | UnknownUser ↦ λ e. Prim.search rules
+                | Unprintable ↦ λ e. Prim.search rules
+                | Denied b ↦ λ e. Prim.search rules
+                | Permitted b ↦ λ e. Prim.search rules
+                | Unserved ↦ λ e. Prim.search rules
+                | Refused b ↦ λ e. Prim.search rules
+                | Granted b ↦ λ e. ap Granted (Prim.search (rules, same_arguments-identical))
+                | Stored ↦ λ e. Prim.search rules
+                | BookFull ↦ λ e. Prim.search rules
+              ]
+          | Stored ↦ λ y e. Prim.search rules
+          | BookFull ↦ λ y e. Prim.search rules
+        ] };
 }
 
 impl Answer {
-    ghost use Rattle.std.specs.Prelude.{◌≡◌};
-    ghost use Rattle.tac_conn.specs.Ask.{kind_of_answer};
+    ghost use Rattle.std.specs.Prelude.{◌≡◌, IfSome, IfNone, IfOk, OnErr};
+    ghost use Rattle.tac_conn.specs.Ask.{kind_of_answer, HasArguments};
 
     /// Which kind of ask this answers.
-    pub fn kind(self) -> AskKind
-        ensures { result ≡ kind_of_answer self }
+    pub fn kind(&self) -> AskKind
+        ensures { result ≡ kind_of_answer self.now }
     {
         match self {
             Answer::Pass | Answer::Fail => AskKind::Authentication,
-            Answer::UnknownUser | Answer::Unprintable | Answer::Denied(_) | Answer::Permitted(_) =>
-                AskKind::Authorisation,
             Answer::Stored | Answer::BookFull => AskKind::Accounting,
+            _ => AskKind::Authorisation,
+        }
+    }
+
+    // An equal one, if it has no arguments.
+    fn small(&self) -> Option<Answer>
+        ensures some { IfSome result (λ answer. answer ≡ self.now) }
+        ensures none { IfNone result (HasArguments self.now) }
+    {
+        match self {
+            Answer::Pass => Some(Answer::Pass),
+            Answer::Fail => Some(Answer::Fail),
+            Answer::UnknownUser => Some(Answer::UnknownUser),
+            Answer::Unprintable => Some(Answer::Unprintable),
+            Answer::Denied(by) => Some(Answer::Denied(*by)),
+            Answer::Permitted(level) => Some(Answer::Permitted(*level)),
+            Answer::Unserved => Some(Answer::Unserved),
+            Answer::Refused(owner) => Some(Answer::Refused(*owner)),
+            Answer::Granted(_) => None,
+            Answer::Stored => Some(Answer::Stored),
+            Answer::BookFull => Some(Answer::BookFull),
+        }
+    }
+
+    /// An equal one. Only one with arguments takes memory; the error means that there was none.
+    pub fn copy(&self) -> Result<Answer, AllocError>
+        ensures copy { IfOk result (λ answer. answer ≡ self.now) }
+        ensures memory { OnErr result (HasArguments self.now) }
+    {
+        match self {
+            Answer::Granted(arguments) => {
+                let arguments = arguments.copy()?;
+                Ok(Answer::Granted(arguments))
+            }
+            _ => self.small().ok_or(AllocError),
+        }
+    }
+
+    /// An equal one, in room that was taken before. Takes no memory.
+    pub fn copy_into(&self, spare: Spare) -> Answer
+        ensures { result ≡ self.now }
+    {
+        match self {
+            Answer::Granted(arguments) => Answer::Granted(arguments.copy_into(spare)),
+            _ => self.small().unwrap(),
         }
     }
 }

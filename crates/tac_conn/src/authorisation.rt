@@ -3,28 +3,36 @@
 ghost use Rattle.std.specs.Prelude.{◌≡◌, is_ok, IsTrue, IfOk, OnErr};
 ghost use Rattle.std.specs.Result.{result_ok};
 ghost use Rattle.tac_request.specs.AuthorRequest.{author_request_of};
-ghost use Rattle.tac_request.specs.Line.{line_of};
+ghost use Rattle.tac_request.specs.Line.{requested as requested_in};
 ghost use Rattle.tac_conn.specs.Judging as judging;
 
 use crate::ask::{Ask, Slot};
 use crate::outcome::{Outcome, breaks, ends};
 use crate::reply::refusal;
 use std::alloc::{AllocError, Global};
-use tac_request::{AuthorRequest, LineOf, read_author_request, request_line};
+use tac_request::{AuthorRequest, Requested, asked_for, read_author_request};
 use tac_wire::well_formed;
 
 // A valid request.
 fn requested(alloc: Global, slot: Slot, request: AuthorRequest) -> Result<Outcome, AllocError>
     ensures { IfOk result
-        (λ outcome. outcome ≡ judging.line_outcome slot request.user (line_of request.args)) }
+        (λ outcome. outcome ≡ judging.requested_outcome slot request.user (requested_in request.args)) }
 {
-    let outcome = match request_line(alloc, request.args.as_slice())? {
-        LineOf::BadArgument => ends(slot, refusal(b"bad argument")),
-        LineOf::NotShell => ends(slot, refusal(b"unsupported service")),
-        LineOf::Line(line) => Outcome::Asks(
+    let outcome = match asked_for(alloc, request.args.as_slice())? {
+        Requested::NoSign => ends(slot, refusal(b"bad argument")),
+        Requested::NoService => ends(slot, refusal(b"unsupported service")),
+        Requested::Shell(line) => Outcome::Asks(
             Ask::Authorise {
                 user: request.user,
                 line,
+            },
+            slot,
+        ),
+        Requested::Other { service, protocol } => Outcome::Asks(
+            Ask::Serve {
+                user: request.user,
+                service,
+                protocol,
             },
             slot,
         ),

@@ -1,6 +1,6 @@
-//! The replies of the server: fixed texts, denials and levels.
+//! The replies of the server: fixed texts, denials and arguments.
 
-ghost use Rattle.std.specs.Prelude.{◌≡◌, ◌+◌, ◌<◌, ◌≤◌, ◌++◌, length};
+ghost use Rattle.std.specs.Prelude.{◌≡◌, ◌+◌, ◌≤◌, ◌++◌, length, vec_len, vec_capacity};
 ghost use Rattle.std.specs.Fmt.{decimal};
 ghost use Rattle.arrayvec.specs.ArrayVec.{array_vec_len};
 ghost use Rattle.pol_names.specs.SubjectId.{kind_word};
@@ -12,12 +12,21 @@ use itoa::Buffer;
 use pol_names::{By, SubjectId};
 use tac_authen::{AuthenReply, AuthenStatus, write_reply};
 use tac_request::{
-    AcctReply, AcctStatus, AuthorReply, AuthorStatus, write_acct_reply, write_author_reply,
+    AUTHOR_REPLY_MAX, AcctReply, AcctStatus, AuthorReply, AuthorStatus, ReplyArguments,
+    write_acct_reply, write_author_reply,
 };
-use tac_wire::{Header, MESSAGE_MAX, Message, REPLY_MAX, message_of};
+use tac_wire::{Header, MESSAGE_MAX, Message, message_of};
+
+// Adds a body without arguments to bytes that have room for it.
+fn put_body(out: &mut Vec<u8>, body: &ArrayVec<u8, 96>)
+    requires { vec_len out.old + array_vec_len body.now ≤ vec_capacity out.old }
+    ensures { out.new.items ≡ out.old.items ++ body.now.items }
+{
+    out.extend_from_slice(body.as_slice()).unwrap();
+}
 
 /// What a reply says.
-#[derive(Drop, PartialEq, Eq)]
+#[derive(Drop)]
 pub enum ReplyBody {
     Authentication(AuthenReply),
     Authorisation(AuthorReply),
@@ -27,22 +36,23 @@ pub enum ReplyBody {
 }
 
 impl ReplyBody {
-    /// The spelling of the body. Takes no memory.
-    pub(crate) fn write(&self) -> ArrayVec<u8, 96>
-        ensures value { result.items ≡ replies.body_bytes self.now }
-        ensures fits { length result.items ≤ REPLY_MAX }
+    /// Adds the spelling of the body to bytes that have room for it. Takes no memory.
+    pub(crate) fn write(&self, out: &mut Vec<u8>)
+        requires room { vec_len out.old + AUTHOR_REPLY_MAX ≤ vec_capacity out.old }
+        ensures value { out.new.items ≡ out.old.items ++ replies.body_bytes self.now }
+        ensures fits { length (replies.body_bytes self.now) ≤ AUTHOR_REPLY_MAX }
     {
         match self {
-            ReplyBody::Authentication(reply) => write_reply(reply),
-            ReplyBody::Authorisation(reply) => write_author_reply(reply),
-            ReplyBody::Accounting(reply) => write_acct_reply(reply),
-            ReplyBody::Empty => ArrayVec::new(),
+            ReplyBody::Authentication(reply) => put_body(out, &write_reply(reply)),
+            ReplyBody::Authorisation(reply) => write_author_reply(reply, out),
+            ReplyBody::Accounting(reply) => put_body(out, &write_acct_reply(reply)),
+            ReplyBody::Empty => {}
         }
     }
 }
 
 /// A reply in clear, before it is spelled. The length in its header is set then.
-#[derive(Drop, PartialEq, Eq)]
+#[derive(Drop)]
 pub struct Reply {
     pub header: Header,
     pub body: ReplyBody,
@@ -103,7 +113,7 @@ pub(crate) fn question_to(user: &[u8]) -> ReplyBody
     }
 }
 
-// An authorisation reply with this text, without a level.
+// An authorisation reply with this text, without arguments.
 fn authorisation(status: AuthorStatus, text: &[u8]) -> ReplyBody
     requires { length text.now ≤ MESSAGE_MAX }
     ensures { result ≡ replies.author status text.now }
@@ -111,7 +121,7 @@ fn authorisation(status: AuthorStatus, text: &[u8]) -> ReplyBody
     ReplyBody::Authorisation(AuthorReply {
         status,
         msg: message_of(text),
-        priv_lvl: None,
+        args: ReplyArguments::of_level(None),
     })
 }
 
@@ -123,14 +133,14 @@ pub(crate) fn refusal(text: &[u8]) -> ReplyBody
     authorisation(AuthorStatus::FAIL, text)
 }
 
-// PASS_ADD without text, perhaps with a level.
-fn permission(level: Option<u8>) -> ReplyBody
-    ensures { result ≡ replies.permission level }
+// PASS_ADD without text, with these arguments.
+fn permission(args: ReplyArguments) -> ReplyBody
+    ensures { result ≡ replies.permission args }
 {
     ReplyBody::Authorisation(AuthorReply {
         status: AuthorStatus::PASS_ADD,
         msg: ArrayVec::new(),
-        priv_lvl: level,
+        args,
     })
 }
 
@@ -202,6 +212,19 @@ fn denial(by: By) -> Message
     }
 }
 
+const REFUSED_BY: &[u8] = b"refused by ";
+
+// `refused by OWNER`.
+fn refused_by(owner: &SubjectId) -> Message
+    ensures { result.items ≡ replies.refused_by owner.now }
+{
+    let mut text = ArrayVec::new();
+    put(&mut text, REFUSED_BY);
+    put(&mut text, owner.kind.keyword().as_bytes());
+    put(&mut text, owner.name.as_slice());
+    text
+}
+
 /// What carries an answer of the desk.
 pub(crate) fn answer_body(answer: Answer) -> ReplyBody
     ensures { result ≡ replies.answer_body answer }
@@ -212,7 +235,10 @@ pub(crate) fn answer_body(answer: Answer) -> ReplyBody
         Answer::UnknownUser => refusal(b"unknown user"),
         Answer::Unprintable => refusal(b"unprintable command"),
         Answer::Denied(by) => refusal(denial(by).as_slice()),
-        Answer::Permitted(level) => permission(level),
+        Answer::Permitted(level) => permission(ReplyArguments::of_level(level)),
+        Answer::Unserved => refusal(b"unsupported service"),
+        Answer::Refused(owner) => refusal(refused_by(&owner).as_slice()),
+        Answer::Granted(arguments) => permission(ReplyArguments::of_list(arguments)),
         Answer::Stored => success(),
         Answer::BookFull => acct_error(b"records full"),
     }

@@ -1,81 +1,61 @@
 //! Packets as they are sent.
 
-ghost use Rattle.std.specs.Prelude.{◌≡◌, ◌≤◌, length};
+ghost use Rattle.std.specs.Prelude.{◌≡◌, ◌+◌, ◌≤◌, ◌++◌, length, take, drop, vec_len, vec_capacity};
+ghost use Rattle.tac_wire.specs.Header.{header_bytes};
+ghost use Rattle.tac_wire.specs.Pad.{padded};
 ghost use Rattle.tac_conn.specs.Packet as packets;
 ghost use Rattle.tac_conn.specs.Reply as replies;
 
 use crate::reply::Reply;
-use arrayvec::ArrayVec;
-use std::marker::Model;
-use tac_wire::{Header, Key, pad_in_place};
+use tac_request::AUTHOR_REPLY_MAX;
+use tac_wire::{HEADER_SIZE, Header, Key, pad_in_place};
 
-/// A packet as it is sent: header and body, with the pad on the body. A contract sees its bytes.
-#[derive(Drop)]
-pub struct Sent {
-    bytes: ArrayVec<u8, 96>,
+/// How many bytes a packet has at most that is sent: those of a header and the longest body.
+pub const SENT_MAX: usize = 65362;
+
+// Writes a header into the 12 bytes from a place on, and puts the pad on all that follow.
+fn seal(bytes: &mut [u8], start: usize, header: &Header, key: &Key)
+    requires { start + 12 ≤ length bytes.old }
+    ensures sealed { bytes.new ≡ take start bytes.old ++ header_bytes header.now
+        ++ padded header.now key.now (drop (start + 12) bytes.old) }
+    ensures length { length bytes.new ≡ length bytes.old }
+{
+    let (_, packet) = bytes.split_at_mut(start);
+    let (head, body) = packet.split_at_mut(HEADER_SIZE);
+    head.copy_from_slice(&header.write());
+    pad_in_place(header, key, body);
 }
 
-impl Model for Sent {
-    ghost use Rattle.std.specs.Prelude.{List, ℕ};
-    ghost use Rattle.tac_conn.specs.Packet.{IsWhole};
-
-    ghost Value = { List ℕ };
-
-    ghost view = { λ sent. sent.bytes.items };
-
-    ghost invariant = { λ sent. IsWhole sent.bytes.items };
-}
-
-impl Sent {
-    /// The bytes of the packet, at most 96.
-    pub fn as_slice(&self) -> &[u8]
-        ensures value { result.now ≡ self.now }
-        ensures bound { length result.now ≤ 96 }
-
-        // They are one whole packet: its header says its length.
-        ensures whole { packets.IsWhole self.now }
-    {
-        self.bytes.as_slice()
-    }
-}
-
-impl PartialEq for Sent {
-    ghost use Rattle.std.specs.Prelude.{◌==◌};
-    ghost use Rattle.std.proofs.Common.{rules};
-    ghost use Rattle.std.specs.Cmp.Rules.{comparing};
-    ghost use Rattle.std.specs.Cmp.Lexicographic.{pointwise};
-
-    ghost eq = { pointwise ◌==◌ };
-
-    ghost laws = { Prim.search (comparing, rules) };
-
-    fn eq(&self, other: &Sent) -> bool {
-        self.as_slice() == other.as_slice()
-    }
-}
-
-impl Eq for Sent {
-    ghost use Rattle.std.proofs.Common.{rules};
-    ghost use Rattle.std.specs.Cmp.Rules.{comparing};
-
-    ghost laws = { Prim.search (comparing, rules) };
+// The same in a vector.
+fn seal_last(out: &mut Vec<u8>, start: usize, header: &Header, key: &Key)
+    requires { start + 12 ≤ length out.old.items }
+    ensures { out.new.items ≡ take start out.old.items ++ header_bytes header.now
+        ++ padded header.now key.now (drop (start + 12) out.old.items) }
+{
+    seal(out.as_mut_slice(), start, header, key)
 }
 
 impl Reply {
-    /// The packet of a reply: the length of its body is written into its header, and the pad is put
-    /// on (RFC 8907, section 4.5). Takes no memory.
-    pub fn sent(&self, key: &Key) -> Sent
-        ensures { result ≡ packets.sent key.now (replies.packet_of self.now) }
+    /// Adds the packet of a reply, as it is sent, to bytes that have room for it: the length of its
+    /// body is written into its header, and the pad is put on (RFC 8907, section 4.5). Takes no
+    /// memory.
+    pub fn send_to(&self, key: &Key, out: &mut Vec<u8>)
+        requires { vec_len out.old + SENT_MAX ≤ vec_capacity out.old }
+        ensures value { out.new.items
+            ≡ out.old.items ++ packets.sent key.now (replies.packet_of self.now) }
+
+        // They are one whole packet: its header says its length.
+        ensures whole { packets.IsWhole (packets.sent key.now (replies.packet_of self.now)) }
+        ensures bound { length (packets.sent key.now (replies.packet_of self.now)) ≤ SENT_MAX }
     {
-        let mut body = self.body.write();
+        let start = out.len();
+        out.extend_from_slice(&[0; HEADER_SIZE]).unwrap();
+        self.body.write(out);
+        let length = out.len() - start - HEADER_SIZE;
         let header = Header {
-            length: body.len() as u32,
+            length: length as u32,
             ..self.header
         };
-        pad_in_place(&header, key, body.as_mut_slice());
-        let mut bytes = ArrayVec::new();
-        bytes.try_extend_from_slice(&header.write()).unwrap();
-        bytes.try_extend_from_slice(body.as_slice()).unwrap();
-        Sent { bytes }
+        seal_last(out, start, &header, key);
     }
 }

@@ -4,7 +4,7 @@ use crate::ask::{Ask, Slot};
 use crate::reply::Reply;
 
 /// What is done for a packet.
-#[derive(Drop, PartialEq, Eq)]
+#[derive(Drop)]
 pub enum Step {
     /// A reply is sent, and the connection closes (true) or stays open.
     Reply(Reply, bool),

@@ -7,7 +7,7 @@ use tac_conn::{Packet, Step};
 use tac_wire::Header;
 
 /// What is to be done next on a connection.
-#[derive(Drop, PartialEq, Eq)]
+#[derive(Drop)]
 pub enum Turn {
     /// A packet was taken, which is here without its pad, and this is done for it.
     Packet(Packet, Step),
