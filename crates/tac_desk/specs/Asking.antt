@@ -1,9 +1,10 @@
 -- What is asked for the packets of connections, and what the desk answers: what the policy
 -- says of who a user is and of what a user may do, and whether a record is kept (RFC 8907,
 -- sections 5.4, 6.1 and 7.1).
-use Rattle.std.specs.Prelude.{◌≡◌, ℕ, ◌+◌, ◌<◌, ◌≤◌, List, [], ◌∷◌, length, Bool, false, not, ◌==◌}
+use Rattle.std.specs.Prelude.{◌≡◌, ℕ, ◌+◌, ◌<◌, ◌≤◌, List, [], ◌∷◌, ◌++◌, length, Bool, true, false}
+use Rattle.std.specs.Prelude.{not, ◌==◌}
 use Rattle.std.specs.Prelude.{Option, Some, None, if◌then◌else◌}
-use Rattle.std.specs.Option.{option_and_then}
+use Rattle.std.specs.Option.{option_and_then, option_map_or}
 use Rattle.std.specs.Str.{bytes_eq}
 use Rattle.basics.specs.Symbol.{is_text}
 use Rattle.sha_crypt.specs.Crypt.{crypted}
@@ -13,24 +14,28 @@ use Rattle.tac_wire.specs.Chap.{response_to}
 use Rattle.pol_names.specs.Name.{name_of}
 use Rattle.pol_names.specs.SubjectId.{user_id}
 use Rattle.pol_names.specs.declared.secret.Secret.{Secret}
+use Rattle.pol_names.specs.declared.service.ServiceId.{ServiceId}
 use Rattle.pol_names.specs.declared.secret.Secret.TheVariants.{Clear, Hashed}
-use Rattle.pol_text.specs.Policy.{find_subject, decision, level_of}
+use Rattle.pol_text.specs.Policy.{find_subject, decision, id_of, level_of}
 use Rattle.pol_names.specs.declared.decision.Verdict.{Verdict}
 use Rattle.pol_names.specs.declared.decision.Verdict.TheVariants.{Permit, Deny}
 use Rattle.pol_text.specs.declared.subject.Subject.{Subject}
+use Rattle.pol_given.specs.Given.{speaking, refuses, attributes_of, service_named, the_shell}
 use Rattle.pol_names.specs.declared.decision.Decision.{Decision}
 use Rattle.pol_names.specs.declared.decision.By.{By}
 use Rattle.tac_authen.specs.declared.start.Service.{Service}
 use Rattle.tac_authen.specs.Start.{authen_svc_enable}
+use Rattle.tac_request.specs.Arguments.{level_arguments}
 use Rattle.tac_request.specs.declared.record.Record.{Record}
 use Rattle.tac_tally.specs.Keeping as keeping
 use Rattle.tac_conn.specs.declared.ask.Proof.{Proof}
 use Rattle.tac_conn.specs.declared.ask.Proof.TheVariants.{Plain, Chap}
 use Rattle.tac_conn.specs.declared.ask.Ask.{Ask}
-use Rattle.tac_conn.specs.declared.ask.Ask.TheVariants.{Authenticate, Authorise, Account}
+use Rattle.tac_conn.specs.declared.ask.Ask.TheVariants.{Authenticate, Authorise, Serve, Account}
 use Rattle.tac_conn.specs.declared.ask.Answer.{Answer}
 use Rattle.tac_conn.specs.declared.ask.Answer.TheVariants.{Pass, Fail, UnknownUser, Unprintable}
-use Rattle.tac_conn.specs.declared.ask.Answer.TheVariants.{Denied, Permitted, Stored, BookFull}
+use Rattle.tac_conn.specs.declared.ask.Answer.TheVariants.{Denied, Permitted, Unserved, Refused}
+use Rattle.tac_conn.specs.declared.ask.Answer.TheVariants.{Granted, Stored, BookFull}
 use Rattle.tac_desk.specs.Meaning.{Meaning}
 
 -- the user of this name; a text that is no name names nobody
@@ -94,18 +99,30 @@ pub record LogsIn (policy : List Subject) (name : List ℕ) (service : Service) 
 
 -- ---- authorisation
 
--- the empty line asks for a shell, which gets the user's level
-abbrev pub level_for : List Subject → List ℕ → List ℕ → Option ℕ
-level_for policy name [] = level_of policy (user_id name)
-level_for policy name (byte ∷ line) = None
+-- the attributes of a user's shell, by whoever decides on that
+abbrev pub shell_attributes : List Subject → List ℕ → List (List ℕ)
+shell_attributes policy name =
+    option_map_or (attributes_of the_shell) (speaking policy name the_shell) []
 
-abbrev pub by_verdict : Verdict → Option ℕ → By → Answer
-by_verdict Permit level owner = Permitted level
-by_verdict Deny level owner = Denied owner
+-- the level, and then the attributes
+abbrev pub with_attributes : Option ℕ → List (List ℕ) → Answer
+with_attributes level [] = Permitted level
+with_attributes level (attribute ∷ attributes) =
+    Granted (level_arguments level ++ attribute ∷ attributes)
+
+-- the empty line asks for a shell, which gets the user's level and attributes; no other line does
+abbrev pub permitted : List Subject → List ℕ → List ℕ → Answer
+permitted policy name [] =
+    with_attributes (level_of policy (user_id name)) (shell_attributes policy name)
+permitted policy name (byte ∷ line) = Permitted None
+
+abbrev pub by_verdict : Verdict → Answer → By → Answer
+by_verdict Permit answer owner = answer
+by_verdict Deny answer owner = Denied owner
 
 abbrev pub decided : List Subject → List ℕ → List ℕ → Decision → Answer
 decided policy name line decision =
-    by_verdict decision.verdict (level_for policy name line) decision.by
+    by_verdict decision.verdict (permitted policy name line) decision.by
 
 -- an unknown user comes before a line that can't be printed
 abbrev pub authorised : List Subject → List ℕ → List ℕ → Option Subject → Answer
@@ -115,6 +132,23 @@ authorised policy name line (Some user) =
 
 abbrev pub authorisation : List Subject → List ℕ → List ℕ → Answer
 authorisation policy name line = authorised policy name line (user_named policy name)
+
+-- what a user is given for another service than a shell, by whoever decides on it
+abbrev pub served_by : ServiceId → Option Subject → Answer
+served_by service None = Unserved
+served_by service (Some owner) =
+    if refuses service owner then Refused (id_of owner)
+    else Granted (attributes_of service owner)
+
+-- nobody decides on what can't be named in a policy
+abbrev pub served : List Subject → Option (List ℕ) → Option ServiceId → Answer
+served policy None service = Unserved
+served policy (Some user) None = Unserved
+served policy (Some user) (Some service) = served_by service (speaking policy user service)
+
+abbrev pub service_answer : List Subject → List ℕ → List ℕ → Option (List ℕ) → Answer
+service_answer policy name service protocol =
+    served policy (name_of name) (service_named service protocol)
 
 -- ---- accounting
 
@@ -148,19 +182,34 @@ asked meaning (Authenticate user service proof) =
     record { answer = authentication meaning.policy user service proof; meaning = meaning }
 asked meaning (Authorise user line) =
     record { answer = authorisation meaning.policy user line; meaning = meaning }
+asked meaning (Serve user service protocol) = record {
+  answer = service_answer meaning.policy user service protocol;
+  meaning = meaning;
+}
 asked meaning (Account item) = stored meaning item
 
--- whether a record is to be stored, and there is room: nothing else that is asked takes memory
-abbrev pub stores : Meaning → Ask → Bool
-stores meaning (Authenticate user service proof) = false
-stores meaning (Authorise user line) = false
-stores meaning (Account item) = not (is_full meaning)
+-- whether an answer has arguments other than a level
+abbrev pub gives_arguments : Answer → Bool
+gives_arguments (Granted []) = false
+gives_arguments (Granted (argument ∷ arguments)) = true
+gives_arguments answer = false
+
+-- whether a record is to be stored, and there is room, or the answer has arguments: nothing else
+-- that is asked takes memory
+abbrev pub takes_memory : Meaning → Ask → Bool
+takes_memory meaning (Authenticate user service proof) = false
+takes_memory meaning (Authorise user line) =
+    gives_arguments (authorisation meaning.policy user line)
+takes_memory meaning (Serve user service protocol) =
+    gives_arguments (service_answer meaning.policy user service protocol)
+takes_memory meaning (Account item) = not (is_full meaning)
 
 -- the hash that the password of an ask is compared with, if it is one
 abbrev pub hash_in : List Subject → Ask → Option HashParts
 hash_in policy (Authenticate user service proof) =
     compared_with (option_and_then (secret_for service) (user_named policy user)) proof
 hash_in policy (Authorise user line) = None
+hash_in policy (Serve user service protocol) = None
 hash_in policy (Account item) = None
 
 abbrev pub hash_for : Meaning → Ask → Option HashParts
@@ -170,4 +219,5 @@ hash_for meaning ask = hash_in meaning.policy ask
 abbrev pub Passes : Meaning → Ask → Type 0
 Passes meaning (Authenticate user service proof) = LogsIn meaning.policy user service proof
 Passes meaning (Authorise user line) = ⊥
+Passes meaning (Serve user service protocol) = ⊥
 Passes meaning (Account item) = ⊥

@@ -6,7 +6,7 @@ ghost use Rattle.pol_edit.specs.Applying.{is_memory};
 ghost use Rattle.pol_edit.specs.Batches.{ran_out};
 ghost use Rattle.pol_meaning.specs.Memory.{UnlessMemory};
 ghost use Rattle.tac_desk.specs.Meaning.{Meaning};
-ghost use Rattle.tac_desk.specs.Asking.{asked, hash_for, stores, Passes};
+ghost use Rattle.tac_desk.specs.Asking.{asked, hash_for, takes_memory, Passes};
 ghost use Rattle.tac_desk.specs.Editing as editing;
 ghost use Rattle.tac_desk.specs.Reporting as reporting;
 ghost use Rattle.tac_desk.specs.declared.query.QueryFault.TheVariants.{NoSuch};
@@ -40,7 +40,7 @@ pub trait Desk: Drop {
         ensures passes { (result ≡ Ok Answer.Pass) ↔ Passes (meaning self.old) ask.now }
 
         // Only a record that is to be stored takes memory, and a refusal changes nothing.
-        ensures sure { stores (meaning self.old) ask.now ≡ false → IsOk result }
+        ensures sure { takes_memory (meaning self.old) ask.now ≡ false → IsOk result }
         ensures err { OnErr result (meaning self.new ≡ meaning self.old) };
 
     /// The hash that the password of this ask is compared with, if it is one: what a password may

@@ -1,4 +1,5 @@
 pub mod Asks
+pub mod ServingFacts
 pub mod Edits
 pub mod Opened
 pub mod Reports

@@ -1,8 +1,9 @@
 //! What a user may do, by the automata that a policy has.
 
-ghost use Rattle.std.specs.Prelude.{◌≡◌};
+ghost use Rattle.std.specs.Prelude.{◌≡◌, false, IsOk, IfOk};
 ghost use Rattle.tac_tally.specs.Recount.{is_denied as denied_test};
 ghost use Rattle.tac_desk.specs.Asking as asking;
+ghost use Rattle.tac_desk.specs.Asking.{gives_arguments};
 ghost use Rattle.tac_desks.specs.Remembered.{AreDecisionsBy};
 ghost use Rattle.tac_desk.specs.Reporting as reporting;
 
@@ -11,33 +12,37 @@ use crate::remembering::Remembered;
 use basics::is_text;
 use pol_live::Live;
 use pol_names::{Name, Verdict};
-use std::alloc::Global;
+use std::alloc::{AllocError, Global};
 use tac_conn::Answer;
 use tac_tally::Record;
 
 /// Whether the user of this name may run this line, by what is remembered, or else by a walk along
-/// the line. Without memory nothing new is remembered.
+/// the line. Without memory nothing new is remembered; the error means that there was none for a
+/// shell's attributes.
 pub(crate) fn authorisation_by(
     alloc: Global,
     live: &Live,
     remembered: &mut Remembered,
     name: &[u8],
     line: &[u8],
-) -> Answer
+) -> Result<Answer, AllocError>
     requires { AreDecisionsBy live.now remembered.old.kept.entries }
-    ensures answer { result ≡ asking.authorisation live.now name.now line.now }
+    ensures answer { IfOk result (λ answer.
+        answer ≡ asking.authorisation live.now name.now line.now) }
+    ensures sure { gives_arguments (asking.authorisation live.now name.now line.now) ≡ false
+        → IsOk result }
     ensures right { AreDecisionsBy live.now remembered.new.kept.entries }
 {
     let Some(user) = Name::read(name) else {
-        return Answer::UnknownUser;
+        return Ok(Answer::UnknownUser);
     };
     let Some(decision) = remembered.decide(alloc, live, &user, line) else {
-        return Answer::UnknownUser;
+        return Ok(Answer::UnknownUser);
     };
     if !is_text(line) {
-        return Answer::Unprintable;
+        return Ok(Answer::Unprintable);
     }
-    decided(live.policy(), &user, line, decision)
+    decided(alloc, live.policy(), &user, line, decision)
 }
 
 // Whether the policy denies this line to this user.

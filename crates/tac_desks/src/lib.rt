@@ -14,6 +14,7 @@ mod reaching;
 mod records;
 mod recounting;
 mod remembering;
+mod serving;
 mod tallies;
 
 pub use live_desk::LiveDesk;

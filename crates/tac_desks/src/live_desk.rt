@@ -13,7 +13,7 @@ ghost use Rattle.tac_tally.specs.Keeping.{refusing};
 ghost use Rattle.tac_desks.specs.Opening.{Opens, IsOnlyOpened};
 ghost use Rattle.tac_desks.specs.Metered.{unmetered};
 ghost use Rattle.tac_desk.specs.Asking as asking;
-ghost use Rattle.tac_desk.specs.Asking.{asked, stores, Passes};
+ghost use Rattle.tac_desk.specs.Asking.{asked, takes_memory, Passes};
 ghost use Rattle.tac_desk.specs.Editing as editing;
 ghost use Rattle.tac_desk.specs.Meaning.{opened};
 ghost use Rattle.tac_desk.specs.Reporting as reporting;
@@ -25,6 +25,7 @@ use crate::live_editing::{change_kept, load_kept};
 use crate::live_reports::{reach_report_of, shadow_report_of, tally_by_marks};
 use crate::records::{copy_records, numbered};
 use crate::remembering::Remembered;
+use crate::serving::service_answer;
 use pol_automaton::Meter;
 use pol_edit::{BatchFault, Edit, EditFault};
 use pol_live::{BuildFault, Live};
@@ -204,7 +205,7 @@ impl Desk for LiveDesk {
             (self.new.meaning ≡ (asked self.old.meaning ask.now).meaning) }
         ensures kind { IfOk result (λ answer. kind_of_answer answer ≡ kind_of_ask ask.now) }
         ensures passes { (result ≡ Ok answers.Pass) ↔ Passes self.old.meaning ask.now }
-        ensures sure { stores self.old.meaning ask.now ≡ false → IsOk result }
+        ensures sure { takes_memory self.old.meaning ask.now ≡ false → IsOk result }
         ensures err { OnErr result (self.new.meaning ≡ self.old.meaning) }
         ensures meter { self.new.meter ≡ self.old.meter }
     {
@@ -214,16 +215,24 @@ impl Desk for LiveDesk {
                 service,
                 proof,
             } => Ok(authentication(self.live.policy(), user.as_slice(), *service, proof)),
-            Ask::Authorise { user, line } => {
-                let answer = authorisation_by(
-                    self.alloc,
-                    &self.live,
-                    &mut self.remembered,
-                    user.as_slice(),
-                    line.as_slice(),
-                );
-                Ok(answer)
-            }
+            Ask::Authorise { user, line } => authorisation_by(
+                self.alloc,
+                &self.live,
+                &mut self.remembered,
+                user.as_slice(),
+                line.as_slice(),
+            ),
+            Ask::Serve {
+                user,
+                service,
+                protocol,
+            } => service_answer(
+                self.alloc,
+                self.live.policy(),
+                user.as_slice(),
+                service.as_slice(),
+                protocol.as_ref().map(|protocol| protocol.as_slice()),
+            ),
             Ask::Account(item) => self.store(item),
         }
     }

@@ -14,6 +14,7 @@ use crate::authorisation::authorisation;
 use crate::editing::{change, load};
 use crate::reaching::{live_policy, reach_report, shadow_report};
 use crate::records::{copy_records, numbered};
+use crate::serving::service_answer;
 use crate::tallies::tally;
 use pol_automaton::Meter;
 use pol_edit::{BatchFault, Edit, EditFault};
@@ -153,9 +154,23 @@ impl Desk for PlainDesk {
                 service,
                 proof,
             } => Ok(authentication(&self.policy, user.as_slice(), *service, proof)),
-            Ask::Authorise { user, line } => {
-                Ok(authorisation(&self.policy, user.as_slice(), line.as_slice()))
-            }
+            Ask::Authorise { user, line } => authorisation(
+                self.alloc,
+                &self.policy,
+                user.as_slice(),
+                line.as_slice(),
+            ),
+            Ask::Serve {
+                user,
+                service,
+                protocol,
+            } => service_answer(
+                self.alloc,
+                &self.policy,
+                user.as_slice(),
+                service.as_slice(),
+                protocol.as_ref().map(|protocol| protocol.as_slice()),
+            ),
             Ask::Account(item) => self.store(item),
         }
     }

@@ -80,7 +80,7 @@ impl<D: Desk> Desk for CountedDesk<'_, D> {
 
     fn ask(&mut self, ask: &Ask) -> Result<Answer, AllocError> {
         let answered = self.desk.ask(ask);
-        if let Ok(Answer::Stored) = answered {
+        if let Ok(Answer::Stored) = &answered {
             self.count_record();
         }
         answered
