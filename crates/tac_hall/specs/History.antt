@@ -1,5 +1,6 @@
 -- The history of a hall: the calls that its desk took, one after another, each with its answer.
 use Rattle.std.specs.Prelude.{◌≡◌, List, [], ◌∷◌, ◌++◌, Bool, true, false, ◌||◌, Result, Ok, Err}
+use Rattle.std.specs.Prelude.{Option, Some, None}
 use Rattle.std.specs.Prelude.{OnErr, IsTrue}
 use Rattle.pol_edit.specs.Applying.{is_memory}
 use Rattle.pol_edit.specs.Batches.{ran_out}
@@ -9,6 +10,7 @@ use Rattle.pol_edit.specs.declared.fault.EditFault.{EditFault}
 use Rattle.pol_meaning.specs.declared.Changed.{Changed}
 use Rattle.pol_text.specs.declared.subject.Subject.{Subject}
 use Rattle.tac_conn.specs.Ask.{kind_of_ask, kind_of_answer}
+use Rattle.tac_conn.specs.declared.ask.Answer.{Answer}
 use Rattle.tac_desk.specs.declared.query.Query.{Query}
 use Rattle.tac_desk.specs.declared.query.QueryFault.{QueryFault}
 use Rattle.tac_desk.specs.declared.query.Report.{Report}
@@ -71,6 +73,11 @@ IsOfKind (calls.Load policy) (answers.Edit answer) = Unit {0}
 IsOfKind (calls.Query query) (answers.Query answer) = IsReportTo query answer
 IsOfKind calls.Stop answers.Stopped = Unit {0}
 IsOfKind call answer = ⊥
+
+-- the desk's answer, if an ask was called
+abbrev pub asked_answer : CallAnswer → Option Answer
+asked_answer (answers.Ask answer) = Some answer
+asked_answer answer = None
 
 -- ---- one call after another
 

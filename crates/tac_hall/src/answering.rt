@@ -1,6 +1,7 @@
 //! The desk's answer to a call.
 
 ghost use Rattle.std.specs.Prelude.{◌≡◌, false, Err, IsOk, IfOk, OnErr};
+ghost use Rattle.tac_conn.specs.Ask.{HasArguments};
 ghost use Rattle.tac_hall.specs.History.{Answers, IsOfKind, is_ask};
 ghost use Rattle.tac_hall.specs.declared.call.CallAnswer.TheVariants as answers;
 
@@ -32,20 +33,18 @@ impl Model for Told {
     ghost invariant = { λ told. (told.kept ≡ told.logged) × (told.given ≡ told.logged) };
 }
 
-fn answer_to_ask(answer: &Answer) -> CallAnswer
-    ensures { result ≡ answers.Ask answer.now }
+// Three like it. Only where it has arguments the copies take memory.
+fn told_of_ask(answer: Answer) -> Result<Told, AllocError>
+    ensures told { IfOk result (λ told. told ≡ answers.Ask answer) }
+    ensures memory { OnErr result (HasArguments answer) }
 {
-    CallAnswer::Ask(*answer)
-}
-
-fn told_of_ask(answer: &Answer) -> Told
-    ensures { result ≡ answers.Ask answer.now }
-{
-    Told {
-        logged: answer_to_ask(answer),
-        kept: answer_to_ask(answer),
-        given: answer_to_ask(answer),
-    }
+    let kept = answer.copy()?;
+    let given = answer.copy()?;
+    Ok(Told {
+        logged: CallAnswer::Ask(answer),
+        kept: CallAnswer::Ask(kept),
+        given: CallAnswer::Ask(given),
+    })
 }
 
 // Three owners of an answer.
@@ -130,7 +129,7 @@ pub(crate) fn answer<D: Desk>(desk: &mut D, call: &Call) -> Result<Told, AllocEr
     match call {
         Call::Ask(ask) => {
             let answer = desk.ask(ask)?;
-            Ok(told_of_ask(&answer))
+            told_of_ask(answer)
         }
         Call::Edit(edit) => {
             let answer = desk.edit(edit);

@@ -95,13 +95,24 @@ impl Drop for CallAnswer {
 
 impl CallAnswer {
     ghost use Rattle.std.specs.Prelude.{◌≡◌, ◌↔◌, IsTrue};
+    ghost use Rattle.tac_hall.specs.History.{asked_answer};
+
+    /// The desk's answer, if an ask was called.
+    pub fn into_asked(self) -> Option<Answer>
+        ensures { result ≡ asked_answer self }
+    {
+        match self {
+            CallAnswer::Ask(answer) => Some(answer),
+            _ => None,
+        }
+    }
 
     /// Whether the two are the same. Linear in what they hold.
     pub fn same(&self, other: &CallAnswer) -> bool
         ensures { IsTrue result ↔ (self.now ≡ other.now) }
     {
         match (self, other) {
-            (CallAnswer::Ask(one), CallAnswer::Ask(two)) => one == two,
+            (CallAnswer::Ask(one), CallAnswer::Ask(two)) => one.same(two),
             (CallAnswer::Edit(Ok(one)), CallAnswer::Edit(Ok(two))) => one.get().same(two.get()),
             (CallAnswer::Edit(Err(one)), CallAnswer::Edit(Err(two))) => one == two,
             (CallAnswer::Batch(Ok(one)), CallAnswer::Batch(Ok(two))) => one.get().same(two.get()),

@@ -62,3 +62,20 @@ impl Drop for Receipt {
         } = self;
     }
 }
+
+impl Receipt {
+    ghost use Rattle.std.specs.Prelude.{◌≡◌};
+
+    /// The answer, where the rest isn't needed any more.
+    pub fn into_answer(self) -> CallAnswer
+        ensures { result ≡ self.answer }
+    {
+        let Receipt {
+            seat: _,
+            segment: _,
+            place: _,
+            answer,
+        } = self;
+        answer
+    }
+}
