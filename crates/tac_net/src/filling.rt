@@ -6,7 +6,7 @@ ghost use Rattle.pol_edit.specs.Batches.{ran_out};
 ghost use Rattle.pol_meaning.specs.Memory.{UnlessMemory};
 ghost use Rattle.tac_conn.specs.Ask.{kind_of_ask, kind_of_answer};
 ghost use Rattle.tac_conn.specs.declared.ask.Answer.TheVariants as answers;
-ghost use Rattle.tac_desk.specs.Asking.{asked, stores, Passes};
+ghost use Rattle.tac_desk.specs.Asking.{asked, takes_memory, Passes};
 ghost use Rattle.tac_desk.specs.Editing as editing;
 ghost use Rattle.tac_desk.specs.Reporting as reporting;
 ghost use Rattle.tac_desk.specs.declared.query.QueryFault.TheVariants.{NoSuch};
@@ -82,14 +82,14 @@ impl<R: Eprint, D: Desk> Desk for FillingDesk<'_, R, D> {
             (D.meaning self.new.desk ≡ (asked (D.meaning self.old.desk) ask.now).meaning) }
         ensures kind { IfOk result (λ answer. kind_of_answer answer ≡ kind_of_ask ask.now) }
         ensures passes { (result ≡ Ok answers.Pass) ↔ Passes (D.meaning self.old.desk) ask.now }
-        ensures sure { stores (D.meaning self.old.desk) ask.now ≡ false → IsOk result }
+        ensures sure { takes_memory (D.meaning self.old.desk) ask.now ≡ false → IsOk result }
         ensures err { OnErr result (D.meaning self.new.desk ≡ D.meaning self.old.desk) }
 
         // A record that is answered as stored is counted, and nothing else is.
         ensures gauge { self.new.gauge ≡ filling.after result self.old.gauge }
     {
         let answered = self.desk.ask(ask);
-        if let Ok(Answer::Stored) = answered {
+        if let Ok(Answer::Stored) = &answered {
             self.count();
         }
         answered

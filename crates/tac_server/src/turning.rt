@@ -17,13 +17,10 @@ use crate::noticed::Noticed;
 use std::alloc::AllocError;
 use std::ops::ControlFlow;
 use tac_audit::{Notice, Witness};
-use tac_conn::{Ask, Packet, Reply, Slot, Step};
+use tac_conn::{Ask, Packet, Reply, SENT_MAX, Slot, Step};
 use tac_desk::Desk;
 use tac_stream::{Stream, Turn};
 use tac_wire::Key;
-
-// The most bytes of a packet that is sent.
-const SENT_MAX: usize = 96;
 
 // After a packet was served: the next turn, or the connection closes.
 fn after_reply(closes: bool) -> ControlFlow<bool>
@@ -56,9 +53,12 @@ fn add<W: Witness<Noticed>>(
     ensures bytes { out.new.items ≡ out.old.items ++ sent key.now (packet_of reply) }
     ensures whole { IsWhole (sent key.now (packet_of reply)) }
 {
-    let sent = reply.sent(key);
-    tell(witness, conn, Notice::Packet(packet, Some(reply)));
-    out.extend_from_slice(sent.as_slice()).unwrap();
+    let noticed = Noticed::On(conn, Notice::Packet(packet, Some(reply)));
+    let _ = witness.tell(&noticed);
+    let Noticed::On(_, Notice::Packet(_, Some(reply))) = &noticed else {
+        unreachable!()
+    };
+    reply.send_to(key, out);
 }
 
 // The reply that carries the desk's answer, and whether the connection closes.

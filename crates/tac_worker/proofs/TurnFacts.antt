@@ -717,6 +717,13 @@ module _ {S V : Type 0} (step : S → Exchange → S → Type 0) (rests : S → 
       let d = done_memory step rests refuses takes refuses_notice key (packets_of key (take taken (cut bytes).packets)) (drop taken (cut bytes).packets) (cut bytes).tail was was seen old (rests_so was) in
       rw told (record { unfinished = λ e. cc; memory = λ e. some_bytes bytes taken some; closing = tt; ends = d.ends; told = d.told })
 
+  -- memory ran out for what a packet is answered
+  pub turned_roomless : (was : S) (seen : V) (old : Option (List ℕ)) (stream : Stream) (packet : Packet) (it : Step) (result : Result Went End) → IsTurn key bytes taken (turns.Packet packet it)
+      → IsErrAnd result (λ told. told ≡ Memory) → Turns result was seen was seen old old stream
+  turned_roomless was seen old stream packet it result turn told =
+      let f = next_is key bytes taken packet it turn in
+      turned_memory was seen old stream result told (omega (arith, length-drop taken (cut bytes).packets, ap length f.left))
+
   -- no whole packet is left
   pub turned_need : (was : S) (seen : V) (old : Option (List ℕ)) (stream : Stream) → IsTurn key bytes taken turns.Need → closed_of stream ≡ false → pending_of stream ≡ None → Stands key stream bytes taken
       → Turns (Ok Rests) was seen was seen old old stream

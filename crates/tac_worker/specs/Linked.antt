@@ -4,7 +4,7 @@ use Rattle.std.specs.Prelude.{Bool, true, false, Option, Some, None}
 use Rattle.std.specs.Io.KnownBytes.{Consumes, IsAtEnd}
 use Rattle.tac_conn.specs.declared.ask.Answer.{Answer}
 use Rattle.tac_conn.specs.declared.ask.Ask.{Ask}
-use Rattle.tac_conn.specs.declared.ask.Ask.TheVariants.{Authenticate, Authorise, Account}
+use Rattle.tac_conn.specs.declared.ask.Ask.TheVariants.{Authenticate, Authorise, Serve, Account}
 use Rattle.tac_conn.specs.declared.ask.Proof.{Proof}
 use Rattle.tac_conn.specs.declared.ask.Proof.TheVariants.{Plain, Chap}
 use Rattle.tac_audit.specs.declared.notice.Notice.{Notice}
@@ -53,6 +53,7 @@ IsPassword (Chap id challenge response) = ⊥
 abbrev pub IsOfPassword : Ask → Type 0
 IsOfPassword (Authenticate user service proof) = IsPassword proof
 IsOfPassword (Authorise user line) = ⊥
+IsOfPassword (Serve user service protocol) = ⊥
 IsOfPassword (Account item) = ⊥
 
 -- ---- what is due

@@ -10,7 +10,7 @@ ghost use Rattle.tac_hall.specs.History.{IsOfKind};
 ghost use Rattle.tac_worker.specs.Worked.{Exchange};
 ghost use Rattle.tac_worker.specs.Working.{IsUnmade};
 
-use tac_conn::{Answer, Ask, Hash};
+use tac_conn::{Answer, Ask, Hash, Spare};
 use tac_hall::{CallAnswer, HallFault, Receipt};
 
 /// Who makes the calls of a connection, one after another: a seat of a hall, or of a desk that many
@@ -47,12 +47,23 @@ pub trait Caller: Drop {
 }
 
 /// The answer in the receipt of an ask.
-pub(crate) fn answer_in(receipt: &Receipt) -> Answer
+pub(crate) fn answer_in(receipt: Receipt) -> Answer
+    requires { (ask : Ask) × IsOfKind (calls.Ask ask) receipt.answer }
+    ensures { receipt.answer ≡ answers.Ask result }
+{
+    let Some(answer) = receipt.into_answer().into_asked() else {
+        unreachable!()
+    };
+    answer
+}
+
+/// One like the answer in the receipt of an ask, in room that was taken before.
+pub(crate) fn answer_like(receipt: &Receipt, spare: Spare) -> Answer
     requires { (ask : Ask) × IsOfKind (calls.Ask ask) receipt.now.answer }
     ensures { receipt.now.answer ≡ answers.Ask result }
 {
     match &receipt.answer {
-        CallAnswer::Ask(answer) => *answer,
+        CallAnswer::Ask(answer) => answer.copy_into(spare),
         _ => unreachable!(),
     }
 }

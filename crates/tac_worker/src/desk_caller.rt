@@ -73,7 +73,7 @@ impl<'a, H: Wait, J: Run, D: Desk> Caller for DeskCaller<'a, H, J, D> {
 
     fn ask(&mut self, ask: Ask) -> Result<Answer, HallFault> {
         let receipt = self.desk.call(self.rt, &mut self.seat, &Call::Ask(ask))?;
-        Ok(answer_in(&receipt))
+        Ok(answer_in(receipt))
     }
 
     fn hash(&self, ask: &Ask) -> Option<Hash> {

@@ -89,7 +89,7 @@ impl<'a, H: Wait, D: Desk> Caller for HallCaller<'a, H, D> {
 
     fn ask(&mut self, ask: Ask) -> Result<Answer, HallFault> {
         let receipt = self.call(ask)?;
-        Ok(answer_in(&receipt))
+        Ok(answer_in(receipt))
     }
 
     ghost rests_so = { λ _. refl };

@@ -14,6 +14,7 @@ mod link;
 mod notes;
 mod queue;
 mod receipt_caller;
+mod room;
 mod terms;
 mod turning;
 mod worked;

@@ -3,12 +3,12 @@
 ghost use Rattle.std.specs.Prelude.{◌≡◌, refl, []};
 ghost use Rattle.tac_worker.specs.AtHall as at_hall;
 
-use crate::caller::{Caller, answer_in};
+use crate::caller::{Caller, answer_like};
 use crate::hall_caller::HallCaller;
 use crate::worked::{End, Worked};
 use std::marker::Model;
 use std::sync::Wait;
-use tac_conn::{Answer, Ask};
+use tac_conn::{Answer, Ask, Spare};
 use tac_desk::Desk;
 use tac_hall::{HallFault, Receipt};
 
@@ -73,11 +73,13 @@ impl<'a, H: Wait, D: Desk> Caller for ReceiptCaller<'a, H, D> {
         self.caller.number()
     }
 
-    // The memory for the receipt is taken before the call.
+    // The memory for the receipt, and for another answer like the one in it, is taken before the
+    // call.
     fn ask(&mut self, ask: Ask) -> Result<Answer, HallFault> {
         self.receipts.reserve(1)?;
+        let spare = Spare::new(self.caller.alloc())?;
         let receipt = self.caller.call(ask)?;
-        let answer = answer_in(&receipt);
+        let answer = answer_like(&receipt, spare);
         self.receipts.push(receipt).unwrap();
         Ok(answer)
     }

@@ -19,6 +19,7 @@ use crate::caller::Caller;
 use crate::gate::{Gate, lets_call};
 use crate::hearing::{CHUNK, hear};
 use crate::notes::{Called, Pieces};
+use crate::room::Room;
 use crate::terms::Terms;
 use crate::worked::End;
 use basics::send;
@@ -46,13 +47,14 @@ fn write_reply<W: Write, G: Gate>(
     writer: &mut W,
     gate: &G,
     seat: u32,
+    room: Room,
     reply: &Reply,
     closes: bool,
 ) -> Result<Went, End>
     ensures { working.Replies result (sent key.now (packet_of reply.now)) closes
         (W.contents writer.old) (W.contents writer.new) }
 {
-    let packet = reply.sent(key);
+    let packet = room.sent(key, reply);
     let (_, sent) = send(writer, packet.as_slice());
     if let Err(_) = sent {
         return Err(End::WriteFault);
@@ -64,28 +66,29 @@ fn write_reply<W: Write, G: Gate>(
     Ok(Went::On)
 }
 
-// Calls an ask, once the gate lets the caller, and notes it.
-fn ask_by<C: Caller, G: Gate>(
+// Calls an ask, once the gate lets the caller, and notes it. The room for the reply is taken before.
+fn ask_by<H, C: Caller, G: Gate>(
+    terms: &Terms<H, G>,
     caller: &mut C,
-    gate: &G,
     ask: Ask,
     called: &mut Called,
-) -> Result<Answer, End>
-    ensures makes { IfOk result (λ answer. (segment : ℕ) × (place : ℕ) × C.makes caller.old
-        (record { ask = ask; segment = segment; place = place; answer = answer }) caller.new) }
-    ensures kind { IfOk result (λ answer. kind_of_answer answer ≡ kind_of_ask ask) }
+) -> Result<(Answer, Room), End>
+    ensures makes { IfOk result (λ given. (segment : ℕ) × (place : ℕ) × C.makes caller.old
+        (record { ask = ask; segment = segment; place = place; answer = given.0 }) caller.new) }
+    ensures kind { IfOk result (λ given. kind_of_answer given.0 ≡ kind_of_ask ask) }
     ensures uncalled { IfErr result (working.IsUncalled (C.refuses caller.new) ask) }
     ensures err { OnErr result (C.rests caller.old caller.new) }
-    ensures called { MatchResult result (λ answer. called.new ≡ called.old ++ (ask, answer) ∷ [])
+    ensures called { MatchResult result (λ given. called.new ≡ called.old ++ (ask, given.0) ∷ [])
         (λ _. called.new ≡ called.old) }
 {
-    if !lets_call(gate, caller.number()) {
+    if !lets_call(terms.gate, caller.number()) {
         return Err(End::Held);
     }
+    let room = Room::new(terms.alloc)?;
     let asked = Snapshot::of(&ask);
     let answer = caller.ask(ask)?;
     called.add(&asked, &answer);
-    Ok(answer)
+    Ok((answer, room))
 }
 
 // Tells the witness of a packet and its reply, and writes that once it took the notice.
@@ -94,21 +97,22 @@ fn answer<H, G: Gate, V: Witness<Notice>, W: Write>(
     witness: &mut V,
     writer: &mut W,
     seat: u32,
+    room: Room,
     packet: Packet,
-    reply: Reply,
-    closes: bool,
+    given: (Reply, bool),
 ) -> Result<Went, End>
-    ensures { let notice = replied packet reply in
+    ensures { let notice = replied packet given.0 in
         working.Answers result (V.takes witness.old notice witness.new)
-        (V.refuses witness.old notice witness.new) (sent terms.now.key.now (packet_of reply)) closes
-        (W.contents writer.old) (W.contents writer.new) }
+        (V.refuses witness.old notice witness.new) (sent terms.now.key.now (packet_of given.0))
+        given.1 (W.contents writer.old) (W.contents writer.new) }
 {
+    let (reply, closes) = given;
     let notice = Notice::Packet(packet, Some(reply));
     witness.tell(&notice)?;
     let Notice::Packet(_, Some(reply)) = &notice else {
         unreachable!()
     };
-    write_reply(terms.key, writer, terms.gate, seat, reply, closes)
+    write_reply(terms.key, writer, terms.gate, seat, room, reply, closes)
 }
 
 // Tells the witness of what has no reply, after which the connection closes or not.
@@ -152,14 +156,15 @@ pub(crate) fn serve_turn<H, G: Gate, C: Caller, V: Witness<Notice>, W: Write>(
     match turn {
         Turn::Packet(packet, step) => match step {
             Step::Reply(reply, closes) => {
+                let room = Room::new(terms.alloc)?;
                 let seat = caller.number();
-                answer(terms, witness, writer, seat, packet, reply, closes)
+                answer(terms, witness, writer, seat, room, packet, (reply, closes))
             }
             Step::Asks(ask, slot) => {
-                let given = ask_by(caller, terms.gate, ask, called)?;
-                let (reply, closes) = stream.give(slot, given);
+                let (told, room) = ask_by(terms, caller, ask, called)?;
+                let given = stream.give(slot, told);
                 let seat = caller.number();
-                answer(terms, witness, writer, seat, packet, reply, closes)
+                answer(terms, witness, writer, seat, room, packet, given)
             }
             Step::Silent => note(witness, Notice::Packet(packet, None), false),
             Step::Close => note(witness, Notice::Packet(packet, None), true),

@@ -4,4 +4,4 @@ use Rattle.tac_worker.proofs.turning.answer.Goals as goal
 pub returns : goal.returns
 returns g c =
     let found = c.in-Packet-default-Some in
-    answered c.write_reply.result _ _ _ c.args.closes _ _ c.in_ok-tell.ensures.ok (rw (same_reply c.args.reply found.reply found.field-1-is) at c.write_reply.ensures)
+    answered c.write_reply.result _ _ _ c.args.given.1 _ _ c.in_ok-tell.ensures.ok (rw (same_reply c.args.given.0 found.reply found.field-1-is) at c.write_reply.ensures)
