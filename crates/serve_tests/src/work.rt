@@ -7,6 +7,7 @@ mod gates;
 mod linked;
 mod packets;
 mod pipe;
+mod services;
 mod shared;
 mod starved;
 mod streams;

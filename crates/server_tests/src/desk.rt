@@ -10,5 +10,6 @@ mod keeping;
 mod loads;
 mod questions;
 mod rules;
+mod services;
 mod sizes;
 mod support;

@@ -8,6 +8,8 @@ mod io;
 #[cfg(test)]
 mod journal;
 #[cfg(test)]
+mod lists;
+#[cfg(test)]
 mod talk;
 pub mod tally;
 #[cfg(test)]

@@ -1,11 +1,13 @@
 //! A connection that takes packets as tests write them, and turns to notices one after another.
 
+use crate::lists::{arguments_in, push_argument};
+use basics::Bytes;
 use packet_notation::{bytes, packet};
 use std::alloc::{AllocError, Global};
 use std::test::Fail;
 use tac_audit::Notice;
 use tac_authen::{AuthenStatus, read_reply};
-use tac_conn::{Answer, AskKind, By, Name, Packet, Reply, Step, SubjectId};
+use tac_conn::{Answer, Arguments, AskKind, By, Name, Packet, Reply, SENT_MAX, Step, SubjectId};
 use tac_request::{AcctStatus, AuthorReply, AuthorStatus, read_acct_reply, read_author_reply};
 use tac_stream::{Stream, Turn};
 use tac_wire::Key;
@@ -21,6 +23,7 @@ fn key() -> Result<Key, Fail> {
 /// A reply that is wanted.
 #[derive(Drop)]
 pub(crate) struct Wanted {
+    alloc: Global,
     // without its pad
     clear: Vec<u8>,
     sent: Vec<u8>,
@@ -30,6 +33,7 @@ impl Wanted {
     /// One that is written so.
     pub(crate) fn read(alloc: Global, text: &str) -> Result<Wanted, Fail> {
         Ok(Wanted {
+            alloc,
             clear: bytes(alloc, text)?,
             sent: packet(alloc, &key()?, text)?,
         })
@@ -37,7 +41,9 @@ impl Wanted {
 
     // Whether this is it.
     fn is(&self, reply: &Reply) -> Result<bool, Fail> {
-        Ok(reply.sent(&key()?).as_slice() == self.sent.as_slice())
+        let mut sent = Vec::with_capacity(self.alloc, SENT_MAX)?;
+        reply.send_to(&key()?, &mut sent);
+        Ok(sent.as_slice() == self.sent.as_slice())
     }
 }
 
@@ -93,36 +99,92 @@ fn denied_by(rule: &str) -> Option<Answer> {
     }
 }
 
+// The refusal of a service by a subject: `KIND NAME`.
+fn refused_by(owner: &str) -> Option<Answer> {
+    let Some((kind, name)) = owner.split_once(' ') else {
+        return None;
+    };
+    match subject(kind, name) {
+        Some(owner) => Some(Answer::Refused(owner)),
+        None => None,
+    }
+}
+
+// What names who decided.
+fn decided_by(text: &str) -> Option<Answer> {
+    if let Some(rule) = text.strip_prefix("denied by ") {
+        return denied_by(rule);
+    }
+    match text.strip_prefix("refused by ") {
+        Some(owner) => refused_by(owner),
+        None => None,
+    }
+}
+
 // The answer that a refusal carries which says this.
 fn refused(text: &str) -> Option<Answer> {
     match text {
         "unknown user" => Some(Answer::UnknownUser),
         "unprintable command" => Some(Answer::Unprintable),
         "denied by default" => Some(Answer::Denied(By::Default)),
-        _ => match text.strip_prefix("denied by ") {
-            Some(rule) => denied_by(rule),
-            None => None,
-        },
+        "unsupported service" => Some(Answer::Unserved),
+        _ => decided_by(text),
     }
 }
 
-// The answer that this carries.
-fn authorised_by(reply: &AuthorReply) -> Option<Answer> {
-    match reply.status {
-        AuthorStatus::PASS_ADD => Some(Answer::Permitted(reply.priv_lvl)),
-        AuthorStatus::FAIL => match str::from_utf8(reply.msg.as_slice()) {
-            Ok(text) => refused(text),
-            Err(_) => None,
+// The level that an argument carries, if it is one.
+fn level_in(argument: &[u8]) -> Option<u8> {
+    let Ok(text) = str::from_utf8(argument) else {
+        return None;
+    };
+    let Some(digits) = text.strip_prefix("priv-lvl=") else {
+        return None;
+    };
+    match digits.parse::<u8>() {
+        Ok(level) => Some(level),
+        Err(_) => None,
+    }
+}
+
+// The grant of these arguments.
+fn granted(alloc: Global, args: &[Bytes]) -> Result<Answer, Fail> {
+    let mut list = Arguments::new(alloc);
+    for argument in args {
+        push_argument(&mut list, argument.as_slice())?;
+    }
+    Ok(Answer::Granted(list))
+}
+
+// The answer that a PASS_ADD with these arguments carries: one that is a level may be a shell's.
+fn permitted(alloc: Global, args: &[Bytes]) -> Result<Answer, Fail> {
+    match args {
+        [] => Ok(Answer::Permitted(None)),
+        [argument] => match level_in(argument.as_slice()) {
+            Some(level) => Ok(Answer::Permitted(Some(level))),
+            None => granted(alloc, args),
         },
-        _ => None,
+        _ => granted(alloc, args),
+    }
+}
+
+// The answer that this carries, whose body is here too.
+fn authorised_by(alloc: Global, reply: &AuthorReply, body: &[u8]) -> Result<Option<Answer>, Fail> {
+    match reply.status {
+        AuthorStatus::PASS_ADD => {
+            let args = arguments_in(alloc, body)?;
+            let answer = permitted(alloc, args.as_slice())?;
+            Ok(Some(answer))
+        }
+        AuthorStatus::FAIL => Ok(refused(str::from_utf8(reply.msg.as_slice())?)),
+        _ => Ok(None),
     }
 }
 
 // The answer that a reply of authorisation carries.
-fn authorised(body: &[u8]) -> Option<Answer> {
-    match read_author_reply(body) {
-        Ok(reply) => authorised_by(&reply),
-        Err(_) => None,
+fn authorised(alloc: Global, body: &[u8]) -> Result<Option<Answer>, Fail> {
+    match read_author_reply(alloc, body) {
+        Ok(reply) => authorised_by(alloc, &reply, body),
+        Err(_) => Ok(None),
     }
 }
 
@@ -136,17 +198,17 @@ fn accounted(body: &[u8]) -> Option<Answer> {
 }
 
 // The answer to an ask of this kind that this reply carries, where one is wanted.
-fn answer_in(kind: AskKind, wanted: Option<&Wanted>) -> Option<Answer> {
+fn answer_in(kind: AskKind, wanted: Option<&Wanted>) -> Result<Option<Answer>, Fail> {
     let Some(wanted) = wanted else {
-        return None;
+        return Ok(None);
     };
     let Some(body) = wanted.clear.as_slice().get(12..) else {
-        return None;
+        return Ok(None);
     };
     match kind {
-        AskKind::Authentication => authenticated(body),
-        AskKind::Authorisation => authorised(body),
-        AskKind::Accounting => accounted(body),
+        AskKind::Authentication => Ok(authenticated(body)),
+        AskKind::Authorisation => authorised(wanted.alloc, body),
+        AskKind::Accounting => Ok(accounted(body)),
     }
 }
 
@@ -205,13 +267,17 @@ impl Talk {
         match self.stream.next(&key()?)? {
             Turn::Packet(packet, step) => match step {
                 Step::Reply(reply, _) => replied(packet, reply, wanted),
-                Step::Asks(_ask, slot) => match answer_in(slot.kind(), wanted) {
-                    Some(answer) if answer.kind() == slot.kind() => {
-                        let (reply, _) = self.stream.give(slot, answer);
-                        replied(packet, reply, wanted)
+                Step::Asks(_ask, slot) => {
+                    let answer = answer_in(slot.kind(), wanted)?;
+                    let Some(answer) = answer else {
+                        return Ok(Turned::Other);
+                    };
+                    if answer.kind() != slot.kind() {
+                        return Ok(Turned::Other);
                     }
-                    _ => Ok(Turned::Other),
-                },
+                    let (reply, _) = self.stream.give(slot, answer);
+                    replied(packet, reply, wanted)
+                }
                 Step::Silent | Step::Close => Ok(Turned::Unreplied(Notice::Packet(packet, None))),
             },
             Turn::Need => Ok(Turned::Need),

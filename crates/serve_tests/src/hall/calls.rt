@@ -123,6 +123,55 @@ fn logins_are_answered_by_the_desk(rt: HostRuntime) -> Result<(), Fail> {
     )
 }
 
+// What the desk says of services before edits and after them. The caller, the view and the log each
+// have it.
+const SERVICES: &str = "
+    0 serve bob junos-exec = 0:0 unserved
+    1 service group ops junos-exec local-user-name=ops = 0:1 changes 0
+    1 service group ops junos-exec allow-commands=show .* = 0:2 changes 0
+    0 serve bob junos-exec = 0:3 granted 'local-user-name=ops' 'allow-commands=show .*'
+    1 serve bob junos-exec ip = 0:4 unserved
+    1 refuse user bob ppp/ip = 0:5 changes 0
+    0 serve bob ppp ip = 0:6 refused by user bob
+    1 insert group ops 1 permit () = 0:7 changes 1
+    0 run bob = 0:8 permitted
+    1 service group ops shell shell:roles*admin = 0:9 changes 0
+    1 priv group ops 15 = 0:10 changes 0
+    0 run bob = 0:11 granted 'priv-lvl=15' 'shell:roles*admin'
+    0 run bob show version = 0:12 permitted
+    1 serve bob junos-exec = 1 LogFull
+";
+
+const SERVED: Kept = Kept {
+    number: 0,
+    base: OPS,
+    lines: "
+        0 serve bob junos-exec = unserved
+        1 service group ops junos-exec local-user-name=ops = changes 0
+        1 service group ops junos-exec allow-commands=show .* = changes 0
+        0 serve bob junos-exec = granted 'local-user-name=ops' 'allow-commands=show .*'
+        1 serve bob junos-exec ip = unserved
+        1 refuse user bob ppp/ip = changes 0
+        0 serve bob ppp ip = refused by user bob
+        1 insert group ops 1 permit () = changes 1
+        0 run bob = permitted
+        1 service group ops shell shell:roles*admin = changes 0
+        1 priv group ops 15 = changes 0
+        0 run bob = granted 'priv-lvl=15' 'shell:roles*admin'
+        0 run bob show version = permitted
+    ",
+    policy: "policy 3\ngroup ops\npriv 15\nservice junos-exec local-user-name=ops\n\
+        service junos-exec allow-commands=show .*\nservice shell shell:roles*admin\n\
+        permit ()\npermit show .*\nuser bob in ops\nrefuse ppp/ip\n",
+};
+
+#[test]
+fn services_are_answered_by_the_desk(rt: HostRuntime) -> Result<(), Fail> {
+    let hall = hall_of(&rt, OPS, 13)?;
+    let seats = seats_after(&rt, &hall, 2, SERVICES)?;
+    closes_with(rt.alloc(), hall, seats, &SERVED)
+}
+
 #[test]
 fn records_are_stored_by_the_desk(rt: HostRuntime) -> Result<(), Fail> {
     converses(

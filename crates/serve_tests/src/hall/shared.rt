@@ -287,6 +287,31 @@ hqJyrpV8VNbVbEd9aL68I4mDrkiBvwdUGcUaMWUg.1qTkxX7AgAHehNkiN6RvZvZLeNETdb0oU5uXWjj
     )
 }
 
+#[test]
+fn services_count_at_once(rt: HostRuntime) -> Result<(), Fail> {
+    let desk = desk_of(rt.alloc(), OPS)?;
+    converses(
+        &rt,
+        desk,
+        Talk {
+            limits: Limits {
+                calls: 9,
+                rotate_at: NEVER,
+            },
+            lines: "
+        0 serve bob junos-exec = 0:0 unserved
+        1 service group ops junos-exec local-user-name=ops = 0:1 changes 0
+        1 service group ops junos-exec allow-commands=show .* = 0:2 changes 0
+        0 serve bob junos-exec = 0:3 granted 'local-user-name=ops' 'allow-commands=show .*'
+        0 hash serve bob junos-exec = no hash
+        1 rotate = 0 of 4
+        1 refuse user bob junos-exec = 1:0 changes 0
+        0 serve bob junos-exec = 1:1 refused by user bob
+        ",
+        },
+    )
+}
+
 // A desk has 64 seats, and no more.
 fn has_its_seats<J: Run, D: Desk, R: Wait + AllocGlobal>(
     rt: &R,

@@ -13,7 +13,7 @@ use tac_conn::{Answer, Ask, Proof, Service, Typed};
 use tac_desk::{Desk, Query, State};
 use tac_desks::PlainDesk;
 use tac_hall::{
-    Call, CallAnswer, Entry, Hall, HallFault, Receipt, Seat, Segment, Settled, Shared, joins,
+    Call, CallAnswer, Entry, Hall, HallFault, Made, Receipt, Seat, Segment, Settled, Shared, joins,
 };
 use tac_request::{AcctKind, Record};
 
@@ -50,6 +50,24 @@ fn run(alloc: Global, user: &str, line: &str) -> Result<Call, AllocError> {
     Ok(Call::Ask(Ask::Authorise { user, line }))
 }
 
+// A protocol; the empty text means none.
+fn protocol(alloc: Global, text: &str) -> Result<Option<Bytes>, AllocError> {
+    if text.is_empty() {
+        return Ok(None);
+    }
+    let protocol = Bytes::from_slice(alloc, text.as_bytes())?;
+    Ok(Some(protocol))
+}
+
+fn serve(alloc: Global, user: &str, words: &str) -> Result<Call, AllocError> {
+    let (service, rest) = word(words);
+    Ok(Call::Ask(Ask::Serve {
+        user: Bytes::from_slice(alloc, user.as_bytes())?,
+        service: Bytes::from_slice(alloc, service.as_bytes())?,
+        protocol: protocol(alloc, rest)?,
+    }))
+}
+
 fn login(alloc: Global, user: &str, secret: &str) -> Result<Call, AllocError> {
     let user = Bytes::from_slice(alloc, user.as_bytes())?;
     let secret = Bytes::from_slice(alloc, secret.as_bytes())?;
@@ -77,11 +95,13 @@ pub(crate) fn show_version(alloc: Global) -> Result<Call, AllocError> {
     run(alloc, "bob", "show version")
 }
 
-// `run NAME LINE`, `pass NAME SECRET`, or `record NAME TASK`; the verb comes apart from the rest.
+// `run NAME LINE`, `serve NAME SERVICE PROTOCOL`, perhaps without the last word, `pass NAME SECRET`,
+// or `record NAME TASK`; the verb comes apart from the rest.
 fn ask_of(alloc: Global, verb: &str, rest: &str) -> Result<Call, AllocError> {
     let (name, what) = word(rest);
     match verb {
         "run" => run(alloc, name, what),
+        "serve" => serve(alloc, name, what),
         "pass" => login(alloc, name, what),
         _ => record(alloc, name, what),
     }
@@ -115,12 +135,12 @@ fn policy_of(alloc: Global, words: &str) -> Result<Policy, Fail> {
     Ok(Policy::read(alloc, text.as_bytes())?)
 }
 
-/// `run NAME LINE`, `pass NAME SECRET`, `record NAME TASK`, `records`, `stop`, `batch EDITS`, `load
-/// LINES`, or an edit.
+/// `run NAME LINE`, `serve NAME SERVICE` or `serve NAME SERVICE PROTOCOL`, `pass NAME SECRET`,
+/// `record NAME TASK`, `records`, `stop`, `batch EDITS`, `load LINES`, or an edit.
 pub(crate) fn call_of(alloc: Global, words: &str) -> Result<Call, Fail> {
     let (verb, rest) = word(words);
     match verb {
-        "run" | "pass" | "record" => Ok(ask_of(alloc, verb, rest)?),
+        "run" | "serve" | "pass" | "record" => Ok(ask_of(alloc, verb, rest)?),
         "records" => Ok(Call::Query(Query::Records)),
         "stop" => Ok(Call::Stop),
         "batch" => Ok(Call::Batch(edits(alloc, rest)?)),
@@ -129,15 +149,32 @@ pub(crate) fn call_of(alloc: Global, words: &str) -> Result<Call, Fail> {
     }
 }
 
-// The word for what a desk answers, but for a denial by a rule.
+// The word for what a desk answers, but for what names somebody and for grants.
 fn answer_word(answer: &Answer) -> &'static str {
     match answer {
         Answer::Permitted(None) => "permitted",
         Answer::Pass => "pass",
         Answer::Fail => "fail",
+        Answer::Unserved => "unserved",
         Answer::Stored => "stored",
         _ => "another answer",
     }
+}
+
+// Arguments, whose lengths these are, in quotes.
+fn show_arguments(out: &mut String, lengths: &[u8], joined: &[u8]) -> Result<(), AllocError> {
+    let mut rest = joined;
+    for length in lengths {
+        let Some((argument, others)) = rest.split_at_checked(usize::from(*length)) else {
+            return out.push_str(" and one that is cut off");
+        };
+        match str::from_utf8(argument) {
+            Ok(argument) => write!(out, " '{argument}'")?,
+            Err(_) => out.push_str(" and bytes")?,
+        }
+        rest = others;
+    }
+    Ok(())
 }
 
 // What a desk answers.
@@ -145,6 +182,12 @@ fn show_ask(out: &mut String, answer: &Answer) -> Result<(), AllocError> {
     match answer {
         Answer::Denied(By::Rule(owner, number)) => {
             write!(out, "denied by {owner} rule {number}")
+        }
+        Answer::Refused(owner) => write!(out, "refused by {owner}"),
+        Answer::Granted(arguments) => {
+            let (lengths, joined) = arguments.parts();
+            out.push_str("granted")?;
+            show_arguments(out, lengths, joined)
         }
         _ => out.push_str(answer_word(answer)),
     }
@@ -166,7 +209,8 @@ fn show_changes<F: Display>(
     }
 }
 
-fn show_answer(out: &mut String, answer: &CallAnswer) -> Result<(), AllocError> {
+/// What a call is answered.
+pub(crate) fn show_answer(out: &mut String, answer: &CallAnswer) -> Result<(), AllocError> {
     match answer {
         CallAnswer::Ask(answer) => show_ask(out, answer),
         CallAnswer::Edit(told) => show_changes(out, told),
@@ -188,7 +232,19 @@ pub(crate) fn show(out: &mut String, told: &Result<Receipt, HallFault>) -> Resul
     }
 }
 
-// Makes this call by a seat.
+// Whether the last call of a view is that of the receipt, with an equal answer.
+fn is_viewed(receipt: &Receipt, view: &[Made]) -> bool {
+    match view.last() {
+        Some(made) => {
+            made.segment == receipt.segment
+                && made.place == receipt.place
+                && made.answer.same(&receipt.answer)
+        }
+        None => false,
+    }
+}
+
+// Makes this call by a seat, whose view has it then.
 fn makes<D: Desk, R: Wait + AllocGlobal>(
     rt: &R,
     hall: &Hall<D>,
@@ -197,7 +253,11 @@ fn makes<D: Desk, R: Wait + AllocGlobal>(
     shown: &mut String,
 ) -> Result<(), AllocError> {
     let told = hall.call(rt, seat, call);
-    show(shown, &told)
+    show(shown, &told)?;
+    match &told {
+        Ok(receipt) if !is_viewed(receipt, seat.view()) => shown.push_str(" not viewed"),
+        _ => Ok(()),
+    }
 }
 
 // Makes the call that these words say by a seat.

@@ -46,7 +46,9 @@ impl Desk for Starved {
 
     fn ask(&mut self, ask: &Ask) -> Result<Answer, AllocError> {
         match ask {
-            Ask::Authenticate { .. } | Ask::Authorise { .. } => self.inner.ask(ask),
+            Ask::Authenticate { .. } | Ask::Authorise { .. } | Ask::Serve { .. } => {
+                self.inner.ask(ask)
+            }
             Ask::Account(_) => Err(AllocError),
         }
     }

@@ -16,30 +16,54 @@ use tac_desk::Desk;
 use tac_desks::{LiveDesk, PlainDesk};
 use tac_tally::RecordLimit;
 
-// An answer to a connection, whole.
-fn push_answer(text: &mut String, answer: Answer) -> Result<(), AllocError> {
-    match answer {
-        Answer::Pass => writeln!(text, "pass"),
-        Answer::Fail => writeln!(text, "fail"),
-        Answer::UnknownUser => writeln!(text, "unknown user"),
-        Answer::Unprintable => writeln!(text, "unprintable"),
-        Answer::Denied(By::Rule(owner, number)) => writeln!(
-            text,
-            "denied by {owner} rule {number}"
-        ),
-        Answer::Denied(By::Default) => writeln!(text, "denied by default"),
-        Answer::Permitted(Some(level)) => writeln!(text, "permitted at {level}"),
-        Answer::Permitted(None) => writeln!(text, "permitted"),
-        Answer::Stored => writeln!(text, "stored"),
-        Answer::BookFull => writeln!(text, "full"),
+// Arguments, whose lengths these are, in quotes.
+fn push_arguments(text: &mut String, lengths: &[u8], joined: &[u8]) -> Result<(), Fail> {
+    let mut rest = joined;
+    for length in lengths {
+        let (argument, others) = rest
+            .split_at_checked(usize::from(*length))
+            .ok_or("no argument")?;
+        let argument = str::from_utf8(argument)?;
+        write!(text, " '{argument}'")?;
+        rest = others;
     }
+    Ok(())
+}
+
+// An answer to a connection, but for the arguments of a grant.
+fn push_word(text: &mut String, answer: &Answer) -> Result<(), AllocError> {
+    match answer {
+        Answer::Pass => text.push_str("pass"),
+        Answer::Fail => text.push_str("fail"),
+        Answer::UnknownUser => text.push_str("unknown user"),
+        Answer::Unprintable => text.push_str("unprintable"),
+        Answer::Denied(By::Rule(owner, number)) => write!(text, "denied by {owner} rule {number}"),
+        Answer::Denied(By::Default) => text.push_str("denied by default"),
+        Answer::Permitted(Some(level)) => write!(text, "permitted at {level}"),
+        Answer::Permitted(None) => text.push_str("permitted"),
+        Answer::Unserved => text.push_str("unserved"),
+        Answer::Refused(owner) => write!(text, "refused by {owner}"),
+        Answer::Granted(_) => text.push_str("granted"),
+        Answer::Stored => text.push_str("stored"),
+        Answer::BookFull => text.push_str("full"),
+    }
+}
+
+// The same, whole.
+fn push_answer(text: &mut String, answer: &Answer) -> Result<(), Fail> {
+    push_word(text, answer)?;
+    if let Answer::Granted(arguments) = answer {
+        let (lengths, joined) = arguments.parts();
+        push_arguments(text, lengths, joined)?;
+    }
+    Ok(text.push_str("\n")?)
 }
 
 fn asks<D: Desk>(alloc: Global, desk: &mut D, words: &str, out: &mut Vec<u8>) -> Result<(), Fail> {
     let ask = ask(alloc, words)?;
     let mut text = String::new(alloc);
     match desk.ask(&ask) {
-        Ok(answer) => push_answer(&mut text, answer)?,
+        Ok(answer) => push_answer(&mut text, &answer)?,
         Err(error) => return Err(Fail::from(error)),
     }
     out.extend_from_slice(text.as_bytes())?;
@@ -481,24 +505,29 @@ fn says<R: Abort + AllocGlobal, D: Desk>(rt: &R, desk: &mut D, whole: &str) -> R
     Ok(())
 }
 
-/// The desk that keeps nothing, of the policy above and at most ten records, says its part.
-pub(crate) fn says_plainly<R: Abort + AllocGlobal>(rt: &R, whole: &str) -> Result<(), Fail> {
+// The desk that keeps nothing, of the policy above and at most ten records, says its part.
+fn says_plainly<R: Abort + AllocGlobal>(rt: &R, whole: &str) -> Result<(), Fail> {
     let policy = kept_policy(rt.alloc())?;
     let mut desk = PlainDesk::with_limit(rt.alloc(), policy, RecordLimit::forgetting(10))?;
     says(rt, &mut desk, whole)
 }
 
-/// So does the desk that keeps automata.
-pub(crate) fn says_live<R: Abort + AllocGlobal>(rt: &R, whole: &str) -> Result<(), Fail> {
+// So does the desk that keeps automata.
+fn says_live<R: Abort + AllocGlobal>(rt: &R, whole: &str) -> Result<(), Fail> {
     let policy = kept_policy(rt.alloc())?;
     let mut desk = LiveDesk::with_limit(rt.alloc(), policy, RecordLimit::forgetting(10))?;
     says(rt, &mut desk, whole)
+}
+
+/// Both say their parts.
+pub(crate) fn both_say<R: Abort + AllocGlobal>(rt: &R, whole: &str) -> Result<(), Fail> {
+    says_plainly(rt, whole)?;
+    says_live(rt, whole)
 }
 
 // Where an eleventh record comes five go. Numbers, tallies and drift are of those that are kept.
 #[test]
 fn the_latest_ten_records(rt: HostRuntime) -> Result<(), Fail> {
     let whole = whole_talk(rt.alloc())?;
-    says_plainly(&rt, whole.as_str())?;
-    says_live(&rt, whole.as_str())
+    both_say(&rt, whole.as_str())
 }

@@ -1,6 +1,6 @@
 //! Which hash a password is compared with, and that it can be worked out before it is asked.
 
-use crate::desk::both::{says_live, says_plainly};
+use crate::desk::both::both_say;
 use basics::Bytes;
 use pol_text::Policy;
 use std::alloc::Global;
@@ -73,8 +73,7 @@ ok
 % login ann blue-lake
 no hash
 ";
-    says_plainly(&rt, whole)?;
-    says_live(&rt, whole)
+    both_say(&rt, whole)
 }
 
 // Bob, by a hash of `blue-lake` that takes many rounds.

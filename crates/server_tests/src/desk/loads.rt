@@ -1,10 +1,9 @@
 //! What is answered where another policy takes the place of the present one, and what stays.
 
-use crate::desk::both::{says_live, says_plainly};
+use crate::desk::both::both_say;
 use pol_text::Policy;
 use std::alloc::{AllocError, Global};
 use std::fmt::Write;
-use std::process::Abort;
 use std::test::Fail;
 use tac_console::write_edit_answer;
 use tac_desk::Desk;
@@ -40,11 +39,6 @@ pub(crate) fn load<D: Desk>(
     let policy = policy_of(alloc, lines)?;
     answer(alloc, desk, &policy, out)?;
     Ok(())
-}
-
-fn both_say<R: Abort + AllocGlobal>(rt: &R, whole: &str) -> Result<(), Fail> {
-    says_plainly(rt, whole)?;
-    says_live(rt, whole)
 }
 
 // The desks begin with `group ops; permit show .*; user bob in ops; user eve in ops`. Bob's lines

@@ -111,12 +111,36 @@ fn account(alloc: Global, words: &str) -> Result<Ask, Fail> {
     )))
 }
 
+// A protocol; the empty text means none.
+fn protocol(alloc: Global, text: &str) -> Result<Option<Bytes>, AllocError> {
+    if text.is_empty() {
+        return Ok(None);
+    }
+    let protocol = Bytes::from_slice(alloc, text.as_bytes())?;
+    Ok(Some(protocol))
+}
+
+// `NAME SERVICE` or `NAME SERVICE PROTOCOL`.
+fn serve(alloc: Global, words: &str) -> Result<Ask, AllocError> {
+    let (name, rest) = word(words);
+    let (service, rest) = word(rest);
+    Ok(Ask::Serve {
+        user: Bytes::from_slice(alloc, name.as_bytes())?,
+        service: Bytes::from_slice(alloc, service.as_bytes())?,
+        protocol: protocol(alloc, rest)?,
+    })
+}
+
 /// `login NAME PASSWORD`, `enable NAME PASSWORD`, `chap NAME RESPONSE` to the challenge `c` with
-/// the id `a`, `run NAME LINE` or `record ..`.
+/// the id `a`, `run NAME LINE`, `serve NAME SERVICE PROTOCOL`, perhaps without the last word, or
+/// `record ..`.
 pub(crate) fn ask(alloc: Global, words: &str) -> Result<Ask, Fail> {
     let (verb, rest) = word(words);
     if verb == "record" {
         return account(alloc, rest);
+    }
+    if verb == "serve" {
+        return Ok(serve(alloc, rest)?);
     }
     let (name, rest) = word(rest);
     let user = Bytes::from_slice(alloc, name.as_bytes())?;
@@ -158,6 +182,9 @@ pub(crate) fn asked(desk: &mut PlainDesk, ask: &Ask) -> Result<&'static str, All
         Answer::Unprintable => "unprintable",
         Answer::Denied(_) => "denied",
         Answer::Permitted(_) => "permitted",
+        Answer::Unserved => "unserved",
+        Answer::Refused(_) => "refused",
+        Answer::Granted(_) => "granted",
         Answer::Stored => "stored",
         Answer::BookFull => "full",
     })

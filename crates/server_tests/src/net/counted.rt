@@ -47,7 +47,7 @@ fn edits_of(alloc: Global, lines: &str) -> Result<Vec<Edit>, Fail> {
 // what that is answered.
 fn does<D: Desk>(alloc: Global, desk: &mut D, word: &str) -> Result<(), Fail> {
     if word == "record" {
-        desk.ask(&record(alloc)?)?;
+        let _ = desk.ask(&record(alloc)?)?;
     } else if word == "load" {
         let _ = desk.load(&Policy::read(alloc, OTHER)?);
     } else if word == "ask" {
@@ -115,7 +115,7 @@ fn are_kept<R: Abort + AllocGlobal>(rt: &R, limit: RecordLimit) -> Result<(), Fa
     let plain = PlainDesk::with_limit(alloc, Policy::new(alloc), limit)?;
     let mut desk = CountedDesk::new(plain, &counts.desk, limit);
     for count in 0..30 {
-        desk.ask(&record(alloc)?)?;
+        let _ = desk.ask(&record(alloc)?)?;
         let kept = kept(&mut desk)? as u64;
         assert_eq!(rt; counts.desk.records(), kept, "of {limit:?} after {count}");
     }

@@ -123,9 +123,9 @@ fn line(alloc: Global) -> Result<Ask, AllocError> {
 // `l` is a line, and `e` an edit that is refused.
 fn asked<D: Desk>(alloc: Global, desk: &mut D, letter: char) -> Result<bool, Fail> {
     Ok(match letter {
-        'r' => desk.ask(&record(alloc)?)? == Answer::Stored,
-        'f' => desk.ask(&record(alloc)?)? == Answer::BookFull,
-        'l' => desk.ask(&line(alloc)?)? == Answer::UnknownUser,
+        'r' => matches!(desk.ask(&record(alloc)?), Ok(Answer::Stored)),
+        'f' => matches!(desk.ask(&record(alloc)?), Ok(Answer::BookFull)),
+        'l' => matches!(desk.ask(&line(alloc)?), Ok(Answer::UnknownUser)),
         'e' => desk.edit(&read_edit(alloc, b"remove user bob")?).is_err(),
         _ => false,
     })

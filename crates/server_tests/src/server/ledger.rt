@@ -120,6 +120,7 @@ impl Desk for Ledger {
         match ask {
             Ask::Authenticate { .. } => Ok(Answer::Fail),
             Ask::Authorise { .. } => Ok(Answer::UnknownUser),
+            Ask::Serve { .. } => Ok(Answer::Unserved),
             Ask::Account(item) => self.store(item),
         }
     }

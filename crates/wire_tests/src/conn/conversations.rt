@@ -1,12 +1,15 @@
 //! What a connection says, packet by packet.
 
+use crate::lists::{push_argument, push_times};
 use basics::Bytes;
 use packet_notation::{packet, push_digits};
 use std::alloc::{AllocError, Global};
 use std::fmt::Write;
 use std::process::Abort;
 use std::test::Fail;
-use tac_conn::{Answer, Ask, By, Conn, Name, Proof, Record, Sent, Step, SubjectId};
+use tac_conn::{
+    Answer, Arguments, Ask, By, Conn, Name, Proof, Record, Reply, SENT_MAX, Step, SubjectId,
+};
 use tac_wire::{Frame, Header, Key, pad_in_place};
 
 /// The key of all conversations.
@@ -52,15 +55,11 @@ fn push_unpadded(text: &mut String, packet: &mut [u8]) -> Result<(), Fail> {
     Ok(())
 }
 
-// Adds a packet that is sent.
-fn push_packet(text: &mut String, alloc: Global, packet: &[u8]) -> Result<(), Fail> {
-    let mut packet = Vec::from_slice(alloc, packet)?;
-    push_unpadded(text, packet.as_mut_slice())
-}
-
-// The same, and whether the connection closes.
-fn push_sent(text: &mut String, alloc: Global, packet: &Sent, closes: bool) -> Result<(), Fail> {
-    push_packet(text, alloc, packet.as_slice())?;
+// Adds a reply as it is sent, and whether the connection closes.
+fn push_sent(text: &mut String, alloc: Global, reply: &Reply, closes: bool) -> Result<(), Fail> {
+    let mut packet = Vec::with_capacity(alloc, SENT_MAX)?;
+    reply.send_to(&key()?, &mut packet);
+    push_unpadded(text, packet.as_mut_slice())?;
     if closes {
         text.push_str(" closes")?;
     }
@@ -86,6 +85,23 @@ fn push_command(text: &mut String, user: &[u8], line: &[u8]) -> Result<(), Fail>
     Ok(())
 }
 
+// Adds who asks for which service.
+fn push_service(
+    text: &mut String,
+    user: &[u8],
+    service: &[u8],
+    protocol: &Option<Bytes>,
+) -> Result<(), Fail> {
+    let user = str::from_utf8(user)?;
+    let service = str::from_utf8(service)?;
+    write!(text, "{user} service {service}")?;
+    if let Some(protocol) = protocol {
+        let protocol = str::from_utf8(protocol.as_slice())?;
+        write!(text, " protocol {protocol}")?;
+    }
+    Ok(text.push_str(": ")?)
+}
+
 // Adds what is to be recorded.
 fn push_record(text: &mut String, record: &Record) -> Result<(), Fail> {
     let user = str::from_utf8(record.user.as_slice())?;
@@ -109,55 +125,84 @@ fn push_asked(text: &mut String, ask: Ask) -> Result<(), Fail> {
             proof,
         } => push_login(text, user.as_slice(), service.0, proof),
         Ask::Authorise { user, line } => push_command(text, user.as_slice(), line.as_slice()),
+        Ask::Serve {
+            user,
+            service,
+            protocol,
+        } => push_service(text, user.as_slice(), service.as_slice(), protocol),
         Ask::Account(record) => push_record(text, record),
     }
 }
 
-// Adds what is said to a packet: what is asked, where the desk is, and what is sent, where it
-// answers so.
-fn push_said<R: AllocGlobal>(
-    rt: &R,
-    conn: &mut Conn,
-    text: &mut String,
-    packet: &str,
-    answer: Answer,
-) -> Result<(), Fail> {
-    if conn.pending().is_some() {
-        return Err(Fail::from("an answer is due"));
+// Adds an argument so often.
+fn push_often(list: &mut Arguments, argument: &[u8], times: u32) -> Result<(), Fail> {
+    for _ in 0..times {
+        push_argument(list, argument)?;
     }
-    let key = key()?;
-    let (_packet, step) = conn.take(&key, frame(rt, packet)?)?;
-    match step {
-        Step::Reply(reply, closes) => push_sent(text, rt.alloc(), &reply.sent(&key), closes),
-        Step::Asks(ask, slot) => {
-            push_asked(text, ask)?;
-            if answer.kind() != slot.kind() {
-                return Err(Fail::from("no answer to this"));
-            }
-            let (reply, closes) = conn.give(slot, answer);
-            push_sent(text, rt.alloc(), &reply.sent(&key), closes)
+    Ok(())
+}
+
+// The arguments that a word names.
+fn arguments(alloc: Global, word: &str) -> Result<Arguments, Fail> {
+    let mut list = Arguments::new(alloc);
+    match word {
+        "junos" => {
+            push_argument(&mut list, b"local-user-name=ops")?;
+            push_argument(&mut list, b"allow-commands=show .*")?;
         }
-        Step::Silent => Ok(text.push_str("silent")?),
-        Step::Close => Ok(text.push_str("close")?),
+        "firewall" => push_argument(&mut list, b"PaloAlto-Admin-Role=superuser")?,
+        "most" => push_often(&mut list, &[b'a'; 255], 255)?,
+        "bare" => {}
+        _ => return Err(Fail::from("no answer")),
     }
+    Ok(list)
 }
 
 // The answer of a desk that a word names.
-fn answer(word: &str) -> Result<Answer, Fail> {
+fn answer_of(alloc: Global, word: &str) -> Result<Answer, Fail> {
+    let ops = SubjectId::group(Name::read(b"ops").ok_or("no name")?);
     Ok(match word {
         "pass" => Answer::Pass,
         "fail" => Answer::Fail,
         "permitted" => Answer::Permitted(None),
         "level-15" => Answer::Permitted(Some(15)),
-        "ops-2" => {
-            let ops = Name::read(b"ops").ok_or("no name")?;
-            Answer::Denied(By::Rule(SubjectId::group(ops), 2))
-        }
+        "ops-2" => Answer::Denied(By::Rule(ops, 2)),
         "denied" => Answer::Denied(By::Default),
+        "unserved" => Answer::Unserved,
+        "refused" => Answer::Refused(ops),
         "stored" => Answer::Stored,
         "full" => Answer::BookFull,
-        _ => return Err(Fail::from("no answer")),
+        _ => Answer::Granted(arguments(alloc, word)?),
     })
+}
+
+// Adds what is said to a packet: what is asked, where the desk is, and what is sent, where it
+// answers as the word says.
+fn push_said<R: AllocGlobal>(
+    rt: &R,
+    conn: &mut Conn,
+    text: &mut String,
+    packet: &str,
+    word: &str,
+) -> Result<(), Fail> {
+    if conn.pending().is_some() {
+        return Err(Fail::from("an answer is due"));
+    }
+    let (_packet, step) = conn.take(&key()?, frame(rt, packet)?)?;
+    match step {
+        Step::Reply(reply, closes) => push_sent(text, rt.alloc(), &reply, closes),
+        Step::Asks(ask, slot) => {
+            push_asked(text, ask)?;
+            let answer = answer_of(rt.alloc(), word)?;
+            if answer.kind() != slot.kind() {
+                return Err(Fail::from("no answer to this"));
+            }
+            let (reply, closes) = conn.give(slot, answer);
+            push_sent(text, rt.alloc(), &reply, closes)
+        }
+        Step::Silent => Ok(text.push_str("silent")?),
+        Step::Close => Ok(text.push_str("close")?),
+    }
 }
 
 // What is said has to be this, whose packets are in the notation of packets.
@@ -186,7 +231,7 @@ fn hears<R: Abort + AllocGlobal>(
     };
     assert!(rt; said.is_empty(), "no answer is wanted before {line}");
     let (word, packet) = packet.split_once(' ').ok_or("no packet")?;
-    push_said(rt, conn, said, packet, answer(word)?)
+    push_said(rt, conn, said, packet, word)
 }
 
 // The same of each line.
@@ -329,6 +374,56 @@ fn authorisation(rt: HostRuntime) -> Result<(), Fail> {
         bob: show version: c0020200.00000001.00000017.100000110000'denied by default' closes
         ",
     )
+}
+
+#[test]
+fn other_services(rt: HostRuntime) -> Result<(), Fail> {
+    converses(
+        &rt,
+        "
+        > junos c0020104.00000001.00000022.060101010304000112'bobtty0service=junos-exec'
+        bob service junos-exec: c0020204.00000001.00000031.0102000000001316'local-user-name=opsallow-commands=show .*'
+        > refused c0020104.00000002.00000022.060101010304000112'bobtty0service=junos-exec'
+        bob service junos-exec: c0020204.00000002.0000001a.100000140000'refused by group ops'
+        > unserved c0020104.00000003.00000022.060101010304000112'bobtty0service=junos-exec'
+        bob service junos-exec: c0020204.00000003.00000019.100000130000'unsupported service'
+        > bare c0020104.00000004.00000022.060101010304000112'bobtty0service=junos-exec'
+        bob service junos-exec: c0020204.00000004.00000006.010000000000
+
+        > firewall c0020100.00000001.00000032.06010101030400021011'bobtty0service=PaloAltoprotocol=firewall'
+        bob service PaloAlto protocol firewall: c0020200.00000001.00000024.0101000000001d'PaloAlto-Admin-Role=superuser' closes
+
+        # The desk isn't asked for a shell without a command, or where an argument has no sign.
+        > junos c0020104.00000001.0000001d.06010101030400010d'bobtty0service=shell'
+        c0020204.00000001.00000019.100000130000'unsupported service'
+        > junos c0020104.00000002.0000002b.06010101030400021208'bobtty0service=junos-execprotocol'
+        c0020204.00000002.00000012.1000000c0000'bad argument'
+        ",
+    )
+}
+
+// Adds the grant of 255 arguments, each of 255 bytes, and what the rest of the conversation finds.
+fn push_longest(text: &mut String, rest: &str) -> Result<(), AllocError> {
+    text.push_str(
+        "> most c0020104.00000001.00000022.060101010304000112'bobtty0service=junos-exec'\n",
+    )?;
+    text.push_str("bob service junos-exec: c0020204.00000001.0000ff06.01ff00000000")?;
+    push_times(text, "ff", 255)?;
+    push_times(text, "61", 65_025)?;
+    text.push_str(rest)
+}
+
+#[test]
+fn the_longest_reply(rt: HostRuntime) -> Result<(), Fail> {
+    let mut text = String::new(rt.alloc());
+    push_longest(
+        &mut text,
+        "
+        > level-15 c0020104.00000002.00000036.06010101030400030d080f'bobtty0service=shellcmd=showcmd-arg=version'
+        bob: show version: c0020204.00000002.00000012.0101000000000b'priv-lvl=15'
+        ",
+    )?;
+    converses(&rt, text.as_str())
 }
 
 #[test]

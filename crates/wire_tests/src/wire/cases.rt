@@ -2,7 +2,7 @@
 
 use crate::wire::accounting::{accounting_reply, accounting_request, kind, record, user};
 use crate::wire::authentication::{authentication_reply, continuation, start};
-use crate::wire::requests::{argument, authorisation_reply, authorisation_request, line};
+use crate::wire::requests::{argument, asked, authorisation_reply, authorisation_request, line};
 use crate::wire::wire::{key, pad};
 use basics::{Bytes, is_text};
 use std::alloc::Global;
@@ -89,6 +89,7 @@ fn answer(alloc: Global, call: &str, given: &str) -> Result<String, Fail> {
         "authorisation-reply" => authorisation_reply(alloc, given),
         "argument" => argument(alloc, given),
         "line" => line(alloc, given),
+        "asked" => asked(alloc, given),
         "accounting" => accounting_request(alloc, given),
         "accounting-reply" => accounting_reply(alloc, given),
         "kind" => kind(alloc, given),

@@ -1,0 +1,149 @@
+//! What users are given for services, and for a shell, by both desks.
+
+use crate::desk::both::both_say;
+use std::test::Fail;
+
+// The level comes first. A line that isn't empty is given nothing.
+#[test]
+fn shells(rt: HostRuntime) -> Result<(), Fail> {
+    both_say(
+        &rt,
+        "\
+< policy 3; group ops; priv 15; service shell shell:roles*\"network-operator\"; \
+service shell timeout=60; permit (); permit show .*; user bob in ops; user eve in ops
+ok
+user bob now permits: 
+user eve now permits: 
+? run bob 
+granted 'priv-lvl=15' 'shell:roles*\"network-operator\"' 'timeout=60'
+? run bob show version
+permitted
+? run bob ping
+denied by default
+? run zed 
+unknown user
+> service user bob shell
+ok
+? run bob 
+permitted at 15
+? run eve 
+granted 'priv-lvl=15' 'shell:roles*\"network-operator\"' 'timeout=60'
+> clear service user bob shell
+ok
+> priv user bob 1
+ok
+? run bob 
+granted 'priv-lvl=1' 'shell:roles*\"network-operator\"' 'timeout=60'
+> clear priv group ops
+ok
+> clear service group ops shell timeout=60
+ok
+? run eve 
+granted 'shell:roles*\"network-operator\"'
+> clear service group ops shell
+ok
+? run eve 
+permitted
+",
+    )
+}
+
+// Names and protocols are compared whole, byte by byte.
+#[test]
+fn other_services(rt: HostRuntime) -> Result<(), Fail> {
+    both_say(
+        &rt,
+        "\
+< policy 3; group ops; priv 15; service junos-exec local-user-name=ops; \
+service PaloAlto/firewall PaloAlto-Admin-Role=superuser; service sshd/unknown; \
+service junos-exec allow-commands=show .*; permit show .*; user bob in ops; user eve in ops; \
+refuse junos-exec
+ok
+? serve bob junos-exec
+granted 'local-user-name=ops' 'allow-commands=show .*'
+? serve bob PaloAlto firewall
+granted 'PaloAlto-Admin-Role=superuser'
+? serve bob sshd unknown
+granted
+? serve eve junos-exec
+refused by user eve
+? serve eve PaloAlto firewall
+granted 'PaloAlto-Admin-Role=superuser'
+? serve bob PaloAlto
+unserved
+? serve bob PaloAlto Firewall
+unserved
+? serve bob PaloAlto firewall 
+unserved
+? serve bob PaloAlto/firewall
+unserved
+? serve bob junos-exec ip
+unserved
+? serve bob junos
+unserved
+? serve bob shell x
+unserved
+? serve zed junos-exec
+unserved
+? serve ops junos-exec
+unserved
+? serve b,b junos-exec
+unserved
+",
+    )
+}
+
+// The nearest decides, alone, and an edit counts for the next answer.
+#[test]
+fn the_nearest_decides(rt: HostRuntime) -> Result<(), Fail> {
+    both_say(
+        &rt,
+        "\
+< policy 3; group all; service junos-exec local-user-name=all; refuse sshd/unknown; \
+group ops in all; service junos-exec local-user-name=ops; refuse PaloAlto/firewall; \
+permit show .*; user bob in ops; user eve in ops; service junos-exec; \
+service PaloAlto/firewall PaloAlto-Admin-Role=superuser
+ok
+? serve bob junos-exec
+granted 'local-user-name=ops'
+? serve eve junos-exec
+granted
+? serve bob PaloAlto firewall
+refused by group ops
+? serve eve PaloAlto firewall
+granted 'PaloAlto-Admin-Role=superuser'
+? serve eve sshd unknown
+refused by group all
+> clear service group ops junos-exec
+ok
+? serve bob junos-exec
+granted 'local-user-name=all'
+> refuse user bob junos-exec
+ok
+? serve bob junos-exec
+refused by user bob
+> begin
+ok
+> clear service user bob junos-exec
+kept 1
+> service user bob junos-exec local-user-name=bob
+kept 2
+? serve bob junos-exec
+refused by user bob
+> commit
+ok
+? serve bob junos-exec
+granted 'local-user-name=bob'
+> move user eve out
+ok
+user eve now denies: show 
+? serve eve sshd unknown
+unserved
+> remove user bob
+ok
+user bob now denies: show 
+? serve bob junos-exec
+unserved
+",
+    )
+}
