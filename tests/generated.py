@@ -1,6 +1,6 @@
-"""Cases that are too long to be written down, or too many: limits of a policy, the longest packets,
-a script of 6 MB, each beginning of a body, and the longest file of a key. Some can't be written in
-a file of tests: a byte that isn't UTF-8, and words with ends of lines."""
+"""Cases that are too long to be written down, or too many: limits of a policy, the longest packets
+and replies, a script of 6 MB, each beginning of a body, and the longest file of a key. Some can't
+be written in a file of tests: a byte that isn't UTF-8, and words with ends of lines."""
 
 from cases import Case, Check, File, Outcome, Run, replay_check
 from notation import spelled_out
@@ -24,6 +24,8 @@ def cases(name):
         ten_thousand_records,
         policies_at_the_limits,
         edits_at_the_limits,
+        longest_replies,
+        lines_about_services_at_the_limit,
         cut_requests,
         cut_starts,
         cut_continuations,
@@ -179,6 +181,100 @@ def edits_at_the_limits():
         script += f"console {line}\n"
         printed += f"{answer}\n"
         yield f"up to {line}", script, printed
+
+
+# As many attributes as a subject may have, each as long as it may be.
+ATTRIBUTES = [f"a{number:02}=" + "v" * 251 for number in range(64)]
+
+
+def given(service):
+    """A group that is given all of these with a service, and a level with a shell."""
+    lines = "".join(f"service {service} {attribute}\n" for attribute in ATTRIBUTES)
+    return f"policy 3\ngroup ops\n{lines}priv 15\npermit ()\n"
+
+
+def asked(arguments, flags="00", session=1):
+    """A packet in which bob asks by these arguments (RFC 8907, section 6.1)."""
+    fixed = f"06010101030400{counted(arguments)}"
+    return with_header(f"c00201{flags}.{session:08x}", fixed, "bobtty0" + "".join(arguments))
+
+
+def granted(arguments, flags="00", session=1):
+    """The reply that gives these (section 6.2)."""
+    lengths = counted(arguments)
+    fixed = f"01{lengths[:2]}00000000{lengths[2:]}"
+    return with_header(f"c00202{flags}.{session:08x}", fixed, "".join(arguments))
+
+
+def counted(arguments):
+    """How many there are, and their lengths."""
+    return bytes([len(arguments), *map(len, arguments)]).hex()
+
+
+def with_header(header, fixed, text):
+    return f"{header}.{len(fixed) // 2 + len(text):08x}.{fixed}'{text}'"
+
+
+def longest_replies():
+    """The longest has a level and 64 attributes of 255 bytes: 16,414 bytes with its header."""
+    for service, arguments, reply in (
+        ("x", ["service=x"], ATTRIBUTES),
+        ("x/y", ["service=x", "protocol=y"], ATTRIBUTES),
+        ("shell", ["service=shell", "cmd="], ["priv-lvl=15", *ATTRIBUTES]),
+    ):
+        begin = opened(given(service) + "user bob in ops\n")
+        printed = f"reply 1 {granted(reply)}\nclosed 1\n"
+        yield f"of {service}", f"{begin}packet 1 {asked(arguments)}\n", printed
+        yield (
+            f"of {service}, which bob's own line takes away",
+            f"{begin}console service user bob {service}\npacket 1 {asked(arguments)}\n",
+            f"ok\nreply 1 {granted(reply[: len(reply) - len(ATTRIBUTES)])}\nclosed 1\n",
+        )
+        # Each of sixteen logins waits, and the connection has no place for one more.
+        logins = [f"{session:08x}" for session in range(1, 17)]
+        starts = [f"packet 1 c0010104.{it}.0000000b.0101010103000000'bob'\n" for it in logins]
+        prompts = [f"reply 1 c0010204.{it}.00000010.0501000a0000'Password: '\n" for it in logins]
+        requests = [asked(arguments, "04", session) for session in range(17, 33)]
+        replies = [f"reply 1 {granted(reply, '04', session)}\n" for session in range(17, 33)]
+        yield (
+            f"of {service}, sixteen of them beside sixteen logins",
+            f"{begin}{''.join(starts)}packet 1 {' '.join(requests)}\n",
+            "".join(prompts + replies),
+        )
+
+
+def lines_about_services_at_the_limit():
+    """Where there are 64 one more is refused, and taken once one is gone."""
+    for lines, fault in (
+        ("service x b=", "70 10 Limit"),
+        ("service y", "70 10 Limit"),
+        ("refuse y", "70 10 Limit"),
+        # What comes before it on the line.
+        (f"service x {ATTRIBUTES[0]}", "70 3 Repeated"),
+        ("service x b", "70 6 BadValue"),
+        ("service y/ b=", "70 2 BadName"),
+        # The next subject has lines of its own.
+        ("user bob in ops\nservice x b=\nrefuse x", "72 3 Repeated"),
+    ):
+        script = f"key k\n{given('x')}{lines}\nrun\n"
+        yield f"then {lines[:40]!r}", script, f"fault line {fault}\n"
+    script, printed = opened(given("x") + "user bob in ops\n"), ""
+    for line, answer in (
+        ("console service group ops x b=", "refused 10 Limit"),
+        ("console service group ops y", "refused 10 Limit"),
+        ("console refuse group ops y", "refused 10 Limit"),
+        (f"console service group ops x {ATTRIBUTES[0]}", "refused 3 Exists"),
+        ("console service group ops x b", "refused 9 BadValue"),
+        (f"console clear service group ops x {ATTRIBUTES[0]}", "ok"),
+        ("console service group ops x b=", "ok"),
+        (
+            f"packet 1 {asked(['service=x'])}",
+            f"reply 1 {granted([*ATTRIBUTES[1:], 'b='])}\nclosed 1",
+        ),
+    ):
+        script += f"{line}\n"
+        printed += f"{answer}\n"
+        yield f"up to {line[:40]}", script, printed
 
 
 def each_beginning(before, header, body, answered, refused):

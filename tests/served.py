@@ -11,6 +11,7 @@ import tempfile
 import time
 
 from cases import Case, Check, Outcome, Play, Wrong
+from generated import ATTRIBUTES, asked, given, granted
 from notation import spelled
 
 KEY = b"k "  # It ends in a blank.
@@ -44,6 +45,7 @@ def cases(name):
         a_silent_device_is_given_up,
         an_idle_device_is_kept,
         so_many_connections_each,
+        long_replies,
         without_a_console,
         a_console_at_standard_input,
         too_few_files_may_be_open,
@@ -326,6 +328,22 @@ def so_many_connections_each(program):
             ninth.settimeout(0.5)
             with contextlib.suppress(TimeoutError):
                 require(not is_answered(ninth, ASK, PERMITTED, flag=CLOSING), "a ninth is served")
+        server.quits()
+
+
+def long_replies(program):
+    """A device asks two hundred times before it reads, and is sent 3 MB: more than a socket takes.
+    The one worker serves another meanwhile."""
+    policy = given("shell") + "permit show .*\nuser bob in ops\n"
+    arguments, reply = ["service=shell", "cmd="], ["priv-lvl=15", *ATTRIBUTES]
+    sessions = range(1, 201)
+    sent = b"".join(packet(asked(arguments, KEPT, session)) for session in sessions)
+    wanted = b"".join(packet(granted(reply, KEPT, session)) for session in sessions)
+    with Server(program, "--workers", "1", policy=policy) as server:
+        with connect(server) as device:
+            device.sendall(sent)
+            require(is_permitted(server), "another isn't permitted")
+            require(answer(device, b"", len(wanted)) == wanted, "the replies are others")
         server.quits()
 
 

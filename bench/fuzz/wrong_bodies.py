@@ -177,7 +177,7 @@ WRONG_BODIES = [
     WrongBody(
         "a shell may be refused",
         "services.py",
-        'return self.service != "shell"',
+        "return self.service != SHELL",
         "return True",
     ),
     WrongBody(
@@ -288,10 +288,84 @@ WRONG_BODIES = [
         '("service", "shell") not in pairs',
     ),
     WrongBody(
-        "a level is sent with each permitted line",
+        "level and attributes are sent with each permitted line",
+        "desk.py",
+        'why is not None or line != "":',
+        "why is not None:",
+    ),
+    # What is said of services.
+    WrongBody(
+        "the farthest who says anything of a service decides",
+        "decisions.py",
+        "for owner in chain_of(policy, subject):\n        lines",
+        "for owner in reversed(chain_of(policy, subject)):\n        lines",
+    ),
+    WrongBody(
+        "attributes are joined along the chain",
+        "decisions.py",
+        "            return owner, lines",
+        "            above = chain_of(policy, owner)[1:]\n"
+        "            return owner, lines + said_of(policy, above[0], asked)[1] if above else lines",
+    ),
+    WrongBody(
+        "a refusal is passed over",
+        "decisions.py",
+        "        if lines:\n",
+        '        if lines and lines[0].word != "refuse":\n',
+    ),
+    WrongBody(
+        "a line without an attribute is passed over",
+        "decisions.py",
+        "        if lines:\n",
+        '        if attributes_of(lines) or [line for line in lines if line.word == "refuse"]:\n',
+    ),
+    WrongBody(
+        "a protocol counts for nothing",
+        "services.py",
+        "return (name, protocol) == asked",
+        "return name == asked.service",
+    ),
+    WrongBody(
+        "a line without a protocol is about all of them",
+        "services.py",
+        "return (name, protocol) == asked",
+        'return name == asked.service and protocol in ("", asked.protocol)',
+    ),
+    WrongBody(
+        "a name with a slash is one with a protocol",
+        "services.py",
+        "return (name, protocol) == asked",
+        'return self.service == "/".join(filter(None, asked))',
+    ),
+    WrongBody(
+        "the first protocol counts, also where it is empty",
+        "services.py",
+        'if name == "protocol" and value != ""]',
+        'if name == "protocol"]',
+    ),
+    WrongBody(
+        "a shell has a protocol",
         "conversations.py",
-        'if line == "" and level is not None',
-        "if level is not None",
+        "        if line is not None:\n            why, arguments",
+        '        if line is not None and asked.protocol == "":\n            why, arguments',
+    ),
+    WrongBody(
+        "the level comes after the attributes",
+        "desk.py",
+        '([] if level is None else [f"priv-lvl={level}"]) + attributes_of(lines)',
+        'attributes_of(lines) + ([] if level is None else [f"priv-lvl={level}"])',
+    ),
+    WrongBody(
+        "a user refuses what his group refuses",
+        "desk.py",
+        'f"refused by {owner.label()}"',
+        'f"refused by {user.label()}"',
+    ),
+    WrongBody(
+        "who isn't there is told so, whatever the service",
+        "desk.py",
+        '            return "unsupported service", []',
+        '            return "unknown user" if user is None else "unsupported service", []',
     ),
     # The lines of the log.
     WrongBody(

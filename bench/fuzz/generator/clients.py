@@ -3,12 +3,13 @@
 import hashlib
 from typing import NamedTuple
 
+from reference.decisions import chain_of
 from reference.hashes import Hash
 from reference.texts import bytes_of, is_name
 from reference.wire import ACCOUNTING, AUTHENTICATION, AUTHORISATION, Header, padded
 
 from .patterns import line
-from .policies import PASSWORDS, SECRETS, USERS
+from .policies import PASSWORDS, SECRETS, SERVICES, USERS
 
 ASCII, PAP, CHAP = 1, 2, 3
 ENABLE = 2
@@ -45,7 +46,7 @@ class Client:
         self.flags = 0x04 if choices.chance(0.55) else 0
         self.logins = {}
         self.next_id = choices.choice([1, 2, 0x01020304, 0xFFFFFFFE])
-        self.prefers = choices.choice(["login", "line", "record", None, None])
+        self.prefers = choices.choice(["login", "line", "line", "record", None, None])
         self.many_logins = self.flags and choices.chance(0.06)
 
     def packet(self):
@@ -89,7 +90,8 @@ class Client:
             case "login":
                 return self.start()
             case "line":
-                body = request(choices, self.world.user(), arguments(choices, self.world))
+                user = self.world.user()
+                body = request(choices, user, asked(choices, self.world, user))
                 return self.single(AUTHORISATION, body)
         body = bytes([accounting_flags(choices)])
         body += request(choices, self.world.user(), record_arguments(choices, self.world))
@@ -230,6 +232,39 @@ def request(choices, user, arguments):
     return bytes(fixed + sizes) + b"".join(names + arguments)
 
 
+def asked(choices, world, user):
+    """The arguments of a line or of a service; the latter often where the policy names some."""
+    known = world.services(user)
+    if not choices.chance(0.6 if known else 0.1):
+        return arguments(choices, world)
+    asks_known = known and choices.chance(0.85)
+    return service_arguments(choices, choices.choice(known if asks_known else SERVICES))
+
+
+def service_arguments(choices, service):
+    """The arguments that ask for a service, or nearly do. Devices send others beside them."""
+    name, _, protocol = (service, "", "") if choices.chance(0.08) else service.partition("/")
+    found = [f"service={name}"] + [f"protocol={protocol}"] * (protocol != "")
+    if name == "shell":
+        found.append("cmd=")
+    if choices.chance(0.1):
+        found = [argument.replace("=", "*", 1) for argument in found]
+    for _ in range(choices.choice([0, 0, 0, 1, 2])):
+        found.insert(choices.randrange(len(found) + 1), argument_beside_a_service(choices))
+    if choices.chance(0.05):
+        del found[choices.randrange(len(found))]
+    if choices.chance(0.1):
+        choices.shuffle(found)
+    return found
+
+
+def argument_beside_a_service(choices):
+    others = ["cisco-av-pair*", "shell:roles*", "addr=192.0.2.1", "cmd=", "cmd=show", "cmd-arg=x"]
+    protocols = ["protocol=", "protocol*", "protocol=ip", "protocol=firewall", "protocol=y"]
+    odd = ["protocol", "service=ppp", "service=x/y", "service=shell", "Protocol=ip", "=", "a=\xe9"]
+    return choices.choice(choices.choice([others, protocols, odd]))
+
+
 def arguments(choices, world):
     """The arguments that make a line, or nearly do."""
     command = "" if choices.chance(0.2) else line(choices, world.patterns())
@@ -347,6 +382,13 @@ class World:
             known = PASSWORDS.get(str(secret), "secret")
             return str(secret) if self.choices.chance(0.05) else known
         return secret
+
+    def services(self, user=None):
+        """Those that the policy has lines about, as often as it has: along the chain of a user who
+        is there, or all."""
+        subject = self.server.desk.user(user)
+        subjects = self.subjects() if subject is None else chain_of(self.subjects(), subject)
+        return [line.service for subject in subjects for line in subject.services]
 
     def record_users(self):
         """The users of the records, as far as a tally of them can be asked for."""

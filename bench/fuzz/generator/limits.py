@@ -46,8 +46,12 @@ def rules(choices):
 
 
 def services(choices):
-    number = choices.choice([64, 65])
-    return ["policy 3", "group g"] + [f"service x a{n}=" for n in range(number)] + ["user u in g"]
+    """As many lines as a subject may have, whose attributes may be as long as one may be."""
+    number, name = choices.choice([64, 65]), choices.choice(["shell", "x", "x/y"])
+    value = choices.choice(["", "v" * 100, "v" * 251])
+    found = ["policy 3", "group g", "priv 15"]
+    found += [f"service {name} a{n:02}={value}" for n in range(number)]
+    return found + ["permit ()", "user u in g"]
 
 
 def chain(choices):
@@ -63,6 +67,7 @@ def events(choices):
     found = []
     for _ in range(choices.count(2, 8)):
         kinds = [state_edits, size_edits, chain_edits, many_lines, full_batch, batch_of_few]
+        kinds += [many_services, many_services]
         found += choices.choice(kinds)(choices)
     return found
 
@@ -112,7 +117,9 @@ def size_edits(choices):
             "remove user u1",
             "shift group g 256 1",
             "service group g x b=",
-            "clear service group g x a0=",
+            "service group g shell b=",
+            "clear service group g x a00=",
+            "clear service group g shell a00=",
         ]
     )
     return [f"console {edit}", f"console {edit}", "console why u1 ab", "console reach user u"]
@@ -146,9 +153,21 @@ def many_lines(choices):
         if at % 100 == 0:
             edit = choices.choice(["drop user u 1", "insert user u 1 permit a..7"])
             found.append(f"console {edit}")
-        arguments = [b"service=shell", b"cmd=a%d" % number]
-        sizes = [1, 0, 0, len(arguments)] + [len(argument) for argument in arguments]
-        body = bytes([6, 1, 1, 1] + sizes) + b"u" + b"".join(arguments)
-        header = Header(0xC0, AUTHORISATION, 1, 4, at, len(body))
-        found.append(f"packet 5 {header.to_bytes().hex()}{body.hex()}")
+        found.append(f"packet 5 {asked(at, [b'service=shell', b'cmd=a%d' % number])}")
     return found + ["lost 5"]
+
+
+def many_services(choices):
+    """Up to sixteen requests of one user at once, some of which have long replies."""
+    kinds = [[b"service=shell", b"cmd="], [b"service=x"], [b"service=x", b"protocol=y"]]
+    numbers = range(1, choices.choice([1, 4, 16]) + 1)
+    words = [asked(number, choices.choice(kinds)) for number in numbers]
+    return ["open 6", f"packet 6 {' '.join(words)}", "lost 6"]
+
+
+def asked(session, arguments):
+    """A packet of the user u on a single connection."""
+    sizes = [1, 0, 0, len(arguments)] + [len(argument) for argument in arguments]
+    body = bytes([6, 1, 1, 1] + sizes) + b"u" + b"".join(arguments)
+    header = Header(0xC0, AUTHORISATION, 1, 4, session, len(body))
+    return f"{header.to_bytes().hex()}{body.hex()}"

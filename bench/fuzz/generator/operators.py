@@ -148,7 +148,9 @@ class Operator:
         return choices.choice(NO_HASHES if choices.chance(0.1) else HASHES)
 
     def service(self):
-        choices = self.choices
+        choices, known = self.choices, self.world.services()
+        if known and choices.chance(0.4):
+            return choices.choice(known)
         return choices.choice(NO_SERVICES if choices.chance(0.05) else SERVICES[:5])
 
     def attribute(self):

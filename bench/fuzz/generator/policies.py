@@ -34,9 +34,12 @@ NO_HASHES = [
     HASHES[1].replace("0123", "01234"),
     HASHES[2].replace("$x$", "$$"),
 ]
-SERVICES = ["shell", "exec", "junos-exec", "x", "x/y", "x/z", "n" * 32 + "/" + "p" * 32]
+# The first of these are what an operator mostly types.
+SERVICES = ["shell", "junos-exec", "PaloAlto/firewall", "ppp/ip", "ppp", "ciscowlc/common"]
+SERVICES += ["PaloAlto/panorama", "exec", "x", "x/y", "x/z", "n" * 32 + "/" + "p" * 32]
 NO_SERVICES = ["", "shell/x", "x/", "/x", "x/y/z", "x:y", "n" * 33, "\xe9"]
 ATTRIBUTES = ["a=", "a*", "a=b", 'a=b c = "*"', "a= ", "b*c=d", "priv-lvl=15", "a=" + "v" * 253]
+ATTRIBUTES += ['shell:roles*"network-admin"', "local-user-name=ops", "allow-commands=show .*"]
 NO_ATTRIBUTES = ["", " ", "a", "=b", "*", " a=b", "a b=c", "a =b", "a=" + "v" * 254]
 NO_NAMES = ["", "n" * 33, "a/b", "a:b", "\xe9", "a\tb", "é"]
 
@@ -44,7 +47,7 @@ NO_NAMES = ["", "n" * 33, "a/b", "a:b", "\xe9", "a\tb", "é"]
 def policy(choices):
     """Lines of a policy that is right, but for a pattern now and then."""
     subjects = subject_lines(choices)
-    version = choices.kind({"": 55, "policy 2": 20, "policy 3": 25})
+    version = choices.kind({"": 35, "policy 2": 20, "policy 3": 45})
     searched = choices.choice(COMMANDS) if choices.chance(0.06) else None
     lines = []
     for first in subjects:
@@ -90,13 +93,13 @@ def settings(choices, first, is_third):
                 lines.append(secret_line(choices, word, 0.5 if is_third else 0))
     if choices.chance(0.35):
         lines.append(f"priv {choices.choice(['0', '1', '15', '7', '0015', '015'])}")
-    if is_third and choices.chance(0.5):
+    if is_third and choices.chance(0.6):
         lines.extend(service_lines(choices))
     for _ in range(choices.choice([0, 0, 1, 1, 1, 2, 2, 3, 4])):
         lines.append(f"{choices.choice(['permit', 'permit', 'deny'])} {pattern(choices)}")
     if choices.chance(0.1):
         choices.shuffle(lines)
-    if choices.chance(0.1):
+    if choices.chance(0.3 if is_third else 0.1):
         lines.append("permit ()")
     return lines
 

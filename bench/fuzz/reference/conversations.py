@@ -5,7 +5,7 @@ from typing import NamedTuple, Optional
 
 from . import auditing, wire
 from .accounting import kind_of, line_of, pairs_of, record_of
-from .decisions import level_of
+from .services import SHELL, asked_of
 from .texts import text_of
 from .wire import ACCOUNTING, AUTHENTICATION, AUTHORISATION, HEADER_SIZE, SINGLE_CONNECTION
 
@@ -163,15 +163,15 @@ class Connection:
         pairs = pairs_of(request.arguments)
         if None in pairs:
             return self.ends(wire.authorisation_reply(DENIED, "bad argument"))
-        line = line_of(pairs)
-        if line is None:
-            return self.ends(wire.authorisation_reply(DENIED, "unsupported service"))
-        user = text_of(request.user)
-        why = self.desk.why_denied(user, line)
+        user, line, asked = text_of(request.user), line_of(pairs), asked_of(pairs)
+        if line is not None:
+            why, arguments = self.desk.line_answered(user, line)
+        elif asked is None or asked.service == SHELL:
+            why, arguments = "unsupported service", []
+        else:
+            why, arguments = self.desk.service_answered(user, asked)
         if why is not None:
             return self.ends(wire.authorisation_reply(DENIED, why))
-        level = level_of(self.desk.policy, self.desk.user(user))
-        arguments = [f"priv-lvl={level}"] if line == "" and level is not None else []
         return self.ends(wire.authorisation_reply(PASS_ADD, "", arguments))
 
     def account(self, body):

@@ -1,4 +1,5 @@
-"""Chains, decisions, sizes and reports (docs/DEFINITIONS.md, "The policy" and "Reports")."""
+"""Chains, decisions, what is said of services, sizes and reports (docs/DEFINITIONS.md, "The policy"
+and "Reports")."""
 
 from typing import NamedTuple
 
@@ -52,6 +53,19 @@ def permits(entry):
 def level_of(policy, subject):
     levels = [owner.level for owner in chain_of(policy, subject) if owner.level is not None]
     return levels[0] if levels else None
+
+
+def said_of(policy, subject, asked):
+    """The nearest of the chain who has lines about what is asked for, and these; or no lines."""
+    for owner in chain_of(policy, subject):
+        lines = [line for line in owner.services if line.is_about(asked)]
+        if lines:
+            return owner, lines
+    return None, []
+
+
+def attributes_of(lines):
+    return [line.attribute for line in lines if line.attribute is not None]
 
 
 def first_too_large(policy):

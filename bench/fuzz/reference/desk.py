@@ -1,12 +1,13 @@
-"""What logins, lines and records are answered by a policy and the records so far
+"""What logins, lines, services and records are answered by a policy and the records so far
 (docs/DEFINITIONS.md, "What the desk answers")."""
 
 import hashlib
 
 from .accounting import sum_of, tally_of
-from .decisions import chain_of, decision_on, permits
+from .decisions import attributes_of, chain_of, decision_on, level_of, permits, said_of
 from .hashes import Hash
 from .policy import GROUP, USER, find
+from .services import SHELL, Asked
 from .texts import bytes_of, is_text
 
 MOST_RECORDS = 1_000_000
@@ -59,6 +60,26 @@ class Desk:
         if permits(entry):
             return None
         return f"denied by {entry or 'default'}"
+
+    def line_answered(self, name, line):
+        """The text of a refusal, or None; and the arguments of the reply, where a shell starts."""
+        why = self.why_denied(name, line)
+        if why is not None or line != "":
+            return why, []
+        user = self.user(name)
+        level = level_of(self.policy, user)
+        _, lines = said_of(self.policy, user, Asked(SHELL, ""))
+        return None, ([] if level is None else [f"priv-lvl={level}"]) + attributes_of(lines)
+
+    def service_answered(self, name, asked):
+        """The same of a service. Of a user who isn't there nothing is said."""
+        user = self.user(name)
+        owner, lines = (None, []) if user is None else said_of(self.policy, user, asked)
+        if not lines:
+            return "unsupported service", []
+        if lines[0].word == "refuse":
+            return f"refused by {owner.label()}", []
+        return None, attributes_of(lines)
 
     def store(self, record):
         if len(self.records) == (MOST_RECORDS if self.keep is None else self.keep):
