@@ -1,1 +1,3 @@
 pub mod GivenFacts
+pub mod SayingFacts
+pub mod GrantFacts

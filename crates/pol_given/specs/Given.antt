@@ -1,9 +1,10 @@
 -- Who decides on a service that a user asks for, and what that subject gives
 -- (docs/POLICY.md, "Services").
-use Rattle.std.specs.Prelude.{ℕ, List, codes, Bool, true, false, ◌&&◌, filter, find, filter_map}
-use Rattle.std.specs.Prelude.{Option, Some, None, if◌then◌else◌}
+use Rattle.std.specs.Prelude.{ℕ, List, [], ◌∷◌, ◌++◌, codes, Bool, true, false, ◌&&◌, filter, find}
+use Rattle.std.specs.Prelude.{filter_map, Option, Some, None, if◌then◌else◌}
+use Rattle.std.specs.Fmt.{decimal}
 use Rattle.std.specs.List.{list_any}
-use Rattle.std.specs.Option.{option_and_then}
+use Rattle.std.specs.Option.{option_and_then, option_map_or}
 use Rattle.pol_names.specs.SameService.{same_service}
 use Rattle.pol_names.specs.Service.{is_service}
 use Rattle.pol_names.specs.Service as services
@@ -12,7 +13,7 @@ use Rattle.pol_names.specs.declared.service.Says.{Says}
 use Rattle.pol_names.specs.declared.service.Says.TheVariants.{Allows, Refuses}
 use Rattle.pol_names.specs.declared.service.ServiceId.{ServiceId}
 use Rattle.pol_names.specs.declared.service.ServiceLine.{ServiceLine}
-use Rattle.pol_text.specs.Policy.{find_subject, chain}
+use Rattle.pol_text.specs.Policy.{find_subject, chain, level_of}
 use Rattle.pol_text.specs.declared.subject.Subject.{Subject}
 
 -- ---- which service
@@ -77,3 +78,34 @@ abbrev pub speaking : List Subject → List ℕ → ServiceId → Option Subject
 speaking policy name service =
     option_and_then (λ user. first_speaking service (chain policy user))
     (find_subject (user_id name) policy)
+
+-- ---- what is given
+
+-- by who decides on the service: its attributes, and nothing where it refuses
+abbrev pub given_by : ServiceId → Subject → Option (List (List ℕ))
+given_by service owner =
+    if refuses service owner then None else Some (attributes_of service owner)
+
+-- the arguments that the user of this name is given for a service other than a shell; nothing where
+-- it isn't granted
+abbrev pub service_arguments : List Subject → List ℕ → ServiceId → Option (List (List ℕ))
+service_arguments policy name service =
+    option_and_then (given_by service) (speaking policy name service)
+
+-- the argument that carries a privilege level: `priv-lvl=N` (RFC 8907, section 8.2)
+abbrev pub level_argument : ℕ → List ℕ
+level_argument level = codes "priv-lvl=" ++ decimal level
+
+abbrev pub level_arguments : Option ℕ → List (List ℕ)
+level_arguments None = []
+level_arguments (Some level) = level_argument level ∷ []
+
+-- the attributes of a user's shell, by who decides on that
+abbrev pub shell_attributes : List Subject → List ℕ → List (List ℕ)
+shell_attributes policy name =
+    option_map_or (attributes_of the_shell) (speaking policy name the_shell) []
+
+-- the arguments of a user's shell, where the rules permit one: the level, and then the attributes
+abbrev pub shell_arguments : List Subject → List ℕ → List (List ℕ)
+shell_arguments policy name =
+    level_arguments (level_of policy (user_id name)) ++ shell_attributes policy name
