@@ -27,12 +27,17 @@ def first_value(pairs, name):
     return None
 
 
-def line_of(pairs):
-    """The line of a shell, or None where the service is another one or there is no command."""
+def command_of(pairs):
+    """The line of a command, whatever the service is, or None where there is no command."""
     command = first_value(pairs, "cmd")
-    if first_value(pairs, "service") != "shell" or command is None:
+    if command is None:
         return None
     return " ".join([command] + [value for name, value in pairs if name == "cmd-arg"])
+
+
+def line_of(pairs):
+    """The line of a shell, or None where the service is another one or there is no command."""
+    return command_of(pairs) if first_value(pairs, "service") == "shell" else None
 
 
 class Record(NamedTuple):
@@ -49,7 +54,7 @@ def kind_of(flags):
 
 def record_of(request, kind):
     pairs = pairs_of(request.arguments)
-    line = None if None in pairs else line_of(pairs)
+    line = None if None in pairs else command_of(pairs)
     if line is not None and not is_text(line):
         line = None
     return Record(

@@ -28,12 +28,16 @@ values_under name args = filter_map (value_under name) args
 abbrev pub spaced : List ℕ → List ℕ
 spaced word = 32 ∷ word
 
+-- a command and its further words
+abbrev pub joined : List ℕ → List (List ℕ) → List ℕ
+joined cmd words = cmd ++ flat_map spaced words
+
 -- the line of this service, this command and these further words
 abbrev pub shell_line : Option (List ℕ) → Option (List ℕ) → List (List ℕ) → LineOf
 shell_line None cmd words = NotShell
 shell_line (Some service) None words = NotShell
 shell_line (Some service) (Some cmd) words =
-    if bytes_eq service (codes "shell") then Line (cmd ++ flat_map spaced words) else NotShell
+    if bytes_eq service (codes "shell") then Line (joined cmd words) else NotShell
 
 -- the first service, the first command, and each of its arguments
 abbrev pub line_of : List (List ℕ) → LineOf

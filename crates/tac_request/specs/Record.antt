@@ -4,16 +4,15 @@ use Rattle.std.specs.Prelude.{Some, None, slice_get, unwrap_or, option_and_then,
 use Rattle.std.specs.Prelude.{codes}
 use Rattle.std.specs.Char.{is_ascii_digit}
 use Rattle.std.specs.List.{list_all}
+use Rattle.std.specs.Option.{option_map}
 use Rattle.std.specs.Str.Parse.{digits_value}
 use Rattle.tac_wire.specs.Flag.{has_flag}
 use Rattle.basics.specs.Symbol.{is_text}
 use Rattle.tac_request.specs.declared.acct_request.AcctRequest.{AcctRequest}
-use Rattle.tac_request.specs.declared.line.LineOf.{LineOf}
-use Rattle.tac_request.specs.declared.line.LineOf.TheVariants.{Line, BadArgument, NotShell}
 use Rattle.tac_request.specs.declared.record.AcctKind.{AcctKind}
 use Rattle.tac_request.specs.declared.record.AcctKind.TheVariants.{Begin, Stop, Watch, Update}
 use Rattle.tac_request.specs.declared.record.Record.{Record}
-use Rattle.tac_request.specs.Line.{values_under, line_of}
+use Rattle.tac_request.specs.Line.{has_sign, values_under, joined}
 
 -- ---- the flags of a record, whose names in the standard begin with TAC_PLUS_
 
@@ -59,11 +58,18 @@ task_of args = unwrap_or (first_under (codes "task_id") args) []
 abbrev pub elapsed_of : List (List ℕ) → ℕ
 elapsed_of args = unwrap_or (option_and_then seconds_of (first_under (codes "elapsed_time") args)) 0
 
+-- the line of the first command and each of its arguments, whatever the service is
+abbrev pub command_of : List (List ℕ) → Option (List ℕ)
+command_of args =
+    if list_all has_sign args
+    then option_map (λ cmd. joined cmd (values_under (codes "cmd-arg") args))
+    (first_under (codes "cmd") args)
+    else None
+
 -- the line, if there is one, and all its bytes are symbols
-abbrev pub text_line : LineOf → Option (List ℕ)
-text_line (Line line) = if is_text line then Some line else None
-text_line BadArgument = None
-text_line NotShell = None
+abbrev pub text_line : Option (List ℕ) → Option (List ℕ)
+text_line None = None
+text_line (Some line) = if is_text line then Some line else None
 
 -- what is kept of a request that tells of this kind
 abbrev pub record_of : AcctRequest → AcctKind → Record
@@ -72,5 +78,5 @@ record_of request kind = record {
   kind = kind;
   task = task_of request.args;
   elapsed = elapsed_of request.args;
-  line = text_line (line_of request.args);
+  line = text_line (command_of request.args);
 }

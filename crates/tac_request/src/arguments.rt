@@ -7,7 +7,7 @@ ghost use Rattle.tac_wire.specs.Cut.{cut};
 ghost use Rattle.tac_request.specs.Arguments.{level_argument as argument_for, level_arguments};
 
 use arrayvec::ArrayVec;
-use basics::StructuralEq;
+use basics::{Bytes, Sequence, StructuralEq};
 use itoa::Buffer;
 use std::alloc::{AllocError, Global};
 use std::marker::Model;
@@ -151,6 +151,13 @@ impl Arguments {
         Ok(Arguments { lengths, joined })
     }
 
+    // A copy of each by itself.
+    fn listed(&self, alloc: Global) -> Result<Sequence<Bytes>, AllocError>
+        ensures { IfOk result (λ list. list ≡ self.now) }
+    {
+        tac_wire::cut(alloc, self.lengths.as_slice(), self.joined.as_slice())
+    }
+
     /// A copy of them, in room that was taken before. Takes no memory.
     pub fn copy_into(&self, spare: Spare) -> Arguments
         ensures { result ≡ self.now }
@@ -208,6 +215,15 @@ pub fn level_argument(level: u8) -> ArrayVec<u8, 12>
     argument
 }
 
+// A list of this text alone.
+fn list_of(alloc: Global, text: &[u8]) -> Result<Sequence<Bytes>, AllocError>
+    ensures { IfOk result (λ list. list ≡ text.now ∷ []) }
+{
+    let mut list = Sequence::new(alloc);
+    list.push(Bytes::from_slice(alloc, text)?)?;
+    Ok(list)
+}
+
 /// The arguments of a reply: at most a privilege level, which takes no memory, or a list. A
 /// contract sees the list of them.
 #[derive(Drop)]
@@ -241,6 +257,17 @@ impl ReplyArguments {
         ReplyArguments {
             level: None,
             list: Some(list),
+        }
+    }
+
+    /// A copy of each by itself. The error means that memory ran out.
+    pub fn to_list(&self, alloc: Global) -> Result<Sequence<Bytes>, AllocError>
+        ensures { IfOk result (λ list. list ≡ self.now) }
+    {
+        match (&self.list, self.level) {
+            (Some(list), _) => list.listed(alloc),
+            (None, Some(level)) => list_of(alloc, level_argument(level).as_slice()),
+            (None, None) => Ok(Sequence::new(alloc)),
         }
     }
 }

@@ -6,10 +6,13 @@ ghost use Rattle.std.specs.List.{flat_map, list_all};
 ghost use Rattle.tac_request.specs.Line.{has_sign, value_under as value_of, values_under, spaced};
 ghost use Rattle.tac_request.specs.Line.{IsLine, line_of, HasText};
 ghost use Rattle.tac_request.specs.Line as line;
+ghost use Rattle.tac_request.specs.Record.{command_of};
 
 use crate::argument::split_arg;
 use basics::Bytes;
 use std::alloc::{AllocError, Global};
+
+const CMD: &[u8] = b"cmd";
 
 const CMD_ARG: &[u8] = b"cmd-arg";
 
@@ -87,6 +90,16 @@ fn add_cmd_args(line: &mut Bytes, args: &[Bytes]) -> Result<(), AllocError>
     Ok(())
 }
 
+// The line of this command and of each `cmd-arg`.
+fn joined(alloc: Global, cmd: &[u8], args: &[Bytes]) -> Result<Bytes, AllocError>
+    ensures { IfOk result
+        (λ joined. joined ≡ line.joined cmd.now (values_under CMD_ARG.now args.now)) }
+{
+    let mut line = Bytes::from_slice(alloc, cmd)?;
+    add_cmd_args(&mut line, args)?;
+    Ok(line)
+}
+
 /// The command line that a request's arguments make (RFC 8907, section 8.2): the value of the first
 /// `cmd`, and for each `cmd-arg` a space and its value. The error means that memory ran out.
 pub fn request_line(alloc: Global, args: &[Bytes]) -> Result<LineOf, AllocError>
@@ -103,12 +116,25 @@ pub fn request_line(alloc: Global, args: &[Bytes]) -> Result<LineOf, AllocError>
     if service != SHELL {
         return Ok(LineOf::NotShell);
     }
-    let Some(cmd) = first_value(args, b"cmd") else {
+    let Some(cmd) = first_value(args, CMD) else {
         return Ok(LineOf::NotShell);
     };
-    let mut line = Bytes::from_slice(alloc, cmd)?;
-    add_cmd_args(&mut line, args)?;
+    let line = joined(alloc, cmd, args)?;
     Ok(LineOf::Line(line))
+}
+
+// The line that the arguments of a record make: that of the first `cmd`, whatever the service is.
+pub(crate) fn command_line(alloc: Global, args: &[Bytes]) -> Result<Option<Bytes>, AllocError>
+    ensures { IfOk result (λ line. line ≡ command_of args.now) }
+{
+    if !are_arguments(args) {
+        return Ok(None);
+    }
+    let Some(cmd) = first_value(args, CMD) else {
+        return Ok(None);
+    };
+    let line = joined(alloc, cmd, args)?;
+    Ok(Some(line))
 }
 
 // The protocol that an argument names, where that isn't empty.

@@ -5,11 +5,10 @@ ghost use Rattle.std.specs.Fmt.{decimal};
 ghost use Rattle.std.specs.Char.{is_ascii_digit};
 ghost use Rattle.std.specs.List.{list_all};
 ghost use Rattle.tac_request.specs.Record.{kind_of, seconds_of, first_under, task_of, elapsed_of};
-ghost use Rattle.tac_request.specs.Record.{text_line, record_of};
-ghost use Rattle.tac_request.specs.Line.{line_of};
+ghost use Rattle.tac_request.specs.Record.{command_of, text_line, record_of};
 
 use crate::acct_request::AcctRequest;
-use crate::line::{LineOf, first_value, request_line};
+use crate::line::{command_line, first_value};
 use basics::{Bytes, StructuralEq, is_text};
 use std::alloc::{AllocError, Global};
 
@@ -58,7 +57,7 @@ pub struct Record {
     pub task: Bytes,
     /// The argument `elapsed_time` in seconds; 0 where there is none that can be used.
     pub elapsed: u32,
-    /// The command line, where the arguments make one of symbols alone.
+    /// The command line, where the arguments make one of symbols alone, whatever the service is.
     pub line: Option<Bytes>,
 }
 
@@ -132,10 +131,10 @@ fn elapsed_time(args: &[Bytes]) -> u32
 
 // The line that the arguments make, if its bytes are symbols.
 fn printable_line(alloc: Global, args: &[Bytes]) -> Result<Option<Bytes>, AllocError>
-    ensures { IfOk result (λ line. line ≡ text_line (line_of args.now)) }
+    ensures { IfOk result (λ line. line ≡ text_line (command_of args.now)) }
 {
-    match request_line(alloc, args)? {
-        LineOf::Line(line) if is_text(line.as_slice()) => Ok(Some(line)),
+    match command_line(alloc, args)? {
+        Some(line) if is_text(line.as_slice()) => Ok(Some(line)),
         _ => Ok(None),
     }
 }
@@ -145,7 +144,9 @@ impl Record {
     ///
     /// Of the arguments (RFC 8907, section 8.3) the first of a name counts, and one without `=` or
     /// `*` has no name. An `elapsed_time` can be used if it is one or more decimal digits, also
-    /// with leading zeros, of a value below 2^32. The line is that of [`request_line`].
+    /// with leading zeros, of a value below 2^32. The line is made of `cmd` and each `cmd-arg` as
+    /// by `request_line`, but whatever the service is: some devices record commands under another
+    /// than `shell`.
     pub fn from_request(
         alloc: Global,
         request: AcctRequest,
