@@ -56,6 +56,9 @@ class Log:
             "status": quoted(COMMAND_STATUS[reply[0]]),
             "text": quoted(wire.authorisation_text(reply)),
         }
+        given = wire.authorisation_arguments(reply)
+        if given:
+            members["given"] = listed(given)
         self.write(header, "command", asker(request) | members)
 
     def account(self, header, flags, request, reply):

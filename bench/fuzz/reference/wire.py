@@ -131,5 +131,11 @@ def authorisation_text(reply):
     return reply[begin : begin + int.from_bytes(reply[2:4], "big")].decode()
 
 
+def authorisation_arguments(reply):
+    """The reply's arguments, which stand at its end."""
+    begin = 6 + reply[1]
+    return cut(reply[begin + int.from_bytes(reply[2:4], "big") :], reply[6:begin])
+
+
 def accounting_reply(status, text=""):
     return struct.pack("!HHB", len(text), 0, status) + text.encode()

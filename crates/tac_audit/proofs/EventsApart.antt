@@ -1,5 +1,5 @@
 -- The lines of events are told apart.
-use Rattle.std.proofs.Common.{◌≡◌, ℕ, ◌/◌, ◌%◌, ◌^◌, ◌<◌, ◌&&◌, true, if◌then◌else◌, eqb, length, List, ◌∷◌, ◌++◌, drop, Option, Some, None, codes, nat_lt, append_assoc, refl, sym, ap, ◌∙◌, arith}
+use Rattle.std.proofs.Common.{◌≡◌, ℕ, ◌/◌, ◌%◌, ◌^◌, ◌<◌, ◌&&◌, true, if◌then◌else◌, eqb, length, List, [], ◌∷◌, ◌++◌, drop, Option, Some, None, codes, nat_lt, append_assoc, refl, sym, ap, ◌∙◌, arith}
 use Rattle.std.specs.Prelude.{slice_index}
 use Rattle.std.specs.Int.{to_be_bytes, from_be_bytes, w32}
 use Rattle.std.specs.Option.{option_map, option_map_or}
@@ -22,7 +22,7 @@ use Rattle.tac_audit.specs.declared.event.Typist.{Typist}
 use Rattle.tac_audit.specs.declared.event.Typist.TheVariants.{Anyone, Operator}
 use Rattle.tac_audit.specs.declared.event.Typed.{Typed}
 use Rattle.tac_audit.specs.Json.{text_json, optional_json, texts_json, member}
-use Rattle.tac_audit.specs.Event.{status_word, why_word, kind_word, session_digits, asker_json, said_json, type_json, told_json, begun, ended, line_of, typist_json, size_json, typed_line}
+use Rattle.tac_audit.specs.Event.{status_word, why_word, kind_word, session_digits, asker_json, given_json, said_json, type_json, told_json, begun, ended, line_of, typist_json, size_json, typed_line}
 use Rattle.tac_audit.specs.Apart.{are_bytes, are_texts, is_asker, is_said, is_told, is_typist, is_size, AreApart, AreTypedApart}
 use Rattle.tac_audit.proofs.JsonApart.{text_apart, optional_apart, texts_apart, IsNext, next_member, unlike, number_apart, member_apart, hexes_are_bytes, hexes_apart}
 
@@ -204,26 +204,51 @@ askers_apart a b x y h k next_x next_y same =
 
 -- ---- what is said
 
-said_parts : (a b : Said) → a.status ≡ b.status → a.text ≡ b.text → a ≡ b
-said_parts a b status text =
-    ap (λ (x : Status). record a { status = x }) status ∙ ap (λ (x : List ℕ). record b { text = x }) text
+-- the object ends here
+abbrev IsLast : List ℕ → Type 0
+IsLast x = x ≡ 0x7D ∷ drop 1 x
 
-said_is : (a : Said) (x : List ℕ) → said_json a ++ x ≡ member (codes "status") (text_json (status_word a.status)) ++ (member (codes "text") (text_json a.text) ++ x)
+ended_last : IsLast ended
+unfolding ended
+ended_last = refl
+
+-- what is given, or nothing, at the end
+given_apart : (a b : List (List ℕ)) (x y : List ℕ) → are_texts a ≡ true → are_texts b ≡ true → IsLast x → IsLast y → given_json a ++ x ≡ given_json b ++ y → (a ≡ b) × (x ≡ y)
+unfolding member
+given_apart [] [] x y h k last_x last_y same = (refl, same)
+given_apart [] (t ∷ b) x y h k last_x last_y same =
+    absurd (unlike 0x7D 0x2C refl (sym (ap (λ (l : List ℕ). slice_index l 0) last_x) ∙ ap (λ (l : List ℕ). slice_index l 0) same))
+given_apart (s ∷ a) [] x y h k last_x last_y same =
+    absurd (unlike 0x2C 0x7D refl (ap (λ (l : List ℕ). slice_index l 0) same ∙ ap (λ (l : List ℕ). slice_index l 0) last_y))
+given_apart (s ∷ a) (t ∷ b) x y h k last_x last_y same = texts_member (codes "given") (s ∷ a) (t ∷ b) x y h k same
+
+said_parts : (a b : Said) → a.status ≡ b.status → a.text ≡ b.text → a.given ≡ b.given → a ≡ b
+said_parts a b status text given =
+    ap (λ (x : Status). record a { status = x }) status
+    ∙ ap (λ (x : List ℕ). record { status = b.status; text = x; given = a.given }) text
+    ∙ ap (λ (x : List (List ℕ)). record b { given = x }) given
+
+said_is : (a : Said) (x : List ℕ) → said_json a ++ x
+    ≡ member (codes "status") (text_json (status_word a.status)) ++ (member (codes "text") (text_json a.text) ++ (given_json a.given ++ x))
 unfolding said_json
-said_is a x = nest2 (member (codes "status") (text_json (status_word a.status))) (member (codes "text") (text_json a.text)) x
+said_is a x = nest3 (member (codes "status") (text_json (status_word a.status))) (member (codes "text") (text_json a.text)) (given_json a.given) x
 
 next_said : (a : Said) (x : List ℕ) → IsNext (said_json a ++ x)
 unfolding said_json
 next_said a x =
-    said_is a x ∙ next_member (codes "status") (text_json (status_word a.status)) (member (codes "text") (text_json a.text) ++ x)
+    said_is a x ∙ next_member (codes "status") (text_json (status_word a.status)) (member (codes "text") (text_json a.text) ++ (given_json a.given ++ x))
     ∙ ap (λ (r : List ℕ). 0x2C ∷ drop 1 r) (sym (said_is a x))
 
-saids_apart : (a b : Said) (x y : List ℕ) → is_said a ≡ true → is_said b ≡ true → said_json a ++ x ≡ said_json b ++ y → (a ≡ b) × (x ≡ y)
-saids_apart a b x y h k same =
+-- what is said, at the end
+saids_apart : (a b : Said) (x y : List ℕ) → is_said a ≡ true → is_said b ≡ true → IsLast x → IsLast y → said_json a ++ x ≡ said_json b ++ y → (a ≡ b) × (x ≡ y)
+saids_apart a b x y h k last_x last_y same =
+    let here = and_parts (are_bytes a.text) (are_texts a.given) h in
+    let there = and_parts (are_bytes b.text) (are_texts b.given) k in
     let status = text_member (codes "status") (status_word a.status) (status_word b.status) _ _ (status_bytes a.status) (status_bytes b.status)
     (sym (said_is a x) ∙ same ∙ said_is b y) in
-    let text = text_member (codes "text") a.text b.text x y h k status.1 in
-    (said_parts a b (status_same a.status b.status status.0) text.0, text.1)
+    let text = text_member (codes "text") a.text b.text _ _ here.0 there.0 status.1 in
+    let given = given_apart a.given b.given x y here.1 there.1 last_x last_y text.1 in
+    (said_parts a b (status_same a.status b.status status.0) text.0 given.0, given.1)
 
 -- ---- what is told
 
@@ -260,24 +285,24 @@ told_is (Account asker kind task arguments said) x =
     (member (codes "arguments") (texts_json arguments)) (said_json said) x
 told_is (Refused why) x = nest2 (type_json (codes "refused")) (member (codes "why") (text_json (why_word why))) x
 
-logins_apart : (asker asker' : Asker) (said said' : Said) (x y : List ℕ) → is_told (Login asker said) ≡ true → is_told (Login asker' said') ≡ true
+logins_apart : (asker asker' : Asker) (said said' : Said) (x y : List ℕ) → is_told (Login asker said) ≡ true → is_told (Login asker' said') ≡ true → IsLast x → IsLast y
     → rest_of (Login asker said) x ≡ rest_of (Login asker' said') y → (Login asker said ≡ Login asker' said') × (x ≡ y)
 unfolding rest_of
-logins_apart asker asker' said said' x y h k same =
+logins_apart asker asker' said said' x y h k last_x last_y same =
     let here = and_parts (is_asker asker) (is_said said) h in
     let there = and_parts (is_asker asker') (is_said said') k in
     let first = askers_apart asker asker' _ _ here.0 there.0 (next_said said x) (next_said said' y) same in
-    let last = saids_apart said said' x y here.1 there.1 first.1 in
+    let last = saids_apart said said' x y here.1 there.1 last_x last_y first.1 in
     let same_asker = first.0 in
     let same_said = last.0 in
     (cc, last.1)
 
 commands_apart : (asker asker' : Asker) (arguments arguments' : List (List ℕ)) (line line' : Option (List ℕ)) (said said' : Said) (x y : List ℕ)
-    → is_told (Command asker arguments line said) ≡ true → is_told (Command asker' arguments' line' said') ≡ true
+    → is_told (Command asker arguments line said) ≡ true → is_told (Command asker' arguments' line' said') ≡ true → IsLast x → IsLast y
     → rest_of (Command asker arguments line said) x ≡ rest_of (Command asker' arguments' line' said') y
     → (Command asker arguments line said ≡ Command asker' arguments' line' said') × (x ≡ y)
 unfolding rest_of
-commands_apart asker asker' arguments arguments' line line' said said' x y h k same =
+commands_apart asker asker' arguments arguments' line line' said said' x y h k last_x last_y same =
     let h1 = and_parts (is_asker asker && are_texts arguments && option_map_or are_bytes line true) (is_said said) h in
     let k1 = and_parts (is_asker asker' && are_texts arguments' && option_map_or are_bytes line' true) (is_said said') k in
     let h2 = and_parts (is_asker asker && are_texts arguments) (option_map_or are_bytes line true) h1.0 in
@@ -287,7 +312,7 @@ commands_apart asker asker' arguments arguments' line line' said said' x y h k s
     let first = askers_apart asker asker' _ _ h3.0 k3.0 (next_member (codes "arguments") (texts_json arguments) _) (next_member (codes "arguments") (texts_json arguments') _) same in
     let listed = texts_member (codes "arguments") arguments arguments' _ _ h3.1 k3.1 first.1 in
     let lined = optional_member (codes "line") line line' _ _ h2.1 k2.1 listed.1 in
-    let last = saids_apart said said' x y h1.1 k1.1 lined.1 in
+    let last = saids_apart said said' x y h1.1 k1.1 last_x last_y lined.1 in
     let same_asker = first.0 in
     let same_arguments = listed.0 in
     let same_line = lined.0 in
@@ -295,11 +320,11 @@ commands_apart asker asker' arguments arguments' line line' said said' x y h k s
     (cc, last.1)
 
 accounts_apart : (asker asker' : Asker) (kind kind' : Option AcctKind) (task task' : List ℕ) (arguments arguments' : List (List ℕ)) (said said' : Said) (x y : List ℕ)
-    → is_told (Account asker kind task arguments said) ≡ true → is_told (Account asker' kind' task' arguments' said') ≡ true
+    → is_told (Account asker kind task arguments said) ≡ true → is_told (Account asker' kind' task' arguments' said') ≡ true → IsLast x → IsLast y
     → rest_of (Account asker kind task arguments said) x ≡ rest_of (Account asker' kind' task' arguments' said') y
     → (Account asker kind task arguments said ≡ Account asker' kind' task' arguments' said') × (x ≡ y)
 unfolding rest_of
-accounts_apart asker asker' kind kind' task task' arguments arguments' said said' x y h k same =
+accounts_apart asker asker' kind kind' task task' arguments arguments' said said' x y h k last_x last_y same =
     let h1 = and_parts (is_asker asker && are_bytes task && are_texts arguments) (is_said said) h in
     let k1 = and_parts (is_asker asker' && are_bytes task' && are_texts arguments') (is_said said') k in
     let h2 = and_parts (is_asker asker && are_bytes task) (are_texts arguments) h1.0 in
@@ -310,7 +335,7 @@ accounts_apart asker asker' kind kind' task task' arguments arguments' said said
     let kinds = optional_member (codes "kind") (option_map kind_word kind) (option_map kind_word kind') _ _ (kinds_bytes kind) (kinds_bytes kind') first.1 in
     let tasks = text_member (codes "task") task task' _ _ h3.1 k3.1 kinds.1 in
     let listed = texts_member (codes "arguments") arguments arguments' _ _ h2.1 k2.1 tasks.1 in
-    let last = saids_apart said said' x y h1.1 k1.1 listed.1 in
+    let last = saids_apart said said' x y h1.1 k1.1 last_x last_y listed.1 in
     let same_asker = first.0 in
     let same_kind = kinds_same kind kind' kinds.0 in
     let same_task = tasks.0 in
@@ -326,30 +351,30 @@ refusals_apart why why' x y same =
     (cc, parts.1)
 
 -- of one type
-alike_apart : (a b : Told) (x y : List ℕ) → is_told a ≡ true → is_told b ≡ true → word_of a ≡ word_of b → rest_of a x ≡ rest_of b y → (a ≡ b) × (x ≡ y)
+alike_apart : (a b : Told) (x y : List ℕ) → is_told a ≡ true → is_told b ≡ true → IsLast x → IsLast y → word_of a ≡ word_of b → rest_of a x ≡ rest_of b y → (a ≡ b) × (x ≡ y)
 unfolding word_of
-alike_apart (Login asker said) (Login asker' said') x y h k word same = logins_apart asker asker' said said' x y h k same
-alike_apart (Login asker said) (Command asker' arguments' line' said') x y h k word same = absurd (unlike 108 99 refl (ap (λ (w : List ℕ). slice_index w 0) word))
-alike_apart (Login asker said) (Account asker' kind' task' arguments' said') x y h k word same = absurd (unlike 108 97 refl (ap (λ (w : List ℕ). slice_index w 0) word))
-alike_apart (Login asker said) (Refused why') x y h k word same = absurd (unlike 108 114 refl (ap (λ (w : List ℕ). slice_index w 0) word))
-alike_apart (Command asker arguments line said) (Login asker' said') x y h k word same = absurd (unlike 99 108 refl (ap (λ (w : List ℕ). slice_index w 0) word))
-alike_apart (Command asker arguments line said) (Command asker' arguments' line' said') x y h k word same = commands_apart asker asker' arguments arguments' line line' said said' x y h k same
-alike_apart (Command asker arguments line said) (Account asker' kind' task' arguments' said') x y h k word same = absurd (unlike 99 97 refl (ap (λ (w : List ℕ). slice_index w 0) word))
-alike_apart (Command asker arguments line said) (Refused why') x y h k word same = absurd (unlike 99 114 refl (ap (λ (w : List ℕ). slice_index w 0) word))
-alike_apart (Account asker kind task arguments said) (Login asker' said') x y h k word same = absurd (unlike 97 108 refl (ap (λ (w : List ℕ). slice_index w 0) word))
-alike_apart (Account asker kind task arguments said) (Command asker' arguments' line' said') x y h k word same = absurd (unlike 97 99 refl (ap (λ (w : List ℕ). slice_index w 0) word))
-alike_apart (Account asker kind task arguments said) (Account asker' kind' task' arguments' said') x y h k word same = accounts_apart asker asker' kind kind' task task' arguments arguments' said said' x y h k same
-alike_apart (Account asker kind task arguments said) (Refused why') x y h k word same = absurd (unlike 97 114 refl (ap (λ (w : List ℕ). slice_index w 0) word))
-alike_apart (Refused why) (Login asker' said') x y h k word same = absurd (unlike 114 108 refl (ap (λ (w : List ℕ). slice_index w 0) word))
-alike_apart (Refused why) (Command asker' arguments' line' said') x y h k word same = absurd (unlike 114 99 refl (ap (λ (w : List ℕ). slice_index w 0) word))
-alike_apart (Refused why) (Account asker' kind' task' arguments' said') x y h k word same = absurd (unlike 114 97 refl (ap (λ (w : List ℕ). slice_index w 0) word))
-alike_apart (Refused why) (Refused why') x y h k word same = refusals_apart why why' x y same
+alike_apart (Login asker said) (Login asker' said') x y h k last_x last_y word same = logins_apart asker asker' said said' x y h k last_x last_y same
+alike_apart (Login asker said) (Command asker' arguments' line' said') x y h k last_x last_y word same = absurd (unlike 108 99 refl (ap (λ (w : List ℕ). slice_index w 0) word))
+alike_apart (Login asker said) (Account asker' kind' task' arguments' said') x y h k last_x last_y word same = absurd (unlike 108 97 refl (ap (λ (w : List ℕ). slice_index w 0) word))
+alike_apart (Login asker said) (Refused why') x y h k last_x last_y word same = absurd (unlike 108 114 refl (ap (λ (w : List ℕ). slice_index w 0) word))
+alike_apart (Command asker arguments line said) (Login asker' said') x y h k last_x last_y word same = absurd (unlike 99 108 refl (ap (λ (w : List ℕ). slice_index w 0) word))
+alike_apart (Command asker arguments line said) (Command asker' arguments' line' said') x y h k last_x last_y word same = commands_apart asker asker' arguments arguments' line line' said said' x y h k last_x last_y same
+alike_apart (Command asker arguments line said) (Account asker' kind' task' arguments' said') x y h k last_x last_y word same = absurd (unlike 99 97 refl (ap (λ (w : List ℕ). slice_index w 0) word))
+alike_apart (Command asker arguments line said) (Refused why') x y h k last_x last_y word same = absurd (unlike 99 114 refl (ap (λ (w : List ℕ). slice_index w 0) word))
+alike_apart (Account asker kind task arguments said) (Login asker' said') x y h k last_x last_y word same = absurd (unlike 97 108 refl (ap (λ (w : List ℕ). slice_index w 0) word))
+alike_apart (Account asker kind task arguments said) (Command asker' arguments' line' said') x y h k last_x last_y word same = absurd (unlike 97 99 refl (ap (λ (w : List ℕ). slice_index w 0) word))
+alike_apart (Account asker kind task arguments said) (Account asker' kind' task' arguments' said') x y h k last_x last_y word same = accounts_apart asker asker' kind kind' task task' arguments arguments' said said' x y h k last_x last_y same
+alike_apart (Account asker kind task arguments said) (Refused why') x y h k last_x last_y word same = absurd (unlike 97 114 refl (ap (λ (w : List ℕ). slice_index w 0) word))
+alike_apart (Refused why) (Login asker' said') x y h k last_x last_y word same = absurd (unlike 114 108 refl (ap (λ (w : List ℕ). slice_index w 0) word))
+alike_apart (Refused why) (Command asker' arguments' line' said') x y h k last_x last_y word same = absurd (unlike 114 99 refl (ap (λ (w : List ℕ). slice_index w 0) word))
+alike_apart (Refused why) (Account asker' kind' task' arguments' said') x y h k last_x last_y word same = absurd (unlike 114 97 refl (ap (λ (w : List ℕ). slice_index w 0) word))
+alike_apart (Refused why) (Refused why') x y h k last_x last_y word same = refusals_apart why why' x y same
 
-told_apart : (a b : Told) (x y : List ℕ) → is_told a ≡ true → is_told b ≡ true → told_json a ++ x ≡ told_json b ++ y → (a ≡ b) × (x ≡ y)
+told_apart : (a b : Told) (x y : List ℕ) → is_told a ≡ true → is_told b ≡ true → IsLast x → IsLast y → told_json a ++ x ≡ told_json b ++ y → (a ≡ b) × (x ≡ y)
 unfolding type_json
-told_apart a b x y h k same =
+told_apart a b x y h k last_x last_y same =
     let parts = text_member (codes "type") (word_of a) (word_of b) (rest_of a x) (rest_of b y) (word_bytes a) (word_bytes b) (sym (told_is a x) ∙ same ∙ told_is b y) in
-    alike_apart a b x y h k parts.0 parts.1
+    alike_apart a b x y h k last_x last_y parts.0 parts.1
 
 -- ---- sessions
 
@@ -400,7 +425,7 @@ events_apart a b h k same =
     let times = begun_apart a.time b.time _ _ h3.0 k3.0 (sym (line_is a) ∙ same ∙ line_is b) in
     let devices = text_member (codes "device") a.device b.device _ _ h3.1 k3.1 times.1 in
     let sessions = text_member (codes "session") (session_digits a.session) (session_digits b.session) _ _ (digits_are_bytes a.session) (digits_are_bytes b.session) devices.1 in
-    let told = told_apart a.told b.told ended ended h1.1 k1.1 sessions.1 in
+    let told = told_apart a.told b.told ended ended h1.1 k1.1 ended_last ended_last sessions.1 in
     event_parts a b times.0 devices.0 (sessions_apart a.session b.session (small_session a.session h2.1) (small_session b.session k2.1) sessions.0) told.0
 
 small_size : (n : ℕ) → nat_lt n (2 ^ 64) ≡ true → n < 2 ^ 64

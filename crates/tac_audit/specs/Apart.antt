@@ -25,7 +25,7 @@ is_asker asker =
     && nat_lt asker.privilege 256 && nat_lt asker.service 256
 
 abbrev pub is_said : Said → Bool
-is_said said = are_bytes said.text
+is_said said = are_bytes said.text && are_texts said.given
 
 abbrev pub is_told : Told → Bool
 is_told (Login asker said) = is_asker asker && is_said said

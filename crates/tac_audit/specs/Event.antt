@@ -58,11 +58,16 @@ asker_json asker =
     ++ member (codes "privilege") (decimal asker.privilege)
     ++ member (codes "service") (decimal asker.service)
 
+-- what the reply gives, where it gives anything
+abbrev pub given_json : List (List ℕ) → List ℕ
+given_json [] = []
+given_json (argument ∷ arguments) = member (codes "given") (texts_json (argument ∷ arguments))
+
 -- what the reply said
 unfoldable pub said_json : Said → List ℕ
 said_json said =
     member (codes "status") (text_json (status_word said.status))
-    ++ member (codes "text") (text_json said.text)
+    ++ member (codes "text") (text_json said.text) ++ given_json said.given
 
 unfoldable pub type_json : List ℕ → List ℕ
 type_json word = member (codes "type") (text_json word)

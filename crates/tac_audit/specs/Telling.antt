@@ -193,19 +193,19 @@ author_status status =
 abbrev pub acct_status : ℕ → Status
 acct_status status = if status == acct_status_success then Success else Error
 
-abbrev pub last : Status → List ℕ → Answered
-last status text = Last (record { status = status; text = text })
+abbrev pub last : Status → List ℕ → List (List ℕ) → Answered
+last status text given = Last (record { status = status; text = text; given = given })
 
--- what a reply says, if there is one
+-- what a reply says, if there is one. Only one of authorisation has arguments
 abbrev pub answered_by : Option ReplyBody → Answered
 answered_by None = Nothing
 answered_by (Some replies.Empty) = Empty
 answered_by (Some (replies.Authentication reply)) =
-    option_map_or (λ status. last status reply.msg.items) (authen_status reply.status.0) Question
+    option_map_or (λ status. last status reply.msg.items []) (authen_status reply.status.0) Question
 answered_by (Some (replies.Authorisation reply)) =
-    last (author_status reply.status.0) reply.msg.items
+    last (author_status reply.status.0) reply.msg.items reply.args
 answered_by (Some (replies.Accounting reply)) =
-    last (acct_status reply.status.0) reply.msg.items
+    last (acct_status reply.status.0) reply.msg.items []
 
 -- what a packet is answered that has this reply, or none
 abbrev pub answered_with : Option Reply → Answered

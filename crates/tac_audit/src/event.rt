@@ -33,6 +33,8 @@ pub struct Said {
     pub status: Status,
     /// The field server_msg.
     pub text: Bytes,
+    /// The arguments, in their order. Only a reply of authorisation has some.
+    pub given: Sequence<Bytes>,
 }
 
 /// Why a packet is refused as it stands.

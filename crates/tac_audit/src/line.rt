@@ -83,12 +83,23 @@ fn write_asker(out: &mut Vec<u8>, asker: &Asker) -> io::Result<()>
     write_number(out, b"service", u64::from(asker.service))
 }
 
+// The arguments of the reply, where it has some.
+fn write_given(out: &mut Vec<u8>, given: &[Bytes]) -> Result<(), AllocError>
+    ensures { OnOk result (out.new.items ≡ out.old.items ++ lines.given_json given.now) }
+{
+    match given {
+        [] => Ok(()),
+        _ => write_list(out, b"given", given),
+    }
+}
+
 #[tactic(auto, unfolding(crate::specs::Event::said_json))]
 fn write_said(out: &mut Vec<u8>, said: &Said) -> io::Result<()>
     ensures { OnOk result (out.new.items ≡ out.old.items ++ lines.said_json said.now) }
 {
     write_member(out, b"status", status_word(said.status))?;
     write_member(out, b"text", said.text.as_slice())?;
+    write_given(out, said.given.as_slice())?;
     Ok(())
 }
 

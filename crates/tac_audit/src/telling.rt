@@ -18,13 +18,13 @@ ghost use Rattle.tac_audit.specs.declared.event.Asker.{Asker as AskerValue};
 ghost use Rattle.tac_audit.specs.declared.event.Said.{Said as SaidValue};
 
 use crate::event::{Asker, Said, Status, Told, Why};
-use basics::Bytes;
+use basics::{Bytes, Sequence};
 use std::alloc::{AllocError, Global};
 use tac_authen::{AuthenReply, AuthenStatus, read_continue, read_start};
 use tac_conn::{AskKind, Packet, Reply, ReplyBody};
 use tac_request::{
-    AcctStatus, AuthorStatus, LineOf, acct_kind, read_acct_request, read_author_request,
-    request_line, task_id,
+    AcctReply, AcctStatus, AuthorReply, AuthorStatus, LineOf, acct_kind, read_acct_request,
+    read_author_request, request_line, task_id,
 };
 use tac_wire::{Header, PacketType, well_formed};
 
@@ -98,12 +98,21 @@ fn acct_status(status: AcctStatus) -> Status
     }
 }
 
-// A last reply.
-fn last(alloc: Global, status: Status, text: &[u8]) -> Result<Answered, AllocError>
-    ensures { IfOk result (λ answered. answered ≡ telling.last status text.now) }
+// A last reply with these arguments.
+fn last(
+    alloc: Global,
+    status: Status,
+    text: &[u8],
+    given: Sequence<Bytes>,
+) -> Result<Answered, AllocError>
+    ensures { IfOk result (λ answered. answered ≡ telling.last status text.now given) }
 {
     let text = Bytes::from_slice(alloc, text)?;
-    Ok(Answered::Last(Said { status, text }))
+    Ok(Answered::Last(Said {
+        status,
+        text,
+        given,
+    }))
 }
 
 // What a reply of authentication says.
@@ -112,9 +121,35 @@ fn authenticated(alloc: Global, reply: &AuthenReply) -> Result<Answered, AllocEr
         (λ answered. answered ≡ telling.answered_by (Some (bodies.Authentication reply.now))) }
 {
     match authen_status(reply.status) {
-        Some(status) => last(alloc, status, reply.msg.as_slice()),
+        Some(status) => {
+            let none = Sequence::new(alloc);
+            last(alloc, status, reply.msg.as_slice(), none)
+        }
         None => Ok(Answered::Question),
     }
+}
+
+// What a reply of authorisation says.
+fn authorised(alloc: Global, reply: &AuthorReply) -> Result<Answered, AllocError>
+    ensures { IfOk result
+        (λ answered. answered ≡ telling.answered_by (Some (bodies.Authorisation reply.now))) }
+{
+    let given = reply.args.to_list(alloc)?;
+    last(
+        alloc,
+        author_status(reply.status),
+        reply.msg.as_slice(),
+        given,
+    )
+}
+
+// What a reply of accounting says.
+fn accounted(alloc: Global, reply: &AcctReply) -> Result<Answered, AllocError>
+    ensures { IfOk result
+        (λ answered. answered ≡ telling.answered_by (Some (bodies.Accounting reply.now))) }
+{
+    let none = Sequence::new(alloc);
+    last(alloc, acct_status(reply.status), reply.msg.as_slice(), none)
 }
 
 /// What this reply answers, or that there is none. The error means that memory ran out.
@@ -128,16 +163,8 @@ pub fn answered_of(alloc: Global, reply: Option<&Reply>) -> Result<Answered, All
     match &reply.body {
         ReplyBody::Empty => Ok(Answered::Empty),
         ReplyBody::Authentication(reply) => authenticated(alloc, reply),
-        ReplyBody::Authorisation(reply) => last(
-            alloc,
-            author_status(reply.status),
-            reply.msg.as_slice(),
-        ),
-        ReplyBody::Accounting(reply) => last(
-            alloc,
-            acct_status(reply.status),
-            reply.msg.as_slice(),
-        ),
+        ReplyBody::Authorisation(reply) => authorised(alloc, reply),
+        ReplyBody::Accounting(reply) => accounted(alloc, reply),
     }
 }
 

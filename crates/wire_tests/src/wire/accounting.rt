@@ -182,7 +182,18 @@ fn records(rt: HostRuntime) -> Result<(), Fail> {
         record 'service=shell'|'cmd= ~' = 0 '' ' ~'
         record 'service=shell'|'cmd='1f = 0 ''
         record 'service=shell'|'cmd=a'|'cmd-arg='7f = 0 ''
-        record 'service=ppp'|'cmd=show' = 0 ''
+
+        # The line is that of a command of any service, or of none that is named.
+        record 'service=ppp'|'cmd=show' = 0 '' 'show'
+        record 'service=none'|'cmd=show version (SUCCESS)'|'task_id=7' = 0 '7' 'show version (SUCCESS)'
+        record 'cmd*show'|'cmd-arg=version'|'cmd=reload'|'cmd-arg*brief' = 0 '' 'show version brief'
+        record 'cmd-arg=version'|'service=ppp'|'service=shell'|'cmd=show' = 0 '' 'show version'
+        record 'service=ppp'|'cmd=' = 0 '' ''
+        record 'service=ppp'|'cmd=a'1f = 0 ''
+        record 'service=ppp'|'cmd=show'|'cmd-arg' = 0 ''
+        # .. and there is none without a command.
+        record 'service=shell' = 0 ''
+        record 'service=ppp'|'cmd-arg=show' = 0 ''
 
         user = ''
         user 000aff = 000aff
