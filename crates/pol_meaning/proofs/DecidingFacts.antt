@@ -10,7 +10,7 @@ use Rattle.pol_names.specs.declared.decision.Verdict.TheVariants.{Permit, Deny}
 use Rattle.pol_names.specs.declared.decision.Decision.{Decision}
 use Rattle.pol_text.specs.declared.subject.Subject.{Subject}
 use Rattle.pol_text.specs.Policy.{find_subject, Entry, entries, first_entry, decision}
-use Rattle.pol_meaning.specs.Changes.{is_permit}
+use Rattle.pol_meaning.specs.LineChanges.{is_permit}
 use Rattle.pol_meaning.specs.Deciding.{PermitsFirst, DecisionLaw}
 
 permit : (verdict : Verdict) → is_permit verdict ≡ true → verdict ≡ Permit

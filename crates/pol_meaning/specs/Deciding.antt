@@ -6,7 +6,7 @@ use Rattle.pol_names.specs.SubjectId.{user_id}
 use Rattle.pol_names.specs.declared.decision.Verdict.TheVariants.{Permit}
 use Rattle.pol_text.specs.declared.subject.Subject.{Subject}
 use Rattle.pol_text.specs.Policy.{find_subject, Entry, entries}
-use Rattle.pol_meaning.specs.Changes.{permits}
+use Rattle.pol_meaning.specs.LineChanges.{permits}
 
 -- the first of these entries whose set holds the line permits it
 abbrev pub PermitsFirst : List Entry → List ℕ → Type 0

@@ -2,5 +2,8 @@ pub mod Memory
 pub mod Along
 pub mod Sizes
 pub mod Reach
+pub mod LineChanges
+pub mod SameChange
+pub mod ServiceChanges
 pub mod Changes
 pub mod Deciding

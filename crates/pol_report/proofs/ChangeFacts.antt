@@ -17,7 +17,7 @@ use Rattle.pol_automaton.specs.declared.way.Way.TheVariants.{NowPermitted, NowDe
 use Rattle.pol_meaning.specs.Along.{patterns_of, entries_of}
 use Rattle.pol_live.specs.ChainRules.{chain_rule}
 use Rattle.pol_meaning.specs.Reach.{IsLeastIfAny}
-use Rattle.pol_meaning.specs.Changes.{is_permit, permits, IsGained, IsChangeOf, is_change}
+use Rattle.pol_meaning.specs.LineChanges.{is_permit, permits, IsGained, IsChangeOf, is_change}
 use Rattle.pol_report.specs.Sharing.{along, along_at, permits_along, IsGainedAlong, IsDifference, IsListed}
 use Rattle.pol_report.specs.declared.difference.Difference.{Difference}
 use Rattle.pol_meaning.specs.declared.Changed.{Changed}

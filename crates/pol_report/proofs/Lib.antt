@@ -4,3 +4,5 @@ pub mod ShadowFacts
 pub mod ChangeFacts
 pub mod ListFacts
 pub mod KnownFacts
+pub mod ServingFacts
+pub mod SayingFacts

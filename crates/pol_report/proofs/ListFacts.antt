@@ -2,7 +2,7 @@
 use Rattle.std.proofs.Common.{◌≡◌, ◌<◌, ◌+◌, ℕ, suc, length, map, take, get_or, subst, arith, List, [], ◌∷◌, ◌++◌, filter, Bool, true, false, cond, Option, refl, sym, ap, ◌∙◌, append_assoc, append-nil}
 use Rattle.std.specs.List.{AllZip}
 use Rattle.pol_text.specs.declared.subject.Subject.{Subject}
-use Rattle.pol_meaning.specs.Changes.{IsGained, IsChangeOf, ChangesOf, is_change}
+use Rattle.pol_meaning.specs.LineChanges.{IsGained, IsChangeOf, ChangesOf, is_change}
 use Rattle.pol_report.specs.Sharing.{IsListed}
 use Rattle.pol_meaning.specs.declared.Changed.{Changed}
 use Rattle.pol_report.proofs.Leasts.{if_any_unique, filter_more}

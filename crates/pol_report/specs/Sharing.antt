@@ -9,7 +9,7 @@ use Rattle.pol_names.specs.declared.subject_id.SubjectId.{SubjectId}
 use Rattle.pol_text.specs.declared.subject.Subject.{Subject}
 use Rattle.pol_text.specs.Policy.{Entry, entries, find_subject, first_entry}
 use Rattle.pol_meaning.specs.Reach.{IsLeastIfAny, AreReached, unreached}
-use Rattle.pol_meaning.specs.Changes.{is_permit, is_change, IsChangeOf}
+use Rattle.pol_meaning.specs.LineChanges.{is_permit, is_change, IsChangeOf}
 use Rattle.pol_meaning.specs.declared.Changed.{Changed}
 use Rattle.pol_meaning.specs.declared.Reached.{Reached}
 use Rattle.pol_meaning.specs.declared.Shadowed.{Shadowed}

@@ -1,28 +1,28 @@
-//! What users may do by one policy and not by another.
+//! What users may do, and are given, by one policy and not by another.
 
 ghost use Rattle.std.specs.Prelude.{◌≡◌, ◌++◌, ℕ, List, IfOk, OnOk};
-ghost use Rattle.pol_names.specs.SubjectId.{same_kind};
-ghost use Rattle.pol_names.specs.declared.subject_id.Kind.TheVariants.{User};
-ghost use Rattle.pol_meaning.specs.Changes.{ChangesOf, AreChanges, users_of, users_alone};
-ghost use Rattle.pol_meaning.specs.Changes.{is_alone as alone_test};
+ghost use Rattle.pol_meaning.specs.Changes.{AreChanges};
+ghost use Rattle.pol_meaning.specs.LineChanges.{ChangesOf, AreLineChanges, users_of, users_alone};
 ghost use Rattle.pol_report.specs.Sharing.{AreKnown, IsListed};
 ghost use Rattle.pol_meaning.specs.declared.Changed.{Changed as ChangedValue};
+ghost use Rattle.pol_meaning.specs.declared.Changes.{Changes as ChangesValue};
 
-use crate::Changes;
 use crate::comparison::{Comparison, Later};
 use crate::differing::difference_for;
 use crate::known::Differences;
+use crate::serving::list_services;
+use crate::users::{is_alone, is_user};
+use crate::{Changed, Changes};
 use basics::Sequence;
 use pol_live::{Live, Prepared, keeper};
-use pol_names::{Kind, Name, SubjectId};
-use pol_text::{Policy, Subject};
+use pol_names::{Name, SubjectId};
 use std::alloc::{AllocError, Global};
 
 // Lists what changes for a user. Searches once for all whose lines were decided by one keeper, and
 // are by another.
 fn list_searched(
     alloc: Global,
-    changes: &mut Changes,
+    changes: &mut Sequence<Changed>,
     known: &mut Differences,
     policies: &Comparison<'_>,
     user: &Name,
@@ -47,7 +47,7 @@ fn list_searched(
 // Lists what changes for a user, if it isn't to be skipped.
 fn list_user(
     alloc: Global,
-    changes: &mut Changes,
+    changes: &mut Sequence<Changed>,
     known: &mut Differences,
     policies: &Comparison<'_>,
     user: &Name,
@@ -64,23 +64,10 @@ fn list_user(
     list_searched(alloc, changes, known, policies, user)
 }
 
-fn is_user(subject: &Subject) -> bool
-    ensures { result ≡ same_kind subject.now.kind User }
-{
-    matches!(subject.kind, Kind::User)
-}
-
-// Whether it is a user whom the policy doesn't have.
-fn is_alone(policy: &Policy, subject: &Subject) -> bool
-    ensures { result ≡ alone_test policy.now subject.now }
-{
-    is_user(subject) && policy.find(&subject.id()).is_none()
-}
-
 // Lists what changes for the users of the new policy.
 fn list_present(
     alloc: Global,
-    changes: &mut Changes,
+    changes: &mut Sequence<Changed>,
     known: &mut Differences,
     policies: &Comparison<'_>,
 ) -> Result<(), AllocError>
@@ -103,7 +90,7 @@ fn list_present(
 // Lists what changes for the users of the old policy alone.
 fn list_gone(
     alloc: Global,
-    changes: &mut Changes,
+    changes: &mut Sequence<Changed>,
     known: &mut Differences,
     policies: &Comparison<'_>,
 ) -> Result<(), AllocError>
@@ -121,12 +108,13 @@ fn list_gone(
     Ok(())
 }
 
-// Lists what changes for the users of the new policy, and then for those of the old one alone.
-fn list_changes(alloc: Global, policies: &Comparison<'_>) -> Result<Changes, AllocError>
+// Lists which lines change for the users of the new policy, and then for those of the old one
+// alone.
+fn list_lines(alloc: Global, policies: &Comparison<'_>) -> Result<Sequence<Changed>, AllocError>
     ensures found { IfOk result (λ changes.
-        AreChanges policies.now.before policies.now.after changes) }
+        AreLineChanges policies.now.before policies.now.after changes) }
     ensures only { IfOk result (λ changes. (other : List ChangedValue)
-        → AreChanges policies.now.before policies.now.after other → changes ≡ other) }
+        → AreLineChanges policies.now.before policies.now.after other → changes ≡ other) }
 {
     let mut changes = Sequence::new(alloc);
     let mut known = Differences::new(alloc);
@@ -135,36 +123,52 @@ fn list_changes(alloc: Global, policies: &Comparison<'_>) -> Result<Changes, All
     Ok(changes)
 }
 
+// Lists what changes for users: their lines, and their services.
+fn list_changes(alloc: Global, policies: &Comparison<'_>) -> Result<Changes, AllocError>
+    ensures found { IfOk result (λ changes.
+        AreChanges policies.now.before policies.now.after changes) }
+    ensures only { IfOk result (λ changes. (other : ChangesValue)
+        → AreChanges policies.now.before policies.now.after other → changes ≡ other) }
+{
+    let lines = list_lines(alloc, policies)?;
+    let services = list_services(alloc, policies)?;
+    Ok(Changes { lines, services })
+}
+
 /// What prepared edits change for users, all together: those of the new policy in its order, then
-/// those of the old one alone. A user for whom nothing changes isn't listed.
+/// those of the old one alone. A user for whom nothing changes isn't listed, nor is a service of
+/// which nothing changes for the user.
 ///
 /// It searches once for each two automata, of the old policy and of the new one, that users share
-/// whom the edits concern, however many they are; all else takes a few look-ups for each subject,
-/// and the list itself.
+/// whom the edits concern, however many they are. For services it compares once what the subjects
+/// say of levels and services. Where they don't all say the same, it compares that along each
+/// user's chain, and where it differs there, looks up for this user each service that a policy
+/// names. All else takes a few look-ups for each subject, and the lists themselves.
 pub fn changes(alloc: Global, live: &Live, prepared: &Prepared) -> Result<Changes, AllocError>
     requires { prepared.now.before ≡ live.now }
     ensures found { IfOk result (λ changes. AreChanges live.now prepared.now.after changes) }
 
-    // There is one such list.
-    ensures only { IfOk result (λ changes. (other : List ChangedValue)
+    // There is one such answer.
+    ensures only { IfOk result (λ changes. (other : ChangesValue)
         → AreChanges live.now prepared.now.after other → changes ≡ other) }
 {
     let policies = Comparison::new(alloc, live, Later::Edited(prepared))?;
     list_changes(alloc, &policies)
 }
 
-/// What users may do by the new policy and not by the old one, and the other way: users of the new
-/// policy in its order, then those of the old one alone. A user for whom nothing changes isn't
-/// listed. So what is listed from a policy to itself is nothing, and from a policy to what an edit
-/// makes of it, what that edit changes.
+/// What users may do by the new policy and not by the old one, and the other way, and what they are
+/// given for services by the one and not by the other: users of the new policy in its order, then
+/// those of the old one alone. A user for whom nothing changes isn't listed. So what is listed from
+/// a policy to itself is nothing, and from a policy to what an edit makes of it, what that edit
+/// changes.
 ///
 /// It searches once for each two automata that decide for the same user, however many users share
-/// them; all else takes a few look-ups for each subject, and the list itself.
+/// them. All else takes as much as it does for edits.
 pub fn compare(alloc: Global, old: &Live, new: &Live) -> Result<Changes, AllocError>
     ensures found { IfOk result (λ changes. AreChanges old.now new.now changes) }
 
-    // There is one such list.
-    ensures only { IfOk result (λ changes. (other : List ChangedValue)
+    // There is one such answer.
+    ensures only { IfOk result (λ changes. (other : ChangesValue)
         → AreChanges old.now new.now other → changes ≡ other) }
 {
     let policies = Comparison::new(alloc, old, Later::Other(new))?;

@@ -6,13 +6,18 @@ ghost use Rattle.pol_pattern.specs.Matching.{MatchLaw};
 ghost use Rattle.pol_automaton.specs.Automaton.{IsDecider};
 ghost use Rattle.pol_meaning.specs.Along.{entries_of, patterns_of};
 ghost use Rattle.pol_text.specs.Policy.{find_subject};
+ghost use Rattle.pol_meaning.specs.LineChanges.{permits};
 ghost use Rattle.pol_live.specs.Live.{IsDeciderFor};
+ghost use Rattle.pol_given.specs.Given.{service_arguments, shell_arguments};
+ghost use Rattle.pol_names.specs.declared.service.ServiceId.{ServiceId as ServiceValue};
 ghost use Rattle.pol_report.specs.Sharing.{along};
 ghost use Rattle.pol_report.specs.Comparing.{later_policy, IsLaterOf};
 
+use crate::saying::all_alike;
 use pol_automaton::{Decider, DeciderFault, Meter};
+use pol_given::says_the_same;
 use pol_live::{Live, Prepared};
-use pol_names::SubjectId;
+use pol_names::{Name, SubjectId, Verdict};
 use pol_text::Policy;
 use std::alloc::{AllocError, Global};
 use std::marker::Model;
@@ -27,12 +32,28 @@ pub(crate) enum Later<'a> {
 }
 
 impl<'a> Later<'a> {
-    fn policy(self) -> &'a Policy
+    /// The policy.
+    pub(crate) fn policy(self) -> &'a Policy
         ensures { result.now ≡ later_policy self.entry }
     {
         match self {
             Later::Other(live) => live.policy(),
             Later::Edited(prepared) => prepared.policy(),
+        }
+    }
+
+    /// Whether the user is permitted the empty line, which asks for a shell. Read off the automaton
+    /// of the user's rules.
+    pub(crate) fn permits_shell(self, user: &Name) -> bool
+        ensures { result ≡ permits (later_policy self.entry) user.now [] }
+    {
+        let decision = match self {
+            Later::Other(live) => live.decide(user, b""),
+            Later::Edited(prepared) => prepared.decide(user, b""),
+        };
+        match decision {
+            Some(decision) => decision.verdict == Verdict::Permit,
+            None => false,
         }
     }
 
@@ -55,6 +76,8 @@ pub(crate) struct Comparison<'a> {
     new: Later<'a>,
     // of no rules: by it who isn't in a policy is denied every line
     nobody: Decider,
+    // whether all subjects are the same but for their secrets and rules
+    alike: bool,
 }
 
 // By hand, so that a proof of an owner has one call at each exit, not a drop of each field.
@@ -64,15 +87,17 @@ impl<'a> Drop for Comparison<'a> {
             old: _,
             new: _,
             nobody: _,
+            alike: _,
         } = self;
     }
 }
 
 impl<'a> Model for Comparison<'a> {
-    ghost use Rattle.std.specs.Prelude.{◌≡◌, []};
+    ghost use Rattle.std.specs.Prelude.{◌≡◌, [], IsTrue};
     ghost use Rattle.pol_automaton.specs.Automaton.{IsDecider};
     ghost use Rattle.pol_live.specs.Live.{Step};
     ghost use Rattle.pol_report.specs.Comparing.{later_policy, IsLaterOf};
+    ghost use Rattle.pol_report.specs.Saying.{stands};
 
     ghost Value = { Step };
 
@@ -81,8 +106,9 @@ impl<'a> Model for Comparison<'a> {
       after = later_policy policies.new;
     } };
 
-    ghost invariant = { λ policies.
-        IsLaterOf policies.new policies.old.now × IsDecider policies.nobody [] };
+    ghost invariant = { λ policies. IsLaterOf policies.new policies.old.now
+        × (IsDecider policies.nobody []) × (IsTrue policies.alike
+        → stands policies.old.now ≡ stands (later_policy policies.new)) };
 }
 
 fn no_rules(alloc: Global) -> Result<Decider, AllocError>
@@ -109,7 +135,13 @@ impl<'a> Comparison<'a> {
             policies ≡ record { before = old.now; after = later_policy new.entry }) }
     {
         let nobody = no_rules(alloc)?;
-        Ok(Comparison { old, new, nobody })
+        let alike = all_alike(old.policy().subjects(), new.policy().subjects());
+        Ok(Comparison {
+            old,
+            new,
+            nobody,
+            alike,
+        })
     }
 
     /// The old policy.
@@ -126,6 +158,20 @@ impl<'a> Comparison<'a> {
         self.new.policy()
     }
 
+    /// The old policy, with its automata.
+    pub(crate) fn before(&self) -> Later<'a>
+        ensures { later_policy result ≡ self.now.before }
+    {
+        Later::Other(self.old)
+    }
+
+    /// The new policy, with its automata.
+    pub(crate) fn after(&self) -> Later<'a>
+        ensures { later_policy result ≡ self.now.after }
+    {
+        self.new
+    }
+
     /// Whether a subject is to be skipped, since the edits leave the rules along its chain. Of two
     /// policies that no edit ties together nothing is known before it is searched for.
     pub(crate) fn skips(&self, id: &SubjectId) -> bool
@@ -135,6 +181,19 @@ impl<'a> Comparison<'a> {
             Later::Other(_) => false,
             Later::Edited(prepared) => prepared.leaves(id),
         }
+    }
+
+    /// Whether it is plain that both policies give the user the same for each service, where they
+    /// grant it: all along the chain the same is said of levels and of services. Where that is so
+    /// for all subjects, it takes no look-up.
+    pub(crate) fn gives_the_same(&self, user: &Name) -> bool
+        ensures services { IsTrue result → (service : ServiceValue)
+            → service_arguments self.now.before user.now service
+            ≡ service_arguments self.now.after user.now service }
+        ensures shell { IsTrue result → shell_arguments self.now.before user.now
+            ≡ shell_arguments self.now.after user.now }
+    {
+        self.alike || says_the_same(self.old_policy(), self.new_policy(), user)
     }
 
     /// The automaton of the rules that a subject has along its chain in the old policy.

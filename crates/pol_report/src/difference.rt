@@ -5,11 +5,11 @@ ghost use Rattle.pol_automaton.specs.Automaton.{IsDecider};
 ghost use Rattle.pol_automaton.specs.Decision.{Ruling, IsChanged};
 ghost use Rattle.pol_automaton.specs.declared.way.Way.TheVariants.{NowPermitted, NowDenied};
 ghost use Rattle.pol_meaning.specs.Reach.{IsLeastIfAny};
-ghost use Rattle.pol_meaning.specs.Changes.{is_change as change_test};
+ghost use Rattle.pol_meaning.specs.LineChanges.{is_change as change_test};
 
+use crate::Changed;
 use crate::line::{copied, line_of};
-use crate::{Changed, Changes};
-use basics::Bytes;
+use basics::{Bytes, Sequence};
 use pol_automaton::{Decider, Way};
 use pol_names::{Name, Verdict};
 use std::alloc::{AllocError, Global};
@@ -71,7 +71,7 @@ impl Difference {
     pub(crate) fn list_for(
         &self,
         alloc: Global,
-        changes: &mut Changes,
+        changes: &mut Sequence<Changed>,
         user: Name,
     ) -> Result<(), AllocError>
         ensures { OnOk result (changes.new ≡ changes.old ++ filter change_test (record

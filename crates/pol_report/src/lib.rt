@@ -8,10 +8,14 @@ mod difference;
 mod differing;
 mod known;
 mod line;
+mod named;
 mod reaching;
+mod saying;
+mod serving;
 mod shadowing;
+mod users;
 
 pub use changing::{changes, compare};
-pub use pol_meaning::{Changed, Changes, Reached, Shadowed};
+pub use pol_meaning::{Changed, Changes, Reached, ServiceChange, Shadowed};
 pub use reaching::reach;
 pub use shadowing::shadows;

@@ -9,5 +9,6 @@ mod meters;
 mod policies;
 mod reports;
 mod residuals;
+mod services;
 mod sharing;
 mod support;

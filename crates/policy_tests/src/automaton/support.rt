@@ -4,9 +4,9 @@ use basics::{Bytes, Sequence};
 use pol_automaton::Meter;
 use pol_edit::{Edit, read_edit};
 use pol_live::{Live, Prepared};
-use pol_meaning::{Changes, Reached, Shadowed};
+use pol_meaning::{Changes, Reached, ServiceChange, Shadowed};
 use pol_names::{By, Decision, Name, SubjectId};
-use pol_report::{changes, reach, shadows};
+use pol_report::{changes, compare, reach, shadows};
 use pol_text::Policy;
 use std::alloc::{AllocError, Global};
 use std::fmt::Write;
@@ -102,10 +102,47 @@ fn push_change(out: &mut String, user: &Name, way: &str, line: &Option<Bytes>) -
     Ok(())
 }
 
+// Each argument in brackets.
+fn push_arguments(out: &mut String, arguments: &[Bytes]) -> Result<(), Fail> {
+    for argument in arguments {
+        let argument = str::from_utf8(argument.as_slice())?;
+        write!(out, " [{argument}]")?;
+    }
+    Ok(())
+}
+
+fn push_reply(out: &mut String, reply: &Option<Sequence<Bytes>>) -> Result<(), Fail> {
+    match reply {
+        Some(arguments) if arguments.is_empty() => out.push_str(" ()")?,
+        Some(arguments) => push_arguments(out, arguments.as_slice())?,
+        None => out.push_str(" none")?,
+    }
+    Ok(())
+}
+
+// `user NAME service S: WAS => IS`, of which each is the arguments in brackets, `()` where there
+// are none, or `none` where it isn't granted.
+fn push_service(out: &mut String, change: &ServiceChange) -> Result<(), Fail> {
+    write!(
+        out,
+        "user {} service {}:",
+        change.user.as_str(),
+        change.service
+    )?;
+    push_reply(out, &change.was)?;
+    out.push_str(" =>")?;
+    push_reply(out, &change.is)?;
+    out.push_str("\n")?;
+    Ok(())
+}
+
 fn push_changes(out: &mut String, changes: &Changes) -> Result<(), Fail> {
-    for changed in changes.as_slice() {
+    for changed in changes.lines.as_slice() {
         push_change(out, &changed.user, "permits", &changed.permits)?;
         push_change(out, &changed.user, "denies", &changed.denies)?;
+    }
+    for change in changes.services.as_slice() {
+        push_service(out, change)?;
     }
     Ok(())
 }
@@ -288,7 +325,7 @@ fn holds<R: Abort>(rt: &R, conversation: &mut Conversation, lines: &str) -> Resu
 /// `why NAME LINE`, `states SUBJECT`, `reach SUBJECT`, `shadow` or `policy`. After each come the
 /// lines that are answered: to edits `ok` and what they change, or their refusal; to `reach` each
 /// rule with its least line; to `shadow` each subject with a rule that decides none of its lines. A
-/// line that begins with `#` is a comment.
+/// line that begins with `#` is a comment. Of a service stands what was given and what is given.
 pub(crate) fn converses<R: Abort + AllocGlobal>(
     rt: &R,
     policy: &str,
@@ -296,4 +333,27 @@ pub(crate) fn converses<R: Abort + AllocGlobal>(
 ) -> Result<(), Fail> {
     let mut conversation = Conversation::new(rt.alloc(), policy)?;
     holds(rt, &mut conversation, lines)
+}
+
+// What changes from one policy to another, in lines.
+fn compared(alloc: Global, old: &Live, new: &Live, out: &mut String) -> Result<(), Fail> {
+    let found = compare(alloc, old, new)?;
+    push_changes(out, &found)
+}
+
+/// From the policy of the first text to that of the second these lines change.
+pub(crate) fn differs<R: Abort + AllocGlobal>(
+    rt: &R,
+    old: &str,
+    new: &str,
+    wanted: &str,
+) -> Result<(), Fail> {
+    let alloc = rt.alloc();
+    let old = build(alloc, old)?;
+    let new = build(alloc, new)?;
+    let mut printed = String::new(alloc);
+    compared(alloc, &old, &new, &mut printed)?;
+    let printed = printed.as_str();
+    assert!(rt; printed == wanted, "wanted\n{wanted}printed\n{printed}");
+    Ok(())
 }

@@ -1,5 +1,5 @@
 use Rattle.std.proofs.Common.{◌≡◌, ◌<◌, length, get_or, sym, ◌∙◌}
-use Rattle.pol_meaning.specs.Changes.{is_alone}
+use Rattle.pol_meaning.specs.LineChanges.{is_alone}
 use Rattle.pol_report.proofs.ListFacts.{step_told, step_passed}
 use Rattle.pol_report.proofs.changing.list_gone.Goals as goal
 use Rattle.pol_report.proofs.changing.list_gone.Goals.{then-is_alone+in_ok-list_searched, else-is_alone}

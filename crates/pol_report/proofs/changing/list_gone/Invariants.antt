@@ -1,5 +1,5 @@
 use Rattle.std.proofs.Common.{◌≡◌, ◌++◌, ℕ, List, map, filter, take}
-use Rattle.pol_meaning.specs.Changes.{ChangesOf, is_alone}
+use Rattle.pol_meaning.specs.LineChanges.{ChangesOf, is_alone}
 use Rattle.pol_report.specs.Sharing.{AreKnown}
 use Rattle.pol_report.proofs.changing.list_gone.Given as goal
 

@@ -1,7 +1,7 @@
 use Rattle.std.proofs.Common.{◌≡◌, ◌<◌, ℕ, List, length, get_or, sym, subst, ◌∙◌, append-nil}
 use Rattle.pol_names.specs.SubjectId.{same_kind}
 use Rattle.pol_names.specs.declared.subject_id.Kind.TheVariants.{User}
-use Rattle.pol_meaning.specs.Changes.{ChangesOf}
+use Rattle.pol_meaning.specs.LineChanges.{ChangesOf}
 use Rattle.pol_report.proofs.ListFacts.{step_told, step_passed}
 use Rattle.pol_report.proofs.changing.list_present.Goals as goal
 use Rattle.pol_report.proofs.changing.list_present.Goals.{then-is_user+in_ok-list_user, else-is_user}

@@ -1,7 +1,7 @@
 use Rattle.std.proofs.Common.{◌≡◌, ◌++◌, ℕ, List, map, filter, take}
 use Rattle.pol_names.specs.SubjectId.{same_kind}
 use Rattle.pol_names.specs.declared.subject_id.Kind.TheVariants.{User}
-use Rattle.pol_meaning.specs.Changes.{ChangesOf}
+use Rattle.pol_meaning.specs.LineChanges.{ChangesOf}
 use Rattle.pol_report.specs.Sharing.{AreKnown}
 use Rattle.pol_report.proofs.changing.list_present.Given as goal
 
