@@ -101,6 +101,7 @@ service junos-exec local-user-name=ops
 user bob in netops
 login x
 refuse exec
+permit ()
 
 $ tacd lint policy
 line 3 column 9: tac_plus calls the shell so: is 'shell' meant?
@@ -174,4 +175,84 @@ service a/b c="d
 
 $ tacd lint policy
 line 5 column 15: an odd number of '"': is one more meant, or one less?
+status 5
+
+# A shell that nobody may start: of a group, and of a user.
+file policy
+policy 3
+group ops
+service shell shell:roles*"network-admin"
+service junos-exec local-user-name=ops
+permit show .*
+user bob in ops
+login x
+service shell timeout=5
+user eve in ops
+login x
+
+$ tacd lint policy
+line 3 column 9: no shell starts here: none of its users is permitted the empty line
+line 8 column 9: no shell starts here: none of its users is permitted the empty line
+status 5
+
+# One user of the group may start one.
+file policy
+policy 3
+group ops
+service shell timeout=5
+permit show .*
+user bob in ops
+login x
+permit ()
+user eve in ops
+login x
+|  service shell timeout=5|
+
+$ tacd lint policy
+line 10 column 11: no shell starts here: none of its users is permitted the empty line
+status 5
+
+# A rule denies it, before one that permits it.
+file policy
+policy 3
+group all
+service shell idletime=5
+group ops in all
+deny ()
+permit .*
+user bob in ops
+login x
+
+$ tacd lint policy
+line 3 column 9: no shell starts here: none of its users is permitted the empty line
+status 5
+
+# A service of a shell that gives nothing, one that no shell is asked for, and a group without users.
+file policy
+policy 3
+group ops
+service junos-exec timeout=5
+permit show .*
+user bob in ops
+login x
+service shell
+group core
+service shell timeout=5
+group edge in core
+
+$ tacd lint policy
+line 10 column 7: nobody is in this group: is that meant?
+status 5
+
+# Another mistake in the same line.
+file policy
+policy 3
+user bob
+login x
+service shell shell:roles="a
+
+$ tacd lint policy
+line 4 column 9: no shell starts here: none of its users is permitted the empty line
+line 4 column 15: devices that don't know it refuse the shell: is '*' meant in place of '='?
+line 4 column 27: an odd number of '"': is one more meant, or one less?
 status 5

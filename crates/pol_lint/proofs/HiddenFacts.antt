@@ -27,25 +27,25 @@ shadow_alike : (a b : List Present) → ((rule : Present) → list_any (same_rul
 shadow_alike a b alike None = refl
 shadow_alike a b alike (Some present) = ap (λ (found : Bool). if found then Some findings.Shadowed else None) (alike present)
 
-by_alike : (version : Version) (policy : List Subject) (others : Bool) (a b : List Present) → ((rule : Present) → list_any (same_rule rule) a ≡ list_any (same_rule rule) b)
-    → (present : Option Present) (number : ℕ) (line : List ℕ) (says : Keyword) (rest : List ℕ) → wanted.remarks_by version policy others a present number line says rest ≡ wanted.remarks_by version policy others b present number line says rest
-by_alike version policy others a b alike present number line (Opens kind) rest = refl
-by_alike version policy others a b alike present number line Secret rest = refl
-by_alike version policy others a b alike present number line Hash rest = refl
-by_alike version policy others a b alike present number line Level rest = refl
-by_alike version policy others a b alike present number line Service rest = refl
-by_alike version policy others a b alike present number line Rule rest =
+by_alike : (version : Version) (policy : List Subject) (others : Bool) (shut : List SubjectId) (a b : List Present) → ((rule : Present) → list_any (same_rule rule) a ≡ list_any (same_rule rule) b)
+    → (present : Option Present) (number : ℕ) (line : List ℕ) (says : Keyword) (rest : List ℕ) → wanted.remarks_by version policy others shut a present number line says rest ≡ wanted.remarks_by version policy others shut b present number line says rest
+by_alike version policy others shut a b alike present number line (Opens kind) rest = refl
+by_alike version policy others shut a b alike present number line Secret rest = refl
+by_alike version policy others shut a b alike present number line Hash rest = refl
+by_alike version policy others shut a b alike present number line Level rest = refl
+by_alike version policy others shut a b alike present number line Service rest = refl
+by_alike version policy others shut a b alike present number line Rule rest =
     ap (λ (finding : Option Finding). pattern_habits version number line rest ++ noted number (length line + 1) (wanted.end_finding version others rest) ++ noted number (column_of line rest) finding) (shadow_alike a b alike present)
-by_alike version policy others a b alike present number line Nothing rest = refl
+by_alike version policy others shut a b alike present number line Nothing rest = refl
 
-pub lines_alike : (version : Version) (policy : List Subject) (others : Bool) (a b : List Present) → ((rule : Present) → list_any (same_rule rule) a ≡ list_any (same_rule rule) b)
-    → (present : Option Present) (number : ℕ) (lines : List (List ℕ)) → wanted.lines_remarks version policy others a present number lines ≡ wanted.lines_remarks version policy others b present number lines
-lines_alike version policy others a b alike present number [] = refl
-lines_alike version policy others a b alike present number (line ∷ lines) =
+pub lines_alike : (version : Version) (policy : List Subject) (others : Bool) (shut : List SubjectId) (a b : List Present) → ((rule : Present) → list_any (same_rule rule) a ≡ list_any (same_rule rule) b)
+    → (present : Option Present) (number : ℕ) (lines : List (List ℕ)) → wanted.lines_remarks version policy others shut a present number lines ≡ wanted.lines_remarks version policy others shut b present number lines
+lines_alike version policy others shut a b alike present number [] = refl
+lines_alike version policy others shut a b alike present number (line ∷ lines) =
     let next = wanted.after_line present line in
-    ap (λ (told : List Remark). told ++ wanted.lines_remarks version policy others a next (number + 1) lines)
-    (by_alike version policy others a b alike next number line (keyword_of (words_in line).0) (words_in line).1)
-    ∙ ap (λ (told : List Remark). wanted.line_remarks version policy others b next number line ++ told) (lines_alike version policy others a b alike next (number + 1) lines)
+    ap (λ (told : List Remark). told ++ wanted.lines_remarks version policy others shut a next (number + 1) lines)
+    (by_alike version policy others shut a b alike next number line (keyword_of (words_in line).0) (words_in line).1)
+    ∙ ap (λ (told : List Remark). wanted.line_remarks version policy others shut b next number line ++ told) (lines_alike version policy others shut a b alike next (number + 1) lines)
 
 -- ---- one rule more
 

@@ -29,6 +29,8 @@ finding_text findings.Mandatory =
     codes "devices that don't know it refuse the shell: is '*' meant in place of '='?"
 finding_text findings.OddQuotes =
     codes "an odd number of '\"': is one more meant, or one less?"
+finding_text findings.NoShell =
+    codes "no shell starts here: none of its users is permitted the empty line"
 finding_text findings.NoEnd = codes "other rules end in ' <cr>': is it meant that this one doesn't?"
 finding_text findings.NoEnds =
     codes "no rule ends in ' <cr>', with which Cisco IOS ends each line: is that meant?"

@@ -5,6 +5,7 @@ pub mod Reasons
 pub mod Places
 pub mod Habits
 pub mod Services
+pub mod Shells
 pub mod Endings
 pub mod Remarks
 pub mod Faults

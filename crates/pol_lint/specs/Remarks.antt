@@ -22,6 +22,7 @@ use Rattle.pol_meaning.specs.declared.Shadowed.{Shadowed}
 use Rattle.pol_lint.specs.Words.{column_of, noted, words_of, words_in, keyword_of}
 use Rattle.pol_lint.specs.Habits.{pattern_habits, secret_habits, rounds_finding}
 use Rattle.pol_lint.specs.Services.{service_remarks}
+use Rattle.pol_lint.specs.Shells.{closed, shell_finding}
 use Rattle.pol_lint.specs.Endings.{names_end, lacks_end}
 use Rattle.pol_lint.specs.declared.words.Keyword.{Keyword}
 use Rattle.pol_lint.specs.declared.words.Keyword.TheVariants.{Opens, Secret, Hash, Service, Rule}
@@ -114,26 +115,32 @@ rule_remarks version others hidden present number line pattern =
     ++ noted number (length line + 1) (end_finding version others pattern)
     ++ noted number (column_of line pattern) (shadow_finding hidden present)
 
+-- whether nobody gets an attribute of a shell that the present subject gives
+abbrev pub present_finding : List SubjectId → Option Present → List ℕ → Option Finding
+present_finding shut None rest = None
+present_finding shut (Some present) rest = shell_finding shut present.owner rest
+
 -- of a line whose first word says this, and what comes after it
-abbrev pub remarks_by : Version → List Subject → Bool → List Present → Option Present → ℕ
-    → List ℕ → Keyword → List ℕ → List Remark
-remarks_by version policy others hidden present number line (Opens kind) rest =
+abbrev pub remarks_by : Version → List Subject → Bool → List SubjectId → List Present
+    → Option Present → ℕ → List ℕ → Keyword → List ℕ → List Remark
+remarks_by version policy others shut hidden present number line (Opens kind) rest =
     noted number (column_of line rest) (subject_finding policy present)
-remarks_by version policy others hidden present number line Secret rest =
+remarks_by version policy others shut hidden present number line Secret rest =
     secret_habits number line rest
-remarks_by version policy others hidden present number line Hash rest =
+remarks_by version policy others shut hidden present number line Hash rest =
     noted number (column_of line rest) (rounds_finding rest)
-remarks_by version policy others hidden present number line Service rest =
-    service_remarks number line rest
-remarks_by version policy others hidden present number line Rule rest =
+remarks_by version policy others shut hidden present number line Service rest =
+    noted number (column_of line rest) (present_finding shut present rest)
+    ++ service_remarks number line rest
+remarks_by version policy others shut hidden present number line Rule rest =
     rule_remarks version others hidden present number line rest
-remarks_by version policy others hidden present number line _ rest = []
+remarks_by version policy others shut hidden present number line _ rest = []
 
 -- of a line, after which this subject is the present one
-abbrev pub line_remarks : Version → List Subject → Bool → List Present → Option Present → ℕ
-    → List ℕ → List Remark
-line_remarks version policy others hidden present number line =
-    remarks_by version policy others hidden present number line
+abbrev pub line_remarks : Version → List Subject → Bool → List SubjectId → List Present
+    → Option Present → ℕ → List ℕ → List Remark
+line_remarks version policy others shut hidden present number line =
+    remarks_by version policy others shut hidden present number line
     (keyword_of (words_in line).0) (words_in line).1
 
 -- the present subject after a line
@@ -141,20 +148,21 @@ abbrev pub after_line : Option Present → List ℕ → Option Present
 after_line present line = after present (keyword_of (words_in line).0) (words_in line).1
 
 -- of these lines, of which the first has this number
-abbrev pub lines_remarks : Version → List Subject → Bool → List Present → Option Present → ℕ
-    → List (List ℕ) → List Remark
-lines_remarks version policy others hidden present number [] = []
-lines_remarks version policy others hidden present number (line ∷ lines) =
-    line_remarks version policy others hidden (after_line present line) number line
-    ++ lines_remarks version policy others hidden (after_line present line) (number + 1) lines
+abbrev pub lines_remarks : Version → List Subject → Bool → List SubjectId → List Present
+    → Option Present → ℕ → List (List ℕ) → List Remark
+lines_remarks version policy others shut hidden present number [] = []
+lines_remarks version policy others shut hidden present number (line ∷ lines) =
+    line_remarks version policy others shut hidden (after_line present line) number line
+    ++ lines_remarks version policy others shut hidden (after_line present line)
+    (number + 1) lines
 
 -- first of the whole policy, and then of the lines of its text
-abbrev pub remarks_with : List ℕ → List Subject → List Present → List Remark
-remarks_with text policy hidden =
+abbrev pub remarks_with : List ℕ → List Subject → List SubjectId → List Present → List Remark
+remarks_with text policy shut hidden =
     noted 1 1 (policy_finding policy)
     ++ lines_remarks (patterns_of (body_of (lines_of text)).version) policy
-    (any_pattern (names_end Two) policy) hidden None 1 (lines_of text)
+    (any_pattern (names_end Two) policy) shut hidden None 1 (lines_of text)
 
 -- what is told of a policy, of whose rules these decide nothing
 abbrev pub policy_remarks : List ℕ → List Subject → List Shadowed → List Remark
-policy_remarks text policy rows = remarks_with text policy (hidden_of rows)
+policy_remarks text policy rows = remarks_with text policy (closed policy) (hidden_of rows)

@@ -41,6 +41,8 @@ pub enum Finding {
     Mandatory,
     /// An attribute has an odd number of quotation marks.
     OddQuotes,
+    /// Nobody may start the shell that an attribute is given to.
+    NoShell,
     /// A rule doesn't end in ` <cr>`, where others do.
     NoEnd,
     /// No rule ends in ` <cr>`.
@@ -145,6 +147,12 @@ impl fmt::Display for Finding {
             }
             Finding::OddQuotes => {
                 write!(f, "an odd number of '\"': is one more meant, or one less?")
+            }
+            Finding::NoShell => {
+                write!(
+                    f,
+                    "no shell starts here: none of its users is permitted the empty line"
+                )
             }
             Finding::NoEnd => {
                 write!(

@@ -14,6 +14,7 @@ mod remark;
 mod remarks;
 mod searching;
 mod services;
+mod shells;
 mod words;
 
 pub use chains::{size_faults, text_faults};

@@ -2,6 +2,8 @@
 
 ghost use Rattle.std.specs.Prelude.{◌≡◌, ◌++◌, IfOk, OnOk};
 ghost use Rattle.std.specs.List.{list_any};
+ghost use Rattle.pol_lint.specs.Words.{noted, column_of as column_wanted};
+ghost use Rattle.pol_lint.specs.Services as services;
 ghost use Rattle.pol_lint.specs.Remarks as wanted;
 ghost use Rattle.pol_lint.specs.Endings as endings;
 ghost use Rattle.pol_pattern.specs.declared.version.Version.TheVariants.{Two};
@@ -12,6 +14,7 @@ use crate::habits::{note_pattern, note_secret, rounds_finding};
 use crate::hidden::hidden_of;
 use crate::remark::{Remark, column_of, note};
 use crate::services::note_service;
+use crate::shells::{closed, shell_finding};
 use crate::words::{Keyword, keyword_of, words_in, words_of};
 use basics::{Lines, Sequence};
 use indexmap::IndexSet;
@@ -36,6 +39,8 @@ struct Known<'a> {
     policy: &'a Policy,
     // whether a rule ends in ` <cr>`
     others: bool,
+    // the subjects that have users, none of whom may start a shell
+    shut: &'a Sequence<SubjectId>,
     // the rules that decide nothing
     hidden: &'a IndexSet<Present>,
 }
@@ -210,6 +215,39 @@ fn note_rule(
     )
 }
 
+// That nobody gets an attribute of a shell that the present subject gives.
+fn present_finding(
+    shut: &Sequence<SubjectId>,
+    present: Option<Present>,
+    rest: &[u8],
+) -> Option<Finding>
+    ensures { result ≡ wanted.present_finding shut.now present rest.now }
+{
+    match present {
+        Some(present) => shell_finding(shut, &present.owner, rest),
+        None => None,
+    }
+}
+
+// Adds what is told of a line about services.
+fn note_present(
+    remarks: &mut Sequence<Remark>,
+    shut: &Sequence<SubjectId>,
+    present: Option<Present>,
+    number: usize,
+    line: &[u8],
+    rest: &[u8],
+) -> Result<(), AllocError>
+    ensures { OnOk result (remarks.new ≡ remarks.old
+        ++ noted number (column_wanted line.now rest.now)
+        (wanted.present_finding shut.now present rest.now)
+        ++ services.service_remarks number line.now rest.now) }
+{
+    let finding = present_finding(shut, present, rest);
+    note(remarks, number, column_of(line, rest), finding)?;
+    note_service(remarks, number, line, rest)
+}
+
 // The present subject after a line.
 fn after_line(present: &Option<Present>, line: &[u8]) -> Option<Present>
     ensures { result ≡ wanted.after_line present.now line.now }
@@ -228,7 +266,8 @@ fn note_line(
     line: &[u8],
 ) -> Result<(), AllocError>
     ensures { OnOk result (remarks.new ≡ remarks.old ++ wanted.line_remarks
-        known.now.version known.now.policy.now known.now.others known.now.hidden.now.keys
+        known.now.version known.now.policy.now known.now.others known.now.shut.now
+        known.now.hidden.now.keys
         present.now number line.now) }
 {
     let (word, rest) = words_in(line);
@@ -240,20 +279,21 @@ fn note_line(
         Keyword::Secret => note_secret(remarks, number, line, rest),
         Keyword::Hash => note(remarks, number, column_of(line, rest), rounds_finding(rest)),
         Keyword::Rule => note_rule(alloc, remarks, known, *present, number, line, rest),
-        Keyword::Service => note_service(remarks, number, line, rest),
+        Keyword::Service => note_present(remarks, known.shut, *present, number, line, rest),
         Keyword::Level | Keyword::Nothing => Ok(()),
     }
 }
 
-// What is told of a policy, of whose rules these decide nothing.
+// What is told of a policy: under these subjects no shell starts, and these rules decide nothing.
 fn told_of<'a>(
     alloc: Global,
     text: &[u8],
     policy: &'a Policy,
+    shut: &'a Sequence<SubjectId>,
     hidden: &'a IndexSet<Present>,
 ) -> Result<Sequence<Remark>, AllocError>
     ensures { IfOk result (λ remarks.
-        remarks ≡ wanted.remarks_with text.now policy.now hidden.now.keys) }
+        remarks ≡ wanted.remarks_with text.now policy.now shut.now hidden.now.keys) }
 {
     let (version, _) = body_of(text);
     let others = has_ends(policy);
@@ -261,6 +301,7 @@ fn told_of<'a>(
         version: version.patterns(),
         policy,
         others,
+        shut,
         hidden,
     };
     let mut remarks = Sequence::new(alloc);
@@ -278,8 +319,8 @@ fn told_of<'a>(
 /// What is told of a policy with this text, of whose rules these decide nothing: what is right and
 /// probably not meant.
 ///
-/// Expected time linear in the text, but for a look at all subjects for each group. The error means
-/// that memory ran out.
+/// Expected time linear in the text, but for a look at all subjects for each subject. The error
+/// means that memory ran out.
 pub fn policy_remarks(
     alloc: Global,
     text: &[u8],
@@ -289,6 +330,7 @@ pub fn policy_remarks(
     ensures { IfOk result (λ remarks.
         remarks ≡ wanted.policy_remarks text.now policy.now rows.now) }
 {
+    let shut = closed(alloc, policy)?;
     let hidden = hidden_of(alloc, rows)?;
-    told_of(alloc, text, policy, &hidden)
+    told_of(alloc, text, policy, &shut, &hidden)
 }
