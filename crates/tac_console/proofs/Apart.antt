@@ -1,5 +1,5 @@
 -- The lines of records are told apart, and the fields of a line.
-use Rattle.std.proofs.Common.{◌≡◌, ℕ, suc, ◌^◌, ◌<◌, ◌&&◌, true, List, [], ◌∷◌, ◌++◌, drop, Option, Some, None, codes, nat_lt, append-nil, append_assoc, lit<, refl, sym, ap, ◌∙◌, arith}
+use Rattle.std.proofs.Common.{◌≡◌, ℕ, ◌^◌, ◌<◌, ◌&&◌, true, List, [], ◌∷◌, ◌++◌, drop, Option, Some, None, codes, nat_lt, append-nil, append_assoc, lit<, refl, sym, ap, ◌∙◌, arith}
 use Rattle.std.specs.List.{list_all, flat_map}
 use Rattle.std.specs.Fmt.{decimal}
 use Rattle.std.proofs.lemmas.Bool.Decides.{nat_tests}

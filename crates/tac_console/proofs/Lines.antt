@@ -15,7 +15,7 @@ use Rattle.pol_edit.specs.declared.edit.Edit.TheVariants.{AddGroup, AddUser, Rem
 use Rattle.pol_edit.specs.declared.fault.EditFault.{EditFault}
 use Rattle.pol_edit.specs.declared.fault.EditFault.TheVariants.{BadEdit, Memory}
 use Rattle.tac_desk.specs.declared.query.Query.{Query}
-use Rattle.tac_desk.specs.declared.query.Query.TheVariants.{Policy, Shadow, Reach, Tally, Why, Records}
+use Rattle.tac_desk.specs.declared.query.Query.TheVariants.{Policy, Shadow, Reach, Tally, Why, Given, Records}
 use Rattle.tac_console.specs.ConsoleText.{query_of, batch_word}
 use Rattle.tac_console.specs.Spelling.{SpellsWords, SpellsQuery, IsBatchWord, Spells}
 use Rattle.tac_console.specs.declared.asked.Asked.{Asked}
@@ -59,6 +59,7 @@ queries_begin line Shadow h = rw h refl
 queries_begin line (Reach subject) h = rw h.0 refl
 queries_begin line (Tally subject) h = rw h.0 refl
 queries_begin line (Why user text) h = elim h.0 [ inl spaced ↦ rw spaced refl | inr alone ↦ rw alone.0 refl ]
+queries_begin line (Given user service) h = rw h.0 refl
 queries_begin line Records h = rw h refl
 
 pub apart : (line : List ℕ) (edit : Edit) (query : Query) → SpellsEdit line edit → SpellsQuery line query → ⊥

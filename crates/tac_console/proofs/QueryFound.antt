@@ -1,11 +1,13 @@
 -- A question that is read is spelled so.
 use Rattle.std.proofs.Common.{◌≡◌, ℕ, Bool, true, false, cond, List, [], ◌∷◌, ◌++◌, Option, Some, None, codes, append_assoc, inl, inr, refl, sym, ap, ◌∙◌, subst}
-use Rattle.std.specs.Option.{option_map}
+use Rattle.std.specs.Option.{option_map, option_and_then}
 use Rattle.std.specs.Str.{bytes_eq}
 use Rattle.std.proofs.lemmas.Slice.Eq.{bytes_eq-Decides}
 use Rattle.basics.specs.Symbol.{is_text}
 use Rattle.pol_names.specs.Name.{is_name, name_of}
 use Rattle.pol_names.specs.SubjectId.{kind_word}
+use Rattle.pol_names.specs.Service.{service_of, service_text}
+use Rattle.pol_names.proofs.ServiceFacts as services
 use Rattle.pol_names.specs.declared.subject_id.Kind.{Kind}
 use Rattle.pol_names.specs.declared.subject_id.Kind.TheVariants.{Group, User}
 use Rattle.pol_names.specs.declared.subject_id.SubjectId.{SubjectId}
@@ -13,8 +15,8 @@ use Rattle.pol_edit.specs.EditText.{◌>>=◌, parted, kind_of, subject_of}
 use Rattle.pol_names.specs.SubjectId.{subject_text}
 use Rattle.pol_edit.specs.Spelling.{IsName}
 use Rattle.tac_desk.specs.declared.query.Query.{Query}
-use Rattle.tac_desk.specs.declared.query.Query.TheVariants.{Policy, Shadow, Reach, Tally, Why, Records}
-use Rattle.tac_console.specs.ConsoleText.{why, query_by, by_word, query_in, query_of}
+use Rattle.tac_desk.specs.declared.query.Query.TheVariants.{Policy, Shadow, Reach, Tally, Why, Given, Records}
+use Rattle.tac_console.specs.ConsoleText.{why, given, query_by, by_word, query_in, query_of}
 use Rattle.tac_console.specs.Spelling.{SpellsWords, SpellsQuery}
 use Rattle.tac_console.proofs.Spaces.{parts_joined}
 
@@ -30,6 +32,10 @@ done_is x y e = cc
 bound : {A B : Type 0} (o : Option A) (f : A → Option B) (y : B) → (o >>= f) ≡ Some y → (x : A) × (o ≡ Some x) × (f x ≡ Some y)
 bound (Some x) f y e = (x, refl, e)
 bound None f y e = absurd cc
+
+chained : {A B : Type 0} (o : Option A) (f : A → Option B) (y : B) → option_and_then f o ≡ Some y → (x : A) × (o ≡ Some x) × (f x ≡ Some y)
+chained (Some x) f y e = (x, refl, e)
+chained None f y e = absurd cc
 
 mapped : {A B : Type 0} (o : Option A) (f : A → B) (y : B) → option_map f o ≡ Some y → (x : A) × (o ≡ Some x) × (f x ≡ y)
 mapped (Some x) f y e = (x, refl, done_is (f x) y e)
@@ -93,6 +99,19 @@ why_found rest (Some parts) query split e =
     (ap (λ (t : List ℕ). codes "why " ++ t) (parts_joined rest parts.0 parts.1 split ∙ ap (λ (n : List ℕ). n ++ 32 ∷ parts.1) named.0) ∙ spaced)
     user.2 (inl refl, named.1)
 
+given_found : (rest : List ℕ) (parts : Option (List ℕ × List ℕ)) (query : Query) → parted rest ≡ parts → given parts ≡ Some query
+    → SpellsWords (codes "given " ++ rest) query
+given_found rest None query split e = absurd cc
+given_found rest (Some parts) query split e =
+    let user = chained (name_of parts.0) (λ user. option_map (Given user) (service_of parts.1)) query e in
+    let service = mapped (service_of parts.1) (Given user.0) query user.2 in
+    let named = name_found parts.0 user.0 user.1 in
+    let may = services.found parts.1 service.0 service.1 in
+    let spaced : codes "given " ++ (user.0 ++ 32 ∷ service_text service.0) ≡ codes "given " ++ user.0 ++ codes " " ++ service_text service.0 = simp append_assoc in
+    respelled _ (codes "given " ++ user.0 ++ codes " " ++ service_text service.0) query (Given user.0 service.0)
+    (ap (λ (t : List ℕ). codes "given " ++ t) (parts_joined rest parts.0 parts.1 split ∙ ap (λ (n : List ℕ). n ++ 32 ∷ parts.1) named.0 ∙ ap (λ (t : List ℕ). user.0 ++ 32 ∷ t) may.1) ∙ spaced)
+    service.2 (refl, named.1, may.0)
+
 by_found : (word rest : List ℕ) (query : Query) → query_by word rest ≡ Some query → SpellsWords (word ++ 32 ∷ rest) query
 by_found word rest query e =
     choice _ (bytes_eq word (codes "tally")) (option_map Tally (subject_of rest)) _ (done query) e
@@ -107,9 +126,11 @@ by_found word rest query e =
     let named = subject_found rest subject.0 subject.1 in
     respelled _ (codes "reach " ++ subject_text subject.0) query (Reach subject.0)
     (ap (λ (w : List ℕ). w ++ 32 ∷ rest) (word_is word (codes "reach") is) ∙ ap (λ (t : List ℕ). codes "reach " ++ t) named.0) subject.2 (refl, named.1))
-    (λ other. choice _ (bytes_eq word (codes "why")) (why rest (parted rest)) None (done query) other
+    (λ other. choice _ (bytes_eq word (codes "why")) (why rest (parted rest)) _ (done query) other
     (λ is made. subst (λ (w : List ℕ). SpellsWords (w ++ 32 ∷ rest) query) (sym (word_is word (codes "why") is)) (why_found rest (parted rest) query refl made))
-    (λ none. absurd cc)))
+    (λ other. choice _ (bytes_eq word (codes "given")) (given (parted rest)) None (done query) other
+    (λ is made. subst (λ (w : List ℕ). SpellsWords (w ++ 32 ∷ rest) query) (sym (word_is word (codes "given") is)) (given_found rest (parted rest) query refl made))
+    (λ none. absurd cc))))
 
 word_found : (line : List ℕ) (parts : Option (List ℕ × List ℕ)) (query : Query) → parted line ≡ parts → by_word parts ≡ Some query → SpellsWords line query
 word_found line None query split e = absurd cc

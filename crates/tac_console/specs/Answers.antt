@@ -15,9 +15,14 @@ use Rattle.pol_edit.specs.declared.batching.BatchFault.{BatchFault}
 use Rattle.pol_edit.specs.declared.fault.EditFault.{EditFault}
 use Rattle.pol_edit.specs.declared.fault.EditFault.TheVariants.{TooManyStates}
 use Rattle.pol_meaning.specs.declared.Changed.{Changed}
+use Rattle.pol_meaning.specs.declared.Changes.{Changes}
 use Rattle.tac_request.specs.declared.record.AcctKind.{AcctKind}
 use Rattle.tac_request.specs.declared.record.AcctKind.TheVariants.{Begin, Stop, Watch, Update}
 use Rattle.tac_tally.specs.declared.tally.Tally.{Tally}
+use Rattle.pol_given.specs.declared.grant.Given.{Given}
+use Rattle.pol_given.specs.declared.grant.GivenArgument.{GivenArgument}
+use Rattle.pol_given.specs.declared.grant.Grant.{Grant}
+use Rattle.pol_given.specs.declared.grant.Grant.TheVariants as grants
 use Rattle.tac_desk.specs.FaultText as query_faults
 use Rattle.tac_desk.specs.declared.numbered.Numbered.{Numbered}
 use Rattle.tac_desk.specs.declared.query.Query.{Query}
@@ -30,6 +35,7 @@ use Rattle.tac_console.specs.declared.batching.Notice.TheVariants as notices
 use Rattle.tac_console.specs.Faults.{size_fault}
 use Rattle.tac_console.specs.Percent.{percent_form}
 use Rattle.tac_console.specs.Reports.{shadows_text, reach_text}
+use Rattle.tac_console.specs.ServiceAnswers.{service_lines}
 
 -- an answer whose value is lent
 abbrev pub answer_lent : {A E : Type 0} → Result (Bor A) E → Result A E
@@ -55,21 +61,26 @@ changed_lines changed =
     change_line changed.user (codes " now permits: ") changed.permits
     ++ change_line changed.user (codes " now denies: ") changed.denies
 
-abbrev pub accepted : List Changed → List ℕ
-accepted changes = done ++ flat_map changed_lines changes
+-- the lines of all users, and then what changes of their services
+abbrev pub changes_text : Changes → List ℕ
+changes_text changes =
+    flat_map changed_lines changes.lines ++ flat_map service_lines changes.services
 
-abbrev pub edit_answer : Result (List Changed) EditFault → List ℕ
+abbrev pub accepted : Changes → List ℕ
+accepted changes = done ++ changes_text changes
+
+abbrev pub edit_answer : Result Changes EditFault → List ℕ
 edit_answer (Ok changes) = accepted changes
 edit_answer (Err fault) = refused (edit_faults.fault_text fault)
 
 -- another policy in the place of the present one is answered as an edit is; but one that is too
 -- large is told as its check tells it
-abbrev pub load_answer : Result (List Changed) EditFault → List ℕ
+abbrev pub load_answer : Result Changes EditFault → List ℕ
 load_answer (Err (TooManyStates subject)) = size_fault subject
 load_answer answer = edit_answer answer
 
 -- the changes are those of the whole batch; a refusal names the edit that is refused, if one is
-abbrev pub batch_answer : Result (List Changed) BatchFault → List ℕ
+abbrev pub batch_answer : Result Changes BatchFault → List ℕ
 batch_answer (Ok changes) = accepted changes
 batch_answer (Err fault) = refused (edit_faults.batch_fault_text fault)
 
@@ -98,6 +109,22 @@ tally_text _ tally = []
 abbrev pub why_line : Option Decision → List ℕ
 why_line None = codes "unknown user" ++ 10 ∷ []
 why_line (Some decision) = verdict_text decision.verdict ++ by_text decision.by ++ 10 ∷ []
+
+-- ---- services
+
+abbrev pub grant_line : Grant → List ℕ
+grant_line grants.UnknownUser = why_line None
+grant_line grants.Unserved = codes "unsupported service" ++ 10 ∷ []
+grant_line (grants.Refused owner) = codes "refused by " ++ subject_text owner ++ 10 ∷ []
+grant_line (grants.Granted owner) = codes "granted by " ++ subject_text owner ++ 10 ∷ []
+grant_line (grants.Decided decision) = why_line (Some decision)
+
+abbrev pub argument_line : GivenArgument → List ℕ
+argument_line given =
+    subject_text given.owner ++ codes " gives " ++ given.argument ++ 10 ∷ []
+
+abbrev pub given_text : Given → List ℕ
+given_text given = grant_line given.grant ++ flat_map argument_line given.arguments
 
 -- ---- records
 
@@ -131,6 +158,7 @@ report_text query (reports.Shadow rows) = shadows_text rows
 report_text query (reports.Reach rows) = reach_text rows
 report_text query (reports.Tally tally) = tally_text query tally
 report_text query (reports.Why decision) = why_line decision
+report_text query (reports.Given given) = given_text given
 report_text query (reports.Records records) = records_text records
 
 abbrev pub query_answer : Query → Result Report QueryFault → List ℕ

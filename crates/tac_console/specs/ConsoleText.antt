@@ -2,15 +2,16 @@
 -- (docs/CONSOLE.md).
 use Rattle.std.specs.Prelude.{ℕ, List, [], codes, Bool, true, false, Option, Some, None, option_map}
 use Rattle.std.specs.Prelude.{if◌then◌else◌}
-use Rattle.std.specs.Option.{option_map_or}
+use Rattle.std.specs.Option.{option_and_then, option_map_or}
 use Rattle.std.specs.Str.{bytes_eq}
 use Rattle.basics.specs.Symbol.{is_text}
 use Rattle.pol_names.specs.Name.{name_of}
+use Rattle.pol_names.specs.Service.{service_of}
 use Rattle.pol_edit.specs.EditText.{parted, subject_of, edit_of, has_text}
 use Rattle.pol_edit.specs.declared.edit.Edit.{Edit}
 use Rattle.tac_desk.specs.declared.query.Query.{Query}
 use Rattle.tac_desk.specs.declared.query.Query.TheVariants.{Policy, Shadow, Reach, Tally, Why}
-use Rattle.tac_desk.specs.declared.query.Query.TheVariants.{Records}
+use Rattle.tac_desk.specs.declared.query.Query.TheVariants.{Given, Records}
 use Rattle.tac_console.specs.declared.asked.Asked.{Asked}
 use Rattle.tac_console.specs.declared.asked.Asked.TheVariants as asks
 
@@ -19,12 +20,19 @@ abbrev pub why : List ℕ → Option (List ℕ × List ℕ) → Option Query
 why text None = option_map (λ user. Why user []) (name_of text)
 why text (Some parts) = option_map (λ user. Why user parts.1) (name_of parts.0)
 
+-- `NAME SERVICE`
+abbrev pub given : Option (List ℕ × List ℕ) → Option Query
+given None = None
+given (Some parts) =
+    option_and_then (λ user. option_map (Given user) (service_of parts.1)) (name_of parts.0)
+
 -- a question of this first word, which a space follows
 abbrev pub query_by : List ℕ → List ℕ → Option Query
 query_by word rest =
     if bytes_eq word (codes "tally") then option_map Tally (subject_of rest)
     else if bytes_eq word (codes "reach") then option_map Reach (subject_of rest)
     else if bytes_eq word (codes "why") then why rest (parted rest)
+    else if bytes_eq word (codes "given") then given (parted rest)
     else None
 
 -- a line by its first word, if a space follows one

@@ -6,3 +6,4 @@ pub mod Answers
 pub mod Apart
 pub mod Faults
 pub mod Reports
+pub mod ServiceAnswers

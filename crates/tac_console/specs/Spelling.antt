@@ -2,15 +2,16 @@
 --
 --   line    = edit | query | "begin" | "commit" | "abandon"
 --   query   = "policy" | "shadow" | "reach " subject | "tally " subject
---           | "why " name [ " " text ] | "records"
+--           | "why " name [ " " text ] | "given " name " " service | "records"
 use Rattle.std.specs.Prelude.{◌≡◌, ◌⊎◌, ℕ, List, [], ◌++◌, codes, IsTrue}
 use Rattle.basics.specs.Symbol.{is_text}
 use Rattle.pol_names.specs.SubjectId.{subject_text}
-use Rattle.pol_edit.specs.Spelling.{IsName, Spells as SpellsEdit}
+use Rattle.pol_names.specs.Service.{service_text}
+use Rattle.pol_edit.specs.Spelling.{IsName, IsService, Spells as SpellsEdit}
 use Rattle.pol_edit.specs.declared.edit.Edit.{Edit}
 use Rattle.tac_desk.specs.declared.query.Query.{Query}
 use Rattle.tac_desk.specs.declared.query.Query.TheVariants.{Policy, Shadow, Reach, Tally, Why}
-use Rattle.tac_desk.specs.declared.query.Query.TheVariants.{Records}
+use Rattle.tac_desk.specs.declared.query.Query.TheVariants.{Given, Records}
 use Rattle.tac_console.specs.declared.asked.Asked.{Asked}
 use Rattle.tac_console.specs.declared.asked.Asked.TheVariants as asks
 
@@ -25,6 +26,9 @@ SpellsWords line (Tally subject) =
 SpellsWords line (Why user text) =
     ((line ≡ codes "why " ++ user ++ codes " " ++ text)
     ⊎ ((line ≡ codes "why " ++ user) × (text ≡ []))) × IsName user
+SpellsWords line (Given user service) =
+    (line ≡ codes "given " ++ user ++ codes " " ++ service_text service) × IsName user
+    × IsService service
 SpellsWords line Records = line ≡ codes "records"
 
 -- all of the line are symbols

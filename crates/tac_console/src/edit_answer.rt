@@ -3,13 +3,15 @@
 ghost use Rattle.std.specs.Prelude.{◌≡◌, ◌++◌, IfOk, OnOk, OnErr};
 ghost use Rattle.std.specs.List.{flat_map};
 ghost use Rattle.tac_console.specs.Answers as answers;
+ghost use Rattle.tac_console.specs.ServiceAnswers.{service_lines};
 
 use crate::adding::{add, refused};
 use crate::batching::Notice;
 use crate::faults::write_size_fault;
+use crate::service_answer::write_service_change;
 use basics::Bytes;
 use pol_edit::{BatchFault, EditFault};
-use pol_meaning::{Changed, Changes};
+use pol_meaning::{Changed, Changes, ServiceChange};
 use pol_names::Name;
 use std::alloc::{AllocError, Global};
 use std::io;
@@ -46,18 +48,29 @@ fn write_changes(out: &mut Vec<u8>, changes: &[Changed]) -> io::Result<()>
     Ok(())
 }
 
+fn write_services(out: &mut Vec<u8>, changes: &[ServiceChange]) -> io::Result<()>
+    ensures { OnOk result
+        (out.new.items ≡ out.old.items ++ flat_map service_lines changes.now) }
+{
+    'changes: for change in changes {
+        write_service_change(out, change)?;
+    }
+    Ok(())
+}
+
 // How accepted edits are answered.
 fn accepted(alloc: Global, changes: &Changes) -> io::Result<Vec<u8>>
     ensures { IfOk result (λ text. text.items ≡ answers.accepted changes.now) }
 {
     let mut text = Vec::new(alloc);
     writeln!(text, "ok")?;
-    write_changes(&mut text, changes.as_slice())?;
+    write_changes(&mut text, changes.lines.as_slice())?;
+    write_services(&mut text, changes.services.as_slice())?;
     Ok(text)
 }
 
-/// Adds how an edit is answered: `ok`, and a line for each decision that it changes, or why it is
-/// refused. The error means that memory ran out; nothing is added then. Linear in what is added.
+/// Adds how an edit is answered: `ok`, and a line for each decision that it changes and for what it
+/// changes of services, or why it is refused. The error means that memory ran out; nothing is added then. Linear in what is added.
 pub fn write_edit_answer(
     alloc: Global,
     out: &mut Vec<u8>,

@@ -10,6 +10,7 @@ mod percent;
 mod query_answer;
 mod reading;
 mod rules;
+mod service_answer;
 
 pub use asked::Asked;
 pub use batching::{Action, Batch, Notice};

@@ -14,6 +14,7 @@ use crate::percent::write_percent;
 use crate::rules::{write_reach, write_rows};
 use basics::Bytes;
 use itoa::Buffer;
+use pol_given::{Given, GivenArgument, Grant};
 use pol_names::{By, Decision, SubjectId, Verdict};
 use std::alloc::{AllocError, Global};
 use std::io;
@@ -78,6 +79,40 @@ fn write_why(out: &mut Vec<u8>, decision: Option<Decision>) -> io::Result<()>
         By::Rule(owner, number) => write_rule(out, &owner, number),
         By::Default => writeln!(out, "default"),
     }
+}
+
+// ---- services
+
+fn write_grant(out: &mut Vec<u8>, grant: Grant) -> io::Result<()>
+    ensures { OnOk result (out.new.items ≡ out.old.items ++ answers.grant_line grant) }
+{
+    match grant {
+        Grant::UnknownUser => write_why(out, None),
+        Grant::Unserved => writeln!(out, "unsupported service"),
+        Grant::Refused(owner) => writeln!(out, "refused by {owner}"),
+        Grant::Granted(owner) => writeln!(out, "granted by {owner}"),
+        Grant::Decided(decision) => write_why(out, Some(decision)),
+    }
+}
+
+fn write_argument(out: &mut Vec<u8>, given: &GivenArgument) -> io::Result<()>
+    ensures { OnOk result (out.new.items ≡ out.old.items ++ answers.argument_line given.now) }
+{
+    let GivenArgument { owner, argument } = given;
+    write!(out, "{owner} gives ")?;
+    out.extend_from_slice(argument.as_slice())?;
+    out.push(b'\n')?;
+    Ok(())
+}
+
+fn write_given(out: &mut Vec<u8>, given: &Given) -> io::Result<()>
+    ensures { OnOk result (out.new.items ≡ out.old.items ++ answers.given_text given.now) }
+{
+    write_grant(out, given.grant)?;
+    'arguments: for argument in given.arguments.as_slice() {
+        write_argument(out, argument)?;
+    }
+    Ok(())
 }
 
 // ---- records
@@ -150,6 +185,7 @@ fn report_text(alloc: Global, query: &Query, report: &Report) -> io::Result<Vec<
         (Report::Tally(tally), Query::Tally(subject)) => write_tally(&mut text, subject, tally)?,
         (Report::Tally(_), _) => unreachable!(),
         (Report::Why(decision), _) => write_why(&mut text, *decision)?,
+        (Report::Given(given), _) => write_given(&mut text, given)?,
         (Report::Records(records), _) => write_records(&mut text, records.as_slice())?,
     }
     Ok(text)

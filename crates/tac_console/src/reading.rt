@@ -9,7 +9,7 @@ ghost use Rattle.tac_console.specs.declared.asked.Asked.{Asked as AskedValue};
 use crate::asked::Asked;
 use basics::{Bytes, is_text, split_once};
 use pol_edit::{EditFault, read_edit};
-use pol_names::{Kind, Name, SubjectId};
+use pol_names::{Kind, Name, ServiceId, SubjectId};
 use std::alloc::{AllocError, Global};
 use tac_desk::Query;
 
@@ -54,6 +54,16 @@ fn why(alloc: Global, words: &[u8]) -> Result<Option<Query>, AllocError>
     Ok(Some(Query::Why { user, line }))
 }
 
+// `NAME SERVICE`.
+fn given(words: &[u8]) -> Option<Query>
+    ensures { result ≡ text.given (parted words.now) }
+{
+    let (name, service) = split_once(words, b' ')?;
+    let user = Name::read(name)?;
+    let service = ServiceId::read(service)?;
+    Some(Query::Given { user, service })
+}
+
 // A question of this first word, which a space follows.
 fn worded(alloc: Global, word: &[u8], rest: &[u8]) -> Result<Option<Query>, AllocError>
     ensures query { IfOk result (λ query. query ≡ text.query_by word.now rest.now) }
@@ -68,6 +78,9 @@ fn worded(alloc: Global, word: &[u8], rest: &[u8]) -> Result<Option<Query>, Allo
     }
     if word == b"why".as_slice() {
         return why(alloc, rest);
+    }
+    if word == b"given".as_slice() {
+        return Ok(given(rest));
     }
     Ok(None)
 }

@@ -8,6 +8,7 @@ use Rattle.pol_names.specs.declared.subject_id.SubjectId.{SubjectId}
 use Rattle.pol_names.specs.declared.decision.Verdict.{Verdict}
 use Rattle.pol_names.specs.declared.decision.Verdict.TheVariants.{Permit, Deny}
 use Rattle.pol_text.specs.declared.subject.Subject.{Subject}
+use Rattle.pol_given.specs.Granting.{given}
 use Rattle.pol_meaning.specs.Along.{entries_of}
 use Rattle.pol_meaning.specs.Reach.{AreReached, Shadows}
 use Rattle.pol_meaning.specs.declared.Shadowed.{Shadowed}
@@ -101,6 +102,8 @@ Reports meaning (queries.Tally subject) answer =
     answer ≡ tally_report (tally_at meaning subject.kind subject.name)
 Reports meaning (queries.Why user line) answer =
     answer ≡ Ok (reports.Why (decide meaning.policy user line))
+Reports meaning (queries.Given user service) answer = answer ≡ Ok (reports.Given
+    (given meaning.policy user service (decide meaning.policy user [])))
 Reports meaning queries.Records answer = answer ≡ Ok (reports.Records (numbered meaning))
 
 -- no other answer is right
@@ -115,6 +118,7 @@ is_report_to queries.Shadow (reports.Shadow shadows) = true
 is_report_to (queries.Reach subject) (reports.Reach rows) = true
 is_report_to (queries.Tally subject) (reports.Tally tally) = true
 is_report_to (queries.Why user line) (reports.Why decision) = true
+is_report_to (queries.Given user service) (reports.Given given) = true
 is_report_to queries.Records (reports.Records records) = true
 is_report_to _ _ = false
 

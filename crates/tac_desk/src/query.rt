@@ -2,8 +2,9 @@
 
 use crate::numbered::Numbered;
 use basics::{Bytes, Sequence, StructuralEq};
+use pol_given::Given;
 use pol_meaning::{Reached, Shadowed};
-use pol_names::{Decision, Name, SubjectId};
+use pol_names::{Decision, Name, ServiceId, SubjectId};
 use pol_text::Policy;
 use std::alloc::{AllocError, AllocFailed};
 use std::error::Error;
@@ -23,6 +24,8 @@ pub enum Query {
     Tally(SubjectId),
     /// What the policy says of a user's command line, and by which rule.
     Why { user: Name, line: Bytes },
+    /// What a user is given for a service, and who gives it.
+    Given { user: Name, service: ServiceId },
     /// Which records are kept.
     Records,
 }
@@ -36,6 +39,10 @@ impl Drop for Query {
             Query::Reach(_) => {}
             Query::Tally(_) => {}
             Query::Why { user: _, line: _ } => {}
+            Query::Given {
+                user: _,
+                service: _,
+            } => {}
             Query::Records => {}
         }
     }
@@ -58,6 +65,7 @@ pub enum Report {
     Tally(Tally),
     /// Nothing where the policy has no such user.
     Why(Option<Decision>),
+    Given(Given),
     /// In the order in which they came.
     Records(Sequence<Numbered>),
 }
@@ -71,6 +79,7 @@ impl Drop for Report {
             Report::Reach(_) => {}
             Report::Tally(_) => {}
             Report::Why(_) => {}
+            Report::Given(_) => {}
             Report::Records(_) => {}
         }
     }
@@ -89,6 +98,7 @@ impl Report {
             (Report::Reach(one), Report::Reach(two)) => one.same(two),
             (Report::Tally(one), Report::Tally(two)) => one == two,
             (Report::Why(one), Report::Why(two)) => one == two,
+            (Report::Given(one), Report::Given(two)) => one.same(two),
             (Report::Records(one), Report::Records(two)) => one.same(two),
             _ => false,
         }

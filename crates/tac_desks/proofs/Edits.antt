@@ -13,7 +13,7 @@ use Rattle.pol_edit.specs.Applying.{is_memory}
 use Rattle.pol_edit.specs.declared.batching.BatchFault.{BatchFault}
 use Rattle.pol_live.specs.Live.{Step, PreparesTo, PreparesAll, IsOnlyPreparedAll, Replaces, IsOnlyReplaced}
 use Rattle.pol_meaning.specs.Changes.{AreChanges}
-use Rattle.pol_meaning.specs.declared.Changed.{Changed}
+use Rattle.pol_meaning.specs.declared.Changes.{Changes}
 use Rattle.tac_desk.specs.Meaning.{Meaning, with_policy}
 use Rattle.tac_desk.specs.Editing.{EditsTo, IsOnlyAll, IsOnlyLoaded}
 use Rattle.tac_desk.proofs.Alone.{unnumbered}
@@ -24,28 +24,28 @@ except_so false so h = so h
 
 -- ---- they are accepted
 
-accepted_only_to : (before : Meaning) (made : Result (List Subject) BatchFault) (step : Step) (changes : List Changed) → PreparesTo of_all before.policy made (Ok step)
+accepted_only_to : (before : Meaning) (made : Result (List Subject) BatchFault) (step : Step) (changes : Changes) → PreparesTo of_all before.policy made (Ok step)
     → ((other : Result Step BatchFault) → PreparesTo of_all before.policy made other → Ok step ≡ other)
-    → ((other : List Changed) → AreChanges before.policy step.after other → changes ≡ other)
-    → (other : Result (List Changed) BatchFault) (later : Meaning) → EditsTo of_all before made other later → (Ok changes ≡ other) × (with_policy step.after before ≡ later)
+    → ((other : Changes) → AreChanges before.policy step.after other → changes ≡ other)
+    → (other : Result Changes BatchFault) (later : Meaning) → EditsTo of_all before made other later → (Ok changes ≡ other) × (with_policy step.after before ≡ later)
 accepted_only_to before (Ok policy) step changes h only alone (Ok other) later k =
     let same : step.after ≡ policy = ap (λ (s : Step). s.after) h.0 in (
-      ap (λ (c : List Changed). Ok c) (alone other (subst (λ (p : List Subject). AreChanges before.policy p other) (sym same) k.1)),
+      ap (λ (c : Changes). Ok c) (alone other (subst (λ (p : List Subject). AreChanges before.policy p other) (sym same) k.1)),
       ap (λ (p : List Subject). with_policy p before) same ∙ sym k.2,
     )
 accepted_only_to before (Ok policy) step changes h only alone (Err fault) later k =
     let e : Ok step ≡ Err fault = only (Err fault) k.0 in absurd cc
 accepted_only_to before (Err refusal) step changes h only alone other later k = absurd cc
 
-pub accepted_only : (before : Meaning) (edits : List Edit) (step : Step) (changes : List Changed) → PreparesAll before.policy edits (Ok step) → IsOnlyPreparedAll before.policy edits (Ok step)
-    → ((other : List Changed) → AreChanges before.policy step.after other → changes ≡ other) → IsOnlyAll before edits (Ok changes) (with_policy step.after before)
+pub accepted_only : (before : Meaning) (edits : List Edit) (step : Step) (changes : Changes) → PreparesAll before.policy edits (Ok step) → IsOnlyPreparedAll before.policy edits (Ok step)
+    → ((other : Changes) → AreChanges before.policy step.after other → changes ≡ other) → IsOnlyAll before edits (Ok changes) (with_policy step.after before)
 accepted_only before edits step changes = accepted_only_to before (applied_all before.policy edits) step changes
 
 -- ---- they are refused
 
 refused_only_to : (before : Meaning) (made : Result (List Subject) BatchFault) (fault : BatchFault)
     → ((other : Result Step BatchFault) → PreparesTo of_all before.policy made other → Err fault ≡ other)
-    → (other : Result (List Changed) BatchFault) (later : Meaning) → EditsTo of_all before made other later → (Err fault ≡ other) × (before ≡ later)
+    → (other : Result Changes BatchFault) (later : Meaning) → EditsTo of_all before made other later → (Err fault ≡ other) × (before ≡ later)
 refused_only_to before (Ok policy) fault only (Ok changes) later k =
     let made : Step = record { before = before.policy; after = policy } in
     let e : ◌≡◌ {A = Result Step BatchFault} (Err fault) (Ok made) = only (Ok made) (refl, k.0) in absurd cc
@@ -72,11 +72,11 @@ made_alone {X} fact edit edits all answer so alone h = subst (λ (r : Result X E
 
 -- ---- another policy
 
-pub accepted_loaded : (before : Meaning) (policy : List Subject) (step : Step) (changes : List Changed) → Replaces before.policy policy (Ok step) → IsOnlyReplaced before.policy policy (Ok step)
-    → ((other : List Changed) → AreChanges before.policy step.after other → changes ≡ other) → IsOnlyLoaded before policy (Ok changes) (with_policy step.after before)
+pub accepted_loaded : (before : Meaning) (policy : List Subject) (step : Step) (changes : Changes) → Replaces before.policy policy (Ok step) → IsOnlyReplaced before.policy policy (Ok step)
+    → ((other : Changes) → AreChanges before.policy step.after other → changes ≡ other) → IsOnlyLoaded before policy (Ok changes) (with_policy step.after before)
 accepted_loaded before policy step changes h only alone (Ok other) later k =
     let same : step.after ≡ policy = ap (λ (s : Step). s.after) h.0 in (
-      ap (λ (c : List Changed). Ok c) (alone other (subst (λ (p : List Subject). AreChanges before.policy p other) (sym same) k.1)),
+      ap (λ (c : Changes). Ok c) (alone other (subst (λ (p : List Subject). AreChanges before.policy p other) (sym same) k.1)),
       ap (λ (p : List Subject). with_policy p before) same ∙ sym k.2,
     )
 accepted_loaded before policy step changes h only alone (Err fault) later k =

@@ -39,4 +39,5 @@ kind meaning query report h = by_query query report h
     by_query (queries.Reach subject) report h = by_reach subject (find_subject subject meaning.policy) (entries_of meaning.policy subject) report h
     by_query (queries.Tally subject) report h = subst (of (queries.Tally subject)) (sym h) (tally_kind subject (tally_at meaning subject.kind subject.name))
     by_query (queries.Why user line) report h = subst (of (queries.Why user line)) (sym h) refl
+    by_query (queries.Given user service) report h = subst (of (queries.Given user service)) (sym h) refl
     by_query queries.Records report h = subst (of queries.Records) (sym h) refl

@@ -17,7 +17,7 @@ use Rattle.pol_names.specs.declared.decision.Verdict.TheVariants.{Permit, Deny}
 use Rattle.pol_text.specs.declared.subject.Subject.{Subject}
 use Rattle.pol_text.specs.Policy.{find_subject, decision}
 use Rattle.pol_meaning.specs.Reach.{IsLeastIfAny}
-use Rattle.pol_meaning.specs.Changes.{is_permit, permits, IsGained, IsChangeOf, is_change, users_of, is_alone, users_alone, AreChanges}
+use Rattle.pol_meaning.specs.LineChanges.{is_permit, permits, IsGained, IsChangeOf, is_change, users_of, is_alone, users_alone, AreLineChanges}
 use Rattle.pol_meaning.specs.declared.Changed.{Changed}
 use Rattle.tac_request.specs.declared.record.Record.{Record}
 use Rattle.tac_tally.specs.Book.{Entry, items}
@@ -132,7 +132,7 @@ module _ (before after : List Subject) where
       each_step user line u c (filter is_change all) zip.0 (is_change c) refl (bytes_eq user u) refl out
       (λ own others. each user line users all zip.1 (rw own at among) others)
 
-  module _ (changes : List Changed) (are : AreChanges before after changes) where
+  module _ (changes : List Changed) (are : AreLineChanges before after changes) where
     unchanged : (name line : List ℕ) → is_one_of (names changes) name ≡ false → permits before name line ≡ permits after name line
     unchanged name line out = by (is_one_of users name) refl
       where

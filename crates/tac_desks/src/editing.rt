@@ -1,11 +1,11 @@
 //! Making edits of a policy that has its automata, and putting another policy in its place.
 
-ghost use Rattle.std.specs.Prelude.{◌≡◌, List, IfOk, OnOk, OnErr};
+ghost use Rattle.std.specs.Prelude.{◌≡◌, IfOk, OnOk, OnErr};
 ghost use Rattle.pol_edit.specs.Applying.{is_memory};
 ghost use Rattle.pol_edit.specs.Batches.{ran_out};
 ghost use Rattle.pol_meaning.specs.Changes.{AreChanges};
 ghost use Rattle.pol_meaning.specs.Memory.{UnlessMemory};
-ghost use Rattle.pol_meaning.specs.declared.Changed.{Changed as ChangedValue};
+ghost use Rattle.pol_meaning.specs.declared.Changes.{Changes as ChangesValue};
 ghost use Rattle.tac_desk.specs.Meaning.{Meaning as MeaningValue, with_policy};
 ghost use Rattle.tac_desk.specs.Editing as editing;
 
@@ -23,7 +23,7 @@ use tac_desk::Thrice;
 fn take(alloc: Global, live: &mut Live, prepared: Prepared) -> Result<Thrice<Changes>, AllocError>
     requires { prepared.before ≡ live.old }
     ensures found { IfOk result (λ changes. AreChanges live.old prepared.after changes) }
-    ensures only { IfOk result (λ changes. (other : List ChangedValue)
+    ensures only { IfOk result (λ changes. (other : ChangesValue)
         → AreChanges live.old prepared.after other → changes ≡ other) }
     ensures taken { OnOk result (live.new ≡ prepared.after) }
     ensures err { OnErr result (live.new ≡ live.old) }

@@ -28,6 +28,7 @@ use crate::remembering::Remembered;
 use crate::serving::service_answer;
 use pol_automaton::Meter;
 use pol_edit::{BatchFault, Edit, EditFault};
+use pol_given::given;
 use pol_live::{BuildFault, Live};
 use pol_meaning::Changes;
 use pol_text::Policy;
@@ -187,6 +188,12 @@ impl LiveDesk {
                 tally_by_marks(self.alloc, self.live.policy(), &self.book, subject)
             }
             Query::Why { user, line } => Ok(Report::Why(self.live.decide(user, line.as_slice()))),
+            Query::Given { user, service } => {
+                let decision = self.live.decide(user, b"");
+                let policy = self.live.policy();
+                let given = given(self.alloc, policy, user, service, decision)?;
+                Ok(Report::Given(given))
+            }
             Query::Records => {
                 let records = numbered(self.alloc, &self.book)?;
                 Ok(Report::Records(records))

@@ -1,12 +1,12 @@
 //! Making edits of a policy that has its automata, beside records that have their marks, and
 //! putting another policy in its place.
 
-ghost use Rattle.std.specs.Prelude.{◌≡◌, ◌≤◌, List, length, IfOk, OnOk, OnErr};
+ghost use Rattle.std.specs.Prelude.{◌≡◌, ◌≤◌, length, IfOk, OnOk, OnErr};
 ghost use Rattle.pol_edit.specs.Applying.{is_memory};
 ghost use Rattle.pol_edit.specs.Batches.{ran_out};
 ghost use Rattle.pol_meaning.specs.Changes.{AreChanges};
 ghost use Rattle.pol_meaning.specs.Memory.{UnlessMemory};
-ghost use Rattle.pol_meaning.specs.declared.Changed.{Changed as ChangedValue};
+ghost use Rattle.pol_meaning.specs.declared.Changes.{Changes as ChangesValue};
 ghost use Rattle.pol_live.specs.Rise.{IsEditRise, IsReplacingRise, Rises};
 ghost use Rattle.tac_tally.specs.Recount.{settled};
 ghost use Rattle.tac_desk.specs.Meaning.{with_policy};
@@ -51,7 +51,7 @@ fn take(
     requires before { prepared.before ≡ live.old }
     requires marks { HasMarksBy live.old book.old }
     ensures found { IfOk result (λ changes. AreChanges live.old prepared.after changes) }
-    ensures only { IfOk result (λ changes. (other : List ChangedValue)
+    ensures only { IfOk result (λ changes. (other : ChangesValue)
         → AreChanges live.old prepared.after other → changes ≡ other) }
     ensures meaning { OnOk result (meaning_of live.new book.new
         ≡ with_policy prepared.after (meaning_of live.old book.old)) }
@@ -62,7 +62,7 @@ fn take(
 {
     let changes = changes(alloc, live, &prepared)?;
     let thrice = Thrice::new(alloc, changes)?;
-    let recount = recount_changed(alloc, &prepared, thrice.first.as_slice(), book)?;
+    let recount = recount_changed(alloc, &prepared, thrice.first.lines.as_slice(), book)?;
     make(live, book, prepared, recount);
     Ok(thrice)
 }

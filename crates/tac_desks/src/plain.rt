@@ -18,6 +18,7 @@ use crate::serving::service_answer;
 use crate::tallies::tally;
 use pol_automaton::Meter;
 use pol_edit::{BatchFault, Edit, EditFault};
+use pol_given::given;
 use pol_live::{BuildFault, Live};
 use pol_meaning::Changes;
 use pol_text::Policy;
@@ -135,6 +136,11 @@ impl PlainDesk {
             Query::Why { user, line } => {
                 let decision = self.policy.plain_decide(user, line.as_slice())?;
                 Ok(Report::Why(decision))
+            }
+            Query::Given { user, service } => {
+                let decision = self.policy.plain_decide(user, b"")?;
+                let given = given(self.alloc, &self.policy, user, service, decision)?;
+                Ok(Report::Given(given))
             }
             Query::Records => {
                 let records = numbered(self.alloc, &self.book)?;

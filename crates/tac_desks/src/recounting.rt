@@ -1,7 +1,7 @@
 //! The marks of records under a policy that is to come.
 
 ghost use Rattle.std.specs.Prelude.{◌≡◌, length, IfOk};
-ghost use Rattle.pol_meaning.specs.Changes.{AreChanges};
+ghost use Rattle.pol_meaning.specs.LineChanges.{AreLineChanges};
 ghost use Rattle.tac_tally.specs.Book.{Contents};
 ghost use Rattle.tac_tally.specs.Recount.{settled};
 ghost use Rattle.tac_desk.specs.Reporting as reporting;
@@ -48,7 +48,7 @@ pub(crate) fn recount_changed(
     changes: &[Changed],
     book: &Book,
 ) -> Result<Recount, AllocError>
-    requires changes { AreChanges prepared.now.before prepared.now.after changes.now }
+    requires changes { AreLineChanges prepared.now.before prepared.now.after changes.now }
     requires marks { HasMarksBy prepared.now.before book.now }
     ensures size { IfOk result (λ recount. length recount ≡ length book.now.entries) }
     ensures marks { IfOk result (λ recount.

@@ -28,7 +28,8 @@ use Rattle.pol_names.proofs.decision.Decision.TheSendSync as decision
 use Rattle.pol_names.proofs.service.ServiceLine.TheSendSync as line
 use Rattle.pol_meaning.proofs.Reached.TheSendSync as reached
 use Rattle.pol_meaning.proofs.Shadowed.TheSendSync as shadowed
-use Rattle.pol_meaning.proofs.Changed.TheSendSync as changed
+use Rattle.pol_meaning.proofs.Changes.TheSendSync as changes
+use Rattle.pol_given.proofs.grant.Given.TheSendSync as given
 use Rattle.pol_edit.proofs.fault.EditFault.TheSendSync as edit_fault
 use Rattle.tac_request.proofs.record.Record.TheSendSync as records
 use Rattle.tac_tally.proofs.tally.Tally.TheSendSync as tally
@@ -70,10 +71,10 @@ pub Policy-sync : IsSync Policy.the_row
 Policy-sync = search (Subject-sync, crosses, sendable) depth 60
 
 pub Report-send : IsSend Report.the_row
-Report-send = search (Policy-send, sequence.the_send, reached.the_send, shadowed.the_send, records.the_send, tally.the_send, decision.the_send, crosses, sendable) depth 60 fits 20000
+Report-send = search (Policy-send, sequence.the_send, reached.the_send, shadowed.the_send, records.the_send, tally.the_send, decision.the_send, given.the_send, crosses, sendable) depth 60 fits 20000
 
 pub Report-sync : IsSync Report.the_row
-Report-sync = search (Policy-sync, sequence.the_sync, reached.the_sync, shadowed.the_sync, records.the_sync, tally.the_sync, decision.the_sync, crosses, sendable) depth 60 fits 20000
+Report-sync = search (Policy-sync, sequence.the_sync, reached.the_sync, shadowed.the_sync, records.the_sync, tally.the_sync, decision.the_sync, given.the_sync, crosses, sendable) depth 60 fits 20000
 
 pub State-send : IsSend State.the_row
 State-send = search (Policy-send, crosses, sendable) depth 60
@@ -88,13 +89,13 @@ pub State-shared : IsSync State.the_field.row
 State-shared = search (Policy-sync, crosses, sendable) depth 60
 
 pub CallAnswer-send : IsSend CallAnswer.the_row
-CallAnswer-send = search (Report-send, Report-sync, shared.the_send, sequence.the_send, sequence.the_sync, changed.the_send, changed.the_sync, edit_fault.the_send, query_fault.the_send, answer.the_send, crosses, sendable) depth 60 fits 20000
+CallAnswer-send = search (Report-send, Report-sync, shared.the_send, sequence.the_send, sequence.the_sync, changes.the_send, changes.the_sync, edit_fault.the_send, query_fault.the_send, answer.the_send, crosses, sendable) depth 60 fits 20000
 
 pub CallAnswer-sync : IsSync CallAnswer.the_row
-CallAnswer-sync = search (Report-send, Report-sync, shared.the_sync, sequence.the_send, sequence.the_sync, changed.the_send, changed.the_sync, edit_fault.the_sync, query_fault.the_sync, answer.the_sync, crosses, sendable) depth 60 fits 20000
+CallAnswer-sync = search (Report-send, Report-sync, shared.the_sync, sequence.the_send, sequence.the_sync, changes.the_send, changes.the_sync, edit_fault.the_sync, query_fault.the_sync, answer.the_sync, crosses, sendable) depth 60 fits 20000
 
 pub CallAnswer-field : IsSend CallAnswer.the_field.row
-CallAnswer-field = search (Report-send, Report-sync, shared.the_send, sequence.the_send, sequence.the_sync, changed.the_send, changed.the_sync, edit_fault.the_send, query_fault.the_send, answer.the_send, crosses, sendable) depth 60 fits 20000
+CallAnswer-field = search (Report-send, Report-sync, shared.the_send, sequence.the_send, sequence.the_sync, changes.the_send, changes.the_sync, edit_fault.the_send, query_fault.the_send, answer.the_send, crosses, sendable) depth 60 fits 20000
 
 pub Call-send : IsSend Call.the_row
 Call-send = search (Policy-send, sequence.the_send, asks.the_send, edits.the_send, queries.the_send, crosses, sendable) depth 60 fits 20000

@@ -7,7 +7,7 @@ use Rattle.pol_edit.specs.Batches.{ran_out}
 use Rattle.pol_edit.specs.declared.batching.BatchFault.{BatchFault}
 use Rattle.pol_edit.specs.declared.edit.Edit.{Edit}
 use Rattle.pol_edit.specs.declared.fault.EditFault.{EditFault}
-use Rattle.pol_meaning.specs.declared.Changed.{Changed}
+use Rattle.pol_meaning.specs.declared.Changes.{Changes}
 use Rattle.pol_text.specs.declared.subject.Subject.{Subject}
 use Rattle.tac_conn.specs.Ask.{kind_of_ask, kind_of_answer}
 use Rattle.tac_conn.specs.declared.ask.Answer.{Answer}
@@ -28,17 +28,17 @@ use Rattle.tac_hall.specs.declared.entry.Entry.{Entry}
 -- ---- one call
 
 -- an edit was answered so; where memory ran out it may be refused, which changes nothing
-abbrev pub AnswersEdit : Meaning → Edit → Result (List Changed) EditFault → Meaning → Type 0
+abbrev pub AnswersEdit : Meaning → Edit → Result Changes EditFault → Meaning → Type 0
 AnswersEdit was edit answer now =
     UnlessMemory is_memory answer (editing.Edits was edit answer now) × OnErr answer (now ≡ was)
 
 -- so were edits that are made together
-abbrev pub AnswersBatch : Meaning → List Edit → Result (List Changed) BatchFault → Meaning → Type 0
+abbrev pub AnswersBatch : Meaning → List Edit → Result Changes BatchFault → Meaning → Type 0
 AnswersBatch was edits answer now =
     UnlessMemory ran_out answer (editing.EditsAll was edits answer now) × OnErr answer (now ≡ was)
 
 -- so was another policy, in the place of the present one
-abbrev pub AnswersLoad : Meaning → List Subject → Result (List Changed) EditFault → Meaning → Type 0
+abbrev pub AnswersLoad : Meaning → List Subject → Result Changes EditFault → Meaning → Type 0
 AnswersLoad was policy answer now =
     UnlessMemory is_memory answer (editing.Loads was policy answer now) × OnErr answer (now ≡ was)
 

@@ -26,7 +26,8 @@ const GLANCE: u64 = 250;
 const TAKES: u64 = 10;
 
 /// What the line `help` is answered.
-const HELP: &[u8] = b"policy | shadow | reach SUBJECT | why NAME LINE | tally SUBJECT | records
+const HELP: &[u8] = b"policy | shadow | reach SUBJECT | why NAME LINE | given NAME S
+tally SUBJECT | records
 add SUBJECT [in GROUP] | remove SUBJECT | move SUBJECT in GROUP | move SUBJECT out
 login NAME TEXT | enable NAME TEXT | clear login NAME | clear enable NAME
 login-hash NAME HASH | enable-hash NAME HASH

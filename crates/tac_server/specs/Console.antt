@@ -3,7 +3,7 @@ use Rattle.std.specs.Prelude.{◌≡◌, ℕ, List, Option, Result, Ok}
 use Rattle.pol_edit.specs.declared.edit.Edit.{Edit}
 use Rattle.pol_edit.specs.declared.fault.EditFault.{EditFault}
 use Rattle.pol_edit.specs.declared.batching.BatchFault.{BatchFault}
-use Rattle.pol_meaning.specs.declared.Changed.{Changed}
+use Rattle.pol_meaning.specs.declared.Changes.{Changes}
 use Rattle.tac_desk.specs.Meaning.{Meaning}
 use Rattle.tac_desk.specs.Editing.{Edits, EditsAll}
 use Rattle.tac_desk.specs.Reporting.{Reports}
@@ -19,14 +19,14 @@ use Rattle.tac_console.specs.declared.batching.Action.TheVariants as acts
 -- the text is how the desk's answer to the edit is printed
 pub record AnswersEdit (before : Meaning) (edit : Edit) (text : List ℕ) (after : Meaning)
     : Type 0 where
-  pub answer : Result (List Changed) EditFault
+  pub answer : Result Changes EditFault
   pub edits : Edits before edit answer after
   pub is : text ≡ edit_answer answer
 
 -- the text is how the desk's answer to the edits of a batch is printed
 pub record AnswersBatch (before : Meaning) (kept : List Edit) (text : List ℕ) (after : Meaning)
     : Type 0 where
-  pub answer : Result (List Changed) BatchFault
+  pub answer : Result Changes BatchFault
   pub edits : EditsAll before kept answer after
   pub is : text ≡ batch_answer answer
 
@@ -57,9 +57,9 @@ Answers before batch line text after =
 -- edits are to be made, and the desk takes them
 abbrev pub AcceptsAction : Meaning → Action → Meaning → Type 0
 AcceptsAction before (acts.Edit edit) after =
-    (changes : List Changed) × Edits before edit (Ok changes) after
+    (changes : Changes) × Edits before edit (Ok changes) after
 AcceptsAction before (acts.Commit kept) after =
-    (changes : List Changed) × EditsAll before kept (Ok changes) after
+    (changes : Changes) × EditsAll before kept (Ok changes) after
 AcceptsAction before (acts.Query query) after = ⊥
 AcceptsAction before (acts.Tell notice) after = ⊥
 

@@ -204,7 +204,7 @@ fn show_changes<F: Display>(
     told: &Result<Shared<Changes>, F>,
 ) -> Result<(), AllocError> {
     match told {
-        Ok(changes) => write!(out, "changes {}", changes.get().len()),
+        Ok(changes) => write!(out, "changes {}", changes.get().lines.len()),
         Err(fault) => show_refusal(out, fault),
     }
 }

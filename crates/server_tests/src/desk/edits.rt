@@ -1,7 +1,7 @@
 //! What edits at the console are answered.
 
 use crate::desk::support::converses;
-use basics::Bytes;
+use basics::{Bytes, Sequence};
 use pol_edit::EditFault;
 use pol_meaning::{Changed, Changes};
 use pol_names::{Name, SubjectId};
@@ -171,18 +171,21 @@ fn name(text: &[u8]) -> Result<Name, Fail> {
 
 // Changes of decisions of bob and of eve.
 fn changes(alloc: Global) -> Result<Changes, Fail> {
-    let mut changes = Changes::new(alloc);
-    changes.push(Changed {
+    let mut lines = Sequence::new(alloc);
+    lines.push(Changed {
         user: name(b"bob")?,
         permits: Some(Bytes::from_slice(alloc, b"ping")?),
         denies: Some(Bytes::from_slice(alloc, b"show ")?),
     })?;
-    changes.push(Changed {
+    lines.push(Changed {
         user: name(b"eve")?,
         permits: None,
         denies: Some(Bytes::new(alloc)),
     })?;
-    Ok(changes)
+    Ok(Changes {
+        lines,
+        services: Sequence::new(alloc),
+    })
 }
 
 // How answers are printed, among them those that no edit of these tests is given.

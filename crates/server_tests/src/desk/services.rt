@@ -14,6 +14,12 @@ service shell timeout=60; permit (); permit show .*; user bob in ops; user eve i
 ok
 user bob now permits: 
 user eve now permits: 
+user bob service shell now gives: priv-lvl=15
+user bob service shell now gives: shell:roles*\"network-operator\"
+user bob service shell now gives: timeout=60
+user eve service shell now gives: priv-lvl=15
+user eve service shell now gives: shell:roles*\"network-operator\"
+user eve service shell now gives: timeout=60
 ? run bob 
 granted 'priv-lvl=15' 'shell:roles*\"network-operator\"' 'timeout=60'
 ? run bob show version
@@ -24,24 +30,35 @@ denied by default
 unknown user
 > service user bob shell
 ok
+user bob service shell no longer gives: shell:roles*\"network-operator\"
+user bob service shell no longer gives: timeout=60
 ? run bob 
 permitted at 15
 ? run eve 
 granted 'priv-lvl=15' 'shell:roles*\"network-operator\"' 'timeout=60'
 > clear service user bob shell
 ok
+user bob service shell now gives: shell:roles*\"network-operator\"
+user bob service shell now gives: timeout=60
 > priv user bob 1
 ok
+user bob service shell now gives: priv-lvl=1
+user bob service shell no longer gives: priv-lvl=15
 ? run bob 
 granted 'priv-lvl=1' 'shell:roles*\"network-operator\"' 'timeout=60'
 > clear priv group ops
 ok
+user eve service shell no longer gives: priv-lvl=15
 > clear service group ops shell timeout=60
 ok
+user bob service shell no longer gives: timeout=60
+user eve service shell no longer gives: timeout=60
 ? run eve 
 granted 'shell:roles*\"network-operator\"'
 > clear service group ops shell
 ok
+user bob service shell no longer gives: shell:roles*\"network-operator\"
+user eve service shell no longer gives: shell:roles*\"network-operator\"
 ? run eve 
 permitted
 ",
@@ -59,6 +76,15 @@ service PaloAlto/firewall PaloAlto-Admin-Role=superuser; service sshd/unknown; \
 service junos-exec allow-commands=show .*; permit show .*; user bob in ops; user eve in ops; \
 refuse junos-exec
 ok
+user bob service junos-exec now granted
+user bob service junos-exec now gives: local-user-name=ops
+user bob service junos-exec now gives: allow-commands=show .*
+user bob service PaloAlto/firewall now granted
+user bob service PaloAlto/firewall now gives: PaloAlto-Admin-Role=superuser
+user bob service sshd/unknown now granted
+user eve service PaloAlto/firewall now granted
+user eve service PaloAlto/firewall now gives: PaloAlto-Admin-Role=superuser
+user eve service sshd/unknown now granted
 ? serve bob junos-exec
 granted 'local-user-name=ops' 'allow-commands=show .*'
 ? serve bob PaloAlto firewall
@@ -104,6 +130,11 @@ group ops in all; service junos-exec local-user-name=ops; refuse PaloAlto/firewa
 permit show .*; user bob in ops; user eve in ops; service junos-exec; \
 service PaloAlto/firewall PaloAlto-Admin-Role=superuser
 ok
+user bob service junos-exec now granted
+user bob service junos-exec now gives: local-user-name=ops
+user eve service junos-exec now granted
+user eve service PaloAlto/firewall now granted
+user eve service PaloAlto/firewall now gives: PaloAlto-Admin-Role=superuser
 ? serve bob junos-exec
 granted 'local-user-name=ops'
 ? serve eve junos-exec
@@ -116,10 +147,13 @@ granted 'PaloAlto-Admin-Role=superuser'
 refused by group all
 > clear service group ops junos-exec
 ok
+user bob service junos-exec now gives: local-user-name=all
+user bob service junos-exec no longer gives: local-user-name=ops
 ? serve bob junos-exec
 granted 'local-user-name=all'
 > refuse user bob junos-exec
 ok
+user bob service junos-exec now refused
 ? serve bob junos-exec
 refused by user bob
 > begin
@@ -132,6 +166,8 @@ kept 2
 refused by user bob
 > commit
 ok
+user bob service junos-exec now granted
+user bob service junos-exec now gives: local-user-name=bob
 ? serve bob junos-exec
 granted 'local-user-name=bob'
 > move user eve out
@@ -142,6 +178,7 @@ unserved
 > remove user bob
 ok
 user bob now denies: show 
+user bob service junos-exec now refused
 ? serve bob junos-exec
 unserved
 ",

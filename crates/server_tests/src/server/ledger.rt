@@ -10,6 +10,7 @@ ghost use Rattle.server_tests.specs.Ledger.{kept_by};
 
 use basics::Sequence;
 use pol_edit::{BatchFault, Edit, EditFault};
+use pol_given::{Given, Grant};
 use pol_meaning::Changes;
 use pol_names::Kind;
 use pol_text::Policy;
@@ -104,6 +105,10 @@ impl Ledger {
                 Kind::User => Err(QueryFault::Memory),
             },
             Query::Why { .. } => Ok(Report::Why(None)),
+            Query::Given { .. } => Ok(Report::Given(Given {
+                grant: Grant::UnknownUser,
+                arguments: Sequence::new(self.alloc),
+            })),
             Query::Records => {
                 let records = turned(self.alloc, self.latest.as_slice())?;
                 let copies = numbered(self.alloc, records.as_slice())?;
