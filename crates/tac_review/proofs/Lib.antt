@@ -6,3 +6,4 @@ pub mod TableFacts
 pub mod ReadingFacts
 pub mod LineFacts
 pub mod LoadingFacts
+pub mod DeviceFacts

@@ -2,7 +2,7 @@
 use Rattle.std.proofs.Common.{◌≡◌, ℕ, List, Result, Ok, Err, IfOk, sym, ap, subst, ◌∙◌}
 use Rattle.pol_text.specs.declared.subject.Subject.{Subject}
 use Rattle.pol_meaning.specs.Changes.{AreChanges}
-use Rattle.pol_meaning.specs.declared.Changed.{Changed}
+use Rattle.pol_meaning.specs.declared.Changes.{Changes}
 use Rattle.pol_live.specs.Judging.{Judges, IsOnlyJudged}
 use Rattle.pol_live.specs.declared.judging.TextRefusal.{TextRefusal}
 use Rattle.tac_review.specs.Judged.{ByJudged, IsOnly}
@@ -28,8 +28,8 @@ judged_only text judged by output end judges one only = record {
 }
 
 -- the changes between two policies
-pub changes_only : (name : List ℕ) (old new : List Subject) (changes : List Changed) (output : List ℕ) (end : ReviewEnd) → AreChanges old new changes
-    → ((other : List Changed) → AreChanges old new other → changes ≡ other) → output ≡ changes_text changes → end ≡ changes_end changes → IsOnly (DiffsTo name old (Ok new)) output end
+pub changes_only : (name : List ℕ) (old new : List Subject) (changes : Changes) (output : List ℕ) (end : ReviewEnd) → AreChanges old new changes
+    → ((other : Changes) → AreChanges old new other → changes ≡ other) → output ≡ changes_text changes → end ≡ changes_end changes → IsOnly (DiffsTo name old (Ok new)) output end
 changes_only name old new changes output end are one p q = record {
   wanted = (changes, are, p, q);
   only = λ other last w.

@@ -1,23 +1,35 @@
--- How a policy decides a line of a user, as the console's `why` tells it (docs/CONSOLE.md).
+-- How a policy answers the questions of the console's `why` and `given` (docs/CONSOLE.md).
 use Rattle.std.specs.Prelude.{ℕ, List, [], ◌++◌, codes, Option, None}
 use Rattle.pol_names.specs.declared.decision.Decision.{Decision}
+use Rattle.pol_names.specs.declared.service.ServiceId.{ServiceId}
 use Rattle.pol_text.specs.declared.subject.Subject.{Subject}
 use Rattle.pol_text.specs.Policy.{decide}
+use Rattle.pol_given.specs.Granting.{given}
+use Rattle.pol_given.specs.declared.grant.Given.{Given}
 use Rattle.tac_desk.specs.declared.query.Query.{Query}
-use Rattle.tac_desk.specs.declared.query.Query.TheVariants.{Why}
+use Rattle.tac_desk.specs.declared.query.Query.TheVariants as queries
 use Rattle.tac_console.specs.ConsoleText.{query_of}
-use Rattle.tac_console.specs.Answers.{why_line}
+use Rattle.tac_console.specs.Answers.{why_line, given_text}
 
 -- the question that `USER` or `USER LINE` asks, if it asks one: what the console reads after `why `
 abbrev pub question_of : List ℕ → Option Query
 question_of line = query_of (codes "why " ++ line)
 
+-- the question that `USER SERVICE` asks, if it asks one: what the console reads after `given `
+abbrev pub service_question_of : List ℕ → Option Query
+service_question_of text = query_of (codes "given " ++ text)
+
 -- the policy's decision; nothing of who isn't in it
 abbrev pub decision_on : List Subject → Query → Option Decision
-decision_on policy (Why user line) = decide policy user line
+decision_on policy (queries.Why user line) = decide policy user line
 decision_on policy _ = None
+
+-- what the policy gives to the user for the service
+abbrev pub gift : List Subject → List ℕ → ServiceId → Given
+gift policy user service = given policy user service (decide policy user [])
 
 -- the answer, with its LF
 abbrev pub answer_to : List Subject → Query → List ℕ
-answer_to policy (Why user line) = why_line (decide policy user line)
+answer_to policy (queries.Why user line) = why_line (decide policy user line)
+answer_to policy (queries.Given user service) = given_text (gift policy user service)
 answer_to policy _ = []

@@ -2,6 +2,8 @@ pub mod Judged
 pub mod Check
 pub mod Lint
 pub mod Asking
+pub mod Cases
+pub mod Devices
 pub mod Tables
 pub mod Loading
 pub mod Review

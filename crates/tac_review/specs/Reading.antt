@@ -1,6 +1,6 @@
 -- How two inputs are answered: both are read to their ends, an output is worked out of both, and
 -- that is written.
-use Rattle.std.specs.Prelude.{ℕ, List, take, Option, Result, Ok, Err}
+use Rattle.std.specs.Prelude.{ℕ, List, Option, Result, Ok, Err}
 use Rattle.std.specs.Io.KnownBytes.{Appends, Keeps}
 use Rattle.tac_io.specs.Answering.{ComesTo, IsAnswered, IsWritten, IsOver, IsCutOff, memory_line}
 use Rattle.tac_io.specs.declared.reading.InputFault.{InputFault}

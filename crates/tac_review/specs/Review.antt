@@ -6,16 +6,19 @@ use Rattle.basics.specs.Lines.{lines_of}
 use Rattle.pol_text.specs.declared.subject.Subject.{Subject}
 use Rattle.pol_meaning.specs.Changes.{AreChanges}
 use Rattle.pol_meaning.specs.declared.Changed.{Changed}
+use Rattle.pol_meaning.specs.declared.Changes.{Changes}
+use Rattle.pol_meaning.specs.declared.ServiceChange.{ServiceChange}
 use Rattle.tac_desk.specs.declared.query.Query.{Query}
 use Rattle.tac_console.specs.Answers.{changed_lines}
+use Rattle.tac_console.specs.ServiceAnswers.{service_lines}
 use Rattle.tac_console.specs.Faults.{fault_line}
 use Rattle.pol_live.specs.declared.judging.TextRefusal.{TextRefusal}
 use Rattle.tac_review.specs.Judged.{refusal_line, ByJudged, IsOnly}
-use Rattle.tac_review.specs.Asking.{question_of, answer_to}
+use Rattle.tac_review.specs.Asking.{question_of, service_question_of, answer_to}
 use Rattle.tac_review.specs.Tables as tables
 use Rattle.tac_review.specs.Loading.{Loads}
 use Rattle.tac_review.specs.declared.task.Review.{Review}
-use Rattle.tac_review.specs.declared.task.Review.TheVariants.{Diff, Edits, Why, Each}
+use Rattle.tac_review.specs.declared.task.Review.TheVariants.{Diff, Edits, Why, Given, Each}
 use Rattle.tac_review.specs.declared.task.ReviewEnd.{ReviewEnd}
 use Rattle.tac_review.specs.declared.task.ReviewEnd.TheVariants.{Done, Differs, BadPolicy, Refused}
 use Rattle.tac_review.specs.declared.task.Input.{Input}
@@ -34,19 +37,25 @@ IsRefused input name refusal output end =
 -- ---- what a new policy changes
 
 -- as an accepted edit is answered, after its `ok`
-abbrev pub changes_text : List Changed → List ℕ
-changes_text [] = codes "same" ++ 10 ∷ []
-changes_text (change ∷ changes) = flat_map changed_lines (change ∷ changes)
+abbrev pub told_text : List Changed → List ServiceChange → List ℕ
+told_text [] [] = codes "same" ++ 10 ∷ []
+told_text lines services = flat_map changed_lines lines ++ flat_map service_lines services
 
-abbrev pub changes_end : List Changed → ReviewEnd
-changes_end [] = Done
-changes_end (change ∷ changes) = Differs
+abbrev pub changes_text : Changes → List ℕ
+changes_text changes = told_text changes.lines changes.services
+
+abbrev pub told_end : List Changed → List ServiceChange → ReviewEnd
+told_end [] [] = Done
+told_end lines services = Differs
+
+abbrev pub changes_end : Changes → ReviewEnd
+changes_end changes = told_end changes.lines changes.services
 
 abbrev pub DiffsTo : List ℕ → List Subject → Result (List Subject) TextRefusal → List ℕ → ReviewEnd
     → Type 0
 DiffsTo name old (Err refusal) output end = IsRefused Second name refusal output end
 DiffsTo name old (Ok new) output end =
-    (changes : List Changed) × AreChanges old new changes × (output ≡ changes_text changes)
+    (changes : Changes) × AreChanges old new changes × (output ≡ changes_text changes)
     × (end ≡ changes_end changes)
 
 -- the exact changes between the policies, if the new one may stand
@@ -64,7 +73,7 @@ EditsTo old name (Ok new) output end = Loads old new output end
 abbrev pub ListsEdits : List ℕ → List ℕ → List Subject → List ℕ → ReviewEnd → Type 0
 ListsEdits name text old output end = ByJudged (EditsTo old name) text output end
 
--- ---- how a policy decides
+-- ---- how a policy decides, and what it gives
 
 abbrev pub Explains : List Subject → Option Query → List ℕ → ReviewEnd → Type 0
 Explains policy None output end =
@@ -88,6 +97,8 @@ abbrev pub Continues : Review → List ℕ → List ℕ → List Subject → Lis
 Continues Diff name text policy output end = Diffs name text policy output end
 Continues Edits name text policy output end = ListsEdits name text policy output end
 Continues Why name text policy output end = Explains policy (question_of text) output end
+Continues Given name text policy output end =
+    Explains policy (service_question_of text) output end
 Continues (Each table) name text policy output end = Tells table name text policy output end
 
 abbrev pub ReviewsBy : Review → List ℕ → List ℕ → List ℕ → Result (List Subject) TextRefusal

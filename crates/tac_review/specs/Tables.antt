@@ -1,16 +1,14 @@
 -- Tables of questions and of cases, a line for each (docs/REVIEW.md).
-use Rattle.std.specs.Prelude.{ℕ, ◌+◌, List, [], ◌∷◌, ◌++◌, ◌==◌, codes, Bool, true, false}
+use Rattle.std.specs.Prelude.{ℕ, ◌+◌, List, [], ◌∷◌, ◌++◌, ◌==◌, codes}
 use Rattle.std.specs.Prelude.{Option, Some, None, Result, Ok, Err, if◌then◌else◌, option_map}
 use Rattle.std.specs.Fmt.{decimal}
-use Rattle.std.specs.Str.{bytes_eq}
-use Rattle.basics.specs.Lines.{split_at_first, without_leading_spaces}
-use Rattle.pol_names.specs.declared.decision.Verdict.{Verdict}
-use Rattle.pol_names.specs.declared.decision.Verdict.TheVariants.{Permit, Deny}
-use Rattle.pol_names.specs.declared.decision.Decision.{Decision}
+use Rattle.basics.specs.Lines.{without_leading_spaces}
 use Rattle.pol_text.specs.declared.subject.Subject.{Subject}
 use Rattle.tac_desk.specs.declared.query.Query.{Query}
 use Rattle.tac_console.specs.Faults.{fault_line}
-use Rattle.tac_review.specs.Asking.{question_of, decision_on, answer_to}
+use Rattle.tac_review.specs.Asking.{question_of, answer_to}
+use Rattle.tac_review.specs.Cases.{case_of, is_so, found_instead}
+use Rattle.tac_review.specs.declared.want.Want.{Want}
 use Rattle.tac_review.specs.declared.task.ReviewEnd.{ReviewEnd}
 use Rattle.tac_review.specs.declared.task.ReviewEnd.TheVariants.{Done, Differs}
 use Rattle.tac_review.specs.declared.task.Table.{Table}
@@ -18,50 +16,23 @@ use Rattle.tac_review.specs.declared.task.Table.TheVariants.{Questions, Cases}
 
 -- ---- a line, after the spaces that it begins with
 
--- the line, and what it is answered
-abbrev pub told : List Subject → List ℕ → Query → List ℕ
-told policy line query = line ++ codes ": " ++ answer_to policy query
+-- the line, and what is said of it
+abbrev pub told : List ℕ → List ℕ → List ℕ
+told line answer = line ++ codes ": " ++ answer
 
 -- a question is told with its answer; nothing is told of what is no question
 abbrev pub question_told : List Subject → List ℕ → Option (List ℕ)
-question_told policy line = option_map (told policy line) (question_of line)
-
-abbrev pub verdict_of : List ℕ → Option Verdict
-verdict_of word =
-    if bytes_eq word (codes "permit") then Some Permit
-    else if bytes_eq word (codes "deny") then Some Deny else None
-
--- what a case wants to be decided of a question
-abbrev pub wanted_of : Option Verdict → List ℕ → Option (Verdict × Query)
-wanted_of None rest = None
-wanted_of (Some verdict) rest = option_map (λ query. (verdict, query)) (question_of rest)
-
-abbrev pub case_in : Option (List ℕ × List ℕ) → Option (Verdict × Query)
-case_in None = None
-case_in (Some parts) = wanted_of (verdict_of parts.0) parts.1
-
--- `permit USER LINE` or `deny USER LINE`
-abbrev pub case_of : List ℕ → Option (Verdict × Query)
-case_of line = case_in (split_at_first 32 line)
-
-abbrev pub same_verdict : Verdict → Verdict → Bool
-same_verdict Permit Permit = true
-same_verdict Deny Deny = true
-same_verdict _ _ = false
-
--- whether that is what was decided; for who isn't in the policy, nothing was
-abbrev pub is_so : Verdict → Option Decision → Bool
-is_so wanted None = false
-is_so wanted (Some decision) = same_verdict decision.verdict wanted
+question_told policy line =
+    option_map (λ query. told line (answer_to policy query)) (question_of line)
 
 abbrev pub numbered : ℕ → List ℕ
 numbered number = codes "line " ++ decimal number ++ codes ": "
 
--- a case that isn't so is told, with its number and its answer
-abbrev pub case_told_of : List Subject → ℕ → List ℕ → Verdict × Query → List ℕ
+-- a case that isn't so is told, with its number and what is so in place of it
+abbrev pub case_told_of : List Subject → ℕ → List ℕ → Want × Query → List ℕ
 case_told_of policy number line case =
-    if is_so case.0 (decision_on policy case.1) then []
-    else numbered number ++ told policy line case.1
+    if is_so policy case.0 case.1 then []
+    else numbered number ++ told line (found_instead policy case.0 case.1)
 
 abbrev pub case_told : List Subject → ℕ → List ℕ → Option (List ℕ)
 case_told policy number line = option_map (case_told_of policy number line) (case_of line)

@@ -1,10 +1,12 @@
-//! How a policy decides a line, as the console's `why` tells it.
+//! How a policy answers the questions of the console's `why` and `given`.
 
 ghost use Rattle.std.specs.Prelude.{◌≡◌, ◌++◌, IfOk, OnOk};
+ghost use Rattle.tac_console.specs.Answers.{given_text};
 ghost use Rattle.tac_review.specs.Asking as asking;
 
+use pol_given::{Given, given};
 use pol_live::Live;
-use pol_names::Decision;
+use pol_names::{Decision, Name, ServiceId};
 use std::alloc::{AllocError, Global};
 use tac_console::{Asked, read_console, write_query_answer};
 use tac_desk::{Query, Report};
@@ -22,6 +24,19 @@ pub(crate) fn question(alloc: Global, line: &[u8]) -> Result<Option<Query>, Allo
     }
 }
 
+/// The question that `USER SERVICE` asks, read as what comes after `given ` at the console.
+pub(crate) fn service_question(alloc: Global, text: &[u8]) -> Result<Option<Query>, AllocError>
+    ensures { IfOk result (λ query. query ≡ asking.service_question_of text.now) }
+{
+    let mut asked = Vec::new(alloc);
+    asked.extend_from_slice(b"given ")?;
+    asked.extend_from_slice(text)?;
+    match read_console(alloc, asked.as_slice())? {
+        Asked::Query(query) => Ok(Some(query)),
+        _ => Ok(None),
+    }
+}
+
 /// How the policy decides what is asked. Nothing where it has no such user.
 pub(crate) fn decision(live: &Live, query: &Query) -> Option<Decision>
     ensures { result ≡ asking.decision_on live.now query.now }
@@ -30,6 +45,34 @@ pub(crate) fn decision(live: &Live, query: &Query) -> Option<Decision>
         Query::Why { user, line } => live.decide(user, line.as_slice()),
         _ => None,
     }
+}
+
+/// What the policy gives to the user for the service.
+pub(crate) fn gift(
+    alloc: Global,
+    live: &Live,
+    user: &Name,
+    service: &ServiceId,
+) -> Result<Given, AllocError>
+    ensures { IfOk result (λ gift. gift ≡ asking.gift live.now user.now service.now) }
+{
+    let decision = live.decide(user, b"");
+    given(alloc, live.policy(), user, service, decision)
+}
+
+/// Adds what the console answers where this is given to the user for the service.
+pub(crate) fn add_given(
+    alloc: Global,
+    out: &mut Vec<u8>,
+    user: Name,
+    service: ServiceId,
+    given: Given,
+) -> Result<(), AllocError>
+    ensures { OnOk result (out.new.items ≡ out.old.items ++ given_text given) }
+{
+    let query = Query::Given { user, service };
+    let report = Report::Given(given);
+    write_query_answer(alloc, out, &query, &Ok(&report))
 }
 
 /// Adds what the console answers to the question, with the line's end.
@@ -42,9 +85,15 @@ pub(crate) fn add_answer(
     ensures { OnOk result
         (out.new.items ≡ out.old.items ++ asking.answer_to live.now query.now) }
 {
-    let Query::Why { .. } = query else {
-        return Ok(());
-    };
-    let report = Report::Why(decision(live, query));
-    write_query_answer(alloc, out, query, &Ok(&report))
+    match query {
+        Query::Why { .. } => {
+            let report = Report::Why(decision(live, query));
+            write_query_answer(alloc, out, query, &Ok(&report))
+        }
+        Query::Given { user, service } => {
+            let given = gift(alloc, live, user, service)?;
+            add_given(alloc, out, *user, *service, given)
+        }
+        _ => Ok(()),
+    }
 }

@@ -1,8 +1,10 @@
 //! What is said of policies, from bytes to bytes: the check of one, what in it was probably not
-//! meant, what a new one changes and by which edits it is made, and what one decides of lines.
+//! meant, what a new one changes and by which edits it is made, and what one decides of lines and
+//! gives for services.
 #![tactic(auto)]
 
 mod asking;
+mod case;
 mod check_output;
 mod checking;
 mod judging;
@@ -13,6 +15,7 @@ mod review_output;
 mod reviewing;
 mod table;
 mod task;
+mod want;
 
 pub use checking::{CheckEnd, check};
 pub use judging::refusal_line;

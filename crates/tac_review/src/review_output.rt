@@ -1,14 +1,13 @@
 //! What a review prints, and how it ends.
 
 ghost use Rattle.std.specs.Prelude.{◌≡◌, ◌++◌, codes, ◌∷◌, [], Ok, IfOk, OnOk};
-ghost use Rattle.std.specs.List.{flat_map};
-ghost use Rattle.tac_console.specs.Answers.{changed_lines};
+ghost use Rattle.tac_console.specs.Answers.{changes_text};
 ghost use Rattle.tac_review.specs.Asking as asking;
 ghost use Rattle.tac_review.specs.Judged.{IsOnly};
 ghost use Rattle.tac_review.specs.Tables as tables;
 ghost use Rattle.tac_review.specs.Review as reviews;
 
-use crate::asking::{add_answer, question};
+use crate::asking::{add_answer, question, service_question};
 use crate::judging::{judge, refusal_line};
 use crate::loading::load;
 use crate::table::tell;
@@ -19,6 +18,7 @@ use pol_report::{Changes, compare};
 use std::alloc::{AllocError, Global};
 use std::io::Write;
 use tac_console::write_edit_answer;
+use tac_desk::Query;
 
 // The line that refuses an input, after the input's name. The review ends so.
 fn refused(
@@ -53,7 +53,7 @@ fn refused_text(
 
 // The lines of changes: those of an edit's answer after its `ok`.
 fn lines_of_changes(alloc: Global, changes: &Changes) -> Result<Vec<u8>, AllocError>
-    ensures { IfOk result (λ text. text.items ≡ flat_map changed_lines changes.now) }
+    ensures { IfOk result (λ text. text.items ≡ changes_text changes.now) }
 {
     let mut answer = Vec::new(alloc);
     write_edit_answer(alloc, &mut answer, &Ok(changes))?;
@@ -120,13 +120,17 @@ fn edits(
     }
 }
 
-// What a question is answered.
-fn why(alloc: Global, live: &Live, line: &[u8]) -> Result<(Vec<u8>, ReviewEnd), AllocError>
+// What a question is answered, or that there is none.
+fn explain(
+    alloc: Global,
+    live: &Live,
+    query: Option<Query>,
+) -> Result<(Vec<u8>, ReviewEnd), AllocError>
     ensures { IfOk result (λ output.
-        reviews.Explains live.now (asking.question_of line.now) output.0.items output.1) }
+        reviews.Explains live.now query output.0.items output.1) }
 {
     let mut text = Vec::new(alloc);
-    match question(alloc, line)? {
+    match query {
         Some(query) => {
             add_answer(alloc, &mut text, live, &query)?;
             Ok((text, ReviewEnd::Done))
@@ -136,6 +140,24 @@ fn why(alloc: Global, live: &Live, line: &[u8]) -> Result<(Vec<u8>, ReviewEnd), 
             Ok((text, ReviewEnd::Refused))
         }
     }
+}
+
+// What is answered of a line.
+fn why(alloc: Global, live: &Live, line: &[u8]) -> Result<(Vec<u8>, ReviewEnd), AllocError>
+    ensures { IfOk result (λ output.
+        reviews.Explains live.now (asking.question_of line.now) output.0.items output.1) }
+{
+    let query = question(alloc, line)?;
+    explain(alloc, live, query)
+}
+
+// What is answered of a service.
+fn given(alloc: Global, live: &Live, text: &[u8]) -> Result<(Vec<u8>, ReviewEnd), AllocError>
+    ensures { IfOk result (λ output.
+        reviews.Explains live.now (asking.service_question_of text.now) output.0.items output.1) }
+{
+    let query = service_question(alloc, text)?;
+    explain(alloc, live, query)
 }
 
 // The name of the fault of an invalid line.
@@ -211,6 +233,7 @@ fn second(
         Review::Diff => diff(alloc, &live, name, text),
         Review::Edits => edits(alloc, live, name, text),
         Review::Why => why(alloc, &live, text),
+        Review::Given => given(alloc, &live, text),
         Review::Each(table) => each(alloc, &live, table, name, text),
     }
 }

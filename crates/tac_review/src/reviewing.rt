@@ -4,6 +4,7 @@ ghost use Rattle.std.specs.Prelude.{OnOk};
 ghost use Rattle.std.specs.Io.KnownBytes.{IsAtEnd};
 ghost use Rattle.pol_pattern.specs.Matching.{MatchLaw};
 ghost use Rattle.tac_io.specs.Answering.{IsWorked};
+ghost use Rattle.tac_review.specs.Devices.{TellsDevices};
 ghost use Rattle.tac_review.specs.Review.{IsRight, Reviews};
 ghost use Rattle.tac_review.specs.Reading.{AreAnswered, IsNotRead};
 
@@ -68,6 +69,9 @@ pub fn review<R: Read, S: Read, W: Write>(
     // Whether a pattern matches a line by the definitions is whether its set of texts has it: so
     // the least line that a policy permits is the least of these sets.
     ensures matching { MatchLaw }
+
+    // What is told to be given for a service is what the desk answers a device that asks for it.
+    ensures devices { TellsDevices }
 {
     let one = match read_whole(alloc, first, MAX_INPUT) {
         Ok(text) => text,

@@ -1,20 +1,17 @@
 //! The lines of a table of questions or cases.
 
 ghost use Rattle.std.specs.Prelude.{◌≡◌, ◌++◌, IfOk, Ok};
-ghost use Rattle.std.specs.Option.{option_map};
 ghost use Rattle.basics.specs.Lines.{lines_of};
-ghost use Rattle.tac_review.specs.Asking as asking;
 ghost use Rattle.tac_review.specs.Tables as tables;
 
-use crate::asking::{add_answer, decision, question};
+use crate::asking::{add_answer, question};
+use crate::case::{add_instead, case, is_so};
 use crate::task::Table;
-use basics::{Bytes, Lines, split_once, without_leading_spaces};
+use basics::{Bytes, Lines, without_leading_spaces};
 use pol_live::Live;
-use pol_names::Verdict;
 use std::alloc::{AllocError, Global};
 use std::io;
 use std::io::Write;
-use tac_desk::Query;
 
 // A question, and what it is answered.
 fn answered(alloc: Global, live: &Live, line: &[u8]) -> Result<Option<Bytes>, AllocError>
@@ -30,45 +27,6 @@ fn answered(alloc: Global, live: &Live, line: &[u8]) -> Result<Option<Bytes>, Al
     Ok(Some(Bytes::from(told)))
 }
 
-// The verdict of a case.
-fn verdict(word: &[u8]) -> Option<Verdict>
-    ensures { result ≡ tables.verdict_of word.now }
-{
-    if word == b"permit".as_slice() {
-        return Some(Verdict::Permit);
-    }
-    if word == b"deny".as_slice() {
-        return Some(Verdict::Deny);
-    }
-    None
-}
-
-// What a case says, and of which question.
-fn case(alloc: Global, line: &[u8]) -> Result<Option<(Verdict, Query)>, AllocError>
-    ensures { IfOk result (λ case. case ≡ tables.case_of line.now) }
-{
-    let Some((word, rest)) = split_once(line, b' ') else {
-        return Ok(None);
-    };
-    let Some(wanted) = verdict(word) else {
-        return Ok(None);
-    };
-    match question(alloc, rest)? {
-        Some(query) => Ok(Some((wanted, query))),
-        None => Ok(None),
-    }
-}
-
-// Whether the policy says so; of who isn't in it, it says neither.
-fn is_so(live: &Live, wanted: Verdict, query: &Query) -> bool
-    ensures { result ≡ tables.is_so wanted (asking.decision_on live.now query.now) }
-{
-    match decision(live, query) {
-        Some(decision) => decision.verdict == wanted,
-        None => false,
-    }
-}
-
 // The error means that memory ran out.
 fn write_number(out: &mut Vec<u8>, number: usize) -> Result<(), AllocError>
     ensures { IfOk result (λ _. out.new.items ≡ out.old.items ++ tables.numbered number) }
@@ -79,7 +37,7 @@ fn write_number(out: &mut Vec<u8>, number: usize) -> Result<(), AllocError>
     }
 }
 
-// A case that isn't so, with how the policy decides it; nothing is told of one that is so.
+// A case that isn't so, with what is so in place of it; nothing is told of one that is so.
 fn judged(
     alloc: Global,
     live: &Live,
@@ -88,17 +46,17 @@ fn judged(
 ) -> Result<Option<Bytes>, AllocError>
     ensures { IfOk result (λ told. told ≡ tables.case_told live.now number line.now) }
 {
-    let Some((wanted, query)) = case(alloc, line)? else {
+    let Some((want, query)) = case(alloc, line)? else {
         return Ok(None);
     };
     let mut told = Vec::new(alloc);
-    if is_so(live, wanted, &query) {
+    if is_so(alloc, live, &want, &query)? {
         return Ok(Some(Bytes::from(told)));
     }
     write_number(&mut told, number)?;
     told.extend_from_slice(line)?;
     told.extend_from_slice(b": ")?;
-    add_answer(alloc, &mut told, live, &query)?;
+    add_instead(alloc, &mut told, live, &want, &query)?;
     Ok(Some(Bytes::from(told)))
 }
 

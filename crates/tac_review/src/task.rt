@@ -11,7 +11,9 @@ pub enum Review {
     Edits,
     /// How a line of a user is decided: the second input is `USER`, or `USER LINE`.
     Why,
-    /// How the lines of a table are decided.
+    /// What a user is given for a service: the second input is `USER SERVICE`.
+    Given,
+    /// What is so of the lines of a table.
     Each(Table),
 }
 
@@ -20,7 +22,8 @@ pub enum Review {
 pub enum Table {
     /// `USER LINE`: each is answered.
     Questions,
-    /// `permit USER LINE` or `deny USER LINE`: each that isn't so is printed.
+    /// `permit USER LINE`, `deny USER LINE`, `grant USER SERVICE`, `refuse USER SERVICE` or
+    /// `give USER SERVICE ATTRIBUTE`: each that isn't so is printed.
     Cases,
 }
 

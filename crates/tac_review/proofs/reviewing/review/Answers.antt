@@ -3,6 +3,7 @@ use Rattle.pol_pattern.proofs.HeldTexts.{match_law}
 use Rattle.tac_io.proofs.Answered.{answered}
 use Rattle.tac_review.specs.Reading.{given, Wanted}
 use Rattle.tac_review.specs.Review.{IsRight, Reviews}
+use Rattle.tac_review.proofs.DeviceFacts.{tells_devices}
 use Rattle.tac_review.proofs.ReadingFacts.{worked_given}
 use Rattle.tac_review.proofs.reviewing.review.Goals as goal
 
@@ -32,3 +33,12 @@ returns-clause-matching g c = match_law
 
 pub returns-in-Err-clause-matching : goal.returns-in-Err-clause-matching
 returns-in-Err-clause-matching g c = match_law
+
+pub returns-in-Ok-write_answer-clause-devices : goal.returns-in-Ok-write_answer-clause-devices
+returns-in-Ok-write_answer-clause-devices g c = tells_devices
+
+pub returns-clause-devices : goal.returns-clause-devices
+returns-clause-devices g c = tells_devices
+
+pub returns-in-Err-clause-devices : goal.returns-in-Err-clause-devices
+returns-in-Err-clause-devices g c = tells_devices
