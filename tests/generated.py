@@ -225,10 +225,12 @@ def longest_replies():
         begin = opened(given(service) + "user bob in ops\n")
         printed = f"reply 1 {granted(reply)}\nclosed 1\n"
         yield f"of {service}", f"{begin}packet 1 {asked(arguments)}\n", printed
+        gone = [f"user bob service {service} no longer gives: {it}\n" for it in ATTRIBUTES]
+        left = granted(reply[: len(reply) - len(ATTRIBUTES)])
         yield (
             f"of {service}, which bob's own line takes away",
             f"{begin}console service user bob {service}\npacket 1 {asked(arguments)}\n",
-            f"ok\nreply 1 {granted(reply[: len(reply) - len(ATTRIBUTES)])}\nclosed 1\n",
+            f"ok\n{''.join(gone)}reply 1 {left}\nclosed 1\n",
         )
         # Each of sixteen logins waits, and the connection has no place for one more.
         logins = [f"{session:08x}" for session in range(1, 17)]
@@ -265,8 +267,11 @@ def lines_about_services_at_the_limit():
         ("console refuse group ops y", "refused 10 Limit"),
         (f"console service group ops x {ATTRIBUTES[0]}", "refused 3 Exists"),
         ("console service group ops x b", "refused 9 BadValue"),
-        (f"console clear service group ops x {ATTRIBUTES[0]}", "ok"),
-        ("console service group ops x b=", "ok"),
+        (
+            f"console clear service group ops x {ATTRIBUTES[0]}",
+            f"ok\nuser bob service x no longer gives: {ATTRIBUTES[0]}",
+        ),
+        ("console service group ops x b=", "ok\nuser bob service x now gives: b="),
         (
             f"packet 1 {asked(['service=x'])}",
             f"reply 1 {granted([*ATTRIBUTES[1:], 'b='])}\nclosed 1",

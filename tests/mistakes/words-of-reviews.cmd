@@ -16,3 +16,20 @@ $ tacd test policy
 !
 ! For more information, try '--help'.
 status 2
+
+$ tacd given policy bob
+! error: the following required arguments were not provided:
+!   <SERVICE>
+!
+! Usage: tacd given <FILE> <USER> <SERVICE>
+!
+! For more information, try '--help'.
+status 2
+
+$ tacd given policy bob ppp ip
+! error: unexpected argument 'ip' found
+!
+! Usage: tacd given <FILE> <USER> <SERVICE>
+!
+! For more information, try '--help'.
+status 2

@@ -11,7 +11,7 @@ status 2
 
 $ tacd
 ! error: 'tacd' requires a subcommand but one was not provided
-!   [subcommands: serve, console, check, lint, diff, why, test, replay, help]
+!   [subcommands: serve, console, check, lint, diff, why, given, test, replay, help]
 !
 ! Usage: tacd <COMMAND>
 !

@@ -152,3 +152,182 @@ x
 $ tacd test policy cases
 cases: fault line 3 BadCase
 status 1
+
+# Services: what is granted, what isn't, and what is given.
+file policy
+policy 3
+group netops
+priv 15
+service shell shell:roles*"network-admin"
+service junos-exec local-user-name=ops
+service junos-exec allow-commands=(show|ping) .*
+service PaloAlto/firewall PaloAlto-Admin-Role=superuser
+service sshd/unknown
+permit ()
+user bob in netops
+priv 1
+user eve in netops
+refuse junos-exec
+deny ()
+user abe
+
+file cases
+grant bob shell
+grant bob junos-exec
+grant bob sshd/unknown
+refuse bob exec
+refuse bob PaloAlto/panorama
+refuse bob sshd
+refuse eve junos-exec
+grant eve PaloAlto/firewall
+refuse eve shell
+refuse abe shell
+refuse abe junos-exec
+give bob shell priv-lvl=1
+give bob shell shell:roles*"network-admin"
+give bob junos-exec allow-commands=(show|ping) .*
+|  give eve PaloAlto/firewall PaloAlto-Admin-Role=superuser|
+
+$ tacd test policy cases
+ok
+
+file cases
+grant bob exec
+grant bob PaloAlto/panorama
+grant eve junos-exec
+grant eve shell
+grant abe shell
+grant zed shell
+refuse bob shell
+refuse bob junos-exec
+refuse bob sshd/unknown
+refuse zed junos-exec
+refuse zed shell
+give bob shell priv-lvl=15
+give bob shell shell:roles="network-admin"
+|give bob junos-exec local-user-name=ops |
+give bob junos-exec local-user-name=op
+give bob sshd/unknown role=ops
+give bob exec a=b
+give eve junos-exec local-user-name=ops
+give eve shell priv-lvl=15
+give zed junos-exec local-user-name=ops
+
+$ tacd test policy cases
+line 1: grant bob exec: unsupported service
+line 2: grant bob PaloAlto/panorama: unsupported service
+line 3: grant eve junos-exec: refused by user eve
+line 4: grant eve shell: denied by user eve rule 1
+line 5: grant abe shell: denied by default
+line 6: grant zed shell: unknown user
+line 7: refuse bob shell: permitted by group netops rule 1
+line 8: refuse bob junos-exec: granted by group netops
+line 9: refuse bob sshd/unknown: granted by group netops
+line 10: refuse zed junos-exec: unknown user
+line 11: refuse zed shell: unknown user
+line 12: give bob shell priv-lvl=15: not given
+line 13: give bob shell shell:roles="network-admin": not given
+line 14: give bob junos-exec local-user-name=ops : not given
+line 15: give bob junos-exec local-user-name=op: not given
+line 16: give bob sshd/unknown role=ops: not given
+line 17: give bob exec a=b: unsupported service
+line 18: give eve junos-exec local-user-name=ops: refused by user eve
+line 19: give eve shell priv-lvl=15: denied by user eve rule 1
+line 20: give zed junos-exec local-user-name=ops: unknown user
+status 1
+
+file cases
+grant bob shell
+grant bob
+
+$ tacd test policy cases
+cases: fault line 2 BadCase
+status 1
+
+file cases
+grant bob shell
+|grant bob |
+
+$ tacd test policy cases
+cases: fault line 2 BadCase
+status 1
+
+file cases
+grant bob shell
+grant bob shell/x
+
+$ tacd test policy cases
+cases: fault line 2 BadCase
+status 1
+
+file cases
+grant bob shell
+grant bob x y
+
+$ tacd test policy cases
+cases: fault line 2 BadCase
+status 1
+
+file cases
+grant bob shell
+grant b/b shell
+
+$ tacd test policy cases
+cases: fault line 2 BadCase
+status 1
+
+file cases
+grant bob shell
+refuse bob x:y
+
+$ tacd test policy cases
+cases: fault line 2 BadCase
+status 1
+
+file cases
+grant bob shell
+give bob shell
+
+$ tacd test policy cases
+cases: fault line 2 BadCase
+status 1
+
+file cases
+grant bob shell
+give bob shell/x a=b
+
+$ tacd test policy cases
+cases: fault line 2 BadCase
+status 1
+
+file cases
+grant bob shell
+give bob x:y a=b
+
+$ tacd test policy cases
+cases: fault line 2 BadCase
+status 1
+
+file cases
+grant bob shell
+give bob junos-exec a=ü
+
+$ tacd test policy cases
+cases: fault line 2 BadCase
+status 1
+
+file cases
+grant bob shell
+given bob shell
+
+$ tacd test policy cases
+cases: fault line 2 BadCase
+status 1
+
+file cases
+grant bob shell
+Grant bob shell
+
+$ tacd test policy cases
+cases: fault line 2 BadCase
+status 1

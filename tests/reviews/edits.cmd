@@ -127,6 +127,11 @@ commit
 
 $ tacd diff --edits next next
 
-# They decide nothing.
+# They decide on no command line, but users are given something else.
 $ tacd diff --exit-code policy next
-same
+user bob service a now refused
+user bob service b now granted
+user bob service b now gives: y=1 2
+user eve service a now granted
+user eve service a now gives: x=1
+status 5

@@ -3,11 +3,11 @@
 use crate::help::{
     ABOUT, ADDRESS_HELP, AFTER_LONG_HELP, AT_ONCE_HELP, CASES_HELP, CHECK_PAGE, CONNECTIONS_HELP,
     CONSOLE_OPTION_HELP, CONSOLE_PAGE, CONSOLE_PATH_HELP, DIFF_PAGE, EDITS_HELP, EXIT_CODE_HELP,
-    FILE_HELP, IDLE_HELP, KEEP_EDITS_HELP, KEEP_RECORDS_HELP, KEY_FILE_HELP, KEY_HELP, LINE_HELP,
-    LINT_PAGE, LOG_HELP, LOGIN_IDLE_HELP, LONG_ABOUT, NEW_HELP, NO_CONSOLE_HELP, OLD_HELP,
-    PACKET_MEMORY_HELP, PER_ADDRESS_HELP, PORT_HELP, Page, REPLAY_LOG_HELP, REPLAY_PAGE,
-    ROTATE_AT_HELP, SERVE_PAGE, SYNC_HELP, TEST_PAGE, TIME_HELP, USER_HELP, WHY_PAGE, WORD_HELP,
-    WORKERS_HELP,
+    FILE_HELP, GIVEN_PAGE, GIVEN_USER_HELP, IDLE_HELP, KEEP_EDITS_HELP, KEEP_RECORDS_HELP,
+    KEY_FILE_HELP, KEY_HELP, LINE_HELP, LINT_PAGE, LOG_HELP, LOGIN_IDLE_HELP, LONG_ABOUT, NEW_HELP,
+    NO_CONSOLE_HELP, OLD_HELP, PACKET_MEMORY_HELP, PER_ADDRESS_HELP, PORT_HELP, Page,
+    REPLAY_LOG_HELP, REPLAY_PAGE, ROTATE_AT_HELP, SERVE_PAGE, SERVICE_HELP, SYNC_HELP, TEST_PAGE,
+    TIME_HELP, USER_HELP, WHY_PAGE, WORD_HELP, WORKERS_HELP,
 };
 use clap::{Arg, ArgAction, ArgGroup, ArgMatches, Command, value_parser};
 use std::alloc::{AllocError, Global};
@@ -30,6 +30,9 @@ pub(crate) const DIFF: &str = "diff";
 /// The word that asks how lines are decided.
 pub(crate) const WHY: &str = "why";
 
+/// The word that asks what a user is given for a service.
+pub(crate) const GIVEN: &str = "given";
+
 /// The word that asks whether cases are so.
 pub(crate) const TEST: &str = "test";
 
@@ -51,6 +54,9 @@ pub(crate) const EXIT_CODE: &str = "exit-code";
 pub(crate) const USER: &str = "USER";
 
 pub(crate) const LINE: &str = "LINE";
+
+/// Which service is asked about.
+pub(crate) const SERVICE: &str = "SERVICE";
 
 /// The file of cases.
 pub(crate) const CASES: &str = "CASES";
@@ -248,6 +254,13 @@ fn why<'a>(alloc: Global) -> Result<Command<'a>, AllocError> {
         .arg(rest(alloc, LINE, LINE_HELP))
 }
 
+fn given<'a>(alloc: Global) -> Result<Command<'a>, AllocError> {
+    with_page(alloc, GIVEN, GIVEN_PAGE)
+        .arg(required(alloc, FILE, FILE_HELP))?
+        .arg(required(alloc, USER, GIVEN_USER_HELP))?
+        .arg(required(alloc, SERVICE, SERVICE_HELP))
+}
+
 fn test<'a>(alloc: Global) -> Result<Command<'a>, AllocError> {
     with_page(alloc, TEST, TEST_PAGE)
         .arg(required(alloc, FILE, FILE_HELP))?
@@ -281,7 +294,7 @@ pub(crate) fn word_of<'a>(matches: &ArgMatches<'a>, id: &str) -> &'a str {
 }
 
 /// The version of the program.
-pub(crate) const VERSION: &str = "0.13.0";
+pub(crate) const VERSION: &str = "0.14.0";
 
 /// What the program's command line may be.
 pub(crate) fn command<'a>(alloc: Global) -> Result<Command<'a>, AllocError> {
@@ -297,6 +310,7 @@ pub(crate) fn command<'a>(alloc: Global) -> Result<Command<'a>, AllocError> {
     let command = with(command, lint(alloc))?;
     let command = with(command, diff(alloc))?;
     let command = with(command, why(alloc))?;
+    let command = with(command, given(alloc))?;
     let command = with(command, test(alloc))?;
     with(command, replay(alloc))
 }

@@ -15,7 +15,7 @@ macro_rules! with_policy_lines {
     enable-hash HASH     what he enables with, as such a hash
     priv N               the level, 0 to 15, of the shells of the user or group above it
     service S            it may use the service S, a NAME or NAME/PROTOCOL; with ' ATTRIBUTE' after
-                         it, as ' role=ops', it is given that. No device is told of either yet
+                         it, as ' role=ops', it is given that
     refuse S             it may not use S, whatever its groups say
     permit PATTERN       the next rule of the user or group above it
     deny PATTERN         the next rule of the user or group above it
@@ -61,9 +61,9 @@ user may run, and has it record what was done. 'tacd serve' is such a server: it
 and takes edits of its policy and questions at a console. 'tacd console' types there where that is at
 a socket. 'tacd check' reads a policy and prints which of its rules decide nothing, 'tacd lint' what
 in it is probably not meant; 'tacd diff' prints what a new policy permits and denies that an old one
-didn't, 'tacd why' which rule decides on a line, and 'tacd test' whether all lines of a table are
-decided as it says. 'tacd replay' takes what devices send from a script, together with the policy,
-and prints what is answered; it opens no socket.";
+didn't, 'tacd why' which rule decides on a line, 'tacd given' what a user is given for a service, and
+'tacd test' whether all is so that a table says. 'tacd replay' takes what devices send from a script,
+together with the policy, and prints what is answered; it opens no socket.";
 
 pub(crate) const SERVE_PAGE: Page = Page {
     about: "Serves devices on a port, with a console on standard input or at a socket",
@@ -101,6 +101,7 @@ Lines of the console, where a SUBJECT is 'user NAME' or 'group NAME':
   shadow               the rules that decide no line, for each user and group
   reach SUBJECT        the shortest line that each of the rules decides
   why NAME LINE        which rule decides on a line of this user
+  given NAME S         what this user is given for a service, and by whom
   tally SUBJECT        what the records of a user, or of a group's users, add up to
   records              the accounting records that are kept
   add SUBJECT          a new user or group; with ' in GROUP', one that has that group's rules too
@@ -121,8 +122,8 @@ Lines of the console, where a SUBJECT is 'user NAME' or 'group NAME':
   quit                 the server stops, as it does where the input ends
 
 An edit, a 'commit' and a 'reload' are answered by 'ok', and for each user whom they concern by the
-shortest line that is now permitted, and the shortest that is now denied; or by 'refused' and why,
-and have changed nothing. A file that is refused is told as by 'tacd check', and one that can't be
+shortest line that is now permitted, the shortest that is now denied, and by what is now given for
+services, as 'tacd diff --help' has it; or by 'refused' and why, and have changed nothing. A file that is refused is told as by 'tacd check', and one that can't be
 read by 'unread' and why.
 A line that the server doesn't take is answered by 'hall' and why.
 
@@ -362,9 +363,10 @@ pub(crate) const DIFF_PAGE: Page = Page {
 
 For each user for whom anything changes it prints the shortest command line that the new policy
 permits and the old one denies, and the shortest that the new one denies and the old one permits; of
-lines of one length, the first by ASCII. So nothing is printed for a user exactly if the two policies
-permit and deny alike every line that he could ever give. It is what the console of 'tacd serve' answers
-to edits that make the one policy into the other. With --edits it prints such edits, which load NEW
+lines of one length, the first by ASCII. Then it prints what users are given otherwise for services, a
+shell's level among it. So nothing is printed for a user exactly if the two policies permit and deny
+alike every line that he could ever give, and give him the same. It is what the console of 'tacd serve'
+answers to edits that make the one policy into the other. With --edits it prints such edits, which load NEW
 into a server that has OLD.",
     after_help: "Examples:
   tacd diff campus.policy campus-next.policy
@@ -376,7 +378,13 @@ into a server that has OLD.",
 What is printed, first for the users of NEW in its order, then for those of OLD alone:
   user NAME now permits: LINE
   user NAME now denies: LINE
-  same                 where there is no such user
+Then what is given otherwise for services, in the same order, where S is 'shell' or another service:
+  user NAME service S now granted
+  user NAME service S now refused
+  user NAME service S now gives: ARGUMENT
+  user NAME service S no longer gives: ARGUMENT
+  user NAME service S gives the same in another order
+  same                 where nothing changes for anyone
 
 What is printed with --edits, for each 64 edits; nothing where there are none:
   begin
@@ -415,7 +423,7 @@ Exit status:
   2  the command line is wrong
   3  memory ran out
   4  a file could not be read, or the output could not be written
-  5  with --exit-code: anyone gains or loses a line, or with --edits too, there are edits",
+  5  with --exit-code: something changes for anyone, or with --edits too, there are edits",
 };
 
 pub(crate) const OLD_HELP: &str = "The present policy's text, at most 268435456 bytes";
@@ -425,7 +433,7 @@ pub(crate) const NEW_HELP: &str = "The text of the policy that is to take its pl
 pub(crate) const EDITS_HELP: &str = "Print the lines of the console that make NEW of OLD";
 
 pub(crate) const EXIT_CODE_HELP: &str =
-    "End with status 5 where anyone gains or loses a line; with --edits, where there are edits";
+    "End with status 5 where something changes for anyone; with --edits, where there are edits";
 
 pub(crate) const WHY_PAGE: Page = Page {
     about: "Prints which rule decides on a command line",
@@ -474,12 +482,58 @@ pub(crate) const USER_HELP: &str = "Whose line it is; without it, standard input
 
 pub(crate) const LINE_HELP: &str = "The words of the line; without any, the empty line";
 
+pub(crate) const GIVEN_PAGE: Page = Page {
+    about: "Prints what a user is given for a service, and by whom",
+    long_about: "Prints what a policy gives to a user for whom a device asks for a service, and who gives it, as the
+console of 'tacd serve' answers 'given'.
+
+SERVICE is a NAME or NAME/PROTOCOL, as in a line 'service SERVICE' of a policy. For 'shell' it is what
+the empty command line is given, which asks for a shell.",
+    after_help: "Example:
+  tacd given devices.policy bob junos-exec
+
+'tacd given --help' describes what is printed; 'tacd replay --help' the lines of a policy.",
+    after_long_help: "'tacd replay --help' describes the lines of a policy.
+
+The first line that is printed, where OWNER is 'user NAME' or 'group NAME':
+  granted by OWNER       OWNER decides on the service, and allows it
+  refused by OWNER       OWNER refuses it
+  unsupported service    nobody along the chain of USER has a line about it
+  unknown user           the policy has no such user
+Of 'shell' it is what 'tacd why' prints of the empty line, as 'permitted by OWNER rule N'.
+
+Where the service is granted, a line for each argument that the device is sent, in this order:
+  OWNER gives ARGUMENT   the level of a shell is 'priv-lvl=N'
+
+What is printed where something is refused; nothing is answered then:
+  PATH: fault ..       the policy, as 'tacd check' prints it
+  fault BadQuestion    USER is no name, or SERVICE is no service
+
+Example:
+  $ tacd given devices.policy bob shell
+  permitted by group netops rule 1
+  group netops gives priv-lvl=15
+  group netops gives shell:roles*\"network-admin\"
+
+Exit status:
+  0  it is answered
+  1  something is refused, and why was printed
+  2  the command line is wrong
+  3  memory ran out
+  4  the file could not be read, or the output could not be written",
+};
+
+pub(crate) const GIVEN_USER_HELP: &str = "Who is given it";
+
+pub(crate) const SERVICE_HELP: &str = "The service that a device asks for";
+
 pub(crate) const TEST_PAGE: Page = Page {
     about: "Prints which cases of a table a policy doesn't meet",
-    long_about: "Compares a policy with a table of cases, and prints each that isn't so with the rule that decided.
+    long_about: "Compares a policy with a table of cases, and prints each that isn't so with what is so instead.
 
-A case is a line 'permit USER LINE' or 'deny USER LINE'. A user who isn't in the policy meets neither,
-so that a misspelt name is seen.",
+A case is a line 'permit USER LINE' or 'deny USER LINE', 'grant USER SERVICE' or 'refuse USER SERVICE',
+or 'give USER SERVICE ARGUMENT', where the device is to be sent that argument. A user who isn't in the
+policy meets none, so that a misspelt name is seen.",
     after_help: "Example:
   tacd test campus.policy campus.cases
 
@@ -488,7 +542,8 @@ so that a misspelt name is seen.",
 
 Of CASES leading spaces, empty lines and lines that begin with '#' are passed over.
 
-What is printed, where ANSWER is one of those of 'tacd why':
+What is printed, where ANSWER is one of those of 'tacd why', the first line of 'tacd given', or
+'not given' where the service is granted without the argument:
   line L: CASE: ANSWER for each case that isn't so, with its line in CASES
   ok                   where all cases are so
 
@@ -586,6 +641,7 @@ pub(crate) const AFTER_LONG_HELP: &str = "Examples:
   tacd lint campus.policy
   tacd diff campus.policy campus-next.policy
   tacd why campus.policy ben show vlan
+  tacd given devices.policy bob junos-exec
   tacd test campus.policy campus.cases
   tacd serve --port 49 --key-file tacd.key campus.policy
   tacd console /run/tacd/console why ben show vlan

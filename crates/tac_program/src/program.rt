@@ -4,14 +4,14 @@ ghost use Rattle.std.specs.Prelude.{◌≡◌, ◌≢◌, ◌⊎◌};
 ghost use Rattle.clap.specs.Values.{kind_of};
 
 use crate::command_line::{
-    CHECK, CONSOLE, DIFF, FILE, LINT, REPLAY, SERVE, TEST, WHY, command, word_of,
+    CHECK, CONSOLE, DIFF, FILE, GIVEN, LINT, REPLAY, SERVE, TEST, WHY, command, word_of,
 };
 use crate::complaint::{complain, name_lint};
 use crate::console_client::type_at_console;
 use crate::opening::open_file;
 use crate::options::Options;
 use crate::replaying::replay_script;
-use crate::reviewing::{diff, test, why};
+use crate::reviewing::{diff, given, test, why};
 use crate::server::serve_by;
 use crate::status::Status;
 use clap::error::ErrorKind;
@@ -120,6 +120,9 @@ where
     }
     if let Some(options) = matches.subcommand_matches(WHY) {
         return Some(why(rt, options));
+    }
+    if let Some(options) = matches.subcommand_matches(GIVEN) {
+        return Some(given(rt, options));
     }
     let options = matches.subcommand_matches(TEST)?;
     Some(test(rt, options))

@@ -1,6 +1,6 @@
 //! The reviews of policies in files.
 
-use crate::command_line::{CASES, EDITS, EXIT_CODE, FILE, LINE, NEW, OLD, USER, word_of};
+use crate::command_line::{CASES, EDITS, EXIT_CODE, FILE, LINE, NEW, OLD, SERVICE, USER, word_of};
 use crate::complaint::{complain, name_lint, tell_batches};
 use crate::opening::open_file;
 use crate::status::Status;
@@ -92,8 +92,8 @@ where
     review_files(rt, Review::Each(Table::Cases), files, Status::Refused)
 }
 
-// `USER`, or `USER LINE`: the words of a line are one blank apart, as a router joins them. A user
-// with a blank is none, and then the question is empty, which is no question.
+// `USER`, or `USER LINE`: the words of a line are one blank apart, as a router joins them. A service
+// is one word. A user with a blank is none, and then the question is empty, which is no question.
 fn question_of(alloc: Global, user: &str, words: &[&str]) -> Result<Vec<u8>, AllocError> {
     let mut question = Vec::new(alloc);
     if user.contains(' ') {
@@ -107,8 +107,8 @@ fn question_of(alloc: Global, user: &str, words: &[&str]) -> Result<Vec<u8>, All
     Ok(question)
 }
 
-// Prints how one line is decided.
-fn explain_one<R>(rt: &R, path: &str, user: &str, words: &[&str]) -> Status
+// Prints what one question is answered, which is about a user.
+fn explain_one<R>(rt: &R, what: Review, path: &str, user: &str, words: &[&str]) -> Status
 where
     R: Files + Print + Eprint + AllocGlobal,
 {
@@ -121,13 +121,7 @@ where
         Err(status) => return status,
     };
     let mut asked = question.as_slice();
-    let outcome = review_inputs(
-        rt,
-        Review::Why,
-        (path, "the question"),
-        &mut file,
-        &mut asked,
-    );
+    let outcome = review_inputs(rt, what, (path, "the question"), &mut file, &mut asked);
     Status::of_review(outcome, Status::Done)
 }
 
@@ -153,8 +147,19 @@ where
 {
     let path = word_of(matches, FILE);
     match (matches.get_str(USER), matches.get_strs(LINE)) {
-        (Some(user), Some(words)) => explain_one(rt, path, user, words),
-        (Some(user), None) => explain_one(rt, path, user, &[]),
+        (Some(user), Some(words)) => explain_one(rt, Review::Why, path, user, words),
+        (Some(user), None) => explain_one(rt, Review::Why, path, user, &[]),
         (None, _) => explain_all(rt, path),
     }
+}
+
+/// Prints what a user is given for a service, and by whom.
+pub(crate) fn given<R>(rt: &R, matches: &ArgMatches<'_>) -> Status
+where
+    R: Files + Print + Eprint + AllocGlobal,
+{
+    let path = word_of(matches, FILE);
+    let user = word_of(matches, USER);
+    let service = word_of(matches, SERVICE);
+    explain_one(rt, Review::Given, path, user, &[service])
 }

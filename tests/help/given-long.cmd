@@ -1,0 +1,2 @@
+$ tacd given --help
+prints given-long.out
