@@ -10,6 +10,7 @@ script on which they aren't is made smaller and printed, with both of each.
 
     python3 bench/fuzz [--seed N] [--count N] [--first N] [PROGRAM]
     python3 bench/fuzz pairs [--seed N] [--count N] [--first N] [PROGRAM]
+    python3 bench/fuzz changes [--seed N] [--count N] [--first N] [PROGRAM]
     python3 bench/fuzz selfcheck [--seed N] [--count N]
     python3 bench/fuzz show [--seed N] NUMBER
 
@@ -19,6 +20,9 @@ reference makes of it. 30,000 scripts, the default, take about twenty minutes of
 
 `pairs` draws pairs of policies, 3,000 of them, and types what `tacd diff --edits` prints of each at
 a console of the reference that has the first, which then has to have the second (pairs.py).
+
+`changes` draws such pairs too, 300 of them, and compares what `tacd diff` tells of services with what
+a device is answered that asks for every service, for every user, under both policies (changes.py).
 
 `selfcheck` needs no program. It takes wrong bodies of the reference, one mistake each, for programs
 with such a mistake, and each has to be found by a script (wrong_bodies.py).
@@ -31,6 +35,7 @@ import argparse
 import pathlib
 import sys
 
+import changes
 import pairs
 import selfcheck
 from comparing import Program, compare
@@ -38,6 +43,7 @@ from generator.choices import Choices
 from generator.scripts import case
 from running import by_reference, told
 
+COMMANDS = ("pairs", "changes", "selfcheck", "show")
 BUILT = pathlib.Path(__file__).resolve().parents[2] / "crates/tacd/out/tacd"
 
 
@@ -52,20 +58,22 @@ def main():
     numbers = range(arguments.first, arguments.first + arguments.count)
     if arguments.command == "pairs":
         return pairs.compare(arguments.program, arguments.seed, numbers)
+    if arguments.command == "changes":
+        return changes.compare(arguments.program, arguments.seed, numbers)
     return compare(Program(arguments.program), arguments.seed, numbers)
 
 
 def read_arguments():
     words = sys.argv[1:]
-    command = words.pop(0) if words and words[0] in ("pairs", "selfcheck", "show") else "compare"
+    command = words.pop(0) if words and words[0] in COMMANDS else "compare"
     reader = argparse.ArgumentParser("bench/fuzz", description=__doc__.partition("\n")[0])
     reader.add_argument("--seed", type=int, default=1)
     if command == "show":
         reader.add_argument("number", type=int)
     else:
-        counts = {"compare": 30_000, "pairs": 3_000, "selfcheck": 6_000}
+        counts = {"compare": 30_000, "pairs": 3_000, "changes": 300, "selfcheck": 6_000}
         reader.add_argument("--count", type=int, default=counts[command])
-    if command in ("compare", "pairs"):
+    if command in ("compare", "pairs", "changes"):
         reader.add_argument("--first", type=int, default=0)
         reader.add_argument("program", type=pathlib.Path, nargs="?", default=BUILT)
     return reader.parse_args(words, argparse.Namespace(command=command))

@@ -284,8 +284,14 @@ WRONG_BODIES = [
     WrongBody(
         "any service may be the shell, not only the first",
         "accounting.py",
-        'first_value(pairs, "service") != "shell"',
-        '("service", "shell") not in pairs',
+        'first_value(pairs, "service") == "shell"',
+        '("service", "shell") in pairs',
+    ),
+    WrongBody(
+        "only a shell's record has a line",
+        "accounting.py",
+        "None in pairs else command_of(pairs)",
+        "None in pairs else line_of(pairs)",
     ),
     WrongBody(
         "level and attributes are sent with each permitted line",
@@ -387,6 +393,18 @@ WRONG_BODIES = [
         "            self.closed = True\n            return None\n        login =",
     ),
     WrongBody(
+        "the first argument of a reply isn't told",
+        "auditing.py",
+        "listed(given)",
+        "listed(given[1:])",
+    ),
+    WrongBody(
+        "a reply without arguments is told to give none",
+        "auditing.py",
+        "if given:",
+        "if given is not None:",
+    ),
+    WrongBody(
         "a DEL is no control character",
         "auditing.py",
         '"\\x7f" <= symbol',
@@ -439,6 +457,31 @@ WRONG_BODIES = [
         "desk.py",
         "for above in chain_of(self.policy, subject)",
         "for above in chain_of(self.policy, subject)[:2]",
+    ),
+    # What is told of services.
+    WrongBody(
+        "services that the old policy alone names aren't asked",
+        "given.py",
+        "for policy in (after, before) for",
+        "for policy in (after,) for",
+    ),
+    WrongBody(
+        "an attribute that was given is told as gained",
+        "given.py",
+        "for argument in now if argument not in was]",
+        "for argument in now]",
+    ),
+    WrongBody(
+        "the level is told of the farthest who has one",
+        "given.py",
+        "    for subject in chain_of(policy, user):",
+        "    for subject in reversed(chain_of(policy, user)):",
+    ),
+    WrongBody(
+        "a level isn't among what a shell is given",
+        "given.py",
+        'return desk.line_answered(user, "")[1]',
+        'return [it for it in desk.line_answered(user, "")[1] if not it.startswith("priv-lvl=")]',
     ),
     WrongBody(
         "percent forms are in lower case",

@@ -165,6 +165,7 @@ class Operator:
         tally = 60 if recorded else 10
         asked = choices.kind(
             {"policy": 12, "shadow": 15, "reach": 20, "tally": tally, "why": 25, "records": 10}
+            | {"given": 25}
         )
         match asked:
             case "tally" if recorded and choices.chance(0.6):
@@ -174,6 +175,8 @@ class Operator:
             case "why":
                 text = line(choices, self.world.patterns())
                 return f"why {user}" + ("" if choices.chance(0.1) else f" {text}")
+            case "given":
+                return f"given {user} {self.service()}"
         return asked
 
 
@@ -183,4 +186,5 @@ def odd_line(choices):
         + ["shadow group g", " policy", "Policy", "#", "\xe9", "insert", "why u\t", "clear", "run"]
         + ["clear priv", "clear login", "add", "add group", "move user u out ", "in"]
         + ["service", "refuse", "clear service", "service user u", "refuse user u x y"]
+        + ["given", "given u", "given u ", "given u shell ", "given u/ x"]
     )

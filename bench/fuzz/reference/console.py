@@ -3,7 +3,9 @@
 from . import edits
 from .decisions import changes_of, decision_on, permits, reach_of, shadowed
 from .edits import is_subject
+from .given import changed_lines, given_lines
 from .policy import GROUP, USER, Refused, find, printed, refuse
+from .services import is_service
 from .texts import is_name, is_text, lines_of, percent_form
 
 
@@ -55,7 +57,7 @@ def change(desk, policy):
             lines.append(f"user {user} now permits: {permitted}")
         if denied is not None:
             lines.append(f"user {user} now denies: {denied}")
-    return lines
+    return lines + changed_lines(before, policy)
 
 
 def ask(desk, line):
@@ -74,6 +76,8 @@ def ask(desk, line):
             return [tally_line(desk, kind, name)]
         case ["why", name, *rest] if is_name(name):
             return [why_line(desk, name, rest[0] if rest else "")]
+        case ["given", name, service] if is_name(name) and is_service(service):
+            return given_lines(desk, name, service)
     refuse(1, "BadEdit")
 
 
