@@ -121,10 +121,11 @@ Lines of the console, where a SUBJECT is 'user NAME' or 'group NAME':
   reload               the policy's file is read again, and takes the place of the policy
   quit                 the server stops, as it does where the input ends
 
-An edit, a 'commit' and a 'reload' are answered by 'ok', and for each user whom they concern by the
-shortest line that is now permitted, the shortest that is now denied, and by what is now given for
-services, as 'tacd diff --help' has it; or by 'refused' and why, and have changed nothing. A file that is refused is told as by 'tacd check', and one that can't be
-read by 'unread' and why.
+An edit, a 'commit' and a 'reload' are answered by 'ok', and then by what they change for users: the
+shortest line that is now permitted, the shortest that is now denied, and what is given otherwise
+for services, as 'tacd diff --help' has it. Or they are answered by 'refused' and why, and have
+changed nothing. A file that is refused is told as by 'tacd check', and one that can't be read by
+'unread' and why.
 A line that the server doesn't take is answered by 'hall' and why.
 
 With --keep-edits PATH, an edit is on the disk before it is answered: PATH has the policy with all
@@ -322,9 +323,9 @@ and subjects, each with its line and column. What it says never changes what the
 It asks about what other pattern languages read otherwise ('^', '$', '\\d', '[[:alpha:]]', '{1,3}'),
 about ' # ' in a pattern, about spaces round patterns and secrets and at the end of attributes,
 passwords that look like hashes, hashes of over 20000 rounds, a service 'exec', mandatory attributes
-of shells, an odd number of '\"' in an attribute, rules without the word <cr> that Cisco IOS ends
-each line with, groups that nobody is in, users without a login, an empty policy, and it names rules
-that decide nothing.
+of shells, attributes of a shell that nobody there may start, an odd number of '\"' in an attribute,
+rules without the word <cr> that Cisco IOS ends each line with, groups that nobody is in, users
+without a login, an empty policy, and it names rules that decide nothing.
 Of a policy that is refused it prints every wrong line, and not only the first, and why each is
 wrong; where it is too large, which rules may double its states.",
     after_help: "Example:
@@ -363,11 +364,11 @@ pub(crate) const DIFF_PAGE: Page = Page {
 
 For each user for whom anything changes it prints the shortest command line that the new policy
 permits and the old one denies, and the shortest that the new one denies and the old one permits; of
-lines of one length, the first by ASCII. Then it prints what users are given otherwise for services, a
-shell's level among it. So nothing is printed for a user exactly if the two policies permit and deny
-alike every line that he could ever give, and give him the same. It is what the console of 'tacd serve'
-answers to edits that make the one policy into the other. With --edits it prints such edits, which load NEW
-into a server that has OLD.",
+lines of one length, the first by ASCII. Then it prints what users are given otherwise for services,
+a shell's level among it. So nothing is printed for a user exactly if the two policies permit and
+deny alike every line that he could ever give, and give him the same. It is what the console of
+'tacd serve' answers to edits that make the one policy into the other. With --edits it prints such
+edits, which load NEW into a server that has OLD.",
     after_help: "Examples:
   tacd diff campus.policy campus-next.policy
   tacd diff --edits saved.policy campus-next.policy | tacd console /run/tacd/console
@@ -487,8 +488,8 @@ pub(crate) const GIVEN_PAGE: Page = Page {
     long_about: "Prints what a policy gives to a user for whom a device asks for a service, and who gives it, as the
 console of 'tacd serve' answers 'given'.
 
-SERVICE is a NAME or NAME/PROTOCOL, as in a line 'service SERVICE' of a policy. For 'shell' it is what
-the empty command line is given, which asks for a shell.",
+SERVICE is a NAME or NAME/PROTOCOL, as in a line 'service SERVICE' of a policy. For 'shell' it is
+what the empty command line is given, which asks for a shell.",
     after_help: "Example:
   tacd given devices.policy bob junos-exec
 
@@ -531,9 +532,9 @@ pub(crate) const TEST_PAGE: Page = Page {
     about: "Prints which cases of a table a policy doesn't meet",
     long_about: "Compares a policy with a table of cases, and prints each that isn't so with what is so instead.
 
-A case is a line 'permit USER LINE' or 'deny USER LINE', 'grant USER SERVICE' or 'refuse USER SERVICE',
-or 'give USER SERVICE ARGUMENT', where the device is to be sent that argument. A user who isn't in the
-policy meets none, so that a misspelt name is seen.",
+A case is a line 'permit USER LINE' or 'deny USER LINE', 'grant USER SERVICE' or 'refuse USER
+SERVICE', or 'give USER SERVICE ARGUMENT', where the device is to be sent that argument. A user who
+isn't in the policy meets none, so that a misspelt name is seen.",
     after_help: "Example:
   tacd test campus.policy campus.cases
 
