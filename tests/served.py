@@ -3,7 +3,9 @@ means there. Each case is a function that raises Wrong where something goes othe
 
 import contextlib
 import hashlib
+import json
 import pathlib
+import random
 import resource
 import socket
 import subprocess
@@ -46,6 +48,8 @@ def cases(name):
         an_idle_device_is_kept,
         so_many_connections_each,
         long_replies,
+        what_is_given_is_logged,
+        a_reload_tells_of_services,
         without_a_console,
         a_console_at_standard_input,
         too_few_files_may_be_open,
@@ -121,8 +125,15 @@ def limit_files(count):
 
 
 def free_port():
-    with socket.create_server(("0.0.0.0", 0)) as listener:
-        return listener.getsockname()[1]
+    """A port that nobody has. It is bound without listening there: a process that another case forks
+    meanwhile keeps the socket until its program begins, and where it listens no server can. It is
+    below the ports that the system gives to clients, who might take it before the server does."""
+    while True:
+        port = random.randrange(20_000, 32_000)
+        with contextlib.suppress(OSError), socket.socket() as probe:
+            probe.setsockopt(socket.SOL_SOCKET, socket.SO_REUSEADDR, 1)
+            probe.bind(("0.0.0.0", port))
+            return port
 
 
 def connect(server):
@@ -345,6 +356,47 @@ def long_replies(program):
             require(is_permitted(server), "another isn't permitted")
             require(answer(device, b"", len(wanted)) == wanted, "the replies are others")
         server.quits()
+
+
+def what_is_given_is_logged(program):
+    """The log has a reply's arguments as the device gets them, and no member where it has none."""
+    policy = (
+        'policy 3\ngroup ops\npriv 0\nservice shell r*"a\\b"\nservice x a=1\nservice y\n'
+        "permit ()\npermit show .*\nuser bob in ops\n"
+    )
+    shell = ["priv-lvl=0", 'r*"a\\b"']
+    with Server(program, "--log", "log", policy=policy) as server:
+        for arguments, reply in (
+            (["service=shell", "cmd="], shell),
+            (["service=x"], ["a=1"]),
+            (["service=y"], []),
+            (["service=shell", "cmd=show", "cmd-arg=x"], []),
+        ):
+            with connect(server) as device:
+                require(is_answered(device, asked(arguments), granted(reply)), f"of {arguments}")
+        server.quits()
+        lines = pathlib.Path(server.folder.name, "log").read_text().splitlines()
+    told = [event.get("given") for event in map(json.loads, lines) if "device" in event]
+    require(told == [shell, ["a=1"], None, None], f"the log says {told}")
+
+
+def a_reload_tells_of_services(program):
+    begins = "group ops\npriv 1\nservice x a=1\npermit ()\nuser bob in ops\nuser eve in ops\n"
+    then = "user new\ngroup ops\npriv 2\nservice y\npermit ()\nuser bob in ops\n"
+    answers = (
+        "ok\nuser eve now denies: \n"
+        "user bob service shell now gives: priv-lvl=2\n"
+        "user bob service shell no longer gives: priv-lvl=1\n"
+        "user bob service y now granted\n"
+        "user bob service x now refused\n"
+        "user eve service shell no longer gives: priv-lvl=1\n"
+        "user eve service x now refused\n"
+        "granted by group ops\nunsupported service\nunknown user\nok\n"
+    )
+    with Server(program, policy="policy 3\n" + begins) as server:
+        connect(server).close()
+        pathlib.Path(server.folder.name, "policy").write_text("policy 3\n" + then)
+        server.ends("reload\ngiven bob y\ngiven bob x\ngiven eve y\nreload\nquit\n", answers)
 
 
 def without_a_console(program):

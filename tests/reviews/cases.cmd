@@ -331,3 +331,103 @@ Grant bob shell
 $ tacd test policy cases
 cases: fault line 2 BadCase
 status 1
+
+# All kinds of cases in one table, of which the first that is none refuses it.
+file cases
+permit bob
+refuse bob exec
+deny bob reload
+grant bob junos-exec
+give bob junos-exec local-user-name=op
+
+$ tacd test policy cases
+line 5: give bob junos-exec local-user-name=op: not given
+status 1
+
+file cases
+grant bob shell
+grant
+
+$ tacd test policy cases
+cases: fault line 2 BadCase
+status 1
+
+file cases
+grant bob shell
+|refuse |
+
+$ tacd test policy cases
+cases: fault line 2 BadCase
+status 1
+
+file cases
+grant bob shell
+refuse  bob x
+
+$ tacd test policy cases
+cases: fault line 2 BadCase
+status 1
+
+file cases
+grant bob shell
+refuse bob  x
+
+$ tacd test policy cases
+cases: fault line 2 BadCase
+status 1
+
+file cases
+grant bob shell
+|refuse bob x |
+
+$ tacd test policy cases
+cases: fault line 2 BadCase
+status 1
+
+file cases
+grant bob shell
+|give bob |
+
+$ tacd test policy cases
+cases: fault line 2 BadCase
+status 1
+
+file cases
+grant bob shell
+give  bob x a=b
+
+$ tacd test policy cases
+cases: fault line 2 BadCase
+status 1
+
+file cases
+grant bob shell
+give bob  x a=b
+
+$ tacd test policy cases
+cases: fault line 2 BadCase
+status 1
+
+file cases
+grant bob shell
+|Give bob x a=b|
+
+$ tacd test policy cases
+cases: fault line 2 BadCase
+status 1
+
+file cases
+grant bob shell
+grant bob shell a=b
+
+$ tacd test policy cases
+cases: fault line 2 BadCase
+status 1
+
+file cases
+grant bob shell
+give bob x a=b␍
+
+$ tacd test policy cases
+cases: fault line 2 BadCase
+status 1

@@ -111,3 +111,11 @@ $ tacd given draft bob shell
 draft: fault line 3 6 BadValue
 ! tacd: 'tacd lint draft' says more
 status 1
+
+$ tacd given nowhere bob shell
+! tacd: nowhere: No such file or directory (os error 2)
+status 4
+
+$ tacd given policy bob shell > /dev/full
+! tacd: the output could not be written
+status 4

@@ -256,3 +256,33 @@ line 4 column 9: no shell starts here: none of its users is permitted the empty 
 line 4 column 15: devices that don't know it refuse the shell: is '*' meant in place of '='?
 line 4 column 27: an odd number of '"': is one more meant, or one less?
 status 5
+
+# Each attribute of the group is asked about; users of groups within it count too.
+file policy
+policy 3
+group ops
+service shell timeout=5
+service shell idletime=5
+permit show .*
+user bob in ops
+login x
+group staff in ops
+user eve in staff
+login x
+
+$ tacd lint policy
+line 3 column 9: no shell starts here: none of its users is permitted the empty line
+line 4 column 9: no shell starts here: none of its users is permitted the empty line
+status 5
+
+file policy
+policy 3
+group ops
+service shell timeout=5
+permit show .*
+group staff in ops
+permit ()
+user eve in staff
+login x
+
+$ tacd lint policy

@@ -140,3 +140,59 @@ user bob in ops
 
 $ tacd diff --exit-code old new
 same
+
+# Yet the two policies differ, and there are edits.
+$ tacd diff --edits --exit-code old new
+begin
+clear service group all a x=1
+service group all a x=3
+service group empty b
+commit
+status 5
+
+# The same attributes of a shell in another order; its level stays before them.
+file old
+policy 3
+user bob
+priv 1
+service shell a*1
+service shell b*2
+permit ()
+
+file new
+policy 3
+user bob
+service shell b*2
+priv 1
+service shell a*1
+permit ()
+
+$ tacd diff --exit-code old new
+user bob service shell gives the same in another order
+status 5
+
+# A shell that nobody may start is given nothing, and a level that comes from elsewhere is the same.
+file old
+policy 3
+group far
+priv 3
+group ops in far
+permit ()
+user bob in ops
+user eve in ops
+service shell a*1
+deny ()
+
+file new
+policy 3
+group far
+group ops in far
+priv 3
+permit ()
+user bob in ops
+user eve in ops
+service shell a*2
+deny ()
+
+$ tacd diff --exit-code old new
+same
