@@ -1,0 +1,367 @@
+//! Devices while their text is read.
+
+ghost use Rattle.std.specs.Prelude.{◌≡◌, ◌++◌, ◌∷◌, [], None, OnOk, IfOk, find, not};
+ghost use Rattle.std.specs.Option.{option_copied, option_map};
+ghost use Rattle.std.specs.List.{list_any};
+ghost use Rattle.tac_devices.specs.Prefix.{same_prefix};
+ghost use Rattle.tac_devices.specs.Reading.{LineMakes, Passes};
+ghost use Rattle.tac_devices.specs.Text as texts;
+
+use crate::device::{Device, Place};
+use crate::devices::Devices;
+use crate::fault::{DevicesFault, DevicesRefusal, LineFault};
+use crate::prefix::Prefix;
+use crate::said::Said;
+use basics::Sequence;
+use pol_names::Name;
+use std::alloc::{AllocError, Global};
+use tac_wire::Key;
+
+/// A key, and the line that says it.
+pub(crate) struct KeyLine {
+    pub(crate) key: Key,
+    pub(crate) line: usize,
+}
+
+impl Drop for KeyLine {
+    fn drop(self) {
+        let KeyLine { key: _, line: _ } = self;
+    }
+}
+
+/// A device of which more may be said.
+pub(crate) struct Entry {
+    pub(crate) name: Name,
+    // the line that it begins at
+    pub(crate) line: usize,
+    pub(crate) places: Sequence<Place>,
+    pub(crate) key: Option<KeyLine>,
+    pub(crate) connections: Option<u32>,
+}
+
+// By hand, so that a proof of an owner has one call at each exit, not a drop of each field.
+impl Drop for Entry {
+    fn drop(self) {
+        let Entry {
+            name: _,
+            line: _,
+            places: _,
+            key: _,
+            connections: _,
+        } = self;
+    }
+}
+
+/// The devices so far.
+pub(crate) struct Draft {
+    // those of which nothing more is said
+    pub(crate) done: Sequence<Entry>,
+    // the one that lines now speak of
+    pub(crate) present: Option<Entry>,
+    // the prefixes of all of them
+    pub(crate) prefixes: Sequence<Prefix>,
+}
+
+impl Drop for Draft {
+    fn drop(self) {
+        let Draft {
+            done: _,
+            present: _,
+            prefixes: _,
+        } = self;
+    }
+}
+
+fn has_name(entries: &[Entry], name: &Name) -> bool
+    ensures { result ≡ list_any (texts.has_name name.now) entries.now }
+{
+    entries.iter().any(|entry| *name == entry.name)
+}
+
+fn has_prefix(prefixes: &[Prefix], prefix: &Prefix) -> bool
+    ensures { result ≡ list_any (same_prefix prefix.now) prefixes.now }
+{
+    prefixes.iter().any(|other| prefix.same(other))
+}
+
+// The prefix, if no device has it yet and there is room for it.
+fn prefix_free(prefixes: &[Prefix], prefix: Option<Prefix>) -> Result<Prefix, DevicesRefusal>
+    ensures { result ≡ texts.prefix_free prefixes.now prefix }
+{
+    let Some(prefix) = prefix else {
+        return Err(DevicesRefusal::BadPrefix);
+    };
+    if has_prefix(prefixes, &prefix) {
+        return Err(DevicesRefusal::Repeated);
+    }
+    if prefixes.len() >= Devices::MAX_PREFIXES {
+        return Err(DevicesRefusal::Limit);
+    }
+    Ok(prefix)
+}
+
+// The device has these addresses. Linear in the prefixes.
+fn add_place(
+    entry: &mut Entry,
+    prefixes: &mut Sequence<Prefix>,
+    line: usize,
+    prefix: Option<Prefix>,
+) -> Result<(), LineFault>
+    ensures { LineMakes result (entry.new, prefixes.new)
+        (texts.place_given line prefix entry.old prefixes.old) }
+{
+    let prefix = prefix_free(prefixes.as_slice(), prefix)?;
+    entry.places.push(Place { prefix, line })?;
+    prefixes.push(prefix)?;
+    Ok(())
+}
+
+impl Entry {
+    fn new(alloc: Global, line: usize, name: Name) -> Entry
+        ensures { result ≡ record {
+          name = name;
+          line = line;
+          places = [];
+          key = None;
+          connections = None;
+        } }
+    {
+        Entry {
+            name,
+            line,
+            places: Sequence::new(alloc),
+            key: None,
+            connections: None,
+        }
+    }
+
+    fn set_key(&mut self, line: usize, key: Option<Key>) -> Result<(), LineFault>
+        ensures { LineMakes result self.new (texts.with_key line key self.old) }
+    {
+        let Some(key) = key else {
+            return Err(LineFault::Refused(DevicesRefusal::BadValue));
+        };
+        if self.key.is_some() {
+            return Err(LineFault::Refused(DevicesRefusal::Repeated));
+        }
+        self.key = Some(KeyLine { key, line });
+        Ok(())
+    }
+
+    fn set_connections(&mut self, connections: Option<u32>) -> Result<(), LineFault>
+        ensures { LineMakes result self.new (texts.with_connections connections self.old) }
+    {
+        let Some(connections) = connections else {
+            return Err(LineFault::Refused(DevicesRefusal::BadValue));
+        };
+        if self.connections.is_some() {
+            return Err(LineFault::Refused(DevicesRefusal::Repeated));
+        }
+        self.connections = Some(connections);
+        Ok(())
+    }
+}
+
+impl Draft {
+    /// No devices. Takes no memory.
+    pub(crate) fn new(alloc: Global) -> Draft
+        ensures { result ≡ texts.empty }
+    {
+        Draft {
+            done: Sequence::new(alloc),
+            present: None,
+            prefixes: Sequence::new(alloc),
+        }
+    }
+
+    // The present device is one of which nothing more is said.
+    fn close(&mut self) -> Result<(), AllocError>
+        ensures { OnOk result (self.new ≡ record self.old {
+          done = texts.whole self.old;
+          present = None;
+        }) }
+    {
+        if let Some(entry) = self.present.take() {
+            self.done.push(entry)?;
+        }
+        Ok(())
+    }
+
+    // A device begins. Linear in the devices.
+    #[tactic(auto, unfolding(crate::specs::Text::with_device))]
+    fn begin(&mut self, alloc: Global, line: usize, name: Name) -> Result<(), LineFault>
+        ensures { LineMakes result self.new (texts.with_device line name self.old) }
+    {
+        self.close()?;
+        if has_name(self.done.as_slice(), &name) {
+            return Err(LineFault::Refused(DevicesRefusal::Repeated));
+        }
+        if self.done.len() >= Devices::MAX {
+            return Err(LineFault::Refused(DevicesRefusal::Limit));
+        }
+        self.present = Some(Entry::new(alloc, line, name));
+        Ok(())
+    }
+
+    fn place(&mut self, line: usize, prefix: Option<Prefix>) -> Result<(), LineFault>
+        ensures { LineMakes result self.new (texts.with_prefix line prefix self.old) }
+    {
+        match &mut self.present {
+            Some(entry) => add_place(entry, &mut self.prefixes, line, prefix),
+            None => Err(LineFault::Refused(DevicesRefusal::NoDevice)),
+        }
+    }
+
+    fn set_key(&mut self, line: usize, key: Option<Key>) -> Result<(), LineFault>
+        ensures { LineMakes result self.new
+            (texts.with_present (texts.with_key line key) self.old) }
+    {
+        match &mut self.present {
+            Some(entry) => entry.set_key(line, key),
+            None => Err(LineFault::Refused(DevicesRefusal::NoDevice)),
+        }
+    }
+
+    fn set_connections(&mut self, connections: Option<u32>) -> Result<(), LineFault>
+        ensures { LineMakes result self.new
+            (texts.with_present (texts.with_connections connections) self.old) }
+    {
+        match &mut self.present {
+            Some(entry) => entry.set_connections(connections),
+            None => Err(LineFault::Refused(DevicesRefusal::NoDevice)),
+        }
+    }
+
+    /// Adds what one more line says.
+    pub(crate) fn take(&mut self, alloc: Global, line: usize, said: Said) -> Result<(), LineFault>
+        ensures { LineMakes result self.new (texts.with_said line said self.old) }
+    {
+        match said {
+            Said::Nothing => Ok(()),
+            Said::Bad => Err(LineFault::Refused(DevicesRefusal::BadLine)),
+            Said::Device(None) => Err(LineFault::Refused(DevicesRefusal::BadName)),
+            Said::Device(Some(name)) => self.begin(alloc, line, name),
+            Said::At(prefix) => self.place(line, prefix),
+            Said::Key(key) => self.set_key(line, key),
+            Said::Connections(connections) => self.set_connections(connections),
+        }
+    }
+}
+
+fn without_key(entries: &[Entry]) -> Option<&Entry>
+    ensures { option_copied result ≡ find (λ entry. not (texts.has_key entry)) entries.now }
+{
+    entries.iter().find(|entry| entry.key.is_none())
+}
+
+fn has_place(entry: &Entry) -> bool
+    ensures { result ≡ texts.has_place entry.now }
+{
+    entry.places.len() != 0
+}
+
+fn without_place(entries: &[Entry]) -> Option<&Entry>
+    ensures { option_copied result ≡ find (λ entry. not (texts.has_place entry)) entries.now }
+{
+    entries.iter().find(|entry| !has_place(entry))
+}
+
+// Refuses the first device that has no key, and then the first that has no address.
+fn check(entries: &[Entry]) -> Result<(), DevicesFault>
+    ensures { Passes result entries.now (texts.all_checked entries.now) }
+{
+    if let Some(entry) = without_key(entries) {
+        return Err(DevicesFault::Refused {
+            line: entry.line,
+            refusal: DevicesRefusal::NoKey,
+        });
+    }
+    if let Some(entry) = without_place(entries) {
+        return Err(DevicesFault::Refused {
+            line: entry.line,
+            refusal: DevicesRefusal::NoAddress,
+        });
+    }
+    Ok(())
+}
+
+impl KeyLine {
+    fn into_parts(self) -> (Key, usize)
+        ensures { result ≡ (self.key, self.line) }
+    {
+        let KeyLine { key, line } = self;
+        (key, line)
+    }
+}
+
+impl Entry {
+    // The device that it is, if it has a key.
+    fn into_device(self) -> Option<Device>
+        ensures { result ≡ option_map (texts.device_of self) self.key }
+    {
+        let Entry {
+            name,
+            line: _,
+            places,
+            key,
+            connections,
+        } = self;
+        let Some(key) = key else {
+            return None;
+        };
+        let (key, key_line) = key.into_parts();
+        Some(Device {
+            name,
+            places,
+            key,
+            key_line,
+            connections,
+        })
+    }
+}
+
+// Adds the device that an entry is.
+fn add_device(devices: &mut Sequence<Device>, entry: Entry) -> Result<(), AllocError>
+    ensures { OnOk result (devices.new ≡ devices.old ++ texts.devices_of (entry ∷ [])) }
+{
+    if let Some(device) = entry.into_device() {
+        devices.push(device)?;
+    }
+    Ok(())
+}
+
+fn devices_of(alloc: Global, entries: Vec<Entry>) -> Result<Sequence<Device>, AllocError>
+    ensures { IfOk result (λ devices. devices ≡ texts.devices_of entries.items) }
+{
+    let mut devices = Sequence::new(alloc);
+    'entries: for entry in entries {
+        add_device(&mut devices, entry)?;
+    }
+    Ok(devices)
+}
+
+impl Draft {
+    fn into_done(self) -> Sequence<Entry>
+        ensures { result ≡ self.done }
+    {
+        let Draft {
+            done,
+            present: _,
+            prefixes: _,
+        } = self;
+        done
+    }
+
+    /// The devices that the draft is, once each line was right.
+    pub(crate) fn finish(self, alloc: Global) -> Result<Devices, DevicesFault>
+        ensures { texts.UnlessMemory (λ devices. devices) result
+            (λ wanted. wanted ≡ texts.finished (texts.whole self)) }
+    {
+        let mut draft = self;
+        draft.close()?;
+        let done = draft.into_done();
+        check(done.as_slice())?;
+        let devices = devices_of(alloc, done.into_vec())?;
+        Ok(Devices { devices })
+    }
+}

@@ -1,0 +1,18 @@
+//! Which devices may call, and by which keys.
+#![tactic(auto)]
+
+mod device;
+mod devices;
+mod draft;
+mod fault;
+mod prefix;
+mod reading;
+mod remark;
+mod said;
+
+pub use device::{Device, Place};
+pub use devices::{Devices, Spot};
+pub use fault::{DevicesFault, DevicesRefusal};
+pub use prefix::Prefix;
+pub use reading::read_devices;
+pub use remark::Remark;
