@@ -5,3 +5,4 @@ pub mod TextFacts
 pub mod ReadingFacts
 pub mod OnlyFacts
 pub mod TableFacts
+pub mod ListingFacts

@@ -1,6 +1,7 @@
 -- In the devices of a text no prefix stands twice, and no bit is set after one.
-use Rattle.std.proofs.Common.{◌≡◌, ℕ, ◌+◌, Bool, true, false, cond, not, ◌||◌, ◌&&◌, is_some, codes, IfOk, List, [], ◌∷◌, ◌++◌, length, map, nat_le, find, Option, Some, None, Result, Ok, Err, All, refl, subst, sym, ap, ◌∙◌, append_assoc, append-nil}
-use Rattle.std.proofs.lemmas.List.{map-append}
+use Rattle.std.proofs.Common.{◌≡◌, ◌≤◌, ◌<◌, arith, ℕ, ◌+◌, Bool, true, false, cond, not, ◌||◌, ◌&&◌, is_some, codes, IfOk, List, [], ◌∷◌, ◌++◌, length, map, nat_le, find, Option, Some, None, Result, Ok, Err, All, refl, subst, sym, ap, ◌∙◌, append_assoc, append-nil}
+use Rattle.std.proofs.lemmas.Bool.Decides.{nat_tests}
+use Rattle.std.proofs.lemmas.List.{map-append, length-append}
 use Rattle.std.proofs.lemmas.List.Elements.{All-nil, All-cons, All-head, All-tail, All-push}
 use Rattle.std.specs.Option.{option_to_list, option_map, option_map_or}
 use Rattle.std.specs.List.{list_any}
@@ -22,7 +23,7 @@ use Rattle.tac_devices.specs.Prefix.{Range, same_prefix, IsBare, Reads}
 use Rattle.tac_devices.specs.Line.{Where, SaysTrimmed, SaysParts, is_blank, is_field, said_by, connections_of}
 use Rattle.pol_names.specs.Name.{name_of}
 use Rattle.tac_wire.specs.Key.{key_of}
-use Rattle.tac_devices.specs.Text.{◌>>=◌, whole, empty, has_name, with_device, for_present, with_present, place_given, with_prefix, set_once, with_key, with_connections, with_said}
+use Rattle.tac_devices.specs.Text.{◌>>=◌, whole, empty, with_device, for_present, with_present, place_given, with_prefix, set_once, with_key, with_connections, with_said}
 use Rattle.tac_devices.specs.Text.{Follows, Makes, device_of, devices_of, has_key, has_place, checked, finished, IsText, UnlessMemory, max_devices, max_prefixes}
 use Rattle.tac_devices.specs.Devices.{Spot, spots, spots_of, Apart, prefixes_of, IsTable}
 
@@ -67,13 +68,14 @@ record Right (draft : Draft) : Type 0 where
   all : prefixes_in (whole draft) ≡ draft.prefixes
   apart : Apart draft.prefixes
   bare : All Bare draft.prefixes
+  few : length draft.prefixes ≤ max_prefixes
 
 abbrev BareSaid : Said → Type 0
 BareSaid (said.At (Some prefix)) = Bare prefix
 BareSaid _ = Unit {0}
 
 right_empty : Right empty
-right_empty = record { all = refl; apart = tt; bare = All-nil Bare }
+right_empty = record { all = refl; apart = tt; bare = All-nil Bare; few = omega arith }
 
 abbrev good : Draft → Result Draft DevicesRefusal
 good draft = Ok draft
@@ -83,27 +85,33 @@ ok_same a b e = cc
 
 -- a setting that leaves the places as they are
 right_present : (change : Entry → Result Entry DevicesRefusal) → ((entry next : Entry) → change entry ≡ Ok next → next.places ≡ entry.places)
-    → (done : List Entry) (present : Option Entry) (prefixes : List Range) (next : Draft)
-    → Right (record { done = done; present = present; prefixes = prefixes }) → with_present change (record { done = done; present = present; prefixes = prefixes }) ≡ Ok next → Right next
-right_present change keeps done None prefixes next right e = absurd (cc)
-right_present change keeps done (Some entry) prefixes next right e = by (change entry) refl e
+    → (done : List Entry) (present : Option Entry) (names : List (List ℕ)) (prefixes : List Range) (next : Draft)
+    → Right (record { done = done; present = present; names = names; prefixes = prefixes }) → with_present change (record { done = done; present = present; names = names; prefixes = prefixes }) ≡ Ok next → Right next
+right_present change keeps done None names prefixes next right e = absurd (cc)
+right_present change keeps done (Some entry) names prefixes next right e = by (change entry) refl e
   where
     by : (r : Result Entry DevicesRefusal) → change entry ≡ r
-        → (r >>= λ entry. Ok (record { done = done; present = Some entry; prefixes = prefixes })) ≡ Ok next → Right next
+        → (r >>= λ entry. Ok (record { done = done; present = Some entry; names = names; prefixes = prefixes })) ≡ Ok next → Right next
     by (Err refusal) made h = absurd (cc)
     by (Ok changed) made h =
         subst Right (ok_same _ next h) (record {
           all = in_push done changed ∙ ap (λ (l : List Place). prefixes_in done ++ ranges l) (keeps entry changed made) ∙ sym (in_push done entry) ∙ right.all;
           apart = right.apart;
           bare = right.bare;
+          few = right.few;
         })
 
 right_device : (line : ℕ) (name : List ℕ) (draft next : Draft) → Right draft → with_device line name draft ≡ Ok next → Right next
 unfolding with_device
-right_device line name draft next right e = by (list_any (has_name name) (whole draft)) (nat_le max_devices (length (whole draft))) e
+right_device line name draft next right e = by (list_any (bytes_eq name) draft.names) (nat_le max_devices (length (whole draft))) e
   where
     made : Draft
-    made = record draft { done = whole draft; present = Some (record { name = name; line = line; places = []; key = None; connections = None }) }
+    made =
+        record draft {
+          done = whole draft;
+          present = Some (record { name = name; line = line; places = []; key = None; connections = None });
+          names = draft.names ++ name ∷ [];
+        }
 
     by : (s t : Bool) → cond s (Err Repeated) (cond t (Err Limit) (Ok made)) ≡ Ok next → Right next
     by true t h = absurd (cc)
@@ -113,6 +121,7 @@ right_device line name draft next right e = by (list_any (has_name name) (whole 
           all = in_push (whole draft) (record { name = name; line = line; places = []; key = None; connections = None }) ∙ append-nil (prefixes_in (whole draft)) ∙ right.all;
           apart = right.apart;
           bare = right.bare;
+          few = right.few;
         })
 
 -- ---- a setting keeps the places
@@ -142,24 +151,24 @@ connections_keep (Some n) entry next e = by entry.connections e
 abbrev put : ℕ → Entry → List Range → Range → Result (Entry × List Range) DevicesRefusal
 put line entry prefixes prefix = Ok (record entry { places = entry.places ++ record { prefix = prefix; line = line } ∷ [] }, prefixes ++ prefix ∷ [])
 
-right_prefix : (line : ℕ) (p : Range) → Bare p → (done : List Entry) (present : Option Entry) (prefixes : List Range) (next : Draft)
-    → Right (record { done = done; present = present; prefixes = prefixes }) → with_prefix line (Some p) (record { done = done; present = present; prefixes = prefixes }) ≡ Ok next → Right next
-right_prefix line p bare done None prefixes next right e = absurd (cc)
-right_prefix line p bare done (Some entry) prefixes next right e =
-    by (list_any (same_prefix p) prefixes) refl (nat_le max_prefixes (length prefixes)) e
+right_prefix : (line : ℕ) (p : Range) → Bare p → (done : List Entry) (present : Option Entry) (names : List (List ℕ)) (prefixes : List Range) (next : Draft)
+    → Right (record { done = done; present = present; names = names; prefixes = prefixes }) → with_prefix line (Some p) (record { done = done; present = present; names = names; prefixes = prefixes }) ≡ Ok next → Right next
+right_prefix line p bare done None names prefixes next right e = absurd (cc)
+right_prefix line p bare done (Some entry) names prefixes next right e =
+    by (list_any (same_prefix p) prefixes) refl (nat_le max_prefixes (length prefixes)) refl e
   where
     more : Entry
     more = record entry { places = entry.places ++ record { prefix = p; line = line } ∷ [] }
 
     made : Draft
-    made = record { done = done; present = Some more; prefixes = prefixes ++ p ∷ [] }
+    made = record { done = done; present = Some more; names = names; prefixes = prefixes ++ p ∷ [] }
 
-    by : (s : Bool) → list_any (same_prefix p) prefixes ≡ s → (t : Bool)
+    by : (s : Bool) → list_any (same_prefix p) prefixes ≡ s → (t : Bool) → nat_le max_prefixes (length prefixes) ≡ t
         → (cond s (Err Repeated) (cond t (Err Limit) (Ok p)) >>= put line entry prefixes
-        >>= λ made. good (record { done = done; present = Some made.0; prefixes = made.1 })) ≡ Ok next → Right next
-    by true e t h = absurd (cc)
-    by false e true h = absurd (cc)
-    by false e false h =
+        >>= λ made. good (record { done = done; present = Some made.0; names = names; prefixes = made.1 })) ≡ Ok next → Right next
+    by true e t many h = absurd (cc)
+    by false e true many h = absurd (cc)
+    by false e false many h =
         subst Right (ok_same made next h) (record {
           all = in_push done more
               ∙ ap (λ (l : List Range). prefixes_in done ++ l) (map-append (λ (place : Place). place.prefix) entry.places (record { prefix = p; line = line } ∷ []))
@@ -167,6 +176,10 @@ right_prefix line p bare done (Some entry) prefixes next right e =
               ∙ ap (λ (l : List Range). l ++ p ∷ []) (sym (in_push done entry) ∙ right.all);
           apart = apart_push prefixes p right.apart (all_unlike p prefixes e);
           bare = All-push Bare prefixes p right.bare bare;
+          few =
+              let less : length prefixes < max_prefixes = grind (arith, nat_tests) in
+              let more : length (prefixes ++ p ∷ []) ≡ length prefixes + 1 = length-append prefixes (p ∷ []) in
+              omega arith;
         })
 
 -- ---- a line
@@ -181,11 +194,11 @@ right_said line (said.At None) bare draft next right e = none_at draft.present e
     none_at : (present : Option Entry) → (for_present (λ entry. Ok entry) present >>= λ entry. place_given line None entry draft.prefixes >>= λ made. good (record draft { present = Some made.0; prefixes = made.1 })) ≡ Ok next → Right next
     none_at None h = absurd (cc)
     none_at (Some entry) h = absurd (cc)
-right_said line (said.At (Some p)) bare draft next right e = right_prefix line p bare draft.done draft.present draft.prefixes next right e
+right_said line (said.At (Some p)) bare draft next right e = right_prefix line p bare draft.done draft.present draft.names draft.prefixes next right e
 right_said line (said.Key key) bare draft next right e =
-    right_present (with_key line key) (key_keeps line key) draft.done draft.present draft.prefixes next right e
+    right_present (with_key line key) (key_keeps line key) draft.done draft.present draft.names draft.prefixes next right e
 right_said line (said.Connections n) bare draft next right e =
-    right_present (with_connections n) (connections_keep n) draft.done draft.present draft.prefixes next right e
+    right_present (with_connections n) (connections_keep n) draft.done draft.present draft.names draft.prefixes next right e
 
 -- ---- what a line says has no bit after its prefix
 
@@ -286,19 +299,27 @@ finished_is entries devices h = by (find (λ e. not (has_key e)) entries) refl h
     by (Some entry) e h = absurd (cc)
     by None e h = (e, placed_is entries devices (find (λ e. not (has_place e)) entries) h)
 
-table_of : (draft : Draft) (devices : List Device) → Right draft → finished (whole draft) ≡ Ok devices → IsTable devices
+abbrev IsFewTable : List Device → Type 0
+IsFewTable devices = IsTable devices × (length (prefixes_of devices) ≤ max_prefixes)
+
+table_of : (draft : Draft) (devices : List Device) → Right draft → finished (whole draft) ≡ Ok devices → IsFewTable devices
 table_of draft devices right h =
     let is = finished_is (whole draft) devices h in
     let same : prefixes_of devices ≡ draft.prefixes = ap prefixes_of (sym is.1) ∙ ranges_of (whole draft) is.0 ∙ right.all in
-    record { apart = subst Apart (sym same) right.apart; bare = subst (All Bare) (sym same) right.bare }
+    (record { apart = subst Apart (sym same) right.apart; bare = subst (All Bare) (sym same) right.bare }, rw same right.few)
 
-text_table : (draft : Result Draft DevicesFault) (lines : List (List ℕ)) (devices : List Device) → Makes 1 lines empty draft → (draft >>= λ draft. finished (whole draft)) ≡ Ok devices → IsTable devices
+text_table : (draft : Result Draft DevicesFault) (lines : List (List ℕ)) (devices : List Device) → Makes 1 lines empty draft → (draft >>= λ draft. finished (whole draft)) ≡ Ok devices → IsFewTable devices
 text_table (Ok draft) lines devices made h = table_of draft devices (makes_right 1 lines empty draft right_empty made) h
 text_table (Err fault) lines devices made h = absurd (cc)
 
-pub is_table : (text : List ℕ) (devices : List Device) → IsText text (Ok devices) → IsTable devices
+pub is_table : (text : List ℕ) (devices : List Device) → IsText text (Ok devices) → IsFewTable devices
 is_table text devices h = text_table h.0 (lines_of text) devices h.1 (sym h.2)
 
 pub table_unless : (text : List ℕ) (result : Result (List Device) DevicesFault) → UnlessMemory (λ (devices : List Device). devices) result (IsText text) → IfOk result IsTable
-table_unless text (Ok devices) h = is_table text devices h
+table_unless text (Ok devices) h = (is_table text devices h).0
 table_unless text (Err fault) h = tt
+
+pub few_unless : (text : List ℕ) (result : Result (List Device) DevicesFault) → UnlessMemory (λ (devices : List Device). devices) result (IsText text)
+    → IfOk result (λ devices. length (prefixes_of devices) ≤ max_prefixes)
+few_unless text (Ok devices) h = (is_table text devices h).1
+few_unless text (Err fault) h = tt

@@ -5,3 +5,4 @@ pub mod Reading
 pub mod FaultText
 pub mod Devices
 pub mod Remarks
+pub mod Listing

@@ -1,7 +1,12 @@
 -- Addresses that begin with the same bits, and how they are written (RFC 4632, section 3.1; RFC
 -- 4291, section 2.3).
 use Rattle.std.specs.Prelude.{◌≡◌, ℕ, ◌-◌, ◌/◌, ◌%◌, ◌^◌, ◌≤◌, ◌==◌, ◌&&◌, nat_le, Bool, false}
-use Rattle.std.specs.Prelude.{List, Option, Some, None}
+use Rattle.std.specs.Prelude.{List, ◌++◌, codes, Option, Some, None}
+use Rattle.std.specs.Cmp.{IsEquivalence, and_equiv, on_equiv, nat_eq_equiv, unsigned_Decides}
+use Rattle.std.specs.Fmt.{decimal}
+use Rattle.std.specs.Hash as fed
+use Rattle.std.specs.Hash.{HashWrites, Alike, and-Alike, first_alike, on_Alike, same_Alike}
+use Rattle.std.specs.Net.Text.{ip_text}
 use Rattle.std.specs.Net.Addr.{ipv4_bits, ipv6_bits, MatchIp, IsCanonicalOf}
 use Rattle.std.specs.Net.Grammar.{IsIpText}
 use Rattle.std.specs.declared.net.ip_addr.IpAddr.{IpAddr}
@@ -40,6 +45,24 @@ same_prefix a b =
     (a.length == b.length && width a.address == width b.address)
     && value a.address == value b.address
 
+pub same_prefix-equiv : IsEquivalence same_prefix
+same_prefix-equiv =
+    and_equiv
+    (and_equiv (on_equiv (λ (r : Range). r.length) nat_eq_equiv)
+    (on_equiv (λ (r : Range). width r.address) nat_eq_equiv))
+    (on_equiv (λ (r : Range). value r.address) nat_eq_equiv)
+
+-- what a hasher is fed of a prefix
+abbrev pub fed_of : Range → HashWrites
+fed_of r = fed.u8 r.length ++ fed.u128 (value r.address)
+
+pub fed_of-alike : Alike same_prefix fed_of
+fed_of-alike =
+    and-Alike
+    (first_alike (λ a b. width a.address == width b.address)
+    (on_Alike (λ (r : Range). r.length) (same_Alike fed.u8 unsigned_Decides)))
+    (on_Alike (λ (r : Range). value r.address) (same_Alike fed.u128 unsigned_Decides))
+
 -- ---- how a prefix is written
 
 -- an address alone is written without a length; else a slash and the length follow it
@@ -69,6 +92,10 @@ IsPrefixText text prefix =
 abbrev pub Reads : List ℕ → Option Range → Type 0
 Reads text (Some prefix) = IsPrefixText text prefix
 Reads text None = (prefix : Range) → ¬ (IsPrefixText text prefix)
+
+-- how a prefix is printed
+abbrev pub prefix_text : Range → List ℕ
+prefix_text prefix = ip_text prefix.address ++ codes "/" ++ decimal prefix.length
 
 -- ---- the address that is looked up
 

@@ -40,15 +40,12 @@ abbrev pub whole : Draft → List Entry
 whole draft = draft.done ++ option_to_list draft.present
 
 abbrev pub empty : Draft
-empty = record { done = []; present = None; prefixes = [] }
-
-abbrev pub has_name : List ℕ → Entry → Bool
-has_name name entry = bytes_eq name entry.name
+empty = record { done = []; present = None; names = []; prefixes = [] }
 
 -- a new device is the present one, where there is room
 unfoldable pub with_device : ℕ → List ℕ → Draft → Result Draft DevicesRefusal
 with_device line name draft =
-    if list_any (has_name name) (whole draft) then Err Repeated
+    if list_any (bytes_eq name) draft.names then Err Repeated
     else if nat_le max_devices (length (whole draft)) then Err Limit
     else Ok (record draft {
       done = whole draft;
@@ -59,6 +56,7 @@ with_device line name draft =
         key = None;
         connections = None;
       });
+      names = draft.names ++ name ∷ [];
     })
 
 -- a setting of the present device

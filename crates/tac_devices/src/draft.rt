@@ -1,6 +1,6 @@
 //! Devices while their text is read.
 
-ghost use Rattle.std.specs.Prelude.{◌≡◌, ◌++◌, ◌∷◌, [], None, OnOk, IfOk, find, not};
+ghost use Rattle.std.specs.Prelude.{◌≡◌, ◌++◌, ◌∷◌, [], None, OnOk, IfOk, find, not, false};
 ghost use Rattle.std.specs.Option.{option_copied, option_map};
 ghost use Rattle.std.specs.List.{list_any};
 ghost use Rattle.tac_devices.specs.Prefix.{same_prefix};
@@ -10,6 +10,7 @@ ghost use Rattle.tac_devices.specs.Text as texts;
 use crate::device::{Device, Place};
 use crate::devices::Devices;
 use crate::fault::{DevicesFault, DevicesRefusal, LineFault};
+use crate::known::Known;
 use crate::prefix::Prefix;
 use crate::said::Said;
 use basics::Sequence;
@@ -58,8 +59,10 @@ pub(crate) struct Draft {
     pub(crate) done: Sequence<Entry>,
     // the one that lines now speak of
     pub(crate) present: Option<Entry>,
-    // the prefixes of all of them
-    pub(crate) prefixes: Sequence<Prefix>,
+    // the names of all of them
+    pub(crate) names: Known<Name>,
+    // and their prefixes
+    pub(crate) prefixes: Known<Prefix>,
 }
 
 impl Drop for Draft {
@@ -67,31 +70,22 @@ impl Drop for Draft {
         let Draft {
             done: _,
             present: _,
+            names: _,
             prefixes: _,
         } = self;
     }
 }
 
-fn has_name(entries: &[Entry], name: &Name) -> bool
-    ensures { result ≡ list_any (texts.has_name name.now) entries.now }
-{
-    entries.iter().any(|entry| *name == entry.name)
-}
-
-fn has_prefix(prefixes: &[Prefix], prefix: &Prefix) -> bool
-    ensures { result ≡ list_any (same_prefix prefix.now) prefixes.now }
-{
-    prefixes.iter().any(|other| prefix.same(other))
-}
-
 // The prefix, if no device has it yet and there is room for it.
-fn prefix_free(prefixes: &[Prefix], prefix: Option<Prefix>) -> Result<Prefix, DevicesRefusal>
-    ensures { result ≡ texts.prefix_free prefixes.now prefix }
+fn prefix_free(prefixes: &Known<Prefix>, prefix: Option<Prefix>) -> Result<Prefix, DevicesRefusal>
+    ensures value { result ≡ texts.prefix_free prefixes.now prefix }
+    ensures new { IfOk result (λ prefix.
+        list_any (same_prefix prefix) prefixes.now ≡ false) }
 {
     let Some(prefix) = prefix else {
         return Err(DevicesRefusal::BadPrefix);
     };
-    if has_prefix(prefixes, &prefix) {
+    if prefixes.has(&prefix) {
         return Err(DevicesRefusal::Repeated);
     }
     if prefixes.len() >= Devices::MAX_PREFIXES {
@@ -100,17 +94,17 @@ fn prefix_free(prefixes: &[Prefix], prefix: Option<Prefix>) -> Result<Prefix, De
     Ok(prefix)
 }
 
-// The device has these addresses. Linear in the prefixes.
+// The device has these addresses.
 fn add_place(
     entry: &mut Entry,
-    prefixes: &mut Sequence<Prefix>,
+    prefixes: &mut Known<Prefix>,
     line: usize,
     prefix: Option<Prefix>,
 ) -> Result<(), LineFault>
     ensures { LineMakes result (entry.new, prefixes.new)
         (texts.place_given line prefix entry.old prefixes.old) }
 {
-    let prefix = prefix_free(prefixes.as_slice(), prefix)?;
+    let prefix = prefix_free(prefixes, prefix)?;
     entry.places.push(Place { prefix, line })?;
     prefixes.push(prefix)?;
     Ok(())
@@ -170,7 +164,8 @@ impl Draft {
         Draft {
             done: Sequence::new(alloc),
             present: None,
-            prefixes: Sequence::new(alloc),
+            names: Known::new(alloc),
+            prefixes: Known::new(alloc),
         }
     }
 
@@ -187,18 +182,19 @@ impl Draft {
         Ok(())
     }
 
-    // A device begins. Linear in the devices.
+    // A device begins.
     #[tactic(auto, unfolding(crate::specs::Text::with_device))]
     fn begin(&mut self, alloc: Global, line: usize, name: Name) -> Result<(), LineFault>
         ensures { LineMakes result self.new (texts.with_device line name self.old) }
     {
         self.close()?;
-        if has_name(self.done.as_slice(), &name) {
+        if self.names.has(&name) {
             return Err(LineFault::Refused(DevicesRefusal::Repeated));
         }
         if self.done.len() >= Devices::MAX {
             return Err(LineFault::Refused(DevicesRefusal::Limit));
         }
+        self.names.push(name)?;
         self.present = Some(Entry::new(alloc, line, name));
         Ok(())
     }
@@ -347,6 +343,7 @@ impl Draft {
         let Draft {
             done,
             present: _,
+            names: _,
             prefixes: _,
         } = self;
         done

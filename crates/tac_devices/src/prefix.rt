@@ -5,6 +5,8 @@ ghost use Rattle.std.specs.declared.net.ip_addr.IpAddr.{IpAddr as IpValue};
 ghost use Rattle.tac_devices.specs.Prefix as prefixes;
 
 use basics::{read_number, split_once};
+use std::fmt;
+use std::hash::{Hash, Hasher};
 use std::marker::Model;
 use std::net::IpAddr;
 
@@ -33,6 +35,53 @@ impl Model for Prefix {
       length = range.length;
       bits = value range.address;
     } };
+}
+
+// Not derived, so that contracts compare the bits that two prefixes fix.
+impl PartialEq for Prefix {
+    ghost use Rattle.std.specs.Cmp.{partial_equiv_from_equiv};
+    ghost use Rattle.tac_devices.specs.Prefix.{same_prefix, same_prefix-equiv};
+
+    ghost eq = { same_prefix };
+
+    ghost laws = { partial_equiv_from_equiv same_prefix-equiv };
+
+    fn eq(&self, other: &Prefix) -> bool {
+        self.length == other.length
+            && width(&self.address) == width(&other.address)
+            && self.bits == other.bits
+    }
+}
+
+impl Eq for Prefix {
+    ghost use Rattle.tac_devices.specs.Prefix.{same_prefix-equiv};
+
+    ghost laws = { same_prefix-equiv };
+}
+
+impl Hash for Prefix {
+    ghost use Rattle.tac_devices.specs.Prefix.{fed_of, fed_of-alike};
+
+    ghost hash_input = { fed_of };
+
+    ghost respects_eq = { fed_of-alike.fed };
+
+    fn hash<H: Hasher>(&self, state: &mut H) {
+        self.length.hash(state);
+        self.bits.hash(state);
+    }
+}
+
+/// `ADDRESS/N`.
+impl fmt::Display for Prefix {
+    ghost use Rattle.std.specs.Prelude.{Some};
+    ghost use Rattle.tac_devices.specs.Prefix.{prefix_text};
+
+    ghost output = { λ prefix. Some (prefix_text prefix) };
+
+    fn fmt<W: fmt::Write>(&self, f: &mut fmt::Formatter<W>) -> fmt::Result {
+        write!(f, "{}/{}", self.address, self.length)
+    }
 }
 
 // How many bits an address has.
@@ -160,14 +209,5 @@ impl Prefix {
         let size = width(address);
         size == width(&self.address)
             && front(value(address), size, self.length) == front(self.bits, size, self.length)
-    }
-
-    /// Whether it fixes the same bits as another one.
-    pub fn same(&self, other: &Prefix) -> bool
-        ensures { result ≡ prefixes.same_prefix self.now other.now }
-    {
-        self.length == other.length
-            && width(&self.address) == width(&other.address)
-            && self.bits == other.bits
     }
 }

@@ -1,10 +1,10 @@
 //! Reading the text of a devices' file.
 
-ghost use Rattle.std.specs.Prelude.{◌≡◌, List, Result, IfOk};
+ghost use Rattle.std.specs.Prelude.{◌≡◌, ◌≤◌, length, List, Result, IfOk};
 ghost use Rattle.basics.specs.Lines.{lines_of};
 ghost use Rattle.tac_devices.specs.Reading.{LineMakes, at_place};
 ghost use Rattle.tac_devices.specs.Text as texts;
-ghost use Rattle.tac_devices.specs.Devices.{IsTable};
+ghost use Rattle.tac_devices.specs.Devices.{IsTable, prefixes_of};
 ghost use Rattle.tac_devices.specs.declared.device.Device.{Device as DeviceValue};
 ghost use Rattle.tac_devices.specs.declared.fault.DevicesFault.{DevicesFault as FaultValue};
 
@@ -50,12 +50,12 @@ fn read_text(alloc: Global, text: &[u8]) -> Result<Devices, DevicesFault>
 /// Reads the text of a devices' file (docs/DEVICES.md): the devices that it says, or the first
 /// fault with its line.
 ///
-/// A line of a device is compared with all names so far, and one of addresses with all prefixes so
-/// far. So the time is linear in the text, and quadratic in the devices and in the prefixes.
+/// Names and prefixes are looked up in sets, so the expected time is linear in the text.
 pub fn read_devices(alloc: Global, text: &[u8]) -> Result<Devices, DevicesFault>
     ensures exact { texts.UnlessMemory (λ devices. devices) result (texts.IsText text.now) }
     // No prefix stands twice, so that an address has one device at most.
     ensures table { IfOk result IsTable }
+    ensures few { IfOk result (λ devices. length (prefixes_of devices) ≤ texts.max_prefixes) }
     // A text says one thing alone.
     ensures only { (wanted : Result (List DeviceValue) FaultValue) → texts.IsText text.now wanted →
         texts.UnlessMemory (λ devices. devices) result (λ given. wanted ≡ given) }
