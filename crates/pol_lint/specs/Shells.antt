@@ -1,16 +1,14 @@
 -- Attributes of a shell that nobody is given, since no shell starts.
-use Rattle.std.specs.Prelude.{ℕ, List, [], ◌∷◌, ◌==◌, length, codes, Bool, true, false, not, ◌&&◌}
+use Rattle.std.specs.Prelude.{ℕ, List, [], ◌∷◌, ◌==◌, length, codes, Bool, not, ◌&&◌}
 use Rattle.std.specs.Prelude.{Option, Some, None, if◌then◌else◌}
-use Rattle.std.specs.Option.{option_map_or}
 use Rattle.std.specs.List.{list_any, flat_map}
 use Rattle.std.specs.Str.{bytes_eq}
 use Rattle.pol_names.specs.SubjectId.{same_id, same_kind}
-use Rattle.pol_names.specs.declared.decision.Verdict.{Verdict}
-use Rattle.pol_names.specs.declared.decision.Verdict.TheVariants.{Permit, Deny}
 use Rattle.pol_names.specs.declared.subject_id.Kind.TheVariants.{User}
 use Rattle.pol_names.specs.declared.subject_id.SubjectId.{SubjectId}
 use Rattle.pol_text.specs.declared.subject.Subject.{Subject}
-use Rattle.pol_text.specs.Policy.{id_of, chain_ids, decide}
+use Rattle.pol_text.specs.Policy.{id_of, chain_ids}
+use Rattle.pol_meaning.specs.LineChanges.{permits}
 use Rattle.pol_lint.specs.Words.{words_of}
 use Rattle.pol_lint.specs.declared.finding.Finding.{Finding}
 use Rattle.pol_lint.specs.declared.finding.Finding.TheVariants.{NoShell}
@@ -20,14 +18,9 @@ abbrev pub is_user_of : List Subject → SubjectId → Subject → Bool
 is_user_of policy owner subject =
     same_kind subject.kind User && list_any (same_id owner) (chain_ids policy (id_of subject))
 
-abbrev pub permits : Verdict → Bool
-permits Permit = true
-permits Deny = false
-
 -- whether the user is permitted the empty line, which represents the start of a shell
 abbrev pub may_start : List Subject → Subject → Bool
-may_start policy user =
-    option_map_or (λ decision. permits decision.verdict) (decide policy user.name []) false
+may_start policy user = permits policy user.name []
 
 abbrev pub starts_for : List Subject → SubjectId → Subject → Bool
 starts_for policy owner subject = is_user_of policy owner subject && may_start policy subject

@@ -60,7 +60,8 @@ fn starts_for(
 
 // Whether the owner has a user.
 fn has_user(alloc: Global, policy: &Policy, owner: &SubjectId) -> Result<bool, AllocError>
-    ensures { IfOk result (λ has. has ≡ list_any (shells.is_user_of policy.now owner.now) policy.now) }
+    ensures { IfOk result (λ has.
+        has ≡ list_any (shells.is_user_of policy.now owner.now) policy.now) }
 {
     let subjects = policy.subjects();
     'subjects: for subject in subjects {
@@ -73,7 +74,8 @@ fn has_user(alloc: Global, policy: &Policy, owner: &SubjectId) -> Result<bool, A
 
 // Whether a user of the owner may start a shell.
 fn has_shell(alloc: Global, policy: &Policy, owner: &SubjectId) -> Result<bool, AllocError>
-    ensures { IfOk result (λ has. has ≡ list_any (shells.starts_for policy.now owner.now) policy.now) }
+    ensures { IfOk result (λ has.
+        has ≡ list_any (shells.starts_for policy.now owner.now) policy.now) }
 {
     let subjects = policy.subjects();
     'subjects: for subject in subjects {
