@@ -70,7 +70,8 @@ fn accepted(alloc: Global, changes: &Changes) -> io::Result<Vec<u8>>
 }
 
 /// Adds how an edit is answered: `ok`, and a line for each decision that it changes and for what it
-/// changes of services, or why it is refused. The error means that memory ran out; nothing is added then. Linear in what is added.
+/// changes of services, or why it is refused. The error means that memory ran out; nothing is added
+/// then. Linear in what is added.
 pub fn write_edit_answer(
     alloc: Global,
     out: &mut Vec<u8>,
