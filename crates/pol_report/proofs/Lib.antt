@@ -6,3 +6,4 @@ pub mod ListFacts
 pub mod KnownFacts
 pub mod ServingFacts
 pub mod SayingFacts
+pub mod AskingFacts

@@ -1,3 +1,4 @@
 pub mod Sharing
 pub mod Saying
 pub mod Comparing
+pub mod Asking

@@ -142,8 +142,9 @@ fn list_changes(alloc: Global, policies: &Comparison<'_>) -> Result<Changes, All
 /// It searches once for each two automata, of the old policy and of the new one, that users share
 /// whom the edits concern, however many they are. For services it compares once what the subjects
 /// say of levels and services. Where they don't all say the same, it compares that along each
-/// user's chain, and where it differs there, looks up for this user each service that a policy
-/// names. All else takes a few look-ups for each subject, and the lists themselves.
+/// user's chain, and where it differs there, looks up for this user each service that is named
+/// along it, and reads a byte for each other service. All else takes a few look-ups for each
+/// subject, and the lists themselves.
 pub fn changes(alloc: Global, live: &Live, prepared: &Prepared) -> Result<Changes, AllocError>
     requires { prepared.now.before ≡ live.now }
     ensures found { IfOk result (λ changes. AreChanges live.now prepared.now.after changes) }

@@ -2,6 +2,7 @@
 //! what another policy, or a change of it, lets users do, or no longer do.
 #![tactic(auto)]
 
+mod asking;
 mod changing;
 mod comparison;
 mod difference;

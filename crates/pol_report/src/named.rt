@@ -1,38 +1,78 @@
 //! Which services two policies name.
 
 ghost use Rattle.std.specs.Prelude.{◌≡◌, IfOk, OnOk};
-ghost use Rattle.std.specs.List.{list_any};
-ghost use Rattle.pol_names.specs.SameService.{same_service};
+ghost use Rattle.std.specs.Hash.{same_Alike};
+ghost use Rattle.pol_names.specs.SameService.{same_service, same_service-Decides};
 ghost use Rattle.pol_meaning.specs.ServiceChanges.{with_service, with_named, with_all_named};
 ghost use Rattle.pol_meaning.specs.ServiceChanges.{services_named as named_by};
+ghost use Rattle.pol_report.specs.Asking.{service_input};
 
-use basics::Sequence;
+use indexmap::IndexSet;
 use pol_given::shell;
 use pol_names::{ServiceId, ServiceLine};
 use pol_text::{Policy, Subject};
 use std::alloc::{AllocError, Global};
+use std::hash::{Hash, Hasher};
+use std::marker::Model;
 
-// Whether the service is one of these.
-fn has(services: &[ServiceId], service: &ServiceId) -> bool
-    ensures { result ≡ list_any (same_service service.now) services.now }
-{
-    services.iter().any(|present| *service == *present)
+/// A service that is looked up by a hash. A contract sees the service.
+#[derive(Drop)]
+pub(crate) struct Named {
+    pub(crate) service: ServiceId,
+}
+
+impl Model for Named {
+    ghost use Rattle.pol_names.specs.declared.service.ServiceId.{ServiceId as ServiceValue};
+
+    ghost Value = { ServiceValue };
+
+    ghost view = { λ named. named.service };
+}
+
+impl PartialEq for Named {
+    ghost use Rattle.std.specs.Cmp.{decided, partial_equiv_from_equiv};
+    ghost use Rattle.pol_names.specs.SameService.{same_service, same_service-Decides};
+
+    ghost eq = { same_service };
+
+    ghost laws = { partial_equiv_from_equiv (decided same_service same_service-Decides) };
+
+    fn eq(&self, other: &Named) -> bool
+        ensures eq { result ≡ same_service self.now other.now }
+    {
+        self.service == other.service
+    }
+}
+
+impl Eq for Named {
+    ghost use Rattle.std.specs.Cmp.{decided};
+    ghost use Rattle.pol_names.specs.SameService.{same_service, same_service-Decides};
+
+    ghost laws = { decided same_service same_service-Decides };
+}
+
+impl Hash for Named {
+    ghost hash_input = { service_input };
+
+    ghost respects_eq = { (same_Alike service_input same_service-Decides).fed };
+
+    fn hash<H: Hasher>(&self, state: &mut H) {
+        self.service.name.hash(state);
+        self.service.protocol.hash(state);
+    }
 }
 
 // Adds the service, unless it is there.
-fn add_service(services: &mut Sequence<ServiceId>, service: &ServiceId) -> Result<(), AllocError>
-    ensures { OnOk result (services.new ≡ with_service services.old service.now) }
+fn add_service(services: &mut IndexSet<Named>, service: &ServiceId) -> Result<(), AllocError>
+    ensures { OnOk result (services.new.keys ≡ with_service services.old.keys service.now) }
 {
-    if has(services.as_slice(), service) {
-        return Ok(());
-    }
-    services.push(*service)?;
+    services.insert(Named { service: *service })?;
     Ok(())
 }
 
 // Adds the services that the lines name and that aren't there.
-fn add_named(services: &mut Sequence<ServiceId>, lines: &[ServiceLine]) -> Result<(), AllocError>
-    ensures { OnOk result (services.new ≡ with_named services.old lines.now) }
+fn add_named(services: &mut IndexSet<Named>, lines: &[ServiceLine]) -> Result<(), AllocError>
+    ensures { OnOk result (services.new.keys ≡ with_named services.old.keys lines.now) }
 {
     for line in lines {
         add_service(services, &line.service)?;
@@ -41,8 +81,8 @@ fn add_named(services: &mut Sequence<ServiceId>, lines: &[ServiceLine]) -> Resul
 }
 
 // Adds the services that the subjects' lines name and that aren't there.
-fn add_all_named(services: &mut Sequence<ServiceId>, subjects: &[Subject]) -> Result<(), AllocError>
-    ensures { OnOk result (services.new ≡ with_all_named services.old subjects.now) }
+fn add_all_named(services: &mut IndexSet<Named>, subjects: &[Subject]) -> Result<(), AllocError>
+    ensures { OnOk result (services.new.keys ≡ with_all_named services.old.keys subjects.now) }
 {
     for subject in subjects {
         add_named(services, subject.services.as_slice())?;
@@ -51,16 +91,16 @@ fn add_all_named(services: &mut Sequence<ServiceId>, subjects: &[Subject]) -> Re
 }
 
 /// The shell, then the services that the new policy names, in the order in which it first does, and
-/// then those that the old one alone names. Compares each line about services with each service.
+/// then those that the old one alone names. A look-up for each line about services.
 pub(crate) fn services_named(
     alloc: Global,
     before: &Policy,
     after: &Policy,
-) -> Result<Sequence<ServiceId>, AllocError>
-    ensures { IfOk result (λ services. services ≡ named_by before.now after.now) }
+) -> Result<IndexSet<Named>, AllocError>
+    ensures { IfOk result (λ services. services.keys ≡ named_by before.now after.now) }
 {
-    let mut services = Sequence::new(alloc);
-    services.push(shell())?;
+    let mut services = IndexSet::new(alloc);
+    add_service(&mut services, &shell())?;
     add_all_named(&mut services, after.subjects())?;
     add_all_named(&mut services, before.subjects())?;
     Ok(services)

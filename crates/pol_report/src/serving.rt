@@ -1,17 +1,20 @@
 //! What users are given for services by one policy and not by another.
 
 ghost use Rattle.std.specs.Prelude.{◌≡◌, ◌++◌, [], ◌∷◌, IsTrue, IfOk, IfSome, OnOk, filter_map};
-ghost use Rattle.std.specs.Prelude.{flat_map};
+ghost use Rattle.std.specs.Prelude.{flat_map, length};
 ghost use Rattle.pol_meaning.specs.LineChanges.{users_of, users_alone};
 ghost use Rattle.pol_meaning.specs.ServiceChanges.{reply_of, services_named as named_by};
 ghost use Rattle.pol_meaning.specs.ServiceChanges.{service_change, service_changes_of};
 ghost use Rattle.pol_meaning.specs.ServiceChanges.{service_changes as changes_by};
+ghost use Rattle.pol_report.specs.Asking.{AreAsked};
 ghost use Rattle.pol_report.specs.Comparing.{later_policy};
 
+use crate::asking::services_asked;
 use crate::comparison::{Comparison, Later};
-use crate::named::services_named;
+use crate::named::{Named, services_named};
 use crate::users::{is_alone, is_user};
 use basics::{Bytes, Sequence};
+use indexmap::IndexSet;
 use pol_given::{service_arguments, shell, shell_arguments};
 use pol_meaning::ServiceChange;
 use pol_names::{Name, ServiceId};
@@ -63,20 +66,29 @@ fn list_service(
     Ok(())
 }
 
-// Lists what changes for a user and each of these services.
-fn list_each(
+// Lists what changes for a user, of the services that are marked.
+fn list_asked(
     alloc: Global,
     changes: &mut Sequence<ServiceChange>,
     policies: &Comparison<'_>,
     user: &Name,
-    services: &[ServiceId],
+    services: &IndexSet<Named>,
+    asked: &[bool],
 ) -> Result<(), AllocError>
+    requires length { length asked.now ≡ length services.now.keys }
+    requires asked { AreAsked services.now.keys
+        (service_change policies.now.before policies.now.after user.now) asked.now }
     ensures { OnOk result (changes.new ≡ changes.old
         ++ filter_map (service_change policies.now.before policies.now.after user.now)
-        services.now) }
+        services.now.keys) }
 {
-    for service in services {
-        list_service(alloc, changes, policies, user, service)?;
+    let services = services.as_slice();
+    'places: for place in 0..services.len() {
+        if !asked[place] {
+            continue;
+        }
+        let named = &services[place];
+        list_service(alloc, changes, policies, user, &named.service)?;
     }
     Ok(())
 }
@@ -91,18 +103,34 @@ fn stays(policies: &Comparison<'_>, user: &Name) -> bool
         && policies.before().permits_shell(user) == policies.after().permits_shell(user)
 }
 
+// Lists what changes for a user, of all services.
+fn list_all(
+    alloc: Global,
+    changes: &mut Sequence<ServiceChange>,
+    services: &IndexSet<Named>,
+    policies: &Comparison<'_>,
+    user: &Name,
+) -> Result<(), AllocError>
+    requires { services.now.keys ≡ named_by policies.now.before policies.now.after }
+    ensures { OnOk result (changes.new ≡ changes.old
+        ++ service_changes_of policies.now.before policies.now.after user.now) }
+{
+    let asked = services_asked(alloc, services, policies, user)?;
+    list_asked(alloc, changes, policies, user, services, &asked)
+}
+
 // Lists what changes for a user. Which services the policies name is found when it is first needed.
 fn list_user(
     alloc: Global,
     changes: &mut Sequence<ServiceChange>,
-    named: &mut Option<Sequence<ServiceId>>,
+    named: &mut Option<IndexSet<Named>>,
     policies: &Comparison<'_>,
     user: &Name,
 ) -> Result<(), AllocError>
     requires named { IfSome named.old (λ services.
-        services ≡ named_by policies.now.before policies.now.after) }
+        services.keys ≡ named_by policies.now.before policies.now.after) }
     ensures named { OnOk result (IfSome named.new (λ services.
-        services ≡ named_by policies.now.before policies.now.after)) }
+        services.keys ≡ named_by policies.now.before policies.now.after)) }
     ensures listed { OnOk result (changes.new ≡ changes.old
         ++ service_changes_of policies.now.before policies.now.after user.now) }
 {
@@ -110,10 +138,10 @@ fn list_user(
         return Ok(());
     }
     if let Some(services) = named {
-        return list_each(alloc, changes, policies, user, services.as_slice());
+        return list_all(alloc, changes, services, policies, user);
     }
     let services = services_named(alloc, policies.old_policy(), policies.new_policy())?;
-    list_each(alloc, changes, policies, user, services.as_slice())?;
+    list_all(alloc, changes, &services, policies, user)?;
     *named = Some(services);
     Ok(())
 }
@@ -122,13 +150,13 @@ fn list_user(
 fn list_present(
     alloc: Global,
     changes: &mut Sequence<ServiceChange>,
-    named: &mut Option<Sequence<ServiceId>>,
+    named: &mut Option<IndexSet<Named>>,
     policies: &Comparison<'_>,
 ) -> Result<(), AllocError>
     requires named { IfSome named.old (λ services.
-        services ≡ named_by policies.now.before policies.now.after) }
+        services.keys ≡ named_by policies.now.before policies.now.after) }
     ensures named { OnOk result (IfSome named.new (λ services.
-        services ≡ named_by policies.now.before policies.now.after)) }
+        services.keys ≡ named_by policies.now.before policies.now.after)) }
     ensures listed { OnOk result (changes.new ≡ changes.old
         ++ flat_map (service_changes_of policies.now.before policies.now.after)
         (users_of policies.now.after)) }
@@ -145,11 +173,11 @@ fn list_present(
 fn list_gone(
     alloc: Global,
     changes: &mut Sequence<ServiceChange>,
-    named: &mut Option<Sequence<ServiceId>>,
+    named: &mut Option<IndexSet<Named>>,
     policies: &Comparison<'_>,
 ) -> Result<(), AllocError>
     requires named { IfSome named.old (λ services.
-        services ≡ named_by policies.now.before policies.now.after) }
+        services.keys ≡ named_by policies.now.before policies.now.after) }
     ensures { OnOk result (changes.new ≡ changes.old
         ++ flat_map (service_changes_of policies.now.before policies.now.after)
         (users_alone policies.now.after policies.now.before)) }
@@ -165,7 +193,8 @@ fn list_gone(
 /// What changes for services: for the users of the new policy, and then for those of the old one
 /// alone. Where all along a user's chain the same is said of levels and of services, it takes at
 /// most a comparison of these lines. Else it looks up in both policies what the user is given for
-/// each service that either of them names.
+/// a shell and for each service that is named along the user's chain in one of them, and reads a
+/// byte for each service that is named anywhere.
 pub(crate) fn list_services(
     alloc: Global,
     policies: &Comparison<'_>,

@@ -9,6 +9,6 @@ abbrev pub invariant-loop-subject : goal.invariant-loop-subject
 invariant-loop-subject l = record {
   so : l.changes ++ flat_map (service_changes_of l.policies.before l.policies.after) (users_alone l.policies.after (drop l.subject-index l.policies.before))
       ≡ l.fn.changes ++ flat_map (service_changes_of l.policies.before l.policies.after) (users_alone l.policies.after l.policies.before);
-  named : IfSome l.named (λ services. services ≡ services_named l.policies.before l.policies.after);
+  named : IfSome l.named (λ services. services.keys ≡ services_named l.policies.before l.policies.after);
   same : l.subject-items ≡ l.policies.before;
 }
