@@ -4,7 +4,7 @@
 use Rattle.std.specs.Prelude.{◌≡◌, ℕ, ◌+◌, ◌<◌, ◌≤◌, List, [], ◌∷◌, ◌++◌, length, Bool, true, false}
 use Rattle.std.specs.Prelude.{not, ◌==◌}
 use Rattle.std.specs.Prelude.{Option, Some, None, if◌then◌else◌}
-use Rattle.std.specs.Option.{option_and_then, option_map_or}
+use Rattle.std.specs.Option.{option_and_then}
 use Rattle.std.specs.Str.{bytes_eq}
 use Rattle.basics.specs.Symbol.{is_text}
 use Rattle.sha_crypt.specs.Crypt.{crypted}
@@ -20,7 +20,8 @@ use Rattle.pol_text.specs.Policy.{find_subject, decision, id_of, level_of}
 use Rattle.pol_names.specs.declared.decision.Verdict.{Verdict}
 use Rattle.pol_names.specs.declared.decision.Verdict.TheVariants.{Permit, Deny}
 use Rattle.pol_text.specs.declared.subject.Subject.{Subject}
-use Rattle.pol_given.specs.Given.{speaking, refuses, attributes_of, service_named, the_shell}
+use Rattle.pol_given.specs.Given.{speaking, refuses, attributes_of, service_named}
+use Rattle.pol_given.specs.Given.{shell_attributes}
 use Rattle.pol_names.specs.declared.decision.Decision.{Decision}
 use Rattle.pol_names.specs.declared.decision.By.{By}
 use Rattle.tac_authen.specs.declared.start.Service.{Service}
@@ -98,11 +99,6 @@ pub record LogsIn (policy : List Subject) (name : List ℕ) (service : Service) 
   pub proves : Proves secret proof
 
 -- ---- authorisation
-
--- the attributes of a user's shell, by whoever decides on that
-abbrev pub shell_attributes : List Subject → List ℕ → List (List ℕ)
-shell_attributes policy name =
-    option_map_or (attributes_of the_shell) (speaking policy name the_shell) []
 
 -- the level, and then the attributes
 abbrev pub with_attributes : Option ℕ → List (List ℕ) → Answer

@@ -16,7 +16,7 @@ use Rattle.pol_text.specs.Policy.{decision, id_of, level_of}
 use Rattle.pol_names.specs.Name.{name_of}
 use Rattle.pol_names.specs.SubjectId.{user_id}
 use Rattle.pol_names.specs.declared.service.ServiceId.{ServiceId}
-use Rattle.pol_given.specs.Given.{speaking, refuses, attributes_of, service_named}
+use Rattle.pol_given.specs.Given.{speaking, refuses, attributes_of, service_named, shell_attributes}
 use Rattle.pol_names.specs.declared.decision.Verdict.{Verdict}
 use Rattle.pol_names.specs.declared.decision.Verdict.TheVariants.{Permit, Deny}
 use Rattle.pol_text.specs.declared.subject.Subject.{Subject}
@@ -33,7 +33,7 @@ use Rattle.tac_conn.specs.declared.ask.AskKind.{AskKind}
 use Rattle.tac_conn.specs.declared.ask.AskKind.TheVariants.{Authentication, Authorisation, Accounting}
 use Rattle.tac_conn.specs.Ask.{kind_of_answer}
 use Rattle.tac_desk.specs.Meaning.{Meaning}
-use Rattle.tac_desk.specs.Asking.{user_named, secret_for, is_proof_of, authenticated, authentication, Makes, Proves, LogsIn, shell_attributes, with_attributes, permitted, by_verdict, decided, authorised, authorisation, served_by, served, service_answer, is_full, Answered, with_record, stored, asked, Passes}
+use Rattle.tac_desk.specs.Asking.{user_named, secret_for, is_proof_of, authenticated, authentication, Makes, Proves, LogsIn, with_attributes, permitted, by_verdict, decided, authorised, authorisation, served_by, served, service_answer, is_full, Answered, with_record, stored, asked, Passes}
 
 passes_makes : (hash : HashParts) (password : List ℕ) → passes_for hash password ≡ true → Makes hash password
 passes_makes hash password e =

@@ -11,10 +11,10 @@ use Rattle.pol_names.specs.declared.service.ServiceLine.{ServiceLine}
 use Rattle.pol_names.specs.SubjectId.{user_id}
 use Rattle.pol_text.specs.Policy.{level_of}
 use Rattle.pol_text.specs.declared.subject.Subject.{Subject}
-use Rattle.pol_given.specs.Given.{attribute_in, attributes_of, speaking, the_shell}
+use Rattle.pol_given.specs.Given.{attribute_in, attributes_of, speaking, the_shell, shell_attributes}
 use Rattle.tac_request.specs.Arguments.{level_arguments}
 use Rattle.tac_conn.specs.declared.ask.Answer.TheVariants.{Permitted, Granted}
-use Rattle.tac_desk.specs.Asking.{gives_arguments, permitted, shell_attributes, with_attributes}
+use Rattle.tac_desk.specs.Asking.{gives_arguments, permitted, with_attributes}
 
 module _ (service : ServiceId) where
   -- what lines give
