@@ -1,5 +1,6 @@
 -- What is told to be given is what devices are answered.
-use Rattle.std.proofs.Common.{◌≡◌, ◌++◌, ◌∷◌, [], ℕ, Bool, true, false, List, Option, Some, None, Ok, IsTrue, option_map, append-nil, refl, sym, ap, ◌∙◌}
+use Rattle.std.specs.Option.{option_and_then, option_map_or}
+use Rattle.std.proofs.Common.{◌≡◌, ◌++◌, ◌∷◌, [], ℕ, Bool, true, false, List, Option, Some, None, Ok, IsTrue, if◌then◌else◌, option_map, append-nil, refl, sym, ap, ◌∙◌}
 use Rattle.pol_names.specs.Name.{is_name, name_of}
 use Rattle.pol_names.specs.SameService.{same_service}
 use Rattle.pol_names.specs.Service.{is_service}
@@ -12,13 +13,15 @@ use Rattle.pol_names.specs.declared.decision.Verdict.TheVariants.{Permit, Deny}
 use Rattle.pol_names.specs.declared.service.ServiceId.{ServiceId}
 use Rattle.pol_text.specs.Policy.{find_subject, decide, decision, level_of}
 use Rattle.pol_text.specs.declared.subject.Subject.{Subject}
-use Rattle.pol_given.specs.Given.{the_shell, speaking, refuses, service_named}
+use Rattle.pol_given.specs.Given.{the_shell, speaking, refuses, service_named, shell_attributes}
 use Rattle.pol_given.specs.Given as policies
 use Rattle.pol_given.specs.Granting.{shell_given, given, sent, texts}
 use Rattle.pol_given.proofs.GrantFacts.{sent_so}
+use Rattle.pol_meaning.specs.LineChanges.{is_permit, permits}
+use Rattle.pol_meaning.specs.ServiceChanges.{reply_of}
 use Rattle.tac_request.specs.Arguments.{level_arguments}
-use Rattle.tac_desk.specs.Asking.{authorised, by_verdict, permitted, with_attributes, shell_attributes, served_by}
-use Rattle.tac_review.specs.Devices.{answer_for, sent_by, told_by, TellsDevices}
+use Rattle.tac_desk.specs.Asking.{authorised, by_verdict, permitted, with_attributes, served_by}
+use Rattle.tac_review.specs.Devices.{answer_for, sent_by, told_by, compared_by, TellsDevices, ComparesSent}
 
 -- ---- arguments
 
@@ -86,3 +89,40 @@ tells_devices policy user service is_user may = shell_or (same_service service t
     shell_or : (shell : Bool) → same_service service the_shell ≡ shell → told_by (given policy user service (decide policy user [])) ≡ sent_by (answer_for policy user service)
     shell_or true e = rw (e, named user is_user) (decided_told policy user service (find_subject (user_id user) policy) e)
     shell_or false e = rw (e, named user is_user, right service may) (served_told policy user service (find_subject (user_id user) policy) refl e)
+
+-- ---- what is compared
+
+abbrev arguments_of : Option (List (List ℕ)) → List (List ℕ)
+arguments_of sent = option_map_or (λ arguments. arguments) sent []
+
+abbrev shell_if : Bool → List Subject → List ℕ → List (List ℕ)
+shell_if starts policy user = if starts then policies.shell_arguments policy user else []
+
+shell_compared : (policy : List Subject) (user : List ℕ) (by : By) (verdict : Verdict)
+    → shell_if (is_permit verdict) policy user ≡ arguments_of (sent_by (by_verdict verdict (permitted policy user []) by))
+shell_compared policy user by Permit =
+    ap (λ (level : List (List ℕ)). level ++ shell_attributes policy user) (same_level (level_of policy (user_id user)))
+    ∙ ap arguments_of (sym (sent_with (level_of policy (user_id user)) (shell_attributes policy user)))
+shell_compared policy user by Deny = refl
+
+decided_compared : (policy : List Subject) (user : List ℕ) (found : Option Subject)
+    → shell_if (option_map_or (λ (decision : Decision). is_permit decision.verdict) (option_map (λ subject. decision policy subject []) found) false) policy user ≡ arguments_of (sent_by (authorised policy user [] found))
+decided_compared policy user None = refl
+decided_compared policy user (Some subject) =
+    let found = decision policy subject [] in
+    shell_compared policy user found.by found.verdict
+
+given_compared : (service : ServiceId) (owner : Option Subject) → option_and_then (policies.given_by service) owner ≡ sent_by (served_by service owner)
+given_compared service None = refl
+given_compared service (Some owner) = refused_or (refuses service owner) refl
+  where
+    refused_or : (refused : Bool) → refuses service owner ≡ refused → option_and_then (policies.given_by service) (Some owner) ≡ sent_by (served_by service (Some owner))
+    refused_or true r = rw r refl
+    refused_or false r = rw r refl
+
+pub compares_sent : ComparesSent
+compares_sent policy user service is_user may = shell_or (same_service service the_shell) refl
+  where
+    shell_or : (shell : Bool) → same_service service the_shell ≡ shell → reply_of policy user service ≡ compared_by service (sent_by (answer_for policy user service))
+    shell_or true e = rw (e, named user is_user) (ap Some (decided_compared policy user (find_subject (user_id user) policy)))
+    shell_or false e = rw (e, named user is_user, right service may) (given_compared service (speaking policy user service))

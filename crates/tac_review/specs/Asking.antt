@@ -25,11 +25,11 @@ decision_on policy (queries.Why user line) = decide policy user line
 decision_on policy _ = None
 
 -- what the policy gives to the user for the service
-abbrev pub gift : List Subject → List ℕ → ServiceId → Given
-gift policy user service = given policy user service (decide policy user [])
+abbrev pub given_to : List Subject → List ℕ → ServiceId → Given
+given_to policy user service = given policy user service (decide policy user [])
 
 -- the answer, with its LF
 abbrev pub answer_to : List Subject → Query → List ℕ
 answer_to policy (queries.Why user line) = why_line (decide policy user line)
-answer_to policy (queries.Given user service) = given_text (gift policy user service)
+answer_to policy (queries.Given user service) = given_text (given_to policy user service)
 answer_to policy _ = []

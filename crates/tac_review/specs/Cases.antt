@@ -18,7 +18,7 @@ use Rattle.tac_desk.specs.declared.query.Query.{Query}
 use Rattle.tac_desk.specs.declared.query.Query.TheVariants as queries
 use Rattle.tac_console.specs.ConsoleText.{given as named}
 use Rattle.tac_console.specs.Answers.{grant_line}
-use Rattle.tac_review.specs.Asking.{question_of, service_question_of, decision_on, gift, answer_to}
+use Rattle.tac_review.specs.Asking.{question_of, service_question_of, decision_on, given_to, answer_to}
 use Rattle.tac_review.specs.declared.want.Want.{Want}
 use Rattle.tac_review.specs.declared.want.Want.TheVariants as wants
 
@@ -88,7 +88,7 @@ is_as (wants.Argument argument) given = has_argument argument given
 
 abbrev pub is_so : List Subject → Want → Query → Bool
 is_so policy (wants.Verdict verdict) query = is_decided verdict (decision_on policy query)
-is_so policy want (queries.Given user service) = is_as want (gift policy user service)
+is_so policy want (queries.Given user service) = is_as want (given_to policy user service)
 is_so policy want query = false
 
 -- ---- what is so in place of it
@@ -102,5 +102,5 @@ given_instead want given = grant_line given.grant
 abbrev pub found_instead : List Subject → Want → Query → List ℕ
 found_instead policy (wants.Verdict verdict) query = answer_to policy query
 found_instead policy want (queries.Given user service) =
-    given_instead want (gift policy user service)
+    given_instead want (given_to policy user service)
 found_instead policy want query = []

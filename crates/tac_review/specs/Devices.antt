@@ -1,5 +1,7 @@
--- That what is told to be given for a service is what a device is sent that asks for it.
+-- That what is told to be given for a service, and compared where a policy changes, is what a device
+-- is sent that asks for it.
 use Rattle.std.specs.Prelude.{◌≡◌, ℕ, List, [], IsTrue, Option, Some, None, if◌then◌else◌}
+use Rattle.std.specs.Option.{option_map_or}
 use Rattle.pol_names.specs.Name.{is_name}
 use Rattle.pol_names.specs.SameService.{same_service}
 use Rattle.pol_names.specs.Service.{is_service}
@@ -9,6 +11,7 @@ use Rattle.pol_text.specs.declared.subject.Subject.{Subject}
 use Rattle.pol_given.specs.Given.{the_shell}
 use Rattle.pol_given.specs.Granting.{given, texts}
 use Rattle.pol_given.specs.declared.grant.Given.{Given}
+use Rattle.pol_meaning.specs.ServiceChanges.{reply_of}
 use Rattle.tac_request.specs.Arguments.{level_arguments}
 use Rattle.tac_conn.specs.declared.ask.Answer.{Answer}
 use Rattle.tac_conn.specs.declared.ask.Answer.TheVariants.{Permitted, Granted}
@@ -38,3 +41,18 @@ TellsDevices =
     → IsTrue (is_service service)
     → told_by (given policy user service (decide policy user []))
     ≡ sent_by (answer_for policy user service)
+
+-- what is compared of these arguments: those of a shell, if it starts. Whether it does is told by the
+-- empty line
+abbrev pub compared_by : ServiceId → Option (List (List ℕ)) → Option (List (List ℕ))
+compared_by service sent =
+    if same_service service the_shell then Some (option_map_or (λ arguments. arguments) sent [])
+    else sent
+
+-- of any user and service, what edits, reloads and a diff tell is compared so
+abbrev pub ComparesSent : Type 0
+ComparesSent =
+    (policy : List Subject) (user : List ℕ) (service : ServiceId) → IsTrue (is_name user)
+    → IsTrue (is_service service)
+    → reply_of policy user service
+    ≡ compared_by service (sent_by (answer_for policy user service))

@@ -48,13 +48,13 @@ pub(crate) fn decision(live: &Live, query: &Query) -> Option<Decision>
 }
 
 /// What the policy gives to the user for the service.
-pub(crate) fn gift(
+pub(crate) fn given_to(
     alloc: Global,
     live: &Live,
     user: &Name,
     service: &ServiceId,
 ) -> Result<Given, AllocError>
-    ensures { IfOk result (λ gift. gift ≡ asking.gift live.now user.now service.now) }
+    ensures { IfOk result (λ given. given ≡ asking.given_to live.now user.now service.now) }
 {
     let decision = live.decide(user, b"");
     given(alloc, live.policy(), user, service, decision)
@@ -91,7 +91,7 @@ pub(crate) fn add_answer(
             write_query_answer(alloc, out, query, &Ok(&report))
         }
         Query::Given { user, service } => {
-            let given = gift(alloc, live, user, service)?;
+            let given = given_to(alloc, live, user, service)?;
             add_given(alloc, out, *user, *service, given)
         }
         _ => Ok(()),

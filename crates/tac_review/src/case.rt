@@ -8,7 +8,7 @@ ghost use Rattle.tac_review.specs.Asking as asking;
 ghost use Rattle.tac_review.specs.Cases as cases;
 ghost use Rattle.tac_review.specs.declared.want.Want.TheVariants as wants;
 
-use crate::asking::{add_answer, add_given, decision, gift, question, service_question};
+use crate::asking::{add_answer, add_given, decision, given_to, question, service_question};
 use crate::want::Want;
 use basics::{Bytes, Sequence, is_text, split_once};
 use pol_given::{Given, Grant};
@@ -165,7 +165,7 @@ pub(crate) fn is_so(
     match (want, query) {
         (Want::Verdict(verdict), _) => Ok(is_decided(*verdict, decision(live, query))),
         (_, Query::Given { user, service }) => {
-            let given = gift(alloc, live, user, service)?;
+            let given = given_to(alloc, live, user, service)?;
             Ok(is_as(want, &given))
         }
         _ => Ok(false),
@@ -222,7 +222,7 @@ pub(crate) fn add_instead(
     match (want, query) {
         (Want::Verdict(_), _) => add_answer(alloc, out, live, query),
         (_, Query::Given { user, service }) => {
-            let given = gift(alloc, live, user, service)?;
+            let given = given_to(alloc, live, user, service)?;
             add_given_instead(alloc, out, want, *user, *service, &given)
         }
         _ => Ok(()),

@@ -4,7 +4,7 @@ ghost use Rattle.std.specs.Prelude.{OnOk};
 ghost use Rattle.std.specs.Io.KnownBytes.{IsAtEnd};
 ghost use Rattle.pol_pattern.specs.Matching.{MatchLaw};
 ghost use Rattle.tac_io.specs.Answering.{IsWorked};
-ghost use Rattle.tac_review.specs.Devices.{TellsDevices};
+ghost use Rattle.tac_review.specs.Devices.{ComparesSent, TellsDevices};
 ghost use Rattle.tac_review.specs.Review.{IsRight, Reviews};
 ghost use Rattle.tac_review.specs.Reading.{AreAnswered, IsNotRead};
 
@@ -72,6 +72,9 @@ pub fn review<R: Read, S: Read, W: Write>(
 
     // What is told to be given for a service is what the desk answers a device that asks for it.
     ensures devices { TellsDevices }
+
+    // So it is with what is told to change of services: this is compared.
+    ensures compared { ComparesSent }
 {
     let one = match read_whole(alloc, first, MAX_INPUT) {
         Ok(text) => text,

@@ -3,7 +3,7 @@ use Rattle.pol_pattern.proofs.HeldTexts.{match_law}
 use Rattle.tac_io.proofs.Answered.{answered}
 use Rattle.tac_review.specs.Reading.{given, Wanted}
 use Rattle.tac_review.specs.Review.{IsRight, Reviews}
-use Rattle.tac_review.proofs.DeviceFacts.{tells_devices}
+use Rattle.tac_review.proofs.DeviceFacts.{tells_devices, compares_sent}
 use Rattle.tac_review.proofs.ReadingFacts.{worked_given}
 use Rattle.tac_review.proofs.reviewing.review.Goals as goal
 
@@ -42,3 +42,12 @@ returns-clause-devices g c = tells_devices
 
 pub returns-in-Err-clause-devices : goal.returns-in-Err-clause-devices
 returns-in-Err-clause-devices g c = tells_devices
+
+pub returns-in-Ok-write_answer-clause-compared : goal.returns-in-Ok-write_answer-clause-compared
+returns-in-Ok-write_answer-clause-compared g c = compares_sent
+
+pub returns-clause-compared : goal.returns-clause-compared
+returns-clause-compared g c = compares_sent
+
+pub returns-in-Err-clause-compared : goal.returns-in-Err-clause-compared
+returns-in-Err-clause-compared g c = compares_sent
