@@ -15,7 +15,7 @@ use Rattle.tac_stream.specs.Kept.{IsReady, Stands}
 use Rattle.tac_worker.specs.declared.due.Due.{Due}
 use Rattle.tac_worker.specs.declared.due.Due.TheVariants as next
 use Rattle.tac_worker.specs.declared.worked.End.{End}
-use Rattle.tac_worker.specs.declared.worked.End.TheVariants.{Memory}
+use Rattle.tac_worker.specs.declared.worked.End.TheVariants.{Finished, ByProtocol, Stopped, LogFull, Memory, ReadFault, WriteFault, Unwitnessed, Held, NoSeat}
 use Rattle.tac_worker.specs.declared.turning.Went.{Went}
 use Rattle.tac_worker.specs.declared.turning.Went.TheVariants.{On, Rests}
 use Rattle.tac_worker.specs.Linked.{Linked, due_by, fresh, put, traffic_on, worker_at, IsOver, IsOpen, StandsSo, IsLinked, Turns, TurnsAt, after_sending}
@@ -43,6 +43,24 @@ hear_due (byte ∷ bytes) end rests e = absurd cc
 hear_due [] (Some end) rests e = absurd cc
 hear_due [] None true e = (refl, refl, refl)
 hear_due [] None false e = absurd cc
+
+-- ---- whole replies
+
+pub some_same : (a b : End) → Some a ≡ Some b → a ≡ b
+some_same a b e = cc
+
+-- a read doesn't end as a write that failed
+pub heard_whole : (end : End) (before after : Option (List ℕ)) (was now : Stream) → Heard (Err end) before after was now → Some end ≡ Some WriteFault → ⊥
+heard_whole Finished before after was now h e = absurd cc
+heard_whole ByProtocol before after was now h e = absurd cc
+heard_whole Stopped before after was now h e = absurd cc
+heard_whole LogFull before after was now h e = absurd cc
+heard_whole Memory before after was now h e = absurd cc
+heard_whole ReadFault before after was now h e = absurd cc
+heard_whole WriteFault before after was now h e = h
+heard_whole Unwitnessed before after was now h e = absurd cc
+heard_whole Held before after was now h e = absurd cc
+heard_whole NoSeat before after was now h e = absurd cc
 
 -- ---- what is put after what was sent
 

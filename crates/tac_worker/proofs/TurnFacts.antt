@@ -36,7 +36,7 @@ use Rattle.tac_worker.specs.declared.turning.Went.TheVariants.{On, Rests}
 use Rattle.tac_worker.specs.Served.{Sending, plain, carrying, served_for, asked_by, served_to, asks_in, closes, bytes_sent, carried}
 use Rattle.tac_worker.specs.Told.{bytes_told, LeavesUntold, refused_of, WritesTold}
 use Rattle.tac_worker.specs.Worked.{Exchange, asks_of, answers_of, AreMade, AreAllMade, Worker, Leaves, Closes, Writes}
-use Rattle.tac_worker.specs.Working.{Handled, GoesOn, IsUncalled, Replies, Answers, Notes, taken_of, left_of, Turned}
+use Rattle.tac_worker.specs.Working.{Handled, GoesOn, IsUncalled, Puts, Replies, Answers, Notes, taken_of, left_of, Turned}
 use Rattle.tac_worker.proofs.ServedFacts.{packets_of-append, Done}
 
 -- ---- the outcome of a packet, by its step
@@ -361,6 +361,32 @@ noted P (Err WriteFault) takes refuses closing n on shut untold = absurd n
 noted P (Err Unwitnessed) takes refuses closing n on shut untold = untold n
 noted P (Err Held) takes refuses closing n on shut untold = absurd n
 noted P (Err NoSeat) takes refuses closing n on shut untold = absurd n
+
+-- a packet that wasn't put there whole is a reply that wasn't
+pub put_cut : (fails : Type 0) (end : End) (packet : List ℕ) (closing : Bool) (old new : Option (List ℕ)) → Puts fails (Err end) packet old new → Replies (Err end) packet closing old new
+put_cut fails Finished packet closing old new p = absurd p
+put_cut fails ByProtocol packet closing old new p = absurd p
+put_cut fails Stopped packet closing old new p = absurd p
+put_cut fails LogFull packet closing old new p = absurd p
+put_cut fails Memory packet closing old new p = absurd p
+put_cut fails ReadFault packet closing old new p = absurd p
+put_cut fails WriteFault packet closing old new p = (p.1, p.2, p.3, p.4, p.5)
+put_cut fails Unwitnessed packet closing old new p = absurd p
+put_cut fails Held packet closing old new p = absurd p
+put_cut fails NoSeat packet closing old new p = absurd p
+
+-- that only happens where it may
+pub put_fails : (fails : Type 0) (end : End) (packet : List ℕ) (old new : Option (List ℕ)) → Puts fails (Err end) packet old new → fails
+put_fails fails Finished packet old new p = absurd p
+put_fails fails ByProtocol packet old new p = absurd p
+put_fails fails Stopped packet old new p = absurd p
+put_fails fails LogFull packet old new p = absurd p
+put_fails fails Memory packet old new p = absurd p
+put_fails fails ReadFault packet old new p = absurd p
+put_fails fails WriteFault packet old new p = p.0
+put_fails fails Unwitnessed packet old new p = absurd p
+put_fails fails Held packet old new p = absurd p
+put_fails fails NoSeat packet old new p = absurd p
 
 -- the notice was taken, and then the reply was written
 pub answered : (result : Result Went End) (takes refuses : Type 0) (reply : List ℕ) (closing : Bool) (old new : Option (List ℕ)) → takes → Replies result reply closing old new → Answers result takes refuses reply closing old new

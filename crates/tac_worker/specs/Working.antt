@@ -79,6 +79,15 @@ IsUncalled refuses ask Stopped = refuses ask refusals.Closed
 IsUncalled refuses ask LogFull = refuses ask refusals.LogFull
 IsUncalled refuses ask NoSeat = refuses ask refusals.NoSeat
 
+-- a packet was put there; or, where that may fail, a beginning of it was, and not all
+abbrev pub Puts : Type 0 → Result (Unit {0}) End → List ℕ → Option (List ℕ) → Option (List ℕ)
+    → Type 0
+Puts fails (Ok _) packet old new = Appends old new packet
+Puts fails (Err WriteFault) packet old new =
+    fails × (first others : List ℕ) × (packet ≡ first ++ others) × (0 < length others)
+    × Appends old new first
+Puts fails (Err end) packet old new = ⊥
+
 -- a packet was written, after which the connection closes or not
 abbrev pub Replies : Result Went End → List ℕ → Bool → Option (List ℕ) → Option (List ℕ) → Type 0
 Replies (Ok On) reply closing old new = (closing ≡ false) × Appends old new reply

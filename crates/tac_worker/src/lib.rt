@@ -12,6 +12,7 @@ mod hearing;
 mod laws;
 mod link;
 mod notes;
+mod outlet;
 mod queue;
 mod receipt_caller;
 mod room;

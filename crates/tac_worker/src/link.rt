@@ -1,10 +1,11 @@
 //! A connection that is served in turns, while others are served too.
 
-ghost use Rattle.std.specs.Prelude.{◌≡◌, ◌≤◌, length, take, IsTrue, IfOk, OnErr, OnSome};
+ghost use Rattle.std.specs.Prelude.{◌≡◌, ◌≤◌, length, take, IsTrue, IfOk, OnErr, OnSome, Some};
 ghost use Rattle.std.specs.Io.KnownBytes.{Appends, Keeps};
 ghost use Rattle.tac_worker.specs.Ahead.{IsSomeOfPassword, WaitsForIt, ask_ahead, waits};
 ghost use Rattle.tac_worker.specs.Linked as linked;
 ghost use Rattle.tac_worker.specs.declared.due.Due.TheVariants as dues;
+ghost use Rattle.tac_worker.specs.declared.worked.End.TheVariants.{WriteFault};
 
 use crate::ahead::{Ahead, adopt, first_turn, hash_ahead, look_ahead, password_ahead};
 use crate::caller::Caller;
@@ -165,9 +166,11 @@ impl<'a, C: Caller, V: Witness<Notice>> Link<'a, C, V> {
     /// The calls for it are the first asks of the bytes that came. What was put on it, which is
     /// what was sent and then what waits, is what is sent by their answers. Its witness took the
     /// notices of that. Once it has ended this is all, or as much as the end allows. Before, it is
-    /// so up to some packet, and so it stays where the connection is given up.
+    /// so up to some packet, and so it stays where the connection is given up. It never ends as
+    /// WriteFault: a reply that the witness took is put there whole.
     pub fn end(&self) -> Option<End>
         ensures end { result ≡ self.now.end }
+        ensures whole { result ≡ Some WriteFault → ⊥ }
         ensures stands { linked.StandsSo C.refuses V.takes V.refuses result self.now }
     {
         self.end
@@ -239,9 +242,9 @@ impl<'a, C: Caller, V: Witness<Notice>> Link<'a, C, V> {
     /// witness, and puts the reply there to be sent, as [`serve`](crate::serve) does. Else it does
     /// nothing.
     ///
-    /// Where memory for a reply is refused, the connection ends as WriteFault: the call was made
-    /// and the witness was told of it, but nothing of that reply waits. The key is that of the
-    /// terms by which the connection was made. It may wait for the caller, the witness and the
+    /// The room for a reply is taken before the call. Where memory for it is refused, the connection
+    /// ends as Memory and nothing was called. The key is that of the terms by which the connection
+    /// was made. It may wait for the caller, the witness and the
     /// gate, and for nobody at the other end. Linear in the packet, but for what the caller and the
     /// witness take.
     pub fn turn<H, G: Gate>(&mut self, terms: &Terms<H, G>, caller: &mut C)

@@ -14,15 +14,16 @@ ghost use Rattle.tac_worker.specs.Noting.{noting, NotesOne, NotesNone, RefusesNo
 ghost use Rattle.tac_worker.specs.Told.{TakesUntil};
 ghost use Rattle.tac_worker.specs.Worked.{AreAllMade, IsServedBy};
 ghost use Rattle.tac_worker.specs.Working as working;
+ghost use Rattle.tac_worker.specs.declared.worked.End.TheVariants.{WriteFault};
 
 use crate::caller::Caller;
 use crate::gate::{Gate, lets_call};
 use crate::hearing::{CHUNK, hear};
 use crate::notes::{Called, Pieces};
+use crate::outlet::Outlet;
 use crate::room::Room;
 use crate::terms::Terms;
 use crate::worked::End;
-use basics::send;
 use std::alloc::AllocError;
 use std::io::{Read, Write};
 use std::snapshot::Snapshot;
@@ -41,24 +42,23 @@ pub(crate) enum Went {
     Rests,
 }
 
-// Writes a reply, with the pad put on, after which the connection closes or not.
-fn write_reply<W: Write, G: Gate>(
+// Puts a reply there, with the pad put on, after which the connection closes or not.
+fn put_reply<O: Outlet, G: Gate>(
     key: &Key,
-    writer: &mut W,
+    outlet: &mut O,
     gate: &G,
     seat: u32,
     room: Room,
     reply: &Reply,
     closes: bool,
 ) -> Result<Went, End>
-    ensures { working.Replies result (sent key.now (packet_of reply.now)) closes
-        (W.contents writer.old) (W.contents writer.new) }
+    requires { O.takes outlet.old }
+    ensures replies { working.Replies result (sent key.now (packet_of reply.now)) closes
+        (O.contents outlet.old) (O.contents outlet.new) }
+    ensures fault { IfErr result (λ end. end ≡ WriteFault → O.fails) }
 {
     let packet = room.sent(key, reply);
-    let (_, sent) = send(writer, packet.as_slice());
-    if let Err(_) = sent {
-        return Err(End::WriteFault);
-    }
+    outlet.put(packet)?;
     gate.replied(seat);
     if closes {
         return Err(End::ByProtocol);
@@ -66,7 +66,7 @@ fn write_reply<W: Write, G: Gate>(
     Ok(Went::On)
 }
 
-// Calls an ask, once the gate lets the caller, and notes it. The room for the reply is taken before.
+// Calls an ask, once the gate lets the caller, and notes it. The room for the reply is taken first.
 fn ask_by<H, C: Caller, G: Gate>(
     terms: &Terms<H, G>,
     caller: &mut C,
@@ -91,20 +91,22 @@ fn ask_by<H, C: Caller, G: Gate>(
     Ok((answer, room))
 }
 
-// Tells the witness of a packet and its reply, and writes that once it took the notice.
-fn answer<H, G: Gate, V: Witness<Notice>, W: Write>(
+// Tells the witness of a packet and its reply, and puts that there once it took the notice.
+fn answer<H, G: Gate, V: Witness<Notice>, O: Outlet>(
     terms: &Terms<H, G>,
     witness: &mut V,
-    writer: &mut W,
+    outlet: &mut O,
     seat: u32,
     room: Room,
     packet: Packet,
     given: (Reply, bool),
 ) -> Result<Went, End>
-    ensures { let notice = replied packet given.0 in
+    requires { O.takes outlet.old }
+    ensures answers { let notice = replied packet given.0 in
         working.Answers result (V.takes witness.old notice witness.new)
         (V.refuses witness.old notice witness.new) (sent terms.now.key.now (packet_of given.0))
-        given.1 (W.contents writer.old) (W.contents writer.new) }
+        given.1 (O.contents outlet.old) (O.contents outlet.new) }
+    ensures fault { IfErr result (λ end. end ≡ WriteFault → O.fails) }
 {
     let (reply, closes) = given;
     let notice = Notice::Packet(packet, Some(reply));
@@ -112,7 +114,7 @@ fn answer<H, G: Gate, V: Witness<Notice>, W: Write>(
     let Notice::Packet(_, Some(reply)) = &notice else {
         unreachable!()
     };
-    write_reply(terms.key, writer, terms.gate, seat, room, reply, closes)
+    put_reply(terms.key, outlet, terms.gate, seat, room, reply, closes)
 }
 
 // Tells the witness of what has no reply, after which the connection closes or not.
@@ -128,15 +130,16 @@ fn note<V: Witness<Notice>>(witness: &mut V, notice: Notice, closes: bool) -> Re
 }
 
 /// Serves what stood first, whose turn this is, and notes the call that was made for it.
-pub(crate) fn serve_turn<H, G: Gate, C: Caller, V: Witness<Notice>, W: Write>(
+pub(crate) fn serve_turn<H, G: Gate, C: Caller, V: Witness<Notice>, O: Outlet>(
     terms: &Terms<H, G>,
     caller: &mut C,
     witness: &mut V,
     stream: &mut Stream,
     turn: Result<Turn, AllocError>,
-    writer: &mut W,
+    outlet: &mut O,
     called: &mut Called,
 ) -> Result<Went, End>
+    requires outlet { O.takes outlet.old }
     requires waits { IfOk turn (λ turn. Waits turn stream.old) }
     requires kind { IfOk turn HasItsSlot }
     ensures turned { (was : StreamValue) (bytes : List ℕ) (taken : ℕ) →
@@ -146,8 +149,9 @@ pub(crate) fn serve_turn<H, G: Gate, C: Caller, V: Witness<Notice>, W: Write>(
         V.takes V.refuses result terms.now.key.now bytes taken
         (record { caller = noting caller.old called.old; witness = witness.old })
         (record { caller = noting caller.new called.new; witness = witness.new })
-        (W.contents writer.old) (W.contents writer.new) stream.new }
+        (O.contents outlet.old) (O.contents outlet.new) stream.new }
     ensures one { length called.new ≤ suc (length called.old) }
+    ensures fault { IfErr result (λ end. end ≡ WriteFault → O.fails) }
 {
     let turn = match turn {
         Ok(turn) => turn,
@@ -158,13 +162,13 @@ pub(crate) fn serve_turn<H, G: Gate, C: Caller, V: Witness<Notice>, W: Write>(
             Step::Reply(reply, closes) => {
                 let room = Room::new(terms.alloc)?;
                 let seat = caller.number();
-                answer(terms, witness, writer, seat, room, packet, (reply, closes))
+                answer(terms, witness, outlet, seat, room, packet, (reply, closes))
             }
             Step::Asks(ask, slot) => {
                 let (told, room) = ask_by(terms, caller, ask, called)?;
                 let given = stream.give(slot, told);
                 let seat = caller.number();
-                answer(terms, witness, writer, seat, room, packet, given)
+                answer(terms, witness, outlet, seat, room, packet, given)
             }
             Step::Silent => note(witness, Notice::Packet(packet, None), false),
             Step::Close => note(witness, Notice::Packet(packet, None), true),
@@ -176,25 +180,26 @@ pub(crate) fn serve_turn<H, G: Gate, C: Caller, V: Witness<Notice>, W: Write>(
 }
 
 // Serves what stands first, and notes the call that was made for it.
-fn take_turn<H, G: Gate, C: Caller, V: Witness<Notice>, W: Write>(
+fn take_turn<H, G: Gate, C: Caller, V: Witness<Notice>, O: Outlet>(
     terms: &Terms<H, G>,
     caller: &mut C,
     witness: &mut V,
     stream: &mut Stream,
-    writer: &mut W,
+    outlet: &mut O,
     called: &mut Called,
 ) -> Result<Went, End>
+    requires { O.takes outlet.old }
     ensures turned { (bytes : List ℕ) (taken : ℕ) → IsReady stream.old →
         Stands terms.now.key.now stream.old bytes taken →
         working.Turned (NotesOne C.makes) (NotesNone C.rests) (RefusesNoted C.refuses)
         V.takes V.refuses result terms.now.key.now bytes taken
         (record { caller = noting caller.old called.old; witness = witness.old })
         (record { caller = noting caller.new called.new; witness = witness.new })
-        (W.contents writer.old) (W.contents writer.new) stream.new }
+        (O.contents outlet.old) (O.contents outlet.new) stream.new }
     ensures one { length called.new ≤ suc (length called.old) }
 {
     let turn = stream.next(terms.key);
-    serve_turn(terms, caller, witness, stream, turn, writer, called)
+    serve_turn(terms, caller, witness, stream, turn, outlet, called)
 }
 
 /// Serves one connection to its end, which it answers: reads what comes, has the caller ask, tells

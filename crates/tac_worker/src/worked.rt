@@ -23,7 +23,7 @@ pub enum End {
     Memory,
     /// The reader failed.
     ReadFault,
-    /// The writer failed, or there was no memory for a reply that was to wait.
+    /// The writer failed.
     WriteFault,
     /// The witness refused what it was told; nothing of its reply was written.
     Unwitnessed,
