@@ -5,6 +5,8 @@ use crate::counts::Count;
 /// Why a connection is closed as soon as it is accepted.
 #[derive(Clone, Copy, Debug, PartialEq, Eq)]
 pub enum Rejection {
+    /// No device that may call is at its address.
+    UnknownDevice,
     /// There are as many as may be at once.
     AtOnce,
     /// There are as many of its address as may be.
@@ -46,7 +48,8 @@ pub enum Departure {
 
 impl Rejection {
     /// All of them, in the order in which they are told.
-    pub const ALL: [Rejection; 4] = [
+    pub const ALL: [Rejection; 5] = [
+        Rejection::UnknownDevice,
         Rejection::AtOnce,
         Rejection::PerAddress,
         Rejection::Served,
@@ -56,6 +59,7 @@ impl Rejection {
     /// How it is told.
     pub fn name(self) -> &'static str {
         match self {
+            Rejection::UnknownDevice => "unknown_device",
             Rejection::AtOnce => "at_once",
             Rejection::PerAddress => "per_address",
             Rejection::Served => "served",
@@ -102,6 +106,7 @@ impl Departure {
 
 #[derive(Drop)]
 struct Rejected {
+    unknown_device: Count,
     at_once: Count,
     per_address: Count,
     served: Count,
@@ -127,6 +132,7 @@ struct Ended {
 impl Rejected {
     fn new() -> Rejected {
         Rejected {
+            unknown_device: Count::new(),
             at_once: Count::new(),
             per_address: Count::new(),
             served: Count::new(),
@@ -136,6 +142,7 @@ impl Rejected {
 
     fn count(&self, why: Rejection) -> &Count {
         match why {
+            Rejection::UnknownDevice => &self.unknown_device,
             Rejection::AtOnce => &self.at_once,
             Rejection::PerAddress => &self.per_address,
             Rejection::Served => &self.served,

@@ -58,6 +58,7 @@ tacd_connections_ended_total{why=\"memory\"} 0
 tacd_connections_ended_total{why=\"server\"} 0
 # HELP tacd_connections_refused_total Connections closed as soon as they came.
 # TYPE tacd_connections_refused_total counter
+tacd_connections_refused_total{why=\"unknown_device\"} 0
 tacd_connections_refused_total{why=\"at_once\"} 0
 tacd_connections_refused_total{why=\"per_address\"} 0
 tacd_connections_refused_total{why=\"served\"} 0
