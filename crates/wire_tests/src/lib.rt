@@ -4,6 +4,8 @@
 #[cfg(test)]
 mod conn;
 #[cfg(test)]
+mod first;
+#[cfg(test)]
 mod io;
 #[cfg(test)]
 mod journal;

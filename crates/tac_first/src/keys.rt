@@ -1,0 +1,32 @@
+//! The keys of a device.
+
+ghost use Rattle.std.specs.Prelude.{◌≡◌};
+ghost use Rattle.tac_first.specs.Choice.{key_of};
+
+use tac_wire::Key;
+
+/// The key of a device, and an old one that is still taken, as while it is changed.
+#[derive(Drop)]
+pub struct Keys {
+    pub present: Key,
+    pub old: Option<Key>,
+}
+
+/// Which of a device's keys is meant.
+#[derive(Clone, Copy, Debug, PartialEq, Eq)]
+pub enum Shown {
+    Present,
+    Old,
+}
+
+impl Keys {
+    /// The key that is meant. Where there is no old one, it is the present one in any case.
+    pub fn key_of(&self, shown: Shown) -> &Key
+        ensures { result.now ≡ key_of shown self.now }
+    {
+        match (shown, &self.old) {
+            (Shown::Old, Some(old)) => old,
+            _ => &self.present,
+        }
+    }
+}

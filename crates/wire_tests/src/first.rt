@@ -1,0 +1,3 @@
+//! Tests of which of two keys a packet shows.
+
+mod choices;
