@@ -19,7 +19,9 @@ use Rattle.tac_worker.specs.Worked.{answers_of}
 use Rattle.tac_loop.specs.declared.line.Line.{Line}
 use Rattle.tac_loop.specs.Calls.{Call}
 use Rattle.tac_loop.specs.Board.{Board, AreAll, AreApart, IsKnown, IsAccounted, IsWorking}
+use Rattle.tac_net.specs.Callers.{IsKeyOfOne}
 use Rattle.tac_net.specs.Logs.{HasLogged}
+use Rattle.tac_net.specs.declared.callers.Callers.{Callers}
 use Rattle.tac_net.specs.Connections.{IsTold, IsRefused, TellsLog, DeskLine, DeskBoard, IsDeskBoard, IsConnectionOf, HasServed}
 use Rattle.tac_net.proofs.LogFacts.{all_answered, served_as}
 
@@ -154,10 +156,10 @@ module _ {C V : Type 0} (refuses : C → Ask → HallFault → Type 0) (takes re
 
 -- ---- a connection
 
-module _ {V S : Type 0} (takes refuses_notice : V → Notice → V → Type 0) (opening : Opening) (key : List ℕ) (log : Keeping) where
+module _ {V S : Type 0} (takes refuses_notice : V → Notice → V → Type 0) (opening : Opening) (callers : Callers) (log : Keeping) where
   -- what is known of it at first
   abbrev Begins : Line Seated V S → Type 0
-  Begins line = (line.link.key ≡ key) × TellsLog takes refuses_notice log line.link.first
+  Begins line = IsKeyOfOne callers line.link.key × TellsLog takes refuses_notice log line.link.first
 
   abbrev Accounted : Seated → List Call → ℕ → Line Seated V S → Type 0
   Accounted first calls next line = IsAccounted (MakesOne opening) CatchesUp (Refuses opening) takes refuses_notice first calls next line
@@ -173,7 +175,7 @@ module _ {V S : Type 0} (takes refuses_notice : V → Notice → V → Type 0) (
   record IsSame (first : Seated) (calls : List Call) (next : ℕ) (line : Line Seated V S) (other : DeskLine) : Type 0 where
     number : other.number ≡ line.number
     accounted : IsAccounted (MakesOne opening) CatchesUp (Refuses opening) IsTold (IsRefused log.is_kept) first calls next other
-    is : IsConnectionOf key log other
+    is : IsConnectionOf callers log other
 
   same_line : (first : Seated) (calls : List Call) (next : ℕ) (line : Line Seated V S) → Begins line → Accounted first calls next line → (other : DeskLine) × IsSame first calls next line other
   same_line first calls next line begins a =
@@ -247,25 +249,25 @@ module _ {V S : Type 0} (takes refuses_notice : V → Notice → V → Type 0) (
       removed_apart = apart_same board.first h.calls board.next board.over over p h.removed_apart;
     }
 
-    all_connections : AreAll (IsConnectionOf key log) told_board
-    all_connections = (λ key line e. (m.back key line e).2.is, all_same board.first h.calls board.next (IsConnectionOf key log) (λ x y q. q.is) board.over over p)
+    all_connections : AreAll (IsConnectionOf callers log) told_board
+    all_connections = (λ key line e. (m.back key line e).2.is, all_same board.first h.calls board.next (IsConnectionOf callers log) (λ x y q. q.is) board.over over p)
 
 -- ---- a seat
 
 -- what a board has done whose witnesses tell a log, the seat has done for connections that are
 -- known by what was told
-pub served_by : {V S : Type 0} (takes refuses_notice : V → Notice → V → Type 0) (opening : Opening) (key : List ℕ) (log : Keeping) (connections : ℕ) (board : Board Seated V S)
-    → IsWorking (MakesOne opening) CatchesUp (Refuses opening) takes refuses_notice board → AreAll (λ line. (line.link.key ≡ key) × TellsLog takes refuses_notice log line.link.first) board → board.next ≤ connections
-    → HasServed opening key log connections board.first board.caller
-served_by {V} {S} takes refuses_notice opening key log connections board h begins within =
-    let same = same_line takes refuses_notice opening key log board.first h.calls board.next in
-    let m = each_there (Same takes refuses_notice opening key log board.first h.calls board.next) board.lines (λ k line e. same line (begins.0 k line e) (h.served k line e)) in
-    let p = each_pair (Same takes refuses_notice opening key log board.first h.calls board.next) board.over (λ k d l. same (get_or board.over k d) (begins.1 k d l) (h.over k d l)) in
+pub served_by : {V S : Type 0} (takes refuses_notice : V → Notice → V → Type 0) (opening : Opening) (callers : Callers) (log : Keeping) (connections : ℕ) (board : Board Seated V S)
+    → IsWorking (MakesOne opening) CatchesUp (Refuses opening) takes refuses_notice board → AreAll (λ line. IsKeyOfOne callers line.link.key × TellsLog takes refuses_notice log line.link.first) board → board.next ≤ connections
+    → HasServed opening callers log connections board.first board.caller
+served_by {V} {S} takes refuses_notice opening callers log connections board h begins within =
+    let same = same_line takes refuses_notice opening callers log board.first h.calls board.next in
+    let m = each_there (Same takes refuses_notice opening callers log board.first h.calls board.next) board.lines (λ k line e. same line (begins.0 k line e) (h.served k line e)) in
+    let p = each_pair (Same takes refuses_notice opening callers log board.first h.calls board.next) board.over (λ k d l. same (get_or board.over k d) (begins.1 k d l) (h.over k d l)) in
     record {
-      board = told_board takes refuses_notice opening key log board h m.0 p.0 m.1 p.1;
-      working = works_same takes refuses_notice opening key log board h m.0 p.0 m.1 p.1;
+      board = told_board takes refuses_notice opening callers log board h m.0 p.0 m.1 p.1;
+      working = works_same takes refuses_notice opening callers log board h m.0 p.0 m.1 p.1;
       first = refl;
       caller = refl;
       within = within;
-      each = all_connections takes refuses_notice opening key log board h m.0 p.0 m.1 p.1;
+      each = all_connections takes refuses_notice opening callers log board h m.0 p.0 m.1 p.1;
     }

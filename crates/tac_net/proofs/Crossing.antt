@@ -5,10 +5,12 @@ use denote.Param.Send.{IsSend, IsSync, sendable}
 use Rattle.std.proofs.Crossing.{crosses}
 use Rattle.std.specs.contracts.net.tcp.TcpListener as TcpListener
 use Rattle.tac_hall.proofs.Crossing.{Key-sync}
+use Rattle.tac_devices.proofs.Crossing.{Devices-sync}
 use Rattle.tac_census.proofs.census.Census.TheSendSync as census
 use Rattle.tac_status.proofs.counts.Counts.TheSendSync as counts
 use Rattle.tac_status.specs.contracts.counts.Counts as Counts
 use Rattle.tac_digests.proofs.digests.Digests.TheSendSync as digests
+use Rattle.tac_net.specs.contracts.callers.Callers as Callers
 use Rattle.tac_net.specs.contracts.hashing.Hashing as Hashing
 use Rattle.tac_net.specs.contracts.intake.Arrival as Arrival
 use Rattle.tac_net.specs.contracts.intake.Inbox as Inbox
@@ -23,8 +25,11 @@ Listener-sync = search (crosses, sendable) depth 60
 pub Number-sync : IsSync (UInt w32)
 Number-sync = search sendable depth 60
 
+pub Callers-sync : IsSync Callers.the_field.row
+Callers-sync = search (Key-sync, Devices-sync, crosses, sendable) depth 60 fits 20000
+
 pub Settings-sync : IsSync Settings.the_row
-Settings-sync = search (Key-sync, crosses, sendable) depth 60
+Settings-sync = search (Callers-sync, crosses, sendable) depth 60
 
 pub Vigil-sync : IsSync Vigil.the_row
 Vigil-sync = search (crosses, sendable) depth 60

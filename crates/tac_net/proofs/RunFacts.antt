@@ -31,7 +31,7 @@ ended settings log opening seat console operated before after old told new close
 -- workers served too, and the desk was closed or not
 pub ran : (settings : Settings) (log : Keeping) (opening : Opening) (seats : List Seated) (seat console : Seated) (operated : Result (Unit {0}) OperatorFault) (before after old told new : Option (List ℕ)) (served : List Seated) (closed : Result (Unit {0}) ServeFault)
     → HasAttended (console, operated) settings.port opening seat before after old told → IsFresh seat → length seats ≡ settings.workers → All IsFresh seats
-    → HaveAllServed (HasServed opening settings.key log settings.connections) seats served → Closes closed opening (console ∷ served) told new
+    → HaveAllServed (HasServed opening settings.callers log settings.connections) seats served → Closes closed opening (console ∷ served) told new
     → Runs (end_by operated closed) settings log opening before after old new
 ran settings log opening seats seat console operated before after old told new served closed attended fresh count all_fresh have closes =
     ended settings log opening seat console operated before after old told new closed attended fresh (inl (served, record { seats = seats; count = count; fresh = all_fresh; have = have }, closes))

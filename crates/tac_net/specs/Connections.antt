@@ -10,7 +10,9 @@ use Rattle.tac_journal.specs.Log.{Keeping}
 use Rattle.tac_worker.specs.AtDesk as at_desk
 use Rattle.tac_loop.specs.Board.{Board, AreAll, IsWorking}
 use Rattle.tac_loop.specs.declared.line.Line.{Line}
+use Rattle.tac_net.specs.Callers.{IsKeyOfOne}
 use Rattle.tac_net.specs.Logs.{HasLogged}
+use Rattle.tac_net.specs.declared.callers.Callers.{Callers}
 
 -- ---- who is told
 
@@ -47,23 +49,23 @@ IsDeskBoard opening is_kept board =
     IsWorking (at_desk.MakesOne opening) CatchesUp (at_desk.Refuses opening)
     IsTold (IsRefused is_kept) board
 
--- it is of a device with this key, and the log, if one is kept, took the lines of all that its
--- witness was told
-pub record IsConnectionOf (key : List ℕ) (log : Keeping) (line : DeskLine) : Type 0 where
-  pub keyed : line.link.key ≡ key
+-- its key is that of a device that may call, and the log, if one is kept, took the lines of all
+-- that its witness was told
+pub record IsConnectionOf (callers : Callers) (log : Keeping) (line : DeskLine) : Type 0 where
+  pub keyed : IsKeyOfOne callers line.link.key
   pub first : line.link.first ≡ []
   pub logged : HasLogged log line.link.witness
 
--- a seat made its calls for at most so many connections, each of a device with this key, and no
--- other calls
-pub record HasServed (opening : Opening) (key : List ℕ) (log : Keeping) (connections : ℕ)
+-- a seat made its calls for at most so many connections, each by the key of a device that may call,
+-- and no other calls
+pub record HasServed (opening : Opening) (callers : Callers) (log : Keeping) (connections : ℕ)
     (was now : Seated) : Type 0 where
   pub board : DeskBoard
   pub working : IsDeskBoard opening log.is_kept board
   pub first : board.first ≡ was
   pub caller : board.caller ≡ now
   pub within : board.next ≤ connections
-  pub each : AreAll (IsConnectionOf key log) board
+  pub each : AreAll (IsConnectionOf callers log) board
 
 -- ---- side by side
 

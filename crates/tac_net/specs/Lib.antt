@@ -1,3 +1,4 @@
+pub mod Callers
 pub mod Logs
 pub mod Serving
 pub mod Connections

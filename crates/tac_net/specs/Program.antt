@@ -59,7 +59,8 @@ pub record HaveWorked (settings : Settings) (log : Keeping) (opening : Opening)
   pub seats : List Seated
   pub count : length seats ≡ settings.workers
   pub fresh : All IsFresh seats
-  pub have : HaveAllServed (HasServed opening settings.key log settings.connections) seats served
+  pub have :
+      HaveAllServed (HasServed opening settings.callers log settings.connections) seats served
 
 -- workers served, and the desk was closed with the console's seat and theirs; or memory ran out
 abbrev pub Ends : Result (Unit {0}) ServeFault → Settings → Keeping → Opening → Seated

@@ -1,10 +1,12 @@
 -- How a worker stands that serves many connections.
-use Rattle.std.specs.Prelude.{◌≡◌, ◌+◌, ℕ, List}
+use Rattle.std.specs.Prelude.{◌≡◌, ◌+◌, ℕ}
 use Rattle.tac_audit.specs.declared.notice.Notice.{Notice}
 use Rattle.tac_forum.specs.Seat.{Seated}
 use Rattle.tac_journal.specs.Log.{Keeping}
 use Rattle.tac_loop.specs.Board.{Board, AreAll}
+use Rattle.tac_net.specs.Callers.{IsKeyOfOne}
 use Rattle.tac_net.specs.Connections.{TellsLog}
+use Rattle.tac_net.specs.declared.callers.Callers.{Callers}
 use Rattle.tac_net.specs.declared.settings.Settings.{Settings}
 
 -- what doesn't change while it serves: its seat at first, the settings and the log of its server
@@ -13,10 +15,12 @@ pub record Standing (L : Type 0) : Type 0 where
   pub settings : Settings
   pub log : L
 
--- each of its connections is of a device with this key, and whatever the witness of it takes, the
--- log has the lines of; so many of the connections that it may serve are left
-pub record Stands {V S : Type 0} (takes refuses : V → Notice → V → Type 0) (key : List ℕ)
+-- each of its connections is by the key of a device that may call, and whatever the witness of it
+-- takes, the log has the lines of; so many of the connections that it may serve are left
+pub record Stands {V S : Type 0} (takes refuses : V → Notice → V → Type 0) (callers : Callers)
     (log : Keeping) (connections : ℕ) (board : Board Seated V S) (left : ℕ) : Type 0 where
   pub each :
-      AreAll (λ line. (line.link.key ≡ key) × TellsLog takes refuses log line.link.first) board
+      AreAll
+      (λ line. IsKeyOfOne callers line.link.key × TellsLog takes refuses log line.link.first)
+      board
   pub count : board.next + left ≡ connections

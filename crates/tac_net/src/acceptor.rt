@@ -1,10 +1,12 @@
 //! Accepting connections.
 
+use crate::callers::Callers;
 use crate::intake::{Arrival, Intake};
 use crate::pause::Pause;
 use mio::net::TcpListener;
 use std::io::ErrorKind;
 use std::sync::Wait;
+use std::time::Clock;
 use tac_status::ConnectionCounts;
 
 /// How many connections are accepted in a row for other workers.
@@ -78,17 +80,18 @@ impl Acceptor {
     }
 
     // Accepts one, which may be another worker's or be closed.
-    fn accept<R: Wait>(
+    fn accept<R: Wait + Clock + Eprint>(
         &mut self,
         rt: &R,
         intake: &Intake,
+        callers: &Callers,
         counts: &ConnectionCounts,
         now: Option<u64>,
     ) -> Option<Arrival> {
         match self.listener.accept() {
             Ok((stream, address)) => {
                 self.pause = Pause::first();
-                intake.place(rt, counts, Arrival { stream, address })
+                intake.place(rt, callers, counts, Arrival { stream, address })
             }
             Err(error) => {
                 self.failed(error.kind(), now);
@@ -99,10 +102,11 @@ impl Acceptor {
 
     /// Accepts connections and hands them to the workers, up to one that is the first worker's own.
     /// There is none where no more wait, and where others are to have their turns first.
-    pub(crate) fn next<R: Wait>(
+    pub(crate) fn next<R: Wait + Clock + Eprint>(
         &mut self,
         rt: &R,
         intake: &Intake,
+        callers: &Callers,
         counts: &ConnectionCounts,
         now: Option<u64>,
     ) -> Option<Arrival> {
@@ -110,7 +114,7 @@ impl Acceptor {
             if self.opens_in(now) != Some(0) {
                 return None;
             }
-            if let Some(arrival) = self.accept(rt, intake, counts, now) {
+            if let Some(arrival) = self.accept(rt, intake, callers, counts, now) {
                 return Some(arrival);
             }
         }

@@ -1,24 +1,20 @@
 //! Passwords that are worked out in threads of their own, so that no worker and no desk waits.
 
+use crate::hush::Hush;
 use crate::intake::Intake;
-use crate::socket::now;
 use crate::vigil::Vigil;
 use std::alloc::{AllocError, Global};
 use std::sync::Wait;
-use std::sync::atomic::{AtomicU64, Ordering};
 use std::thread::{Threads, map_vec};
 use std::time::Clock;
 use tac_digests::{Digests, Done, Job, MOST_DIGESTS};
-
-/// For how long nothing is said again of logins that find no room, in milliseconds.
-const PAUSE: u64 = 60_000;
 
 /// The passwords that a server works out.
 #[derive(Drop)]
 pub(crate) struct Hashing {
     digests: Digests,
     // until when nothing is said of logins that find no room
-    silent_until: AtomicU64,
+    hush: Hush,
 }
 
 impl Hashing {
@@ -26,22 +22,18 @@ impl Hashing {
     pub(crate) fn new(alloc: Global) -> Result<Hashing, AllocError> {
         Ok(Hashing {
             digests: Digests::new(alloc)?,
-            silent_until: AtomicU64::new(0),
+            hush: Hush::new(),
         })
     }
 
     // Says that a login found no room, once a minute at most.
     fn complain<R: Clock + Eprint>(&self, rt: &R) {
-        let moment = now(rt).unwrap_or(0);
-        if moment < self.silent_until.load(Ordering::SeqCst) {
-            return;
+        if self.hush.is_over(rt) {
+            let _ = eprintln!(rt;
+                "tacd: {MOST_DIGESTS} passwords wait to be compared with hashes; the connections \
+                 of further logins are closed"
+            );
         }
-        self.silent_until
-            .store(moment.saturating_add(PAUSE), Ordering::SeqCst);
-        let _ = eprintln!(rt;
-            "tacd: {MOST_DIGESTS} passwords wait to be compared with hashes; the connections of \
-             further logins are closed"
-        );
     }
 
     /// Has a password worked out. Where too many wait for that, the answer is false, and standard

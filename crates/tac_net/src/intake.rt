@@ -1,5 +1,7 @@
 //! Where new connections go.
 
+use crate::callers::Callers;
+use crate::hush::Hush;
 use crate::packet_memory::PacketMemory;
 use crate::poller::{Poller, WOKEN};
 use crate::settings::Settings;
@@ -12,6 +14,7 @@ use std::mem::swap;
 use std::net::{IpAddr, SocketAddr};
 use std::sync::atomic::{AtomicU32, AtomicU64, Ordering};
 use std::sync::{Mutex, Wait};
+use std::time::Clock;
 use tac_census::{Caps, Census, Refusal};
 use tac_status::{ConnectionCounts, Departure, Rejection};
 
@@ -39,6 +42,8 @@ pub(crate) struct Intake {
     inboxes: Vec<Inbox>,
     census: Mutex<Census>,
     packet_memory: PacketMemory,
+    // until when nothing is said of unknown devices
+    hush: Hush,
     // how many connections may still be handed to workers
     left: AtomicU64,
 }
@@ -86,6 +91,7 @@ impl Intake {
             inboxes: Vec::new(alloc),
             census: Mutex::new(Census::new(alloc, caps)),
             packet_memory: PacketMemory::new(settings.packet_memory),
+            hush: Hush::new(),
             left: AtomicU64::new(0),
         }
     }
@@ -152,8 +158,27 @@ impl Intake {
         None
     }
 
-    // The worker for one more connection from this address, for which it is counted.
-    fn admit<R: Wait>(&self, rt: &R, address: IpAddr) -> Result<(usize, &Inbox), Rejection> {
+    // Says that a device is unknown that called from this address, once a minute at most.
+    fn complain<R: Clock + Eprint>(&self, rt: &R, address: IpAddr) {
+        if self.hush.is_over(rt) {
+            // as a devices' file has it
+            let address = address.to_canonical();
+            let _ = eprintln!(rt; "tacd: {address}: unknown device, its connection is closed");
+        }
+    }
+
+    // The worker for one more connection from this address, for which it is counted. An unknown
+    // device is turned away before that, so it takes nobody's place.
+    fn admit<R: Wait + Clock + Eprint>(
+        &self,
+        rt: &R,
+        callers: &Callers,
+        address: IpAddr,
+    ) -> Result<(usize, &Inbox), Rejection> {
+        if callers.key_of(&address).is_none() {
+            self.complain(rt, address);
+            return Err(Rejection::UnknownDevice);
+        }
         let Some(at) = self.idlest() else {
             return Err(Rejection::Served);
         };
@@ -169,14 +194,16 @@ impl Intake {
     }
 
     /// Finds a worker for a connection that the first one accepted. It comes back where that is the
-    /// first one's own. Else it is that worker's, or is closed where there are too many.
-    pub(crate) fn place<R: Wait>(
+    /// first one's own. Else it is that worker's, or is closed where its device is unknown or there
+    /// are too many.
+    pub(crate) fn place<R: Wait + Clock + Eprint>(
         &self,
         rt: &R,
+        callers: &Callers,
         counts: &ConnectionCounts,
         arrival: Arrival,
     ) -> Option<Arrival> {
-        let (at, inbox) = match self.admit(rt, arrival.address.ip()) {
+        let (at, inbox) = match self.admit(rt, callers, arrival.address.ip()) {
             Ok(place) => place,
             Err(why) => {
                 counts.reject(why);

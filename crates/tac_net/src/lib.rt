@@ -3,6 +3,7 @@
 
 mod acceptor;
 mod attending;
+mod callers;
 mod departing;
 mod ending;
 mod fault;
@@ -11,6 +12,7 @@ mod filling;
 mod gauge;
 mod hall_worker;
 mod hashing;
+mod hush;
 mod intake;
 mod lent;
 mod opening;
@@ -29,6 +31,7 @@ mod vigil;
 mod witness;
 mod worker;
 
+pub use callers::Callers;
 pub use fault::ServeFault;
 pub use files::ServerFiles;
 pub use filling::FillingDesk;

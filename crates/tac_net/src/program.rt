@@ -38,7 +38,7 @@ fn serve_places<R, J: Run + Send + Sync, D: Desk + Send, L: Log + Sync>(
 where
     R: Threads + Wait + Clock + Sync + AllocGlobal + Eprint + LogFiles,
     ensures { IfOk result (λ served. HaveAllServed (HasServed J.opening
-        premises.now.settings.now.key (L.keeping premises.now.log.now)
+        premises.now.settings.now.callers (L.keeping premises.now.log.now)
         premises.now.settings.now.connections)
         (map (λ place. place.seat) places.items) served.items) }
 {
@@ -54,7 +54,7 @@ where
         counts,
     } = *premises;
     let work = |place: Place<J>| -> Seat<J>
-        ensures { HasServed J.opening settings.entry.now.key (L.keeping log.entry.now)
+        ensures { HasServed J.opening settings.entry.now.callers (L.keeping log.entry.now)
             settings.entry.now.connections place.seat result }
     {
         let premises = Premises {
@@ -94,7 +94,7 @@ where
     requires places { IsSome (P.item places.now) }
     requires console { IsSome (C.item console.now) }
     ensures served { IfOk result.0 (λ served. IfSome (P.item places.old) (λ waiting. HaveAllServed
-        (HasServed J.opening premises.now.settings.now.key (L.keeping premises.now.log.now)
+        (HasServed J.opening premises.now.settings.now.callers (L.keeping premises.now.log.now)
         premises.now.settings.now.connections)
         (map (λ place. place.seat) waiting.items) served.items)) }
     ensures attended { IfSome (C.item console.old) (λ seat.
@@ -116,8 +116,8 @@ where
     let mut serving = || -> Result<Vec<Seat<J>>, AllocError>
         requires { IsSome (P.item places.now) }
         ensures { IfOk result (λ served. IfSome (P.item places.entry.now) (λ waiting.
-            HaveAllServed (HasServed J.opening settings.entry.now.key (L.keeping log.entry.now)
-            settings.entry.now.connections)
+            HaveAllServed (HasServed J.opening settings.entry.now.callers
+            (L.keeping log.entry.now) settings.entry.now.connections)
             (map (λ place. place.seat) waiting.items) served.items)) }
     {
         match places.take_item() {
@@ -150,12 +150,17 @@ where
     join_mut(rt, &mut serving, &mut attending)
 }
 
-// Serves a desk of this run, whose history is empty yet.
+// A desk that nobody called yet, and its history.
+struct NewDesk<D: Desk> {
+    history: EmptyHistory,
+    desk: D,
+}
+
+// Serves a desk of this run.
 fn serve_run<J, R, D: Desk + Send, L: Log + Sync, S: Source + Typists, I: Read, O: Write>(
     rt: &R,
     port: &Port,
-    history: EmptyHistory,
-    desk: D,
+    desk: NewDesk<D>,
     settings: &Settings,
     files: &ServerFiles<'_, L, S>,
     input: &mut I,
@@ -164,13 +169,14 @@ fn serve_run<J, R, D: Desk + Send, L: Log + Sync, S: Source + Typists, I: Read, 
 where
     J: Run + Send + Sync,
     R: Threads + Wait + Clock + Sync + AllocGlobal + Eprint + LogFiles + Net,
-    requires roll { history ≡ J.roll }
-    requires opening { record { meaning = D.meaning desk; limits = settings.now.limits }
+    requires roll { desk.history ≡ J.roll }
+    requires opening { record { meaning = D.meaning desk.desk; limits = settings.now.limits }
         ≡ J.opening }
     ensures { program.Runs result settings.now (L.keeping files.now.log.now) J.opening
         (I.remaining input.old) (I.remaining input.new)
         (O.contents output.old) (O.contents output.new) }
 {
+    let NewDesk { history, desk } = desk;
     let room = Vec::with_capacity(rt.alloc(), settings.workers as usize + 1)?;
     let vigil = Vigil::new();
     let (intake, waits) = waits_of(rt, rt.alloc(), port, settings)?;
@@ -232,8 +238,10 @@ where
 /// waits meanwhile, and its worker serves others. Where 256 wait for that, the connection of one
 /// more is closed.
 ///
-/// A new connection goes to the worker that has the fewest. It is closed where there are as many as
-/// the settings allow, in all or of its address. A connection is given up where so many seconds as
+/// A new connection goes to the worker that has the fewest, which serves it by the key of the
+/// device at its address. It is closed before a byte is read or written where no device that may
+/// call is there, which standard error is told once a minute at most. So it is where there are as
+/// many as the settings allow, in all or of its address. A connection is given up where so many seconds as
 /// the settings say have passed since it was accepted or since its last reply was taken, whatever
 /// comes meanwhile; before its first reply after ten seconds; where a reply isn't taken for so
 /// long; and where its unanswered packets find no memory. Where there is a log, each reply is sent
@@ -260,5 +268,6 @@ where
     ensures matching { MatchLaw }
 {
     let history = EmptyHistory::new(rt.alloc())?;
-    serve_run::<Brand, R, D, L, S, I, O>(rt, port, history, desk, settings, files, input, output)
+    let desk = NewDesk { history, desk };
+    serve_run::<Brand, R, D, L, S, I, O>(rt, port, desk, settings, files, input, output)
 }

@@ -1,16 +1,16 @@
 //! What a server is told when it begins.
 
+use crate::callers::Callers;
 use crate::patience::Idle;
 use tac_forum::Limits;
-use tac_wire::Key;
 
 /// Whom a server serves, and how much.
 #[derive(Drop)]
 pub struct Settings {
     /// The number of the port that is listened on, which is printed.
     pub port: u16,
-    /// The key that it shares with its clients.
-    pub key: Key,
+    /// Which devices may call, each by the key that it shares with the server.
+    pub callers: Callers,
     /// How many workers it has, each with a seat and a thread of its own. Each serves many
     /// connections at once.
     pub workers: u32,

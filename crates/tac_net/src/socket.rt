@@ -6,10 +6,12 @@ use std::cell::Cell;
 use std::io::{self, ErrorKind, Read, Write};
 use std::net::IpAddr;
 use std::time::Clock;
+use tac_wire::Key;
 
 /// The socket of a device, which never waits: a read or a write that would have to wait fails as
-/// WouldBlock. It knows what says when its device is given up. It takes packet memory for the bytes
-/// that came since the last reply; a read that finds none fails as OutOfMemory.
+/// WouldBlock. It knows its device's key, and what says when that is given up. It takes packet
+/// memory for the bytes that came since the last reply; a read that finds none fails as
+/// OutOfMemory.
 ///
 /// A read that came short has read all that was there, so the next one of the same visit is
 /// answered WouldBlock at once, without asking the system: of what came since, a wait will tell. At
@@ -18,6 +20,7 @@ use std::time::Clock;
 pub struct Socket<'a, S, C> {
     stream: S,
     address: IpAddr,
+    key: &'a Key,
     clock: &'a C,
     patience: Patience,
     share: PacketShare<'a>,
@@ -55,10 +58,12 @@ pub(crate) fn now<C: Clock>(clock: &C) -> Option<u64> {
 }
 
 impl<'a, S, C: Clock> Socket<'a, S, C> {
-    /// That of a connection from this address that was just accepted, as a stream that never waits.
+    /// That of a connection that was just accepted, as a stream that never waits: from this
+    /// address, of a device with this key.
     pub fn new(
         stream: S,
         address: IpAddr,
+        key: &'a Key,
         clock: &'a C,
         memory: &'a PacketMemory,
         visits: &'a Visits,
@@ -66,6 +71,7 @@ impl<'a, S, C: Clock> Socket<'a, S, C> {
         Socket {
             stream,
             address,
+            key,
             clock,
             patience: Patience::accepted(now(clock)),
             share: PacketShare::new(memory),
@@ -82,6 +88,11 @@ impl<'a, S, C: Clock> Socket<'a, S, C> {
     /// The address of its device.
     pub fn address(&self) -> IpAddr {
         self.address
+    }
+
+    /// The key of its device.
+    pub fn key(&self) -> &'a Key {
+        self.key
     }
 
     /// Whether a read found no packet memory.

@@ -1,6 +1,8 @@
 //! A worker: a seat that serves many connections in turns.
 
-ghost use Rattle.std.specs.Prelude.{◌≡◌};
+ghost use Rattle.std.specs.Prelude.{◌≡◌, IfSome, IfNone};
+ghost use Rattle.std.specs.Net.Socket.{socket_ip};
+ghost use Rattle.tac_net.specs.Callers.{MayCall, IsStranger};
 ghost use Rattle.tac_net.specs.Connections.{HasServed};
 
 use crate::acceptor::Acceptor;
@@ -14,7 +16,7 @@ use mio::event::Event;
 use mio::net::TcpStream;
 use std::marker::Model;
 use std::mem::replace;
-use std::net::IpAddr;
+use std::net::{IpAddr, SocketAddr};
 use std::sync::Wait;
 use std::time::{Clock, Duration};
 use tac_desk::Desk;
@@ -23,6 +25,7 @@ use tac_forum::{Run, Seat};
 use tac_journal::{Log, LogFiles, Moments};
 use tac_loop::{Stop, Switchboard};
 use tac_status::Departure;
+use tac_wire::Key;
 use tac_worker::{CHUNK, Chunk, DeskCaller, OpenGate, Terms};
 
 /// How many steps of one connection are made before others have theirs: 16 packets, each with its
@@ -80,22 +83,39 @@ where
     } };
 
     ghost invariant = { λ worker. Stands (witness.Takes L.keeping) (witness.Refuses L.keeping)
-        worker.premises.now.settings.now.key (L.keeping worker.premises.now.log.now)
+        worker.premises.now.settings.now.callers (L.keeping worker.premises.now.log.now)
         worker.premises.now.settings.now.connections worker.board worker.left };
 }
 
-// What its connections share.
-fn terms_of<'a, R: AllocGlobal, J: Run, D: Desk, L>(
+// By what a connection is served whose device has this key.
+fn terms_by<'a, R: AllocGlobal, J: Run, D: Desk, L>(
     premises: &Premises<'a, R, J, D, L>,
+    key: &'a Key,
 ) -> Terms<'a, R, OpenGate>
-    ensures { result.key.now ≡ premises.now.settings.now.key }
+    ensures { result.key.now ≡ key.now }
 {
     Terms {
         rt: premises.rt,
         alloc: premises.rt.alloc(),
-        key: &premises.settings.key,
+        key,
         gate: &OpenGate,
     }
+}
+
+// By what a connection from this address is served, if a device may call from there.
+fn terms_of<'a, R: AllocGlobal, J: Run, D: Desk, L>(
+    premises: &Premises<'a, R, J, D, L>,
+    address: SocketAddr,
+) -> Option<Terms<'a, R, OpenGate>>
+    ensures found { IfSome result (λ terms. MayCall premises.now.settings.now.callers
+        (socket_ip address) terms.key.now) }
+    ensures none { IfNone result (IsStranger premises.now.settings.now.callers
+        (socket_ip address)) }
+{
+    let Some(key) = premises.settings.callers.key_of(&address.ip()) else {
+        return None;
+    };
+    Some(terms_by(premises, key))
 }
 
 // A connection from this address, which this worker had, is gone.
@@ -190,9 +210,11 @@ where
         ensures { self.new ≡ self.old }
     {
         self.visits.next();
-        let stop = self
-            .board
-            .serve(key, &terms_of(self.premises), &mut self.chunk, STEPS);
+        let Some(line) = self.board.get(key) else {
+            return false;
+        };
+        let terms = terms_by(self.premises, line.socket().key());
+        let stop = self.board.serve(key, &terms, &mut self.chunk, STEPS);
         match stop {
             Stop::Busy => {
                 self.keep_busy(key);
@@ -245,7 +267,7 @@ where
         }
     }
 
-    // Adds a connection, if there may be one more and memory for it.
+    // Adds a connection, if its device may call, and there may be one more and memory for it.
     fn admit(&mut self, arrival: Arrival) -> Option<usize>
         ensures { self.new ≡ self.old }
     {
@@ -258,21 +280,24 @@ where
             ..
         } = *self.premises;
         let Arrival { stream, address } = arrival;
+        let Some(terms) = terms_of(self.premises, address) else {
+            return None;
+        };
         let Ok(witness) = DeviceWitness::new(rt, log, &counts.requests, self.moments, address)
         else {
             return None;
         };
         let memory = intake.packet_memory();
-        let socket = Socket::new(stream, address.ip(), rt, memory, self.visits);
-        let Ok(key) = self.board.add(&terms_of(self.premises), witness, socket) else {
+        let socket = Socket::new(stream, address.ip(), terms.key, rt, memory, self.visits);
+        let Ok(key) = self.board.add(&terms, witness, socket) else {
             return None;
         };
         self.left = left;
         Some(key)
     }
 
-    // Adds a connection that was counted, and serves what has come already: it may be over by that,
-    // and needs no registration then.
+    // Adds a connection that was counted, as those of unknown devices aren't, and serves what has
+    // come already: it may be over by that, and needs no registration then.
     fn add(&mut self, poller: &Poller, arrival: Arrival)
         ensures { self.new ≡ self.old }
     {
@@ -367,12 +392,15 @@ where
     {
         let Premises {
             rt,
+            settings,
             intake,
             counts,
             ..
         } = *self.premises;
         match &mut self.acceptor {
-            Some(acceptor) => acceptor.next(rt, intake, &counts.connections, now),
+            Some(acceptor) => {
+                acceptor.next(rt, intake, &settings.callers, &counts.connections, now)
+            }
             None => None,
         }
     }
@@ -457,7 +485,7 @@ where
 
     // Its seat, once it serves no more.
     fn into_seat(self) -> Seat<J>
-        ensures { HasServed J.opening self.entry.settings.key (L.keeping self.entry.log)
+        ensures { HasServed J.opening self.entry.settings.callers (L.keeping self.entry.log)
             self.entry.settings.connections self.entry.first result }
     {
         let Worker {
@@ -498,8 +526,9 @@ pub(crate) fn work<R, J: Run, D: Desk, L: Log>(
 ) -> Seat<J>
 where
     R: Wait + Clock + AllocGlobal + Eprint + LogFiles,
-    ensures { HasServed J.opening premises.now.settings.now.key (L.keeping premises.now.log.now)
-        premises.now.settings.now.connections place.seat result }
+    ensures { HasServed J.opening premises.now.settings.now.callers
+        (L.keeping premises.now.log.now) premises.now.settings.now.connections place.seat
+        result }
 {
     let Place { at, seat, waits } = place;
     let Waits { poller, acceptor } = waits;

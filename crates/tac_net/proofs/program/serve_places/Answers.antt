@@ -54,7 +54,7 @@ map_vec-requires-sync-F g c κs within =
 pub returns : goal.returns
 returns g c =
     ok_both c.map_vec.result (λ served same each.
-    each_served_so (λ place. place.seat) (HasServed g.J.Run.opening c.args.premises.now.settings.now.key (g.L.Log.keeping c.args.premises.now.log.now) c.args.premises.now.settings.now.connections) c.args.places.items served.items
+    each_served_so (λ place. place.seat) (HasServed g.J.Run.opening c.args.premises.now.settings.now.callers (g.L.Log.keeping c.args.premises.now.log.now) c.args.premises.now.settings.now.connections) c.args.places.items served.items
     (omega (arith, same, served.ok.0, c.args.places.ok.0))
     (λ i d h. let job = (each i d h).1 in (job.job, job.job_read, job.call.met)))
     c.map_vec.ensures.len c.map_vec.ensures.each

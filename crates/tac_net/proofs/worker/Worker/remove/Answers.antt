@@ -4,5 +4,5 @@ use Rattle.tac_net.proofs.worker.Worker.remove.Goals as goal
 
 pub invariant_of-self : goal.invariant_of-self
 invariant_of-self g c =
-    stands_removed (Takes g.L.Log.keeping) (Refuses g.L.Log.keeping) c.self.inside.premises.now.settings.now.key (g.L.Log.keeping c.self.inside.premises.now.log.now)
+    stands_removed (Takes g.L.Log.keeping) (Refuses g.L.Log.keeping) c.self.inside.premises.now.settings.now.callers (g.L.Log.keeping c.self.inside.premises.now.log.now)
     c.self.inside.premises.now.settings.now.connections c.self.inside.left c.args.key c.remove.result c.self.inside.board c.remove.new.self c.remove.ensures.line c.remove.ensures.rest c.self.invariant
