@@ -1,17 +1,17 @@
 $ tacd serve
 ! error: the following required arguments were not provided:
 !   --port <P>
-!   <--key <K>|--key-file <PATH>>
+!   <--key <K>|--key-file <PATH>|--devices <PATH>>
 !   <FILE>
 !
-! Usage: tacd serve --port <P> <--key <K>|--key-file <PATH>> <FILE>
+! Usage: tacd serve --port <P> <--key <K>|--key-file <PATH>|--devices <PATH>> <FILE>
 !
 ! For more information, try '--help'.
 status 2
 
 $ tacd
 ! error: 'tacd' requires a subcommand but one was not provided
-!   [subcommands: serve, console, check, lint, diff, why, given, test, replay, help]
+!   [subcommands: serve, console, check, lint, diff, why, given, test, devices, replay, help]
 !
 ! Usage: tacd <COMMAND>
 !

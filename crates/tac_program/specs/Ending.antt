@@ -2,6 +2,8 @@
 use Rattle.std.specs.Prelude.{Result, Ok, Err}
 use Rattle.tac_io.specs.declared.answering.AnswerFault.{AnswerFault}
 use Rattle.tac_io.specs.declared.answering.AnswerFault.TheVariants as answers
+use Rattle.tac_devices.specs.declared.listing.ListingEnd.{ListingEnd}
+use Rattle.tac_devices.specs.declared.listing.ListingEnd.TheVariants as listings
 use Rattle.tac_review.specs.declared.checking.CheckEnd.{CheckEnd}
 use Rattle.tac_review.specs.declared.checking.CheckEnd.TheVariants as checks
 use Rattle.tac_review.specs.declared.linting.LintEnd.{LintEnd}
@@ -34,6 +36,13 @@ status_of_lint (Ok lints.Quiet) = Done
 status_of_lint (Ok lints.Told) = Differs
 status_of_lint (Ok lints.Refused) = Refused
 status_of_lint (Err fault) = status_of fault
+
+-- an address that may not call is told by a status of its own
+abbrev pub status_of_listing : Result ListingEnd AnswerFault → Status
+status_of_listing (Ok listings.Fine) = Done
+status_of_listing (Ok listings.Stranger) = Differs
+status_of_listing (Ok listings.Refused) = Refused
+status_of_listing (Err fault) = status_of fault
 
 -- where something differs it is the one that is given
 abbrev pub status_of_review : Status → Result ReviewEnd ReviewFault → Status

@@ -1,3 +1,4 @@
 pub mod Descriptors
 pub mod Opening
 pub mod Ending
+pub mod Telling

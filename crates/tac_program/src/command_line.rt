@@ -1,13 +1,14 @@
 //! The words that the program takes.
 
 use crate::help::{
-    ABOUT, ADDRESS_HELP, AFTER_LONG_HELP, AT_ONCE_HELP, CASES_HELP, CHECK_PAGE, CONNECTIONS_HELP,
-    CONSOLE_OPTION_HELP, CONSOLE_PAGE, CONSOLE_PATH_HELP, DIFF_PAGE, EDITS_HELP, EXIT_CODE_HELP,
-    FILE_HELP, GIVEN_PAGE, GIVEN_USER_HELP, IDLE_HELP, KEEP_EDITS_HELP, KEEP_RECORDS_HELP,
-    KEY_FILE_HELP, KEY_HELP, LINE_HELP, LINT_PAGE, LOG_HELP, LOGIN_IDLE_HELP, LONG_ABOUT, NEW_HELP,
-    NO_CONSOLE_HELP, OLD_HELP, PACKET_MEMORY_HELP, PER_ADDRESS_HELP, PORT_HELP, Page,
-    REPLAY_LOG_HELP, REPLAY_PAGE, ROTATE_AT_HELP, SERVE_PAGE, SERVICE_HELP, SYNC_HELP, TEST_PAGE,
-    TIME_HELP, USER_HELP, WHY_PAGE, WORD_HELP, WORKERS_HELP,
+    ABOUT, ADDRESS_HELP, AFTER_LONG_HELP, ASKED_HELP, AT_ONCE_HELP, CASES_HELP, CHECK_PAGE,
+    CONNECTIONS_HELP, CONSOLE_OPTION_HELP, CONSOLE_PAGE, CONSOLE_PATH_HELP, DEVICES_FILE_HELP,
+    DEVICES_HELP, DEVICES_PAGE, DIFF_PAGE, EDITS_HELP, EXIT_CODE_HELP, FILE_HELP, GIVEN_PAGE,
+    GIVEN_USER_HELP, IDLE_HELP, KEEP_EDITS_HELP, KEEP_RECORDS_HELP, KEY_FILE_HELP, KEY_HELP,
+    LINE_HELP, LINT_PAGE, LOG_HELP, LOGIN_IDLE_HELP, LONG_ABOUT, NEW_HELP, NO_CONSOLE_HELP,
+    OLD_HELP, PACKET_MEMORY_HELP, PER_ADDRESS_HELP, PORT_HELP, Page, REPLAY_LOG_HELP, REPLAY_PAGE,
+    ROTATE_AT_HELP, SERVE_PAGE, SERVICE_HELP, SYNC_HELP, TEST_PAGE, TIME_HELP, USER_HELP, WHY_PAGE,
+    WORD_HELP, WORKERS_HELP,
 };
 use clap::{Arg, ArgAction, ArgGroup, ArgMatches, Command, value_parser};
 use std::alloc::{AllocError, Global};
@@ -36,7 +37,13 @@ pub(crate) const GIVEN: &str = "given";
 /// The word that asks whether cases are so.
 pub(crate) const TEST: &str = "test";
 
-/// The file of a policy.
+/// The word that asks which devices may call.
+pub(crate) const DEVICES: &str = "devices";
+
+/// Which addresses are asked about.
+pub(crate) const ADDRESSES: &str = "ADDRESS";
+
+/// The file of a policy, or of devices.
 pub(crate) const FILE: &str = "FILE";
 
 /// The file of a policy, and that of another which is to take its place.
@@ -101,7 +108,10 @@ pub(crate) const SYNC: &str = "sync";
 /// Whether the server has no console.
 pub(crate) const NO_CONSOLE: &str = "no-console";
 
-// The key, by either of its options.
+/// The file of the devices that may call, each by its own key.
+pub(crate) const DEVICES_FILE: &str = "devices";
+
+// Who may call by which key, by one of these options.
 const SECRET: &str = "secret";
 
 /// The socket at which operators type.
@@ -206,6 +216,7 @@ fn with_options<'a>(alloc: Global, command: Command<'a>) -> Result<Command<'a>, 
         .arg(number(alloc, PORT, "P", (1, 65_535), PORT_HELP).required(true))?
         .arg(text(alloc, KEY, "K", KEY_HELP))?
         .arg(text(alloc, KEY_FILE, "PATH", KEY_FILE_HELP))?
+        .arg(text(alloc, DEVICES_FILE, "PATH", DEVICES_FILE_HELP))?
         .arg(text(alloc, ADDRESS, "ADDR", ADDRESS_HELP).default_value("0.0.0.0"))?;
     with_limits(alloc, command)?
         .arg(number(alloc, KEEP_RECORDS, "N", records, KEEP_RECORDS_HELP))?
@@ -224,6 +235,7 @@ fn serve<'a>(alloc: Global) -> Result<Command<'a>, AllocError> {
     let secret = ArgGroup::new(alloc, SECRET)
         .arg(KEY)?
         .arg(KEY_FILE)?
+        .arg(DEVICES_FILE)?
         .required(true);
     let command = with_page(alloc, SERVE, SERVE_PAGE);
     with_options(alloc, command)?
@@ -267,6 +279,12 @@ fn test<'a>(alloc: Global) -> Result<Command<'a>, AllocError> {
         .arg(required(alloc, CASES, CASES_HELP))
 }
 
+fn devices<'a>(alloc: Global) -> Result<Command<'a>, AllocError> {
+    with_page(alloc, DEVICES, DEVICES_PAGE)
+        .arg(required(alloc, FILE, DEVICES_HELP))?
+        .arg(Arg::new(alloc, ADDRESSES).num_args(0..).help(ASKED_HELP))
+}
+
 fn replay<'a>(alloc: Global) -> Result<Command<'a>, AllocError> {
     with_page(alloc, REPLAY, REPLAY_PAGE)
         .arg(text(alloc, LOG, "PATH", REPLAY_LOG_HELP))?
@@ -294,7 +312,7 @@ pub(crate) fn word_of<'a>(matches: &ArgMatches<'a>, id: &str) -> &'a str {
 }
 
 /// The version of the program.
-pub(crate) const VERSION: &str = "0.14.0";
+pub(crate) const VERSION: &str = "0.15.0";
 
 /// What the program's command line may be.
 pub(crate) fn command<'a>(alloc: Global) -> Result<Command<'a>, AllocError> {
@@ -312,5 +330,6 @@ pub(crate) fn command<'a>(alloc: Global) -> Result<Command<'a>, AllocError> {
     let command = with(command, why(alloc))?;
     let command = with(command, given(alloc))?;
     let command = with(command, test(alloc))?;
+    let command = with(command, devices(alloc))?;
     with(command, replay(alloc))
 }

@@ -1,5 +1,6 @@
 //! What is said on standard error.
 
+use tac_devices::Devices;
 use tac_io::AnswerFault;
 
 /// Says why a policy's file isn't answered, or not to the end. The status tells it too, so it
@@ -11,6 +12,16 @@ pub(crate) fn complain<R: Eprint>(rt: &R, path: &str, fault: AnswerFault) {
             eprintln!(rt; "tacd: {fault}")
         }
     };
+}
+
+/// The same of a devices' file, whose text is bounded otherwise.
+pub(crate) fn complain_of_devices<R: Eprint>(rt: &R, path: &str, fault: AnswerFault) {
+    if fault == AnswerFault::TooLong {
+        let most = Devices::MAX_TEXT;
+        let _ = eprintln!(rt; "tacd: {path}: it is over {most} bytes long");
+        return;
+    }
+    complain(rt, path, fault);
 }
 
 /// Says what tells more of a policy's file that is refused. It doesn't matter whether this could be

@@ -62,8 +62,9 @@ and takes edits of its policy and questions at a console. 'tacd console' types t
 a socket. 'tacd check' reads a policy and prints which of its rules decide nothing, 'tacd lint' what
 in it is probably not meant; 'tacd diff' prints what a new policy permits and denies that an old one
 didn't, 'tacd why' which rule decides on a line, 'tacd given' what a user is given for a service, and
-'tacd test' whether all is so that a table says. 'tacd replay' takes what devices send from a script,
-together with the policy, and prints what is answered; it opens no socket.";
+'tacd test' whether all is so that a table says. 'tacd devices' reads which devices may call. 'tacd
+replay' takes what devices send from a script, together with the policy, and prints what is
+answered; it opens no socket.";
 
 pub(crate) const SERVE_PAGE: Page = Page {
     about: "Serves devices on a port, with a console on standard input or at a socket",
@@ -77,7 +78,9 @@ edits, and is served after a restart; and where --log names one, that keeps a li
 request and for each line of the console. A request is answered only once its line is in the file.
 
 The key is 1 to 128 printable ASCII characters. Give it by --key-file: a key on the command line can
-be seen by everyone with a login on this machine, by 'ps' for one.",
+be seen by everyone with a login on this machine, by 'ps' for one. Or give --devices a file of
+devices, each with its addresses and its own key, which 'tacd devices' checks: then a connection from
+any other address is closed unanswered.",
     after_help: "Example:
   tacd serve --port 49 --key-file tacd.key campus.policy
 
@@ -157,7 +160,8 @@ Example:
 
 Exit status:
   0  the server was stopped
-  1  the policy is refused, or that of --keep-edits is, and why was printed, as by 'tacd check'
+  1  the policy is refused, or that of --keep-edits is, and why was printed, as by 'tacd check'; or
+     the file of --devices is, as by 'tacd devices'
   2  the command line or the key is wrong
   3  memory ran out, a thread could not be made, or too few files may be open
   4  a file could not be read, that of --log could not be opened, what is at the path of
@@ -173,6 +177,9 @@ pub(crate) const KEY_HELP: &str =
     "The key that server and devices share; other users of this machine see it";
 
 pub(crate) const KEY_FILE_HELP: &str = "The file whose first line is that key";
+
+pub(crate) const DEVICES_FILE_HELP: &str =
+    "The file of the devices that may call, each by a key of its own; others are closed";
 
 pub(crate) const ADDRESS_HELP: &str =
     "The IPv4 or IPv6 address to listen at; '::' is every address of both kinds";
@@ -571,6 +578,65 @@ Exit status:
 
 pub(crate) const CASES_HELP: &str = "The table's text, at most 268435456 bytes";
 
+pub(crate) const DEVICES_PAGE: Page = Page {
+    about: "Reads which devices may call, and tells which of them an address is",
+    long_about: "Reads a file that says which devices may call, by which addresses and under which keys, and prints
+how much it has, and what is remarked on their keys. Where addresses are given, it prints instead
+which device each of them is.
+
+Of the prefixes that an address begins with the longest decides, wherever it stands. No key is ever
+printed. The server doesn't read such a file yet.",
+    after_help: "Examples:
+  tacd devices campus.devices
+  tacd devices campus.devices 192.0.2.1 2001:db8::1
+
+'tacd devices --help' describes the lines of the file, and what is printed.",
+    after_long_help: "Lines of the file, any number of these:
+  device NAME          begins a device, or several that share what follows
+  at ADDRESS           the device above it has this address; at least one
+  at ADDRESS/N         it has all addresses that begin with the first N bits of this one
+  key TEXT             the key that it shares with the server, 1 to 128 characters; exactly one
+  connections N        how many connections each of its addresses may have at once, 1 to 10000
+
+Empty lines, lines that begin with '#' and leading spaces are passed over. A NAME is 1 to 32 of the
+characters A-Z a-z 0-9 _ - . @. An ADDRESS is an IPv4 or IPv6 address without a scope; one that is
+IPv4 written as IPv6, as ::ffff:192.0.2.1, is looked up as IPv4. There may be 4096 devices, and
+16384 lines 'at'.
+
+What is printed without any ADDRESS, the last two for each key that they are so of:
+  devices ok: D devices, P prefixes
+  line L: the key of line M
+                       two devices have one key
+  line L: a key of N characters
+                       it has fewer than 16
+
+What is printed of each ADDRESS, in their order:
+  ADDRESS NAME PREFIX line L
+                       the device that it is, and which of its prefixes says so, at line L
+  ADDRESS may not call
+
+What is printed where the file is refused; nothing else is printed then:
+  devices fault line L FAULT
+                       line L is wrong, or the device that begins there
+
+Example:
+  $ tacd devices campus.devices 192.0.2.1 203.0.113.9
+  192.0.2.1 core-1 192.0.2.1/32 line 3
+  203.0.113.9 may not call
+
+Exit status:
+  0  the file may stand, and each ADDRESS is a device's
+  1  the file is refused, and why was printed
+  2  the command line is wrong, or an ADDRESS is none
+  3  memory ran out
+  4  the file could not be read, or the output could not be written
+  5  an ADDRESS may not call",
+};
+
+pub(crate) const DEVICES_HELP: &str = "The text of the devices, at most 16777216 bytes";
+
+pub(crate) const ASKED_HELP: &str = "Tell which device this IPv4 or IPv6 address is";
+
 pub(crate) const REPLAY_PAGE: Page = Page {
     about: "Reads a script on standard input and prints the server's replies",
     long_about: "Reads a script on standard input and prints the server's replies on standard output.
@@ -644,6 +710,7 @@ pub(crate) const AFTER_LONG_HELP: &str = "Examples:
   tacd why campus.policy ben show vlan
   tacd given devices.policy bob junos-exec
   tacd test campus.policy campus.cases
+  tacd devices campus.devices 192.0.2.1
   tacd serve --port 49 --key-file tacd.key campus.policy
   tacd console /run/tacd/console why ben show vlan
   tacd replay < session.script

@@ -8,6 +8,7 @@ mod condition;
 mod console;
 mod console_client;
 mod descriptors;
+mod devices;
 mod help;
 mod keeping;
 mod opening;

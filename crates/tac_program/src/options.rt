@@ -7,10 +7,11 @@ ghost use Rattle.std.specs.Prelude.{◌≡◌};
 ghost use Rattle.tac_program.specs.Opening as opening;
 
 use crate::command_line::{
-    ADDRESS, CONNECTIONS, CONNECTIONS_AT_ONCE, CONSOLE, FILE, IDLE, KEEP_EDITS, KEEP_RECORDS, KEY,
-    KEY_FILE, LOG, LOGIN_IDLE, MAX_CALLS, NO_CONSOLE, PACKET_MEMORY, PER_ADDRESS, PORT, ROTATE_AT,
-    SYNC, WORKERS, word_of,
+    ADDRESS, CONNECTIONS, CONNECTIONS_AT_ONCE, CONSOLE, DEVICES_FILE, FILE, IDLE, KEEP_EDITS,
+    KEEP_RECORDS, KEY, KEY_FILE, LOG, LOGIN_IDLE, MAX_CALLS, NO_CONSOLE, PACKET_MEMORY,
+    PER_ADDRESS, PORT, ROTATE_AT, SYNC, WORKERS, word_of,
 };
+use crate::devices::devices_of_file;
 use crate::opening::open_secret;
 use crate::status::Status;
 use basics::split_once;
@@ -21,7 +22,7 @@ use tac_desks::MAX_RECORDS;
 use tac_forum::Limits;
 use tac_io::{InputFault, read_whole};
 use tac_keep::Tray;
-use tac_net::{Idle, Settings};
+use tac_net::{Callers, Idle, Settings};
 use tac_status::Counts;
 use tac_tally::RecordLimit;
 use tac_wire::Key;
@@ -131,7 +132,7 @@ fn key_of_file<R: Files + Eprint + AllocGlobal>(rt: &R, path: &str) -> Result<Ke
     }
 }
 
-// A command line that was parsed has a key or a key's file.
+// The key of all devices, of a command line that was parsed without a devices' file.
 fn key_of<R: Files + Eprint + AllocGlobal>(
     rt: &R,
     matches: &ArgMatches<'_>,
@@ -140,6 +141,23 @@ fn key_of<R: Files + Eprint + AllocGlobal>(
         (Some(word), _) => key_of_word(rt, word),
         (None, Some(path)) => key_of_file(rt, path),
         (None, None) => Err(Status::BadCommandLine),
+    }
+}
+
+// Which devices may call: any by one key, or those of a devices' file.
+fn callers_of<R>(rt: &R, matches: &ArgMatches<'_>) -> Result<Callers, Status>
+where
+    R: Files + Print + Eprint + AllocGlobal,
+{
+    match matches.get_str(DEVICES_FILE) {
+        Some(path) => {
+            let devices = devices_of_file(rt, path)?;
+            Ok(Callers::Listed(devices))
+        }
+        None => {
+            let key = key_of(rt, matches)?;
+            Ok(Callers::Any(key))
+        }
     }
 }
 
@@ -180,10 +198,10 @@ fn hashers_of(processors: usize) -> u32
 
 // The numbers of a command line that was parsed, which has each of them within its bounds, on a
 // machine with so many processors.
-fn settings_of(matches: &ArgMatches<'_>, key: Key, processors: usize) -> Option<Settings> {
+fn settings_of(matches: &ArgMatches<'_>, callers: Callers, processors: usize) -> Option<Settings> {
     Some(Settings {
         port: matches.get_one::<u16>(PORT)?,
-        key,
+        callers,
         workers: workers_of(
             matches.get_one::<u32>(WORKERS),
             matches.get_flag(SYNC),
@@ -218,15 +236,19 @@ fn record_limit_of(most: Option<u32>) -> RecordLimit
 
 impl<'a> Options<'a> {
     /// The options of a command line that was parsed, on a machine with so many processors. The
-    /// error is the status to end with: of the address, which is judged first, or of the key.
-    pub(crate) fn read<R: Files + Eprint + AllocGlobal>(
+    /// error is the status to end with: of the address, which is judged first, or of the key or the
+    /// devices.
+    pub(crate) fn read<R>(
         rt: &R,
         matches: &ArgMatches<'a>,
         processors: usize,
-    ) -> Result<Options<'a>, Status> {
+    ) -> Result<Options<'a>, Status>
+    where
+        R: Files + Print + Eprint + AllocGlobal,
+    {
         let address = address_of(rt, matches)?;
-        let key = key_of(rt, matches)?;
-        match settings_of(matches, key, processors) {
+        let callers = callers_of(rt, matches)?;
+        match settings_of(matches, callers, processors) {
             Some(settings) => Ok(Options {
                 address: SocketAddr::from((address, settings.port)),
                 settings,

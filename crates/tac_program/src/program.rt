@@ -4,10 +4,11 @@ ghost use Rattle.std.specs.Prelude.{◌≡◌, ◌≢◌, ◌⊎◌};
 ghost use Rattle.clap.specs.Values.{kind_of};
 
 use crate::command_line::{
-    CHECK, CONSOLE, DIFF, FILE, GIVEN, LINT, REPLAY, SERVE, TEST, WHY, command, word_of,
+    CHECK, CONSOLE, DEVICES, DIFF, FILE, GIVEN, LINT, REPLAY, SERVE, TEST, WHY, command, word_of,
 };
 use crate::complaint::{complain, name_lint};
 use crate::console_client::type_at_console;
+use crate::devices::devices;
 use crate::opening::open_file;
 use crate::options::Options;
 use crate::replaying::replay_script;
@@ -87,7 +88,8 @@ fn processors<H: Threads>(host: &H) -> usize {
     }
 }
 
-// A parse that succeeds leaves of the options the address and the key to be judged.
+// A parse that succeeds leaves of the options the address, and the key or the devices' file, to be
+// judged.
 fn serve_clients<R, H>(rt: &R, host: &H, matches: &ArgMatches<'_>) -> Status
 where
     R: Files + Input + Print + Eprint + AllocGlobal,
@@ -104,7 +106,7 @@ where
     }
 }
 
-// What looks at policies in files and serves nobody, if that is asked for.
+// What looks at files and serves nobody, if that is asked for.
 fn look<R>(rt: &R, matches: &ArgMatches<'_>) -> Option<Status>
 where
     R: Files + Input + Print + Eprint + AllocGlobal,
@@ -124,12 +126,15 @@ where
     if let Some(options) = matches.subcommand_matches(GIVEN) {
         return Some(given(rt, options));
     }
-    let options = matches.subcommand_matches(TEST)?;
-    Some(test(rt, options))
+    if let Some(options) = matches.subcommand_matches(TEST) {
+        return Some(test(rt, options));
+    }
+    let options = matches.subcommand_matches(DEVICES)?;
+    Some(devices(rt, options))
 }
 
 // A parse that succeeds has met a subcommand: `serve`, `console`, `replay`, or one that looks at
-// policies.
+// files.
 fn carry_out<R, H>(rt: &R, host: &H, matches: &ArgMatches<'_>) -> Status
 where
     R: Env + Files + Input + Print + Eprint + AllocGlobal,

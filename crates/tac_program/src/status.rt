@@ -2,10 +2,12 @@
 
 ghost use Rattle.std.specs.Prelude.{◌≡◌, ◌≢◌, ◌⊎◌};
 ghost use Rattle.tac_program.specs.Ending.{status_of, status_of_check, status_of_lint};
-ghost use Rattle.tac_program.specs.Ending.{status_of_review, status_of_serving};
+ghost use Rattle.tac_program.specs.Ending.{status_of_listing, status_of_review};
+ghost use Rattle.tac_program.specs.Ending.{status_of_serving};
 
 use clap::error::ErrorKind;
 use std::io::ErrorKind as IoErrorKind;
+use tac_devices::ListingEnd;
 use tac_io::{AnswerFault, InputFault};
 use tac_net::ServeFault;
 use tac_review::{CheckEnd, LintEnd, ReviewEnd, ReviewFault};
@@ -16,8 +18,8 @@ use tac_server::{ReplayEnd, ReplayFault};
 pub(crate) enum Status {
     /// All was done; help counts as that.
     Done = 0,
-    /// The script, a policy, an edit, a question or a table has a fault, which was printed; or a
-    /// case isn't so.
+    /// The script, a policy, a devices' file, an edit, a question or a table has a fault, which was
+    /// printed; or a case isn't so.
     Refused = 1,
     /// The command line is not one of this program's.
     BadCommandLine = 2,
@@ -27,7 +29,7 @@ pub(crate) enum Status {
     /// be closed.
     Failed = 4,
     /// Someone gains or loses a line by the new policy, or it takes edits; or a lint told
-    /// something; or an edit was made at a console, and isn't kept.
+    /// something; or an address may not call; or an edit was made at a console, and isn't kept.
     Differs = 5,
 }
 
@@ -79,6 +81,18 @@ impl Status {
             Ok(LintEnd::Quiet) => Status::Done,
             Ok(LintEnd::Told) => Status::Differs,
             Ok(LintEnd::Refused) => Status::Refused,
+            Err(fault) => Status::of_answer(fault),
+        }
+    }
+
+    /// The status where a devices' file is told of.
+    pub(crate) fn of_listing(outcome: Result<ListingEnd, AnswerFault>) -> Status
+        ensures { result ≡ status_of_listing outcome }
+    {
+        match outcome {
+            Ok(ListingEnd::Fine) => Status::Done,
+            Ok(ListingEnd::Stranger) => Status::Differs,
+            Ok(ListingEnd::Refused) => Status::Refused,
             Err(fault) => Status::of_answer(fault),
         }
     }

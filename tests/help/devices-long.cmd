@@ -1,0 +1,2 @@
+$ tacd devices --help
+prints devices-long.out
