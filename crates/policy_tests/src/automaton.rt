@@ -1,5 +1,5 @@
-//! Tests of residuals, of automata, of policies that decide by them and of their reports, against
-//! answers that were worked out by hand.
+//! Tests of residuals, of automata and of policies that decide by them, against answers that were
+//! worked out by hand.
 
 mod deciders;
 mod differences;
@@ -7,8 +7,5 @@ mod large;
 mod lists;
 mod meters;
 mod policies;
-mod reports;
 mod residuals;
-mod services;
-mod sharing;
 mod support;

@@ -203,25 +203,33 @@ fn hash_of(text: &[u8]) -> Result<Hash, Fail> {
     }
 }
 
-// The password passes for the hash, and nothing that differs in one bit or one symbol does.
-fn passes<R: Abort + AllocGlobal>(rt: &R, password: &[u8], text: &str) -> Result<(), Fail> {
+// What is so of the hash: the password passes for it, and nothing that differs in a bit or a symbol.
+fn told(hash: &Hash, password: &[u8], other_hash: &Hash, other_password: &[u8]) -> &'static str {
+    if !hash.passes(password) {
+        "isn't passed"
+    } else if hash.passes(other_password) {
+        "is passed by another"
+    } else if other_hash.passes(password) {
+        "is passed with another symbol"
+    } else {
+        "is right"
+    }
+}
+
+fn judged(alloc: Global, password: &[u8], text: &str) -> Result<&'static str, Fail> {
     let hash = hash_of(text.as_bytes())?;
-    let other_password = with_a_bit_changed(rt.alloc(), password)?;
-    let other_text = with_a_symbol_changed(rt.alloc(), text.as_bytes())?;
+    if hash.text().as_slice() != text.as_bytes() {
+        return Ok("isn't written so");
+    }
+    let other_text = with_a_symbol_changed(alloc, text.as_bytes())?;
     let other_hash = hash_of(other_text.as_slice())?;
-    assert!(rt;
-        hash.text().as_slice() == text.as_bytes(),
-        "{text} isn't written so"
-    );
-    assert!(rt; hash.passes(password), "{text} isn't passed");
-    assert!(rt;
-        !hash.passes(other_password.as_slice()),
-        "{text} is passed by another"
-    );
-    assert!(rt;
-        !other_hash.passes(password),
-        "{text} with another symbol is passed"
-    );
+    let other_password = with_a_bit_changed(alloc, password)?;
+    Ok(told(&hash, password, &other_hash, other_password.as_slice()))
+}
+
+fn passes<R: Abort + AllocGlobal>(rt: &R, password: &[u8], text: &str) -> Result<(), Fail> {
+    let judged = judged(rt.alloc(), password, text)?;
+    assert!(rt; judged == "is right", "{text} {judged}");
     Ok(())
 }
 
@@ -246,9 +254,17 @@ const OF_129: &[u8] = b"$6$rounds=1000$x$\
 
 #[test]
 fn passwords_have_1_to_128_bytes(rt: HostRuntime) -> Result<(), Fail> {
-    assert!(rt; !hash_of(OF_NOTHING)?.passes(b""));
-    assert!(rt; !hash_of(OF_129)?.passes([b'x'; 129].as_slice()));
-    assert!(rt; !hash_of(OF_129)?.passes([b'x'; 65_535].as_slice()));
+    for (text, password) in [
+        (OF_NOTHING, b"".as_slice()),
+        (OF_129, &[b'x'; 129]),
+        (OF_129, &[b'x'; 65_535]),
+    ] {
+        assert!(rt;
+            !hash_of(text)?.passes(password),
+            "{} bytes",
+            password.len()
+        );
+    }
     Ok(())
 }
 
@@ -288,9 +304,11 @@ fn has_parts<R: Abort + AllocGlobal>(
 ) -> Result<(), Fail> {
     let text = format!(in rt.alloc(); "{beginning}{SYMBOLS}")?;
     let hash = hash_of(text.as_bytes())?;
-    assert_eq!(rt; hash.rounds(), rounds);
-    assert!(rt; hash.salt() == salt.as_bytes());
-    assert!(rt; hash.symbols().as_slice() == SYMBOLS.as_bytes());
+    let has_numbers = hash.rounds() == rounds && hash.salt() == salt.as_bytes();
+    assert!(rt;
+        has_numbers && hash.symbols().as_slice() == SYMBOLS.as_bytes(),
+        "{text}"
+    );
     Ok(())
 }
 

@@ -1,6 +1,6 @@
-//! Policies of many rules, and of long ones.
+//! Sizes of policies of many rules, and of long ones.
 
-use crate::automaton::support::converses;
+use crate::automaton::policies::has_sizes;
 use std::alloc::{AllocError, Global};
 use std::fmt::Write;
 use std::test::Fail;
@@ -27,48 +27,16 @@ fn long_chain(alloc: Global) -> Result<String, AllocError> {
     Ok(text)
 }
 
-// Adds what reaches each rule of this subject.
-fn push_reached(lines: &mut String, owner: &str, level: u32) -> Result<(), AllocError> {
-    for rule in 0..256 {
-        writeln!(lines, "{owner} rule {}: {level}{rule:02x}", rule + 1)?;
-    }
-    Ok(())
-}
-
-// What is asked of the chain. It has a state for each beginning of a word, and a dead one.
-fn asked_of_the_chain(alloc: Global) -> Result<String, AllocError> {
-    let mut lines = String::from_str(
-        alloc,
-        "> states user u\n2186\n> why u 0ff\ndeny by group g0 rule 256\n\
-         > insert group g0 257 permit x\nrefused 10 Limit\n> shadow\n> reach user u\n",
-    )?;
-    push_reached(&mut lines, "user u", 7)?;
-    for below in 0..7 {
-        let level = 6 - below;
-        let owner = format!(in alloc; "group g{level}")?;
-        push_reached(&mut lines, owner.as_str(), level)?;
-    }
-    Ok(lines)
-}
-
+// A state for each beginning of a word, and a dead one.
 #[test]
 fn as_many_rules_as_there_may_be(rt: HostRuntime) -> Result<(), Fail> {
     let policy = long_chain(rt.alloc())?;
-    let lines = asked_of_the_chain(rt.alloc())?;
-    converses(&rt, policy.as_str(), lines.as_str())
-}
-
-// What begins each of the long words.
-fn stem(alloc: Global) -> Result<String, AllocError> {
-    let mut stem = String::new(alloc);
-    for _ in 0..198 {
-        stem.push('a')?;
-    }
-    Ok(stem)
+    has_sizes(&rt, policy.as_str(), "user u has 2186")
 }
 
 // A hundred rules of the longest words, which differ in their last two symbols.
-fn long_words(alloc: Global, stem: &str) -> Result<String, AllocError> {
+fn long_words(alloc: Global) -> Result<String, AllocError> {
+    let stem = "a".repeat(alloc, 198)?;
     let mut text = String::from_str(alloc, "user u\n")?;
     for word in 0..100 {
         writeln!(text, "permit {stem}{word:02}")?;
@@ -76,21 +44,10 @@ fn long_words(alloc: Global, stem: &str) -> Result<String, AllocError> {
     Ok(text)
 }
 
-// What is asked of them. They have a state for each beginning of a word, and a dead one.
-fn asked_of_the_words(alloc: Global, stem: &str) -> Result<String, AllocError> {
-    let mut lines = String::from_str(alloc, "> states user u\n310\n> shadow\n> reach user u\n")?;
-    for word in 0..100 {
-        writeln!(lines, "user u rule {}: {stem}{word:02}", word + 1)?;
-    }
-    Ok(lines)
-}
-
 #[test]
 fn long_words_that_differ_at_their_ends(rt: HostRuntime) -> Result<(), Fail> {
-    let stem = stem(rt.alloc())?;
-    let policy = long_words(rt.alloc(), stem.as_str())?;
-    let lines = asked_of_the_words(rt.alloc(), stem.as_str())?;
-    converses(&rt, policy.as_str(), lines.as_str())
+    let policy = long_words(rt.alloc())?;
+    has_sizes(&rt, policy.as_str(), "user u has 310")
 }
 
 /// Words that a line may have anywhere.
@@ -110,31 +67,16 @@ fn searches(alloc: Global) -> Result<String, AllocError> {
 #[test]
 fn many_rules_that_search_anywhere(rt: HostRuntime) -> Result<(), Fail> {
     let policy = searches(rt.alloc())?;
-    converses(
+    has_sizes(
         &rt,
         policy.as_str(),
         "
-        > states group net
-        871
-        > why u show bgp
-        permit by group net rule 4
-        # The first rule whose word is found decides, not the one whose word is found first.
-        > why u show bgp of vlan 5
-        permit by group net rule 1
-        > why u show lice
-        deny by default
-        > insert user u 1 deny show .*secret.*
-        ok
-        user u now denies: show dnsecret
-        > states user u
-        990
-        > insert group net 1 permit show .*
-        ok
-        user u now permits: show 
-        > states group net
-        7
-        > states user u
-        13
+        group net has 871
+        insert user u 1 deny show .*secret.*
+        user u has 990
+        insert group net 1 permit show .*
+        group net has 7
+        user u has 13
         ",
     )
 }

@@ -1,7 +1,7 @@
 //! Patterns: which bytes are one, and which texts they hold.
 
 use pol_pattern::{Factor, Pattern, PatternFault, Term};
-use std::alloc::Global;
+use std::alloc::{AllocError, Global};
 use std::process::Abort;
 use std::test::Fail;
 
@@ -397,43 +397,63 @@ fn bytes_that_are_no_pattern(rt: HostRuntime) {
         !6 BadClass at 10
         ",
     );
-    assert!(&rt; is_refused(rt.alloc(), &[b'('; 33], b"8 TooDeep"));
-    assert!(&rt; is_refused(rt.alloc(), &[b'a'; 401], b"1 TooLong"));
-    // The length comes before all else.
-    assert!(&rt; is_refused(rt.alloc(), &[0xff; 401], b"1 TooLong"));
-    assert!(&rt; is_refused_v1(rt.alloc(), &[0xff; 201], b"1 TooLong"));
     // A size of about two to the power of 400 is not counted out.
     let mut deep = [b'+'; 400];
     deep[0] = b'a';
-    assert!(&rt; is_refused(rt.alloc(), &deep, b"9 TooLarge"));
+    for (source, expected) in [
+        ([b'('; 33].as_slice(), b"8 TooDeep".as_slice()),
+        (&[b'a'; 401], b"1 TooLong"),
+        // The length comes before all else.
+        (&[0xff; 401], b"1 TooLong"),
+        (&deep, b"9 TooLarge"),
+    ] {
+        assert!(&rt; is_refused(rt.alloc(), source, expected), "{source:?}");
+    }
+    assert!(&rt; is_refused_v1(rt.alloc(), &[0xff; 201], b"1 TooLong"));
 }
 
 #[test]
 fn as_large_as_a_pattern_may_be(rt: HostRuntime) {
-    // 255 factors.
-    assert!(&rt; tells(rt.alloc(), b"a+++++++", b"a", true));
-    // 255, 127, 15 and 3 are 400, and one more is too many.
-    assert!(&rt; tells(rt.alloc(), b"a+++++++a++++++a+++a+", b"aaaa", true));
-    assert!(&rt; is_refused(rt.alloc(), b"a+++++++a++++++a+++a+a", b"9 TooLarge"));
-    assert!(&rt; tells(rt.alloc(), &[b'a'; 400], &[b'a'; 400], true));
     // 32 parentheses open at once.
     let mut deep = [b')'; 65];
     deep[..32].copy_from_slice(&[b'('; 32]);
     deep[32] = b'a';
-    assert!(&rt; tells(rt.alloc(), &deep, b"a", true));
-    assert!(&rt; tells(rt.alloc(), &deep, b"aa", false));
+    for (source, text, expected) in [
+        // 255 factors.
+        (b"a+++++++".as_slice(), b"a".as_slice(), true),
+        // 255, 127, 15 and 3 are 400.
+        (b"a+++++++a++++++a+++a+", b"aaaa", true),
+        (&[b'a'; 400], &[b'a'; 400], true),
+        (&deep, b"a", true),
+        (&deep, b"aa", false),
+    ] {
+        assert!(&rt; tells(rt.alloc(), source, text, expected), "{source:?}");
+    }
+    // One more is too many.
+    assert!(&rt; is_refused(rt.alloc(), b"a+++++++a++++++a+++a+a", b"9 TooLarge"));
+}
+
+// Whether the pattern of this source, which has a count many times, holds the text or not.
+fn tells_of_many(
+    alloc: Global,
+    (before, count, times, after): (&str, &str, usize, &str),
+    text: &[u8],
+    expected: bool,
+) -> Result<bool, AllocError> {
+    let counts = count.repeat(alloc, times)?;
+    let source = format!(in alloc; "{before}{counts}{after}")?;
+    Ok(tells(alloc, source.as_bytes(), text, expected))
 }
 
 #[test]
 fn what_is_dropped_takes_no_time(rt: HostRuntime) -> Result<(), Fail> {
-    let (counts, none) = ("{32}".repeat(rt.alloc(), 98)?, "{0}");
-    let source = format!(in rt.alloc(); "a{counts}{none}")?;
-    assert!(&rt; tells(rt.alloc(), source.as_bytes(), b"", true));
-    let source = format!(in rt.alloc(); "(a{counts}){none}")?;
-    assert!(&rt; tells(rt.alloc(), source.as_bytes(), b"a", false));
-    let doubled = "+".repeat(rt.alloc(), 394)?;
-    let source = format!(in rt.alloc(); "(a{doubled}){none}")?;
-    assert!(&rt; tells(rt.alloc(), source.as_bytes(), b"", true));
+    for (parts, text, expected) in [
+        (("a", "{32}", 98, "{0}"), b"".as_slice(), true),
+        (("(a", "{32}", 98, "){0}"), b"a", false),
+        (("(a", "+", 394, "){0}"), b"", true),
+    ] {
+        assert!(&rt; tells_of_many(rt.alloc(), parts, text, expected)?);
+    }
     Ok(())
 }
 
@@ -480,10 +500,9 @@ fn is_star_of_two(alloc: Global, source: &[u8]) -> bool {
 #[test]
 fn stars_of_groups(rt: HostRuntime) {
     // A star of exactly one group is a star of the group's terms.
-    assert!(&rt; is_star_of_two(rt.alloc(), b"(a|)*"));
-    assert!(&rt; is_star_of_two(rt.alloc(), b"a?*"));
-    assert!(&rt; is_star_of_two(rt.alloc(), b"a{0,1}*"));
-    assert!(&rt; is_star_of_two(rt.alloc(), b"(a|){1}*"));
+    for source in ["(a|)*", "a?*", "a{0,1}*", "(a|){1}*"] {
+        assert!(&rt; is_star_of_two(rt.alloc(), source.as_bytes()), "{source}");
+    }
 }
 
 #[test]

@@ -1,115 +1,54 @@
-//! Policies: their text, chains and decisions.
+//! Policies: their chains, decisions and copies, and edits that are made together.
 
-use crate::policy::support::{is_shown, name, prints};
+use basics::Sequence;
+use pol_edit::{BatchFault, Edit, EditFault, apply_all, read_edit};
 use pol_names::{By, Decision, Name, SubjectId};
 use pol_text::{Policy, PolicyFault};
-use std::alloc::Global;
+use std::alloc::{AllocError, Global};
 use std::fmt::Write;
 use std::process::Abort;
 use std::test::Fail;
 
-// The text is refused with this printed fault.
-fn refuses<R: Abort + AllocGlobal>(rt: &R, text: &str, expected: &str) -> Result<(), Fail> {
-    match Policy::read(rt.alloc(), text.as_bytes()).err() {
-        Some(fault) => is_shown(rt, text, &fault, expected)?,
-        None => assert!(rt; false, "{text} is read"),
+// The name that the text is.
+fn name(text: &[u8]) -> Result<Name, Fail> {
+    match Name::read(text) {
+        Some(name) => Ok(name),
+        None => Err(Fail::from("no name")),
     }
-    Ok(())
 }
 
-#[test]
-fn texts_that_are_no_policy(rt: HostRuntime) -> Result<(), Fail> {
-    refuses(&rt, "permit x", "line 1: 4 NoSubject")?;
-    refuses(&rt, "user bob in ops", "line 1: 7 NoSuchParent")?;
-    refuses(&rt, "policy 2\nuser bob in ops", "line 2: 7 NoSuchParent")?;
-    refuses(&rt, "group a in b\ngroup b in a\n", "line 1: 8 Cycle")?;
-    refuses(
-        &rt,
-        "group g1\ngroup g2 in g1\ngroup g3 in g2\ngroup g4 in g3\ngroup g5 in g4\n\
-         group g6 in g5\ngroup g7 in g6\ngroup g8 in g7\ngroup g9 in g8\n",
-        "line 9: 9 TooDeep",
-    )?;
-    refuses(&rt, "group g\nlogin x", "line 2: 1 BadLine")?;
-    refuses(&rt, "user b\npriv 00015", "line 2: 6 BadValue")?;
-    refuses(&rt, "users", "line 1: 1 BadLine")?;
-    refuses(
-        &rt,
-        "user bob\npermit (a",
-        "line 2: 5 BadPattern 3 Unclosed at 0",
-    )?;
-    refuses(&rt, "policy 4", "line 1: 1 BadLine")?;
-    refuses(
-        &rt,
-        "policy 2\nuser bob\npermit a}",
-        "line 3: 5 BadPattern 11 BadRepeat at 1",
-    )
-}
-
-#[test]
-fn want_of_memory(rt: HostRuntime) -> Result<(), Fail> {
-    is_shown(&rt, "memory", &PolicyFault::Memory, "11 Memory")
+fn printed(alloc: Global, policy: &Policy) -> Result<String, Fail> {
+    let text = policy.print(alloc)?;
+    let text = str::from_utf8(text.as_slice())?;
+    Ok(String::from_str(alloc, text)?)
 }
 
 /// Every kind of line, with what a careless printer would lose: empty patterns, blanks that begin a
 /// secret or a pattern, levels of 0, and subjects of one name.
-const FULL: &str = "group ops in all\npriv 0\npermit \ndeny  x \ngroup all\nuser bob in ops\n\
-                    login  two words \nenable  \npriv 15\npermit show( [^ ]+)?\nuser all\n";
+const FULL: &str = "policy 2\ngroup ops in all\npriv 0\npermit \ndeny  x \ngroup all\n\
+                    user bob in ops\nlogin  two words \nenable  \npriv 15\n\
+                    permit show( [^ ]+)?\nuser all\n";
 
-// A copy of the policy that the text is.
-fn copied(alloc: Global, text: &str) -> Result<Policy, PolicyFault> {
+// What is printed of a copy of the policy that the text is.
+fn copied(alloc: Global, text: &str) -> Result<String, Fail> {
     let policy = Policy::read(alloc, text.as_bytes())?;
-    Ok(policy.copy(alloc)?)
-}
-
-/// The text is a policy, and a copy of it is printed so.
-pub(crate) fn is_printed<R: Abort + AllocGlobal>(
-    rt: &R,
-    text: &str,
-    expected: &str,
-) -> Result<(), Fail> {
-    let copy = copied(rt.alloc(), text)?;
-    prints(rt, &copy, expected)
+    let copy = policy.copy(alloc)?;
+    printed(alloc, &copy)
 }
 
 #[test]
-fn printed_policies(rt: HostRuntime) -> Result<(), Fail> {
-    is_printed(&rt, FULL, FULL)?;
-    // Comments, blank lines, indentation and leading zeros are not kept.
-    is_printed(
-        &rt,
-        "# all\n\n  group ops in all\npriv 000\n permit \ndeny  x \ngroup all\nuser bob in ops\n\
-         permit show( [^ ]+)?\npriv 0015\nenable  \nlogin  two words \nuser all",
-        FULL,
-    )?;
+fn copies(rt: HostRuntime) -> Result<(), Fail> {
+    let copied = copied(rt.alloc(), FULL)?;
+    assert!(&rt; copied.as_str() == FULL, "{copied}");
+    Ok(())
+}
+
+#[test]
+fn a_new_policy(rt: HostRuntime) -> Result<(), Fail> {
     let empty = Policy::new(rt.alloc());
-    prints(&rt, &empty, "")?;
-    is_printed(&rt, "policy 2", "")
-}
-
-// As many braces as a pattern of version 1 may have, which are twice as many bytes in version 2.
-fn many_braces<R: Abort + AllocGlobal>(rt: &R) -> Result<(), Fail> {
-    let braces = "{".repeat(rt.alloc(), 200)?;
-    let quoted = "\\{".repeat(rt.alloc(), 200)?;
-    let old = format!(in rt.alloc(); "user b\npermit {braces}\n")?;
-    let new = format!(in rt.alloc(); "user b\npermit {quoted}\n")?;
-    is_printed(rt, old.as_str(), new.as_str())?;
-    let again = format!(in rt.alloc(); "policy 2\n{new}")?;
-    is_printed(rt, again.as_str(), new.as_str())
-}
-
-#[test]
-fn printed_braces(rt: HostRuntime) -> Result<(), Fail> {
-    is_printed(
-        &rt,
-        "user b\npermit a{2}[{}]\\{\\\\{\n",
-        "user b\npermit a\\{2\\}[{}]\\{\\\\\\{\n",
-    )?;
-    is_printed(
-        &rt,
-        "policy 2\nuser b\npermit a{02}[{}]\\{{1,3}\n",
-        "user b\npermit a{02}[{}]\\{{1,3}\n",
-    )?;
-    many_braces(&rt)
+    let printed = printed(rt.alloc(), &empty)?;
+    assert!(&rt; printed.as_str() == "policy 2\n", "{printed}");
+    Ok(())
 }
 
 // Adds the subjects, with a comma and a blank after each.
@@ -120,46 +59,27 @@ fn push_list(list: &mut String, ids: &[SubjectId]) -> Result<(), Fail> {
     Ok(())
 }
 
-// The subjects are listed so.
-fn are_listed<R: Abort + AllocGlobal>(
-    rt: &R,
-    ids: &[SubjectId],
-    expected: &str,
-) -> Result<(), Fail> {
-    let mut list = String::new(rt.alloc());
-    push_list(&mut list, ids)?;
-    assert_eq!(rt; list.as_str(), expected);
-    Ok(())
-}
-
-// The user's chain in the policy is this.
-fn has_chain<R: Abort + AllocGlobal>(
-    rt: &R,
-    policy: &Policy,
-    user: &[u8],
-    expected: &str,
-) -> Result<(), Fail> {
-    let chain = policy.chain(rt.alloc(), &SubjectId::user(name(user)?))?;
-    are_listed(rt, chain.as_slice(), expected)
-}
-
-// The user's chain in the policy that the text is.
-fn follows<R: Abort + AllocGlobal>(
-    rt: &R,
-    text: &str,
-    user: &[u8],
-    expected: &str,
-) -> Result<(), Fail> {
-    let policy = Policy::read(rt.alloc(), text.as_bytes())?;
-    has_chain(rt, &policy, user, expected)
+// The chain of a user of the policy above.
+fn chain(alloc: Global, user: &str) -> Result<String, Fail> {
+    let policy = Policy::read(alloc, FULL.as_bytes())?;
+    let chain = policy.chain(alloc, &SubjectId::user(name(user.as_bytes())?))?;
+    let mut list = String::new(alloc);
+    push_list(&mut list, chain.as_slice())?;
+    Ok(list)
 }
 
 #[test]
 fn chains(rt: HostRuntime) -> Result<(), Fail> {
-    follows(&rt, FULL, b"bob", "user bob, group ops, group all, ")?;
-    follows(&rt, FULL, b"all", "user all, ")?;
-    // A group is no user.
-    follows(&rt, FULL, b"ops", "")
+    for (user, expected) in [
+        ("bob", "user bob, group ops, group all, "),
+        ("all", "user all, "),
+        // A group is no user.
+        ("ops", ""),
+    ] {
+        let chain = chain(rt.alloc(), user)?;
+        assert!(&rt; chain.as_str() == expected, "{chain} of {user}");
+    }
+    Ok(())
 }
 
 /// Rules along a chain of three.
@@ -222,5 +142,102 @@ fn names(rt: HostRuntime) -> Result<(), Fail> {
     for text in "\na b\na/b\né\n0123456789abcdef0123456789abcdef0".lines() {
         assert!(rt; Name::read(text.as_bytes()).is_none());
     }
+    Ok(())
+}
+
+// ---- edits that are made together
+
+const THREE: &str = "policy 2\ngroup all\npermit x\ngroup ops in all\nuser bob in ops\n";
+
+// The edits of a line, which `; ` parts.
+fn edits(alloc: Global, lines: &str) -> Result<Sequence<Edit>, EditFault> {
+    let mut edits = Sequence::new(alloc);
+    for line in lines.split("; ") {
+        let edit = read_edit(alloc, line.as_bytes())?;
+        edits.push(edit)?;
+    }
+    Ok(edits)
+}
+
+fn edit_together(alloc: Global, policy: &mut Policy, lines: &str) -> Result<(), BatchFault> {
+    let edits = edits(alloc, lines).map_err(BatchFault::of_all)?;
+    apply_all(alloc, policy, edits.as_slice())
+}
+
+// Their refusal, if they are refused, and the policy that there is then.
+fn outcome(alloc: Global, lines: &str) -> Result<String, Fail> {
+    let mut policy = Policy::read(alloc, THREE.as_bytes())?;
+    let mut told = String::new(alloc);
+    if let Err(fault) = edit_together(alloc, &mut policy, lines) {
+        write!(told, "{fault} | ")?;
+    }
+    let printed = printed(alloc, &policy)?;
+    told.push_str(printed.as_str())?;
+    Ok(told)
+}
+
+/// An edit may undo one before it, and a subject come back as another.
+const MADE: [(&str, &str); 2] = [
+    (
+        "add group net; insert group net 1 permit ping; move user bob in net; drop group all 1",
+        "policy 2\ngroup all\ngroup ops in all\nuser bob in net\ngroup net\npermit ping\n",
+    ),
+    (
+        "remove user bob; add user bob; login bob x; insert user bob 1 deny y; drop user bob 1",
+        "policy 2\ngroup all\npermit x\ngroup ops in all\nuser bob\nlogin x\n",
+    ),
+];
+
+#[test]
+fn edits_that_are_made_together(rt: HostRuntime) -> Result<(), Fail> {
+    for (lines, expected) in MADE {
+        let told = outcome(rt.alloc(), lines)?;
+        assert!(&rt; told.as_str() == expected, "{told} for {lines}");
+    }
+    Ok(())
+}
+
+// Each refusal, by the first edit that isn't right on what those before it make.
+const REFUSED_TOGETHER: &str = "\
+at edit 1: 2 NoSuch | drop group none 1; add group all
+at edit 2: 2 NoSuch | remove user bob; login bob x
+at edit 3: 3 Exists | add group net; add group nut; add group net; drop group none 1
+at edit 2: 4 InUse | add user eve in ops; remove group ops
+at edit 2: 5 Cycle | move group ops out; move group ops in ops
+at edit 3: 7 BadIndex | drop group all 1; insert group all 1 deny y; drop group all 2
+at edit 2: 8 BadPattern 5 NothingToRepeat at 0 | login bob x; insert user bob 1 permit *
+at edit 2: 9 BadValue | priv user bob 15; priv user bob 16";
+
+// Whether the edits are refused so, and the policy stays as it was.
+fn is_refused(alloc: Global, lines: &str, expected: &str) -> Result<bool, Fail> {
+    let told = outcome(alloc, lines)?;
+    Ok(told.as_str().split_once(" | ") == Some((expected, THREE)))
+}
+
+#[test]
+fn refusals_of_edits_that_are_made_together(rt: HostRuntime) -> Result<(), Fail> {
+    for case in REFUSED_TOGETHER.lines() {
+        let (expected, lines) = case.split_once(" | ").ok_or("no case")?;
+        assert!(&rt; is_refused(rt.alloc(), lines, expected)?, "{case}");
+    }
+    Ok(())
+}
+
+// ---- refusals that no script shows
+
+// What is printed of a fault of a text, of an edit, and of edits that are made together.
+fn printed_faults(alloc: Global) -> Result<String, AllocError> {
+    let (text, edit) = (PolicyFault::Memory, EditFault::Memory);
+    let edits = BatchFault::of_all(EditFault::Memory);
+    format!(in alloc; "{text}, {edit}, {edits}")
+}
+
+#[test]
+fn want_of_memory(rt: HostRuntime) -> Result<(), Fail> {
+    let printed = printed_faults(rt.alloc())?;
+    assert!(&rt;
+        printed.as_str() == "11 Memory, 12 Memory, 12 Memory",
+        "{printed}"
+    );
     Ok(())
 }

@@ -44,74 +44,93 @@ fn shown(alloc: Global, table: &Table) -> Result<String, AllocError> {
     Ok(text)
 }
 
+// The table of a machine of this base and divisor.
+fn table_of(alloc: Global, base: u8, divisor: u32) -> Result<String, Fail> {
+    let mut machine = machine(base, divisor, 0).ok_or("no machine")?;
+    let automaton = scan(alloc, &mut machine, 4).ok().ok_or("refused")?;
+    Ok(shown(alloc, &automaton.table)?)
+}
+
 #[test]
 fn tables(rt: HostRuntime) -> Result<(), Fail> {
-    for (base, divisor, table) in [
+    for (base, divisor, expected) in [
         (2, 3, "- 0 1\n1 2 0\n10 1 2\n"),
         (3, 4, "- 0 1 2\n1 3 0 1\n2 2 3 0\n10 1 2 3\n"),
         (2, 1, "- 0 0\n"),
         (1, 5, "- 0\n"),
         (0, 5, "-\n"),
     ] {
-        let mut machine = machine(base, divisor, 0).ok_or("no machine")?;
-        let automaton = scan(rt.alloc(), &mut machine, 4).ok().ok_or("refused")?;
-        let text = shown(rt.alloc(), &automaton.table)?;
-        assert_eq!(rt; text.as_str(), table);
+        let table = table_of(rt.alloc(), base, divisor)?;
+        assert!(rt; table.as_str() == expected, "{table}");
     }
     Ok(())
+}
+
+// How many states were found within the limit, if there are no more, and the steps that it took.
+fn found(alloc: Global, base: u8, divisor: u32, limit: u16) -> Result<Option<(u16, u64)>, Fail> {
+    let mut machine = machine(base, divisor, 0).ok_or("no machine")?;
+    match scan(alloc, &mut machine, limit) {
+        Ok(automaton) => Ok(Some((automaton.table.states(), machine.steps))),
+        Err(ScanFault::TooMany) => Ok(None),
+        Err(ScanFault::Memory) => Err("no memory".into()),
+    }
 }
 
 // Each state is stepped from once for each column, and the first state too many ends it.
 #[test]
 fn limits(rt: HostRuntime) -> Result<(), Fail> {
-    for (base, divisor, limit, states) in [
-        (2, 3, 3, Some(3)),
+    for (base, divisor, limit, expected) in [
+        (2, 3, 3, Some((3, 6))),
         (2, 3, 2, None),
         (2, 3, 0, None),
-        (0, 7, 1, Some(1)),
+        (0, 7, 1, Some((1, 0))),
         (0, 7, 0, None),
-        (95, 1000, 1000, Some(1000)),
+        (95, 1000, 1000, Some((1000, 95_000))),
         (95, 1000, 999, None),
-        (95, 4096, 4096, Some(4096)),
+        (95, 4096, 4096, Some((4096, 389_120))),
         (95, 4097, 4096, None),
-        (2, 65535, 65535, Some(65535)),
+        (2, 65535, 65535, Some((65535, 131_070))),
     ] {
-        let mut machine = machine(base, divisor, 0).ok_or("no machine")?;
-        let found = match scan(rt.alloc(), &mut machine, limit) {
-            Ok(automaton) => Some(automaton.table.states()),
-            Err(ScanFault::TooMany) => None,
-            Err(ScanFault::Memory) => return Err("no memory".into()),
-        };
-        assert!(rt; found == states, "{divisor} within {limit}");
-        if let Some(found) = found {
-            assert!(rt;
-                machine.steps == u64::from(found) * u64::from(base),
-                "{divisor}"
-            );
-        }
+        let found = found(rt.alloc(), base, divisor, limit)?;
+        assert!(rt; found == expected, "{divisor} within {limit}");
     }
     Ok(())
 }
 
+// The word in digits, and the steps that it took to find it.
+fn told(alloc: Global, word: Option<&[u8]>, steps: u64) -> Result<String, AllocError> {
+    match word {
+        Some(word) => {
+            let digits = digits(alloc, word)?;
+            format!(in alloc; "{digits} {steps}")
+        }
+        None => format!(in alloc; "none {steps}"),
+    }
+}
+
 // The least word of a remainder, and how many steps it took to find it.
+fn least(alloc: Global, base: u8, divisor: u32, target: u32) -> Result<String, Fail> {
+    let mut machine = machine(base, divisor, target).ok_or("no machine")?;
+    let word = machine.least(alloc)?;
+    Ok(told(alloc, word.as_deref(), machine.steps)?)
+}
+
 #[test]
 fn least_words(rt: HostRuntime) -> Result<(), Fail> {
-    for (base, divisor, target, least, steps) in [
-        (10, 7, 0, "-", 0),
-        (10, 7, 5, "5", 6),
-        (2, 11, 10, "1010", 11),
-        (3, 100, 99, "10200", 100),
-        (1, 7, 3, "none", 1),
-        (0, 7, 3, "none", 0),
-        (2, 4, 5, "none", 8),
+    for (base, divisor, target, expected) in [
+        (10, 7, 0, "- 0"),
+        (10, 7, 5, "5 6"),
+        (2, 11, 10, "1010 11"),
+        (3, 100, 99, "10200 100"),
+        (1, 7, 3, "none 1"),
+        (0, 7, 3, "none 0"),
+        (2, 4, 5, "none 8"),
     ] {
-        let mut machine = machine(base, divisor, target).ok_or("no machine")?;
-        let text = match machine.least(rt.alloc())? {
-            Some(word) => digits(rt.alloc(), &word)?,
-            None => format!(in rt.alloc(); "none")?,
-        };
-        assert_eq!(rt; text.as_str(), least, "{target} modulo {divisor}");
-        assert_eq!(rt; machine.steps, steps, "{target} modulo {divisor}");
+        let least = least(rt.alloc(), base, divisor, target)?;
+        assert!(rt;
+            least.as_str() == expected,
+            "{least} for {target} modulo {divisor}"
+        );
     }
     Ok(())
 }
@@ -176,7 +195,7 @@ fn columns_of_symbols(rt: HostRuntime) {
         (&crossing, b'~', 0),
         (&crossing, b'}', 1),
     ] {
-        assert_eq!(rt; alphabet.column_of(symbol), column, "{symbol}");
+        assert!(rt; alphabet.column_of(symbol) == column, "{symbol}");
     }
 }
 
@@ -184,19 +203,22 @@ fn columns_of_symbols(rt: HostRuntime) {
 #[test]
 fn texts(rt: HostRuntime) -> Result<(), Fail> {
     let alphabet = Alphabet::undivided().divide(&own_labels());
-    assert_eq!(rt; alphabet.width(), 95);
+    assert!(rt; alphabet.width() == 95);
     let word = [0, 1, 94].to_vec(rt.alloc())?;
     let text = alphabet.text_of(word);
-    assert_eq!(rt; text.as_slice(), b" !~".as_slice());
+    assert!(rt; text.as_slice() == b" !~".as_slice());
     let mut machine = machine(95, 5, 0).ok_or("no machine")?;
     let table = scan(rt.alloc(), &mut machine, 5)
         .ok()
         .ok_or("refused")?
         .table;
-    assert_eq!(rt; table.width(), alphabet.width());
-    assert_eq!(rt; table.run(&[0, 94]), 4);
+    assert!(rt; table.width() == alphabet.width());
+    assert!(rt; table.run(&[0, 94]) == 4);
     for (text, state) in [("", Some(0)), (" ~", Some(4)), ("a\n", None)] {
-        assert_eq!(rt; table.run_text(&alphabet, text.as_bytes()), state, "{text}");
+        assert!(rt;
+            table.run_text(&alphabet, text.as_bytes()) == state,
+            "{text}"
+        );
     }
     Ok(())
 }
