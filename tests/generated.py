@@ -1,6 +1,7 @@
-"""Cases that are too long to be written down, or too many: limits of a policy, the longest packets
-and replies, a script of 6 MB, each beginning of a body, and the longest file of a key. Some can't
-be written in a file of tests: a byte that isn't UTF-8, and words with ends of lines."""
+"""Cases that are too long to be written down, or too many: limits of a policy and of a devices'
+file, the longest packets and replies, a script of 6 MB, each beginning of a body, and the longest
+file of a key. Some can't be written in a file of tests: a byte that isn't UTF-8, and words with
+ends of lines."""
 
 from cases import Case, Check, File, Outcome, Run, replay_check
 from notation import spelled_out
@@ -24,6 +25,11 @@ def cases(name):
         ten_thousand_records,
         policies_at_the_limits,
         edits_at_the_limits,
+        printed_policies,
+        longest_edits,
+        a_group_of_many_users,
+        a_chain_of_many_rules,
+        words_that_differ_at_their_ends,
         longest_replies,
         lines_about_services_at_the_limit,
         cut_requests,
@@ -41,6 +47,13 @@ def cases(name):
         yield Case(f"{name}: a key's file of {length} bytes", [key_file(length, complained)])
     for part, check in reviews():
         yield Case(f"{name}: {part}", [check])
+    for part, text, words, printed, status in devices():
+        file = File("devices", text.encode("latin-1"), 0o600)
+        run = Run(("devices", "devices", *words), b"", (file,))
+        check = Check(run, Outcome(printed.encode(), b"", status), "devices")
+        yield Case(f"{name}: devices, {part}", [check])
+    for words in (("devices", "devices"), ("serve", "--port", "1", "--devices", "devices", "nobody")):
+        yield Case(f"{name}: {words[0]} of a file that is too long", [long_devices(words)])
 
 
 def key_file(length, complained):
@@ -61,6 +74,64 @@ def reviews():
         run = Run(("why", "policy", "bob", line), b"", (policy,))
         yield f"why bob {line!r}", Check(run, Outcome(b"fault BadQuestion\n", b"", 1), "why")
     yield "edits that are too large on their way", too_large_on_the_way()
+
+
+def device(number, prefixes):
+    """A device of that number, with so many addresses, in four lines or more."""
+    places = "".join(f"at 10.{number >> 8}.{number & 0xff}.{place}\n" for place in range(prefixes))
+    return f"device d{number}\n{places}key the key of d{number:04}\n"
+
+
+def devices():
+    """Devices' files at the limits, with the addresses that are asked about: 4,096 devices and 16,384
+    prefixes; and bytes that aren't UTF-8."""
+    many = "".join(device(number, 1) for number in range(4096))
+    yield "as many", many, (), "devices ok: 4096 devices, 4096 prefixes\n", 0
+    found = "10.15.255.0 d4095 10.15.255.0/32 line 12287\n"
+    yield "as many, asked about", many, ("10.15.255.0",), found, 0
+    for line, fault in (
+        ("device x", "7 Limit"),
+        # What comes before it on the line.
+        ("device d0", "6 Repeated"),
+        ("device d4095", "6 Repeated"),
+        ("device ,", "2 BadName"),
+        ("device", "1 BadLine"),
+    ):
+        told = f"devices fault line 12289 {fault}\n"
+        yield f"as many, then {line!r}", many + line, (), told, 1
+    full = "".join(device(number, 16) for number in range(1024))
+    yield "full", full, (), "devices ok: 1024 devices, 16384 prefixes\n", 0
+    asked = ("10.3.255.15", "10.3.255.16", "10.0.0.0")
+    found = (
+        "10.3.255.15 d1023 10.3.255.15/32 line 18431\n"
+        "10.3.255.16 may not call\n"
+        "10.0.0.0 d0 10.0.0.0/32 line 2\n"
+    )
+    yield "full, asked about", full, asked, found, 5
+    for line, fault in (
+        ("at ::1", "7 Limit"),
+        ("at 10.0.0.0/31", "7 Limit"),
+        ("at 10.0.0.0", "6 Repeated"),
+        ("at 10.3.255.15/32", "6 Repeated"),
+        ("at 10.0.0.0/33", "4 BadPrefix"),
+        ("at 10.0.0.0 ", "1 BadLine"),
+    ):
+        told = f"devices fault line 18433 {fault}\n"
+        yield f"full, then {line!r}", full + line, (), told, 1
+    # The last device has no address, since there is no room for one.
+    told = "devices fault line 18433 9 NoAddress\n"
+    yield "full, then one without an address", full + "device x\nkey k\n", (), told, 1
+    for byte in "\x7f", "\x80", "\xff", "\0":
+        told = "devices fault line 2 1 BadLine\n"
+        yield f"the byte {byte!r}", f"device a\nkey k{byte}\nat ::1\n", (), told, 1
+
+
+def long_devices(words):
+    """A file of a byte too many, of which nothing is told."""
+    file = File("devices", b"# no device\n".ljust(16_777_217, b"\n"), 0o600)
+    complained = b"tacd: devices: it is over 16777216 bytes long\n"
+    run = Run(words, b"", (file,))
+    return Check(run, Outcome(b"", complained, 4), words[0])
 
 
 def too_large_on_the_way():
@@ -172,6 +243,10 @@ def edits_at_the_limits():
     for line, answer in (
         ("insert group g 1 deny x", "refused 10 Limit"),
         ("add user bob", "refused 10 Limit"),
+        # What comes before a limit.
+        ("insert group g 257 deny *", "refused 8 BadPattern 5 NothingToRepeat at 0"),
+        ("insert group g 257 deny x", "refused 10 Limit"),
+        ("add user u1", "refused 3 Exists"),
         ("why u1 x", "denied by default"),
         ("drop group g 1", "ok"),
         ("insert group g 1 deny x", "ok"),
@@ -181,6 +256,95 @@ def edits_at_the_limits():
         script += f"console {line}\n"
         printed += f"{answer}\n"
         yield f"up to {line}", script, printed
+
+
+# As long as a secret may be.
+SECRET = "0123456789abcdef" * 8
+
+
+def printed_policies():
+    """Policies of more than 200,000 bytes, of the longest patterns and of the most lines are printed
+    as they were read."""
+    users = "".join(
+        f"user u{number}\nlogin {SECRET}\nenable {SECRET}\npermit show {number}\n"
+        for number in range(700)
+    )
+    attribute = f"user b\nservice x a={'v' * 253}\nservice x a=\n"
+    lines = "".join(f"service x{number}\n" for number in range(10, 73))
+    services = f"user b\n{lines}refuse y\nuser c\n{lines}service y a=\n"
+    for part, version, text in (
+        ("many users", 2, users),
+        ("many long rules", 2, LONG_RULES),
+        ("the longest attribute", 3, attribute),
+        ("the most lines about services", 3, services),
+    ):
+        policy = f"policy {version}\n{text}"
+        yield part, f"key k\n{policy}run\nconsole policy\n", policy
+    # As many braces as a pattern of version 1 may have are twice as many bytes in version 2.
+    braces, quoted = (f"user b\npermit {it * 200}\n" for it in ("{", "\\{"))
+    for part, policy in ("braces", braces), ("quoted braces", f"policy 2\n{quoted}"):
+        yield part, f"key k\n{policy}run\nconsole policy\n", f"policy 2\n{quoted}"
+
+
+LONG_RULES = "user bob\n" + f"deny {'x' * 200}\n" * 256
+
+
+def longest_edits():
+    """Long lines that are edits of a full policy, or no edits: what is told of each is short."""
+    begin = f"key k\n{LONG_RULES}run\n"
+    for count, refusal in (
+        (400, "10 Limit"),
+        (401, "8 BadPattern 1 TooLong"),
+        (5_000, "8 BadPattern 1 TooLong"),
+        (200_000, "8 BadPattern 1 TooLong"),
+    ):
+        line = f"console insert user bob 1 permit {'x' * count}\n"
+        yield f"a pattern of {count} symbols", begin + line, f"refused {refusal}\n"
+    for count in 5_000, 200_000:
+        for start in "x", "add user bob ", "insert user bob 1 permit", "login":
+            script = f"key k\nuser bob\nrun\nconsole {start}{'x' * count}\n"
+            yield f"{start!r} and {count} symbols", script, "refused 1 BadEdit\n"
+
+
+def a_group_of_many_users():
+    """Users of a group who have no rules of their own, but for the last."""
+    names = [*(f"u{user}" for user in range(1000)), "last"]
+    users = "".join(f"user {name} in g\n" for name in names)
+    script = f"key k\ngroup g\npermit show .*\n{users}permit show\nrun\n"
+    script += "console insert group g 1 deny show.*\nconsole shadow\n"
+    printed = "ok\n" + "".join(f"user {name} now denies: show \n" for name in names)
+    for subject in ["group g", *(f"user {name}" for name in names)]:
+        printed += f"shadowed in {subject}: group g rule 2\n"
+    yield "what an edit changes, and what is shadowed", script, printed
+
+
+def a_chain_of_many_rules():
+    """A user in the last of seven groups, each in the one before, each with as many rules as there
+    may be. A rule holds one word, which no other does."""
+    owners = [*(f"group g{level}" for level in range(7)), "user u"]
+    words = [[f"{level}{rule:02x}" for rule in range(256)] for level in range(8)]
+    script = "key k\n"
+    for level, owner in enumerate(owners):
+        script += owner + (f" in g{level - 1}" if level else "") + "\n"
+        script += "".join(f"{'permit' if level else 'deny'} {word}\n" for word in words[level])
+    script += "run\nconsole why u 0ff\nconsole insert group g0 257 permit x\n"
+    script += "console shadow\nconsole reach user u\n"
+    printed = "denied by group g0 rule 256\nrefused 10 Limit\nnone\n"
+    for level in reversed(range(8)):
+        for rule, word in enumerate(words[level], start=1):
+            printed += f"{owners[level]} rule {rule} first reached by: {word}\n"
+    yield "which line reaches each", script, printed
+
+
+def words_that_differ_at_their_ends():
+    """A hundred rules of the longest words, which differ in their last two symbols."""
+    words = [f"{'a' * 198}{word:02}" for word in range(100)]
+    rules = "".join(f"permit {word}\n" for word in words)
+    script = f"key k\nuser u\n{rules}run\nconsole shadow\nconsole reach user u\n"
+    printed = "none\n" + "".join(
+        f"user u rule {rule} first reached by: {word}\n" for rule, word in enumerate(words, start=1)
+    )
+    yield "which line reaches each", script, printed
 
 
 # As many attributes as a subject may have, each as long as it may be.
@@ -253,7 +417,9 @@ def lines_about_services_at_the_limit():
         ("refuse y", "70 10 Limit"),
         # What comes before it on the line.
         (f"service x {ATTRIBUTES[0]}", "70 3 Repeated"),
+        ("refuse x", "70 3 Repeated"),
         ("service x b", "70 6 BadValue"),
+        ("service y a", "70 6 BadValue"),
         ("service y/ b=", "70 2 BadName"),
         # The next subject has lines of its own.
         ("user bob in ops\nservice x b=\nrefuse x", "72 3 Repeated"),
@@ -267,6 +433,7 @@ def lines_about_services_at_the_limit():
         ("console refuse group ops y", "refused 10 Limit"),
         (f"console service group ops x {ATTRIBUTES[0]}", "refused 3 Exists"),
         ("console service group ops x b", "refused 9 BadValue"),
+        ("console service group ops y b", "refused 9 BadValue"),
         (
             f"console clear service group ops x {ATTRIBUTES[0]}",
             f"ok\nuser bob service x no longer gives: {ATTRIBUTES[0]}",

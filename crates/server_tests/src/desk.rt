@@ -9,7 +9,6 @@ mod hashes;
 mod keeping;
 mod loads;
 mod questions;
-mod rules;
 mod services;
 mod sizes;
 mod support;

@@ -1,6 +1,6 @@
 //! What connections ask, and what edits between the asks change.
 
-use crate::desk::support::converses;
+use crate::desk::both::converses;
 use std::test::Fail;
 
 #[test]
@@ -27,7 +27,7 @@ fn logins_and_lines(rt: HostRuntime) -> Result<(), Fail> {
         ? run bob show version
         permitted
         ? run bob ping
-        denied
+        denied by default
         ? run eve show version
         unknown user
         ? run bob show\u{7f}
@@ -39,7 +39,7 @@ fn logins_and_lines(rt: HostRuntime) -> Result<(), Fail> {
         ok
         user bob now denies: show 
         ? run bob show version
-        denied
+        denied by group ops rule 1
         > clear login bob
         ok
         ? login bob secret

@@ -1,6 +1,6 @@
 //! Edits that are made together, all or none.
 
-use crate::desk::support::converses;
+use crate::desk::both::converses;
 use std::test::Fail;
 
 #[test]

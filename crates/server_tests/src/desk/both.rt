@@ -531,3 +531,57 @@ fn the_latest_ten_records(rt: HostRuntime) -> Result<(), Fail> {
     let whole = whole_talk(rt.alloc())?;
     both_say(&rt, whole.as_str())
 }
+
+// ---- conversations
+
+// The lines of a paragraph, without what indents them and without comments.
+fn bare(alloc: Global, paragraph: &str) -> Result<String, AllocError> {
+    let mut lines = String::new(alloc);
+    for line in paragraph.lines() {
+        let line = line.trim_start();
+        if !line.is_empty() && !line.starts_with('#') {
+            writeln!(lines, "{line}")?;
+        }
+    }
+    Ok(lines)
+}
+
+fn holds_plainly<R: Abort + AllocGlobal>(
+    rt: &R,
+    policy: &str,
+    limit: usize,
+    whole: &str,
+) -> Result<(), Fail> {
+    let policy = Policy::read(rt.alloc(), policy.as_bytes())?;
+    let mut desk = PlainDesk::new(rt.alloc(), policy, limit)?;
+    says(rt, &mut desk, whole)
+}
+
+fn holds_live<R: Abort + AllocGlobal>(
+    rt: &R,
+    policy: &str,
+    limit: usize,
+    whole: &str,
+) -> Result<(), Fail> {
+    let policy = Policy::read(rt.alloc(), policy.as_bytes())?;
+    let mut desk = LiveDesk::new(rt.alloc(), policy, limit)?;
+    says(rt, &mut desk, whole)
+}
+
+/// Holds conversations with both desks, each of this policy and of at most so many records.
+///
+/// A paragraph is a conversation: after `> ` a line of the console, after `? ` what a connection
+/// asks, and after each the lines that are answered. A line that begins with `#` is a comment.
+pub(crate) fn converses<R: Abort + AllocGlobal>(
+    rt: &R,
+    policy: &str,
+    limit: usize,
+    text: &str,
+) -> Result<(), Fail> {
+    for paragraph in text.split("\n\n") {
+        let whole = bare(rt.alloc(), paragraph)?;
+        holds_plainly(rt, policy, limit, whole.as_str())?;
+        holds_live(rt, policy, limit, whole.as_str())?;
+    }
+    Ok(())
+}

@@ -1,6 +1,6 @@
 //! What questions at the console are answered.
 
-use crate::desk::support::converses;
+use crate::desk::both::converses;
 use std::test::Fail;
 
 #[test]

@@ -1,6 +1,6 @@
 //! Calls that may run out of memory succeed with ample memory, at many sizes.
 
-use crate::desk::support::converses;
+use crate::desk::both::converses;
 use std::alloc::{AllocError, Global};
 use std::fmt::Write;
 use std::test::Fail;

@@ -1,17 +1,14 @@
-//! What the tests share: conversations with a desk.
+//! What the tests share: lines that are typed at a console, and what a connection asks.
 
 use basics::Bytes;
-use pol_text::Policy;
 use std::alloc::{AllocError, Global};
-use std::process::Abort;
 use std::test::Fail;
-use tac_conn::{Answer, Ask, Proof, Service, Typed};
+use tac_conn::{Ask, Proof, Service, Typed};
 use tac_console::{
     Action, Batch, read_console, write_batch_answer, write_edit_answer, write_notice,
     write_query_answer,
 };
 use tac_desk::Desk;
-use tac_desks::PlainDesk;
 use tac_tally::{AcctKind, Record};
 
 /// What a console prints of a line, at any desk.
@@ -167,127 +164,4 @@ pub(crate) fn ask(alloc: Global, words: &str) -> Result<Ask, Fail> {
         },
         _ => Ask::Authorise { user, line: text },
     })
-}
-
-/// What a desk answers, in a word.
-pub(crate) fn asked(desk: &mut PlainDesk, ask: &Ask) -> Result<&'static str, AllocError> {
-    let answer = match desk.ask(ask) {
-        Ok(answer) => answer,
-        Err(error) => return Err(error),
-    };
-    Ok(match answer {
-        Answer::Pass => "pass",
-        Answer::Fail => "fail",
-        Answer::UnknownUser => "unknown user",
-        Answer::Unprintable => "unprintable",
-        Answer::Denied(_) => "denied",
-        Answer::Permitted(_) => "permitted",
-        Answer::Unserved => "unserved",
-        Answer::Refused(_) => "refused",
-        Answer::Granted(_) => "granted",
-        Answer::Stored => "stored",
-        Answer::BookFull => "full",
-    })
-}
-
-// A conversation with a desk: what was printed, against what is wanted.
-#[derive(Drop)]
-struct Conversation {
-    alloc: Global,
-    desk: PlainDesk,
-    batch: Batch,
-    printed: Vec<u8>,
-    wanted: String,
-}
-
-impl Conversation {
-    fn new(alloc: Global, policy: &str, limit: usize) -> Result<Conversation, Fail> {
-        let policy = Policy::read(alloc, policy.as_bytes())?;
-        Ok(Conversation {
-            alloc,
-            desk: PlainDesk::new(alloc, policy, limit)?,
-            batch: Batch::closed(),
-            printed: Vec::new(alloc),
-            wanted: String::new(alloc),
-        })
-    }
-
-    fn compare<R: Abort>(&self, rt: &R) -> Result<(), Fail> {
-        let printed = str::from_utf8(self.printed.as_slice())?;
-        let wanted = self.wanted.as_str();
-        assert!(rt; printed == wanted, "wanted\n{wanted}printed\n{printed}");
-        Ok(())
-    }
-
-    fn type_line(&mut self, line: &str) -> Result<(), Fail> {
-        console(
-            self.alloc,
-            &mut self.desk,
-            &mut self.batch,
-            line.as_bytes(),
-            &mut self.printed,
-        )?;
-        Ok(())
-    }
-
-    fn print(&mut self, line: &str) -> Result<(), Fail> {
-        self.printed.extend_from_slice(line.as_bytes())?;
-        self.printed.push(b'\n')?;
-        Ok(())
-    }
-
-    fn ask(&mut self, words: &str) -> Result<(), Fail> {
-        let ask = ask(self.alloc, words)?;
-        let answer = asked(&mut self.desk, &ask)?;
-        self.print(answer)
-    }
-
-    fn want(&mut self, line: &str) -> Result<(), Fail> {
-        self.wanted.push_str(line)?;
-        self.wanted.push_str("\n")?;
-        Ok(())
-    }
-
-    fn go_on<R: Abort>(&mut self, rt: &R, line: &str) -> Result<(), Fail> {
-        if line.starts_with('#') {
-            return Ok(());
-        }
-        if let Some(line) = line.strip_prefix("> ") {
-            self.compare(rt)?;
-            return self.type_line(line);
-        }
-        if let Some(words) = line.strip_prefix("? ") {
-            self.compare(rt)?;
-            return self.ask(words);
-        }
-        self.want(line)
-    }
-}
-
-// The whole conversation, and what it ends with.
-fn holds<R: Abort>(rt: &R, conversation: &mut Conversation, paragraph: &str) -> Result<(), Fail> {
-    for line in paragraph.lines() {
-        let line = line.trim_start();
-        if !line.is_empty() {
-            conversation.go_on(rt, line)?;
-        }
-    }
-    conversation.compare(rt)
-}
-
-/// Holds conversations with desks of a policy, which keep at most so many records.
-///
-/// A paragraph is a conversation: after `> ` a line of the console, after `? ` what a connection
-/// asks, and after each the lines that are answered. A line that begins with `#` is a comment.
-pub(crate) fn converses<R: Abort + AllocGlobal>(
-    rt: &R,
-    policy: &str,
-    limit: usize,
-    text: &str,
-) -> Result<(), Fail> {
-    for paragraph in text.split("\n\n") {
-        let mut conversation = Conversation::new(rt.alloc(), policy, limit)?;
-        holds(rt, &mut conversation, paragraph)?;
-    }
-    Ok(())
 }

@@ -17,11 +17,11 @@ use tac_desks::PlainDesk;
 use tac_forum::Limits;
 use tac_hall_console::{Source, Unread};
 use tac_journal::{Log, LogFiles, Refused, Typists};
-use tac_net::{Idle, Port, ServeFault, ServerFiles, Settings, serve};
+use tac_net::{Callers, Idle, Port, ServeFault, ServerFiles, Settings, serve};
 use tac_status::Counts;
 
 /// A source without a text, whose lines anyone types.
-struct Nothing;
+pub(crate) struct Nothing;
 
 impl Typists for Nothing {
     ghost use Rattle.std.specs.Prelude.{◌≡◌};
@@ -307,7 +307,7 @@ where
     let address = port.address()?;
     let settings = Settings {
         port: address.port(),
-        key: key()?,
+        callers: Callers::Any(key()?),
         workers: course.workers,
         hashers: 1,
         connections: 299,

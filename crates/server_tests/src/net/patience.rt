@@ -7,6 +7,7 @@ use std::io::{self, ErrorKind, Read, Write};
 use std::net::{IpAddr, Ipv4Addr};
 use std::time::{Clock, Duration};
 use tac_net::{Idle, PacketMemory, Pause, Socket, Visits, accepted};
+use tac_wire::Key;
 use tac_worker::End;
 
 /// A clock that a test sets, and that tells how long it was to sleep.
@@ -151,7 +152,10 @@ fn is_borne(alloc: Global, idle: Idle, steps: &str) -> bool {
         letter: Cell::new(b's'),
     };
     let address = IpAddr::V4(Ipv4Addr::LOCALHOST);
-    let mut socket = Socket::new(&device, address, &clock, &memory, &visits);
+    let Some(key) = Key::read(b"k") else {
+        return false;
+    };
+    let mut socket = Socket::new(&device, address, &key, &clock, &memory, &visits);
     for step in steps.split(' ') {
         if !is_so(&clock, idle, &visits, &device, &mut socket, step) {
             return false;

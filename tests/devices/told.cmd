@@ -1,0 +1,81 @@
+# How much a devices' file has, and what is remarked on its keys.
+file campus.devices
+|# core|
+device core-1
+at 192.0.2.1
+at 2001:db8::1
+key wintry-tundra-ridge-41
+||
+|# all access switches of the campus, one key|
+device access
+at 192.0.2.128/25
+key wide-kelp-forest-0092
+connections 4
+
+$ tacd devices campus.devices
+devices ok: 2 devices, 3 prefixes
+
+file two.devices
+device one
+at 127.0.0.1
+key tundra
+device rest
+at 127.0.0.0/30
+key taiga
+
+$ tacd devices two.devices
+devices ok: 2 devices, 2 prefixes
+line 3: a key of 6 characters
+line 6: a key of 5 characters
+
+# A key that stands again is told with the first line that has it, and before its size.
+file same.devices
+device a
+key wintry-tundra-41
+at ::1
+device b
+at ::2
+at ::3
+key wintry-tundra-4
+device c
+key wintry-tundra-41
+at ::4
+device d
+at ::5
+key wintry-tundra-4
+device e
+at ::6
+key wintry-tundra-41
+
+$ tacd devices same.devices
+devices ok: 5 devices, 6 prefixes
+line 7: a key of 15 characters
+line 9: the key of line 2
+line 13: the key of line 7
+line 13: a key of 15 characters
+line 16: the key of line 2
+
+# Nobody may call.
+file none.devices
+|# none yet|
+
+$ tacd devices none.devices
+devices ok: 0 devices, 0 prefixes
+
+$ tacd devices none.devices 192.0.2.1 ::
+192.0.2.1 may not call
+:: may not call
+status 5
+
+# A key is the whole rest of its line, blanks and all. Leading spaces are dropped.
+file blanks.devices
+|  device a|
+|   at ::/0|
+||
+|   |
+|     # a comment|
+|  key  two  blanks  in  front |
+connections 10000␃
+
+$ tacd devices blanks.devices
+devices ok: 1 devices, 1 prefixes

@@ -1,0 +1,230 @@
+"""Reviews that go by what the program itself printed before: the edits that `tacd diff --edits` prints
+make the new policy of the old one, and `tacd diff` tells of a policy and of what an edit makes of it
+what the console answers to the edit. Each case is a function that raises Wrong where something goes
+otherwise."""
+
+import pathlib
+import subprocess
+import tempfile
+
+from cases import Case, Check, Outcome, Play, Wrong
+
+LONGEST_RUN = 60
+BETWEEN = "between two of them the policy is neither OLD nor NEW"
+
+POLICY = """group ops
+permit a.*
+group net in ops
+deny ab
+permit b
+user bob in ops
+user eve in net
+user ann in ops
+permit .*
+"""
+
+# Edits, of which each is as likely as any other. Each word in capitals stands for one of its choices.
+EDITS = """add user USER in GROUP
+add user USER in GROUP
+add user USER
+add group GROUP in GROUP
+remove SUBJECT
+move SUBJECT PARENT
+move SUBJECT PARENT
+login USER SECRET
+enable USER SECRET
+clear CREDENTIAL USER
+priv SUBJECT LEVEL
+clear priv SUBJECT
+insert SUBJECT PLACE VERDICT PATTERN
+insert SUBJECT PLACE VERDICT PATTERN
+insert SUBJECT PLACE VERDICT PATTERN
+insert SUBJECT PLACE VERDICT PATTERN
+drop SUBJECT PLACE
+shift SUBJECT PLACE PLACE
+shift SUBJECT PLACE PLACE""".splitlines()
+CHOICES = {
+    "USER": ["bob", "eve", "ann", "zed"],
+    "GROUP": ["ops", "net", "lab"],
+    "SUBJECT": [
+        *("group ops", "group net", "group lab"),
+        *("user bob", "user eve", "user ann", "user zed"),
+    ],
+    "PARENT": ["in ops", "in net", "in lab", "out"],
+    "SECRET": ["x", "y"],
+    "CREDENTIAL": ["login", "enable"],
+    "LEVEL": ["0", "7", "15"],
+    "PLACE": ["1", "1", "2", "3"],
+    "VERDICT": ["permit", "deny"],
+    "PATTERN": ["a", "a.*", "[^a]*", "ab", "b+", "a|b", "(ab)*"],
+}
+
+CHAINS = """group a
+group b in a
+group c in b
+group d in c
+group e in d
+group p
+group q in p
+group r in q
+group s in r
+group t in s
+group k
+group l in k
+group m in l
+group n in m
+"""
+LONGER = """group k in e
+group l in t
+group m in l
+group n in m
+group a
+group b in a
+group c in b
+group d in c
+group e in d
+group p
+group q in p
+group r in q
+group s in r
+group t in s
+"""
+
+
+def cases(name):
+    """Each case of this file, with the name of the function that plays it."""
+    for play in (
+        edits_are_told_as_the_console_tells_them,
+        pairs_by_chance,
+        deep_chains,
+        a_full_policy,
+        all_rules_of_a_group,
+    ):
+        expected = Outcome(b"", b"", 0)
+        yield Case(f"{name}: {play.__name__}", [Check(Play(play), expected, "its reviews")])
+
+
+def edits_by_chance(seed, count):
+    """So many edits, by a generator of numbers that seem to be by chance (D. E. Knuth and H. W.
+    Lewis)."""
+    state = seed
+
+    def one_of(items):
+        nonlocal state
+        state = (state * 1_664_525 + 1_013_904_223) % 2**32
+        # The low bits come round too soon.
+        return items[(state >> 16) % len(items)]
+
+    for _ in range(count):
+        words = one_of(EDITS).split()
+        yield " ".join(one_of(CHOICES[word]) if word in CHOICES else word for word in words)
+
+
+def ran(program, words, given=""):
+    """What a run prints, which has to end well, and to complain of nothing but several batches."""
+    run = subprocess.run(
+        [program, *words], input=given, capture_output=True, text=True, timeout=LONGEST_RUN
+    )
+    batches = run.stdout.splitlines().count("begin")
+    complained = f"tacd: {batches} batches; {BETWEEN}\n" if batches > 1 else ""
+    if run.returncode or run.stderr != complained:
+        raise Wrong(f"{words[0]} ends with {run.returncode}: {run.stderr}")
+    return run.stdout
+
+
+def replayed(program, policy, lines):
+    """What a console answers to each of the lines, in lists of lines. After each the policy is
+    printed, which no answer has a line of."""
+    script = f"key k\n{policy}run\n"
+    script += "".join(f"console {line}\nconsole policy\n" for line in lines)
+    answers, policies = [[]], []
+    is_policy = False
+    for line in ran(program, ["replay"], script).splitlines():
+        if line in ("policy 2", "policy 3"):
+            is_policy = True
+            policies.append("")
+        elif is_policy and (line == "ok" or line.startswith(("refused ", "kept "))):
+            is_policy = False
+            answers.append([])
+        if is_policy:
+            policies[-1] += f"{line}\n"
+        else:
+            answers[-1].append(line)
+    if len(answers) != len(lines) or len(policies) != len(lines):
+        raise Wrong(f"{len(lines)} lines have {len(answers)} answers")
+    return list(zip(answers, policies))
+
+
+def reviewed(program, words, old, new):
+    """What a review of two policies prints."""
+    with tempfile.TemporaryDirectory(prefix="tacd-test-") as folder:
+        files = [pathlib.Path(folder, name) for name in ("old", "new")]
+        for file, text in zip(files, (old, new)):
+            file.write_text(text, "utf-8")
+        return ran(program, [*words, *files])
+
+
+def edits_are_told_as_the_console_tells_them(program):
+    """Not nearly all edits are refused, or change nothing."""
+    lines = list(edits_by_chance(8907, 300))
+    # As it is printed, after a line that asks nothing.
+    old = replayed(program, POLICY, [""])[0][1]
+    taken = changing = 0
+    for line, (answer, new) in zip(lines, replayed(program, old, lines)):
+        if answer[0] == "ok":
+            told = "".join(f"{it}\n" for it in answer[1:]) or "same\n"
+            found = reviewed(program, ["diff"], old, new)
+            if found != told:
+                raise Wrong(f"{line} of\n{old}is told as\n{found}and is answered\n{told}")
+            taken += 1
+            changing += len(answer) > 1
+        elif old != new:
+            raise Wrong(f"{line} is answered by {answer}, and changes the policy")
+        old = new
+    if taken <= 100 or changing <= 50:
+        raise Wrong(f"{taken} edits are taken, and {changing} change something")
+
+
+def loads(program, old, new):
+    """The edits that are printed make a policy of which none are left to the new one."""
+    lines = reviewed(program, ["diff", "--edits"], old, new).splitlines()
+    made = old
+    kept = 0
+    for line, (answer, policy) in zip(lines, replayed(program, old, lines) if lines else ()):
+        kept = kept + 1 if line not in ("begin", "commit") else 0
+        if answer[0] != (f"kept {kept}" if kept else "ok"):
+            raise Wrong(f"{line} is answered by {answer}, of\n{old}and\n{new}")
+        made = policy
+    left = reviewed(program, ["diff", "--edits"], made, new)
+    if left:
+        raise Wrong(f"of\n{old}and\n{new}these edits are left:\n{left}")
+
+
+def pairs_by_chance(program):
+    """Policies that edits by chance make of an empty one; refused edits are passed over."""
+    policies = [
+        replayed(program, "", list(edits_by_chance(seed, 60)))[-1][1] for seed in range(1, 60)
+    ]
+    for old, new in zip(policies, policies[1:]):
+        loads(program, old, new)
+
+
+def deep_chains(program):
+    loads(program, LONGER, CHAINS)
+
+
+def a_full_policy(program):
+    """There is no room for the new group before the old one goes, which all users have to leave."""
+    old, new = (
+        f"group {group}\n" + "".join(f"user u{user} in {group}\n" for user in range(1, 1024))
+        for group in ("old", "new")
+    )
+    loads(program, old, new)
+
+
+def all_rules_of_a_group(program):
+    old, new = (
+        "group g\n" + "".join(f"permit {word} {rule}\n" for rule in range(256))
+        for word in ("show", "ping")
+    )
+    loads(program, old, new)
