@@ -11,6 +11,7 @@ script on which they aren't is made smaller and printed, with both of each.
     python3 bench/fuzz [--seed N] [--count N] [--first N] [PROGRAM]
     python3 bench/fuzz pairs [--seed N] [--count N] [--first N] [PROGRAM]
     python3 bench/fuzz changes [--seed N] [--count N] [--first N] [PROGRAM]
+    python3 bench/fuzz devices [--seed N] [--count N] [--first N] [PROGRAM]
     python3 bench/fuzz selfcheck [--seed N] [--count N]
     python3 bench/fuzz show [--seed N] NUMBER
 
@@ -24,8 +25,11 @@ a console of the reference that has the first, which then has to have the second
 `changes` draws such pairs too, 300 of them, and compares what `tacd diff` tells of services with what
 a device is answered that asks for every service, for every user, under both policies (changes.py).
 
+`devices` draws devices' files, 3,000 of them, and compares what `tacd devices` prints of each and of
+twenty addresses with a reference that has Python's ipaddress (devices.py).
+
 `selfcheck` needs no program. It takes wrong bodies of the reference, one mistake each, for programs
-with such a mistake, and each has to be found by a script (wrong_bodies.py).
+with such a mistake, and each has to be found by a script, or by a devices' file (wrong_bodies.py).
 
 It takes Python 3.10 or later, and nothing beside its standard library. The status is 0 where there
 was no difference, or all wrong bodies were found, else 1.
@@ -36,6 +40,7 @@ import pathlib
 import sys
 
 import changes
+import devices
 import pairs
 import selfcheck
 from comparing import Program, compare
@@ -43,7 +48,7 @@ from generator.choices import Choices
 from generator.scripts import case
 from running import by_reference, told
 
-COMMANDS = ("pairs", "changes", "selfcheck", "show")
+COMMANDS = ("pairs", "changes", "devices", "selfcheck", "show")
 BUILT = pathlib.Path(__file__).resolve().parents[2] / "crates/tacd/out/tacd"
 
 
@@ -60,6 +65,8 @@ def main():
         return pairs.compare(arguments.program, arguments.seed, numbers)
     if arguments.command == "changes":
         return changes.compare(arguments.program, arguments.seed, numbers)
+    if arguments.command == "devices":
+        return devices.compare(arguments.program, arguments.seed, numbers)
     return compare(Program(arguments.program), arguments.seed, numbers)
 
 
@@ -71,9 +78,10 @@ def read_arguments():
     if command == "show":
         reader.add_argument("number", type=int)
     else:
-        counts = {"compare": 30_000, "pairs": 3_000, "changes": 300, "selfcheck": 6_000}
+        counts = {"compare": 30_000, "pairs": 3_000, "changes": 300, "devices": 3_000}
+        counts["selfcheck"] = 6_000
         reader.add_argument("--count", type=int, default=counts[command])
-    if command in ("compare", "pairs", "changes"):
+    if command in ("compare", "pairs", "changes", "devices"):
         reader.add_argument("--first", type=int, default=0)
         reader.add_argument("program", type=pathlib.Path, nargs="?", default=BUILT)
     return reader.parse_args(words, argparse.Namespace(command=command))

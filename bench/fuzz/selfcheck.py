@@ -1,5 +1,5 @@
 """Whether the generator finds mistakes: each wrong body of the reference is compared with the right
-one, on scripts of a seed, until one differs."""
+one, on scripts of a seed, or on its devices' files, until one differs."""
 
 import importlib
 import pathlib
@@ -8,11 +8,15 @@ import sys
 import tempfile
 
 from generator.choices import Choices
+from generator.devices import listing as drawn_listing
 from generator.scripts import case
+from reference.devices import listing
 from running import by_reference
 from wrong_bodies import WRONG_BODIES
 
 REFERENCE = pathlib.Path(__file__).with_name("reference")
+# The module that devices' files find mistakes of; scripts find those of all others.
+DEVICES = "devices.py"
 
 
 class Mutant:
@@ -30,12 +34,25 @@ class Mutant:
         module.write_text(text.replace(body.old, body.new))
         self.replay = importlib.import_module(f"{name}.script").replay
         self.check = importlib.import_module(f"{name}.check").check
+        self.listing = importlib.import_module(f"{name}.devices").listing
 
-    def differs(self, case, right):
+    def differs(self, drawn):
         try:
-            return by_reference(case, self.replay, self.check) != right
+            if self.body.module == DEVICES:
+                return self.listing(*drawn.listing) != drawn.listed
+            return by_reference(drawn.case, self.replay, self.check) != drawn.right
         except Exception:  # A wrong body may fail in any way, which a program would show too.
             return True
+
+
+class Drawn:
+    """A script and a devices' file of one number, and what the right reference makes of them."""
+
+    def __init__(self, seed, number):
+        self.case = case(Choices(f"{seed}:{number}"))
+        self.right = by_reference(self.case)
+        self.listing = drawn_listing(Choices(f"{seed}:{number}"))
+        self.listed = listing(*self.listing)
 
 
 def run(seed, count):
@@ -49,10 +66,9 @@ def run(seed, count):
             left = [mutant for mutant in mutants if mutant.found is None]
             if not any(mutant.body.shows for mutant in left):
                 break
-            drawn = case(Choices(f"{seed}:{number}"))
-            right = by_reference(drawn)
+            drawn = Drawn(seed, number)
             for mutant in left:
-                if mutant.differs(drawn, right):
+                if mutant.differs(drawn):
                     mutant.found = number
                     print(f"script {number}: {mutant.body.name}", flush=True)
     return tell(mutants)

@@ -483,6 +483,61 @@ WRONG_BODIES = [
         'return desk.line_answered(user, "")[1]',
         'return [it for it in desk.line_answered(user, "")[1] if not it.startswith("priv-lvl=")]',
     ),
+    # Devices' files.
+    WrongBody(
+        "the first prefix decides",
+        "devices.py",
+        "max(places, key=lambda place: place[1].prefixlen, default=None)",
+        "next(iter(places), None)",
+    ),
+    WrongBody(
+        "the shortest prefix decides",
+        "devices.py",
+        "max(places, key=",
+        "min(places, key=",
+    ),
+    WrongBody(
+        "an address that came as IPv6 is looked up as IPv6",
+        "devices.py",
+        "if address.version == 6 and address.ipv4_mapped is not None:",
+        "if False:",
+    ),
+    WrongBody(
+        "an IPv4 prefix may be written as IPv6",
+        "devices.py",
+        "return None if prefix.version == 6 and prefix.subnet_of(MAPPED) else prefix",
+        "return prefix",
+    ),
+    WrongBody(
+        "bits after the length are dropped",
+        "devices.py",
+        "(int(address).to_bytes(address.max_prefixlen // 8), length))",
+        "(int(address).to_bytes(address.max_prefixlen // 8), length), strict=False)",
+    ),
+    WrongBody(
+        "a prefix that another device has is taken",
+        "devices.py",
+        "if any(prefix in device.prefixes for device in devices):",
+        "if prefix in devices[-1].prefixes:",
+    ),
+    WrongBody(
+        "a device without an address comes before one without a key",
+        "devices.py",
+        """        if device.key is None:
+            raise Refused(f"{device.line} 8 NoKey")
+""",
+        """        if device.key is None:
+            raise Refused(f"{device.line} 8 NoKey")
+        if not device.prefixes:
+            raise Refused(f"{device.line} 9 NoAddress")
+""",
+    ),
+    WrongBody(
+        "a key that stands three times is told of the second",
+        "devices.py",
+        "        if len(text) < LEAST_KEY:",
+        "        first[text] = line\n        if len(text) < LEAST_KEY:",
+    ),
     WrongBody(
         "percent forms are in lower case",
         "texts.py",

@@ -1,0 +1,183 @@
+"""Which devices may call, and what is printed of that (docs/DEVICES.md). Addresses and prefixes are
+those of Python's ipaddress."""
+
+import ipaddress
+from typing import NamedTuple
+
+from .texts import is_name, is_secret, is_text, lines_of, number_of, text_of
+
+MOST_DEVICES, MOST_PREFIXES, MOST_CONNECTIONS = 4_096, 16_384, 10_000
+LEAST_KEY = 16
+MAPPED = ipaddress.ip_network("::ffff:0:0/96")
+
+
+class Refused(Exception):
+    """Why a line is refused, or a file with the line where."""
+
+
+class Key(NamedTuple):
+    text: str
+    line: int
+
+
+class Device:
+    def __init__(self, name, line):
+        self.name = name
+        self.line = line
+        self.key = None
+        self.connections = None
+        # each with the line that says it
+        self.prefixes = {}
+
+
+def listing(text, words):
+    """What is printed of the file where these addresses are asked about, and the status."""
+    addresses = [(word, address_of(word)) for word in words]
+    if any(address is None for _, address in addresses):
+        return b"", 2
+    try:
+        devices = read_devices(lines_of(text_of(text)))
+    except Refused as refusal:
+        return f"devices fault line {refusal}\n".encode(), 1
+    if not words:
+        return "".join(f"{line}\n" for line in told(devices)).encode(), 0
+    found = [(word, nearest(devices, address)) for word, address in addresses]
+    lines = [found_line(word, place) for word, place in found]
+    may_call = all(place is not None for _, place in found)
+    return "".join(f"{line}\n" for line in lines).encode(), 0 if may_call else 5
+
+
+def told(devices):
+    prefixes = sum(len(device.prefixes) for device in devices)
+    yield f"devices ok: {len(devices)} devices, {prefixes} prefixes"
+    first = {}
+    for device in devices:
+        text, line = device.key
+        if first.setdefault(text, line) != line:
+            yield f"line {line}: the key of line {first[text]}"
+        if len(text) < LEAST_KEY:
+            yield f"line {line}: a key of {len(text)} characters"
+
+
+def found_line(word, place):
+    if place is None:
+        return f"{word} may not call"
+    name, prefix, line = place
+    return f"{word} {name} {prefix} line {line}"
+
+
+def nearest(devices, address):
+    """The device, the prefix and the line of the longest prefix that has the address, or None."""
+    if address.version == 6 and address.ipv4_mapped is not None:
+        address = address.ipv4_mapped
+    places = [
+        (device.name, prefix, line)
+        for device in devices
+        for prefix, line in device.prefixes.items()
+        if address in prefix
+    ]
+    return max(places, key=lambda place: place[1].prefixlen, default=None)
+
+
+# ---- the text of a file
+
+
+def read_devices(lines):
+    devices = []
+    for number, line in enumerate(lines, start=1):
+        try:
+            take(devices, number, line)
+        except Refused as refusal:
+            raise Refused(f"{number} {refusal}") from refusal
+    for device in devices:
+        if device.key is None:
+            raise Refused(f"{device.line} 8 NoKey")
+    for device in devices:
+        if not device.prefixes:
+            raise Refused(f"{device.line} 9 NoAddress")
+    return devices
+
+
+def take(devices, number, line):
+    if not is_text(line):
+        raise Refused("1 BadLine")
+    line = line.lstrip(" ")
+    if line == "" or line.startswith("#"):
+        return
+    word, blank, rest = line.partition(" ")
+    if blank == "" or word not in ("device", "at", "key", "connections"):
+        raise Refused("1 BadLine")
+    if word != "key" and " " in rest:
+        raise Refused("1 BadLine")
+    if word == "device":
+        begin(devices, number, rest)
+    elif not devices:
+        raise Refused("3 NoDevice")
+    elif word == "at":
+        place(devices, number, rest)
+    elif word == "key":
+        set_key(devices[-1], number, rest)
+    else:
+        set_connections(devices[-1], rest)
+
+
+def begin(devices, number, name):
+    if not is_name(name):
+        raise Refused("2 BadName")
+    if any(device.name == name for device in devices):
+        raise Refused("6 Repeated")
+    if len(devices) == MOST_DEVICES:
+        raise Refused("7 Limit")
+    devices.append(Device(name, number))
+
+
+def place(devices, number, text):
+    prefix = prefix_of(text)
+    if prefix is None:
+        raise Refused("4 BadPrefix")
+    if any(prefix in device.prefixes for device in devices):
+        raise Refused("6 Repeated")
+    if sum(len(device.prefixes) for device in devices) == MOST_PREFIXES:
+        raise Refused("7 Limit")
+    devices[-1].prefixes[prefix] = number
+
+
+def set_key(device, number, text):
+    if not is_secret(text):
+        raise Refused("5 BadValue")
+    if device.key is not None:
+        raise Refused("6 Repeated")
+    device.key = Key(text, number)
+
+
+def set_connections(device, text):
+    connections = number_of(text, 5)
+    if connections is None or not 1 <= connections <= MOST_CONNECTIONS:
+        raise Refused("5 BadValue")
+    if device.connections is not None:
+        raise Refused("6 Repeated")
+    device.connections = connections
+
+
+def address_of(text):
+    """The address that a text spells, without a scope, or None."""
+    try:
+        return None if "%" in text else ipaddress.ip_address(text)
+    except ValueError:
+        return None
+
+
+def prefix_of(text):
+    front, slash, digits = text.partition("/")
+    address = address_of(front)
+    if address is None:
+        return None
+    length = number_of(digits, 3) if slash else address.max_prefixlen
+    if length is None or length > address.max_prefixlen:
+        return None
+    try:
+        # A bit after the length is refused.
+        prefix = ipaddress.ip_network((int(address).to_bytes(address.max_prefixlen // 8), length))
+    except ValueError:
+        return None
+    return None if prefix.version == 6 and prefix.subnet_of(MAPPED) else prefix
