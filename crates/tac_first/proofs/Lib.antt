@@ -1,1 +1,2 @@
 mod FitFacts
+mod SoFarFacts

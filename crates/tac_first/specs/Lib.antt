@@ -1,2 +1,3 @@
 pub mod InRange
 pub mod Choice
+pub mod SoFar
