@@ -6,3 +6,4 @@ pub mod ReadingFacts
 pub mod OnlyFacts
 pub mod TableFacts
 pub mod ListingFacts
+pub mod RenewalFacts

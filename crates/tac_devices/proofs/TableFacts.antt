@@ -23,7 +23,7 @@ use Rattle.tac_devices.specs.Prefix.{Range, same_prefix, IsBare, Reads}
 use Rattle.tac_devices.specs.Line.{Where, SaysTrimmed, SaysParts, is_blank, is_field, said_by, connections_of}
 use Rattle.pol_names.specs.Name.{name_of}
 use Rattle.tac_wire.specs.Key.{key_of}
-use Rattle.tac_devices.specs.Text.{◌>>=◌, whole, empty, with_device, for_present, with_present, place_given, with_prefix, set_once, with_key, with_connections, with_said}
+use Rattle.tac_devices.specs.Text.{◌>>=◌, whole, empty, with_device, for_present, with_present, place_given, with_prefix, set_once, same_keys, keys_apart, with_key, with_old_key, with_connections, with_said}
 use Rattle.tac_devices.specs.Text.{Follows, Makes, device_of, devices_of, has_key, has_place, checked, finished, IsText, UnlessMemory, max_devices, max_prefixes}
 use Rattle.tac_devices.specs.Devices.{Spot, spots, spots_of, Apart, prefixes_of, IsTable}
 
@@ -109,7 +109,7 @@ right_device line name draft next right e = by (list_any (bytes_eq name) draft.n
     made =
         record draft {
           done = whole draft;
-          present = Some (record { name = name; line = line; places = []; key = None; connections = None });
+          present = Some (record { name = name; line = line; places = []; key = None; old_key = None; connections = None });
           names = draft.names ++ name ∷ [];
         }
 
@@ -118,7 +118,7 @@ right_device line name draft next right e = by (list_any (bytes_eq name) draft.n
     by false true h = absurd (cc)
     by false false h =
         subst Right (ok_same made next h) (record {
-          all = in_push (whole draft) (record { name = name; line = line; places = []; key = None; connections = None }) ∙ append-nil (prefixes_in (whole draft)) ∙ right.all;
+          all = in_push (whole draft) (record { name = name; line = line; places = []; key = None; old_key = None; connections = None }) ∙ append-nil (prefixes_in (whole draft)) ∙ right.all;
           apart = right.apart;
           bare = right.bare;
           few = right.few;
@@ -130,13 +130,28 @@ abbrev places_if : Result Entry DevicesRefusal → List Place
 places_if (Ok entry) = entry.places
 places_if (Err refusal) = []
 
+apart_keeps : (entry next : Entry) → keys_apart entry ≡ Ok next → next.places ≡ entry.places
+apart_keeps entry next e = by (same_keys entry.key entry.old_key) e
+  where
+    by : (t : Bool) → cond t (Err Repeated) (Ok entry) ≡ Ok next → next.places ≡ entry.places
+    by true h = absurd (cc)
+    by false h = sym (ap places_if h)
+
 key_keeps : (line : ℕ) (key : Option (List ℕ)) (entry next : Entry) → with_key line key entry ≡ Ok next → next.places ≡ entry.places
 key_keeps line None entry next e = absurd (cc)
 key_keeps line (Some key) entry next e = by entry.key e
   where
-    by : (old : Option KeyLine) → set_once (Some key) old (λ key. record entry { key = Some (record { key = key; line = line }) }) ≡ Ok next → next.places ≡ entry.places
+    by : (old : Option KeyLine) → (set_once (Some key) old (λ key. record entry { key = Some (record { key = key; line = line }) }) >>= keys_apart) ≡ Ok next → next.places ≡ entry.places
     by (Some old) h = absurd (cc)
-    by None h = sym (ap places_if h)
+    by None h = apart_keeps (record entry { key = Some (record { key = key; line = line }) }) next h
+
+old_key_keeps : (old_key : Option (List ℕ)) (entry next : Entry) → with_old_key old_key entry ≡ Ok next → next.places ≡ entry.places
+old_key_keeps None entry next e = absurd (cc)
+old_key_keeps (Some key) entry next e = by entry.old_key e
+  where
+    by : (old : Option (List ℕ)) → (set_once (Some key) old (λ key. record entry { old_key = Some key }) >>= keys_apart) ≡ Ok next → next.places ≡ entry.places
+    by (Some old) h = absurd (cc)
+    by None h = apart_keeps (record entry { old_key = Some key }) next h
 
 connections_keep : (n : Option ℕ) (entry next : Entry) → with_connections n entry ≡ Ok next → next.places ≡ entry.places
 connections_keep None entry next e = absurd (cc)
@@ -197,6 +212,8 @@ right_said line (said.At None) bare draft next right e = none_at draft.present e
 right_said line (said.At (Some p)) bare draft next right e = right_prefix line p bare draft.done draft.present draft.names draft.prefixes next right e
 right_said line (said.Key key) bare draft next right e =
     right_present (with_key line key) (key_keeps line key) draft.done draft.present draft.names draft.prefixes next right e
+right_said line (said.OldKey old_key) bare draft next right e =
+    right_present (with_old_key old_key) (old_key_keeps old_key) draft.done draft.present draft.names draft.prefixes next right e
 right_said line (said.Connections n) bare draft next right e =
     right_present (with_connections n) (connections_keep n) draft.done draft.present draft.names draft.prefixes next right e
 
@@ -208,15 +225,18 @@ reads_bare text (Some prefix) h = h.1
 
 by_bare : (word rest : List ℕ) → BareSaid (said_by word rest)
 unfolding said_by
-by_bare word rest = by (bytes_eq word (codes "device")) (bytes_eq word (codes "key")) (bytes_eq word (codes "connections")) (is_field rest)
+by_bare word rest = by (bytes_eq word (codes "device")) (bytes_eq word (codes "key")) (bytes_eq word (codes "old-key")) (bytes_eq word (codes "connections")) (is_field rest)
   where
-    by : (a b c d : Bool) → BareSaid (cond a (cond d (said.Device (name_of rest)) said.Bad) (cond b (said.Key (key_of rest)) (cond c (cond d (said.Connections (connections_of rest)) said.Bad) said.Bad)))
-    by true b c true = tt
-    by true b c false = tt
-    by false true c d = tt
-    by false false true true = tt
-    by false false true false = tt
-    by false false false d = tt
+    by : (a b o c d : Bool)
+        → BareSaid (cond a (cond d (said.Device (name_of rest)) said.Bad)
+        (cond b (said.Key (key_of rest)) (cond o (said.OldKey (key_of rest)) (cond c (cond d (said.Connections (connections_of rest)) said.Bad) said.Bad))))
+    by true b o c true = tt
+    by true b o c false = tt
+    by false true o c d = tt
+    by false false true c d = tt
+    by false false false true true = tt
+    by false false false true false = tt
+    by false false false false d = tt
 
 words_bare : (word rest : List ℕ) (t : Bool) (what : Said) → Where t ((prefix : Option Range) × Reads rest prefix × (what ≡ said.At prefix)) (what ≡ said_by word rest) → BareSaid what
 words_bare word rest true what h = subst BareSaid (sym h.2) (reads_bare rest h.0 h.1)

@@ -6,3 +6,4 @@ pub mod FaultText
 pub mod Devices
 pub mod Remarks
 pub mod Listing
+pub mod Renewal

@@ -11,7 +11,7 @@ use Rattle.tac_wire.specs.Key.{key_of}
 use Rattle.tac_devices.specs.Prefix.{Range, Reads}
 use Rattle.tac_devices.specs.declared.said.Said.{Said}
 use Rattle.tac_devices.specs.declared.said.Said.TheVariants.{Nothing, Bad, Device, At, Key}
-use Rattle.tac_devices.specs.declared.said.Said.TheVariants.{Connections}
+use Rattle.tac_devices.specs.declared.said.Said.TheVariants.{OldKey, Connections}
 
 -- the text is one field: it has no space
 abbrev pub is_field : List ℕ → Bool
@@ -31,6 +31,7 @@ unfoldable pub said_by : List ℕ → List ℕ → Said
 said_by word rest =
     if bytes_eq word (codes "device") then (if is_field rest then Device (name_of rest) else Bad)
     else if bytes_eq word (codes "key") then Key (key_of rest)
+    else if bytes_eq word (codes "old-key") then OldKey (key_of rest)
     else if bytes_eq word (codes "connections")
     then (if is_field rest then Connections (connections_of rest) else Bad)
     else Bad

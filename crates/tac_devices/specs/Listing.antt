@@ -22,16 +22,19 @@ sizes_line devices prefixes =
     codes "devices ok: " ++ (decimal devices
     ++ (codes " devices, " ++ (decimal prefixes ++ (codes " prefixes" ++ 10 ∷ []))))
 
+-- how many devices and prefixes there are
+abbrev pub sizes_of : List Device → List ℕ
+sizes_of devices = sizes_line (length devices) (length (prefixes_of devices))
+
 abbrev pub remark_line : Remark → List ℕ
 remark_line remark = remark_text remark ++ 10 ∷ []
 
 abbrev pub remark_lines : List Remark → List ℕ
 remark_lines remarks = flat_map remark_line remarks
 
--- how many devices and prefixes there are, and what is remarked on their keys
+-- the same, and what is remarked on their keys
 abbrev pub devices_text : List Device → List ℕ
-devices_text devices =
-    sizes_line (length devices) (length (prefixes_of devices)) ++ remark_lines (remarks_of devices)
+devices_text devices = sizes_of devices ++ remark_lines (remarks_of devices)
 
 -- ---- addresses
 

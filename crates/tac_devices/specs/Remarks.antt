@@ -17,13 +17,13 @@ least_key = 16
 abbrev pub same_key : List Device → Device → Option Remark
 same_key earlier device =
     option_map (λ first. SameKey device.key_line first.key_line)
-    (find (λ other. bytes_eq other.key device.key) earlier)
+    (find (λ other. bytes_eq other.keys.present device.keys.present) earlier)
 
 -- its key is short
 abbrev pub short_key : Device → Option Remark
 short_key device =
-    if nat_lt (length device.key) least_key
-    then Some (ShortKey device.key_line (length device.key)) else None
+    if nat_lt (length device.keys.present) least_key
+    then Some (ShortKey device.key_line (length device.keys.present)) else None
 
 -- both, of each device in order
 abbrev pub remarks_after : List Device → List Device → List Remark

@@ -1,7 +1,8 @@
 -- The text of a devices' file: which devices its lines make, or the first refusal and its line
 -- (docs/DEVICES.md).
-use Rattle.std.specs.Prelude.{◌≡◌, ℕ, ◌+◌, List, [], ◌∷◌, ◌++◌, length, find, Bool, not, nat_le}
-use Rattle.std.specs.Prelude.{nat_eq, is_some, Option, Some, None, Result, Ok, Err, if◌then◌else◌}
+use Rattle.std.specs.Prelude.{◌≡◌, ℕ, ◌+◌, List, [], ◌∷◌, ◌++◌, length, find, Bool, false, not}
+use Rattle.std.specs.Prelude.{nat_eq, nat_le, is_some, Option, Some, None, Result, Ok, Err}
+use Rattle.std.specs.Prelude.{if◌then◌else◌}
 use Rattle.std.specs.Option.{option_to_list, option_map, option_map_or}
 use Rattle.std.specs.List.{list_any}
 use Rattle.std.specs.Str.{bytes_eq}
@@ -54,6 +55,7 @@ with_device line name draft =
         line = line;
         places = [];
         key = None;
+        old_key = None;
         connections = None;
       });
       names = draft.names ++ name ∷ [];
@@ -102,10 +104,26 @@ set_once None old change = Err BadValue
 set_once (Some value) (Some old) change = Err Repeated
 set_once (Some value) None change = Ok (change value)
 
+-- whether a device has the same key twice, as its key and as its old one
+abbrev pub same_keys : Option KeyLine → Option (List ℕ) → Bool
+same_keys (Some line) (Some old_key) = bytes_eq line.key old_key
+same_keys (Some line) None = false
+same_keys None old_key = false
+
+-- then the line that says it again is refused
+abbrev pub keys_apart : Entry → Result Entry DevicesRefusal
+keys_apart entry = if same_keys entry.key entry.old_key then Err Repeated else Ok entry
+
 abbrev pub with_key : ℕ → Option (List ℕ) → Entry → Result Entry DevicesRefusal
 with_key line key entry =
     set_once key entry.key
     (λ key. record entry { key = Some (record { key = key; line = line }) })
+    >>= keys_apart
+
+abbrev pub with_old_key : Option (List ℕ) → Entry → Result Entry DevicesRefusal
+with_old_key old_key entry =
+    set_once old_key entry.old_key (λ old_key. record entry { old_key = Some old_key })
+    >>= keys_apart
 
 abbrev pub with_connections : Option ℕ → Entry → Result Entry DevicesRefusal
 with_connections connections entry =
@@ -119,6 +137,7 @@ with_said line (said.Device None) draft = Err BadName
 with_said line (said.Device (Some name)) draft = with_device line name draft
 with_said line (said.At prefix) draft = with_prefix line prefix draft
 with_said line (said.Key key) draft = with_present (with_key line key) draft
+with_said line (said.OldKey old_key) draft = with_present (with_old_key old_key) draft
 with_said line (said.Connections n) draft = with_present (with_connections n) draft
 
 -- ---- lines
@@ -145,7 +164,7 @@ device_of entry key =
     record {
       name = entry.name;
       places = entry.places;
-      key = key.key;
+      keys = record { present = key.key; old = entry.old_key };
       key_line = key.line;
       connections = entry.connections;
     }

@@ -3,7 +3,7 @@
 use crate::prefix::Prefix;
 use basics::Sequence;
 use pol_names::Name;
-use tac_wire::Key;
+use tac_first::Keys;
 
 /// The addresses of a device that begin so, and the line that says it.
 #[derive(Clone, Copy)]
@@ -18,8 +18,9 @@ pub struct Device {
     pub name: Name,
     /// The addresses that it has, in the order of the text.
     pub places: Sequence<Place>,
-    /// The secret that it shares with the server.
-    pub key: Key,
+    /// The secret that it shares with the server, and one that it had before, if that is still
+    /// taken.
+    pub keys: Keys,
     /// The line that says the key.
     pub key_line: usize,
     /// How many connections each of its addresses may have at once, if the text says it.
@@ -32,7 +33,7 @@ impl Drop for Device {
         let Device {
             name: _,
             places: _,
-            key: _,
+            keys: _,
             key_line: _,
             connections: _,
         } = self;

@@ -16,6 +16,7 @@ use crate::said::Said;
 use basics::Sequence;
 use pol_names::Name;
 use std::alloc::{AllocError, Global};
+use tac_first::Keys;
 use tac_wire::Key;
 
 /// A key, and the line that says it.
@@ -37,6 +38,7 @@ pub(crate) struct Entry {
     pub(crate) line: usize,
     pub(crate) places: Sequence<Place>,
     pub(crate) key: Option<KeyLine>,
+    pub(crate) old_key: Option<Key>,
     pub(crate) connections: Option<u32>,
 }
 
@@ -48,6 +50,7 @@ impl Drop for Entry {
             line: _,
             places: _,
             key: _,
+            old_key: _,
             connections: _,
         } = self;
     }
@@ -117,6 +120,7 @@ impl Entry {
           line = line;
           places = [];
           key = None;
+          old_key = None;
           connections = None;
         } }
     {
@@ -125,7 +129,20 @@ impl Entry {
             line,
             places: Sequence::new(alloc),
             key: None,
+            old_key: None,
             connections: None,
+        }
+    }
+
+    // Refuses an old key that is the key, at whichever line comes second.
+    fn check_keys(&self) -> Result<(), LineFault>
+        ensures { LineMakes result self.now (texts.keys_apart self.now) }
+    {
+        match (&self.key, &self.old_key) {
+            (Some(line), Some(old_key)) if line.key.as_slice() == old_key.as_slice() => {
+                Err(LineFault::Refused(DevicesRefusal::Repeated))
+            }
+            _ => Ok(()),
         }
     }
 
@@ -139,7 +156,20 @@ impl Entry {
             return Err(LineFault::Refused(DevicesRefusal::Repeated));
         }
         self.key = Some(KeyLine { key, line });
-        Ok(())
+        self.check_keys()
+    }
+
+    fn set_old_key(&mut self, old_key: Option<Key>) -> Result<(), LineFault>
+        ensures { LineMakes result self.new (texts.with_old_key old_key self.old) }
+    {
+        let Some(old_key) = old_key else {
+            return Err(LineFault::Refused(DevicesRefusal::BadValue));
+        };
+        if self.old_key.is_some() {
+            return Err(LineFault::Refused(DevicesRefusal::Repeated));
+        }
+        self.old_key = Some(old_key);
+        self.check_keys()
     }
 
     fn set_connections(&mut self, connections: Option<u32>) -> Result<(), LineFault>
@@ -218,6 +248,16 @@ impl Draft {
         }
     }
 
+    fn set_old_key(&mut self, old_key: Option<Key>) -> Result<(), LineFault>
+        ensures { LineMakes result self.new
+            (texts.with_present (texts.with_old_key old_key) self.old) }
+    {
+        match &mut self.present {
+            Some(entry) => entry.set_old_key(old_key),
+            None => Err(LineFault::Refused(DevicesRefusal::NoDevice)),
+        }
+    }
+
     fn set_connections(&mut self, connections: Option<u32>) -> Result<(), LineFault>
         ensures { LineMakes result self.new
             (texts.with_present (texts.with_connections connections) self.old) }
@@ -239,6 +279,7 @@ impl Draft {
             Said::Device(Some(name)) => self.begin(alloc, line, name),
             Said::At(prefix) => self.place(line, prefix),
             Said::Key(key) => self.set_key(line, key),
+            Said::OldKey(old_key) => self.set_old_key(old_key),
             Said::Connections(connections) => self.set_connections(connections),
         }
     }
@@ -300,6 +341,7 @@ impl Entry {
             line: _,
             places,
             key,
+            old_key,
             connections,
         } = self;
         let Some(key) = key else {
@@ -309,7 +351,10 @@ impl Entry {
         Some(Device {
             name,
             places,
-            key,
+            keys: Keys {
+                present: key,
+                old: old_key,
+            },
             key_line,
             connections,
         })

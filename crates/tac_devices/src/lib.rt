@@ -10,12 +10,14 @@ mod listing;
 mod prefix;
 mod reading;
 mod remark;
+mod renewal;
 mod said;
 
 pub use device::{Device, Place};
 pub use devices::{Devices, Spot};
 pub use fault::{DevicesFault, DevicesRefusal};
-pub use listing::{Asked, ListingEnd, list_devices};
+pub use listing::{Asked, ListingEnd, fault_line, list_devices, sizes_line};
 pub use prefix::Prefix;
 pub use reading::read_devices;
 pub use remark::Remark;
+pub use renewal::renew_devices;

@@ -63,9 +63,13 @@ fn count_prefixes(devices: &[Device]) -> usize
     prefixes
 }
 
-fn write_sizes(out: &mut Vec<u8>, devices: usize, prefixes: usize) -> io::Result<()>
-    ensures { OnOk result (out.new.items ≡ out.old.items ++ listings.sizes_line devices prefixes) }
+fn write_sizes(out: &mut Vec<u8>, devices: &Devices) -> io::Result<()>
+    requires { length (prefixes_of devices.now) ≤ max_prefixes }
+    ensures { OnOk result (out.new.items ≡ out.old.items ++ listings.sizes_of devices.now) }
 {
+    let devices = devices.as_slice();
+    let prefixes = count_prefixes(devices);
+    let devices = devices.len();
     writeln!(out, "devices ok: {devices} devices, {prefixes} prefixes")
 }
 
@@ -90,8 +94,7 @@ fn write_devices(out: &mut Vec<u8>, alloc: Global, devices: &Devices) -> io::Res
     ensures { OnOk result (out.new.items ≡ out.old.items ++ listings.devices_text devices.now) }
 {
     let remarks = devices.remarks(alloc)?;
-    let devices = devices.as_slice();
-    write_sizes(out, devices.len(), count_prefixes(devices))?;
+    write_sizes(out, devices)?;
     write_remarks(out, remarks.as_slice())
 }
 
@@ -140,25 +143,35 @@ fn tell(alloc: Global, devices: &Devices, asked: &[Asked<'_>]) -> io::Result<(Ve
     Ok((out, ListingEnd::Stranger))
 }
 
-fn refuse(alloc: Global, fault: DevicesFault) -> io::Result<(Vec<u8>, ListingEnd)>
-    ensures { IfOk result (λ told. (told.0.items ≡ listings.fault_line fault)
-        × (told.1 ≡ ListingEnd.Refused)) }
-{
-    let mut out = Vec::new(alloc);
-    writeln!(out, "devices {fault}")?;
-    Ok((out, ListingEnd::Refused))
-}
-
 // Where a vector is written to, an error means that memory ran out.
-fn unless_memory(
-    told: io::Result<(Vec<u8>, ListingEnd)>,
-) -> Result<(Vec<u8>, ListingEnd), AllocError>
+fn unless_memory<T>(told: io::Result<T>) -> Result<T, AllocError>
     ensures { IfOk result (λ output. told ≡ Ok output) }
 {
     match told {
         Ok(output) => Ok(output),
         Err(_) => Err(AllocError),
     }
+}
+
+/// The line that tells how many devices and prefixes there are, as `devices ok: 2 devices, 3
+/// prefixes`. There are no more prefixes than a text may say. The error means that memory ran out.
+pub fn sizes_line(alloc: Global, devices: &Devices) -> Result<Vec<u8>, AllocError>
+    requires { length (prefixes_of devices.now) ≤ max_prefixes }
+    ensures { IfOk result (λ line. line.items ≡ listings.sizes_of devices.now) }
+{
+    let mut line = Vec::new(alloc);
+    unless_memory(write_sizes(&mut line, devices))?;
+    Ok(line)
+}
+
+/// The line that tells a fault, as `devices fault line 7 4 BadPrefix`. The error means that memory
+/// ran out.
+pub fn fault_line(alloc: Global, fault: DevicesFault) -> Result<Vec<u8>, AllocError>
+    ensures { IfOk result (λ line. line.items ≡ listings.fault_line fault) }
+{
+    let mut line = Vec::new(alloc);
+    unless_memory(writeln!(line, "devices {fault}"))?;
+    Ok(line)
 }
 
 /// What is printed of the text of a devices' file, and how it ends: how many devices and prefixes it
@@ -175,7 +188,8 @@ pub fn list_devices(
     match read_devices(alloc, text) {
         Ok(devices) => unless_memory(tell(alloc, &devices, asked)),
         Err(DevicesFault::Refused { line, refusal }) => {
-            unless_memory(refuse(alloc, DevicesFault::Refused { line, refusal }))
+            let told = fault_line(alloc, DevicesFault::Refused { line, refusal })?;
+            Ok((told, ListingEnd::Refused))
         }
         Err(DevicesFault::Memory) => Err(AllocError),
     }

@@ -34,15 +34,18 @@ impl fmt::Display for Remark {
 }
 
 fn with_key<'a>(devices: &'a [Device], key: &[u8]) -> Option<&'a Device>
-    ensures { option_copied result ≡ find (λ other. bytes_eq other.key key.now) devices.now }
+    ensures { option_copied result
+        ≡ find (λ other. bytes_eq other.keys.present key.now) devices.now }
 {
-    devices.iter().find(|other| other.key.as_slice() == key)
+    devices
+        .iter()
+        .find(|other| other.keys.present.as_slice() == key)
 }
 
 fn same_key(earlier: &[Device], device: &Device) -> Option<Remark>
     ensures { result ≡ remarks.same_key earlier.now device.now }
 {
-    match with_key(earlier, device.key.as_slice()) {
+    match with_key(earlier, device.keys.present.as_slice()) {
         Some(first) => Some(Remark::SameKey {
             line: device.key_line,
             first: first.key_line,
@@ -54,7 +57,7 @@ fn same_key(earlier: &[Device], device: &Device) -> Option<Remark>
 fn short_key(device: &Device) -> Option<Remark>
     ensures { result ≡ remarks.short_key device.now }
 {
-    let size = device.key.as_slice().len();
+    let size = device.keys.present.as_slice().len();
     if size < LEAST_KEY {
         return Some(Remark::ShortKey {
             line: device.key_line,

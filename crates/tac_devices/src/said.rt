@@ -24,6 +24,8 @@ pub(crate) enum Said {
     At(Option<Prefix>),
     /// The present device has this key.
     Key(Option<Key>),
+    /// The present device had this key before, and may still come by it.
+    OldKey(Option<Key>),
     /// Each address of the present device may have so many connections.
     Connections(Option<u32>),
 }
@@ -57,6 +59,9 @@ fn said_by(word: &[u8], rest: &[u8]) -> Said
     }
     if word == b"key".as_slice() {
         return Said::Key(Key::read(rest));
+    }
+    if word == b"old-key".as_slice() {
+        return Said::OldKey(Key::read(rest));
     }
     if word == b"connections".as_slice() {
         return if is_field(rest) {

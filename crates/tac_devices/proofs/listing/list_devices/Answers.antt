@@ -1,7 +1,8 @@
-use Rattle.std.proofs.Common.{List, Ok, Err, subst}
+use Rattle.std.proofs.Common.{List, Ok, Err, subst, refl}
 use Rattle.tac_devices.specs.declared.device.Device.{Device}
 use Rattle.tac_devices.specs.declared.fault.DevicesFault.{DevicesFault}
 use Rattle.tac_devices.specs.declared.fault.DevicesFault.TheVariants as faults
+use Rattle.tac_devices.specs.declared.listing.ListingEnd.TheVariants.{Refused}
 use Rattle.tac_devices.specs.Text.{IsText, UnlessMemory}
 use Rattle.tac_devices.proofs.ListingFacts.{listing_only, ok_from}
 use Rattle.tac_devices.proofs.listing.list_devices.Goals as goal
@@ -13,11 +14,10 @@ returns-in-Ok c =
     (λ output prints. listing_only c.args.asked.now c.args.text.now (Ok c.in-Ok.devices) output.0.items output.1 read.exact read.table prints)
     c.tell.ensures
 
-pub returns-in-Err-Refused : goal.returns-in-Err-Refused
-returns-in-Err-Refused c =
+pub returns-in_ok-told-in-Err-Refused : goal.returns-in_ok-told-in-Err-Refused
+returns-in_ok-told-in-Err-Refused c =
     let at = c.in-Err-Refused in
     let said : IsText c.args.text.now (Err (faults.Refused at.line at.refusal)) =
     subst (λ (fault : DevicesFault). UnlessMemory (λ (devices : List Device). devices) (Err fault) (IsText c.args.text.now)) at.field-0-is at.ensures.exact in
-    ok_from c.unless_memory-in-Err-Refused.result c.refuse.result c.unless_memory-in-Err-Refused.ensures
-    (λ output prints. listing_only c.args.asked.now c.args.text.now (Err (faults.Refused at.line at.refusal)) output.0.items output.1 said tt prints)
-    c.refuse.ensures
+    listing_only c.args.asked.now c.args.text.now (Err (faults.Refused at.line at.refusal)) c.in_ok-told-in-Err-Refused.told.items Refused said tt
+    (c.in_ok-told-in-Err-Refused.ensures, refl)
