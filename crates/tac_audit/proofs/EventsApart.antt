@@ -17,14 +17,16 @@ use Rattle.tac_audit.specs.declared.event.Why.{Why}
 use Rattle.tac_audit.specs.declared.event.Why.TheVariants as reasons
 use Rattle.tac_audit.specs.declared.event.Told.{Told}
 use Rattle.tac_audit.specs.declared.event.Told.TheVariants.{Login, Command, Account, Refused}
+use Rattle.tac_audit.specs.declared.event.Origin.{Origin}
 use Rattle.tac_audit.specs.declared.event.Event.{Event}
 use Rattle.tac_audit.specs.declared.event.Typist.{Typist}
 use Rattle.tac_audit.specs.declared.event.Typist.TheVariants.{Anyone, Operator}
 use Rattle.tac_audit.specs.declared.event.Typed.{Typed}
 use Rattle.tac_audit.specs.Json.{text_json, optional_json, texts_json, member}
-use Rattle.tac_audit.specs.Event.{status_word, why_word, kind_word, session_digits, asker_json, given_json, said_json, type_json, told_json, begun, ended, line_of, typist_json, size_json, typed_line}
-use Rattle.tac_audit.specs.Apart.{are_bytes, are_texts, is_asker, is_said, is_told, is_typist, is_size, AreApart, AreTypedApart}
-use Rattle.tac_audit.proofs.JsonApart.{text_apart, optional_apart, texts_apart, IsNext, next_member, unlike, number_apart, member_apart, hexes_are_bytes, hexes_apart}
+use Rattle.tac_audit.specs.Event.{status_word, why_word, kind_word, session_digits, asker_json, given_json, said_json, type_json, told_json, origin_json, begun, ended, line_of, typist_json, size_json, typed_line}
+use Rattle.tac_audit.specs.Apart.{are_bytes, are_texts, is_asker, is_said, is_told, is_origin, is_typist, is_size, AreApart, AreTypedApart}
+use Rattle.tac_audit.proofs.JsonApart.{optional_apart, texts_apart, IsNext, next_member, unlike, number_apart, member_apart, text_member, hexes_are_bytes, hexes_apart}
+use Rattle.tac_audit.proofs.OriginsApart.{IsAfterOrigin, origins_apart}
 
 -- ---- words
 
@@ -130,15 +132,11 @@ nest3 a b c x = simp append_assoc
 nest4 : (a b c d x : List ℕ) → a ++ b ++ c ++ d ++ x ≡ a ++ (b ++ (c ++ (d ++ x)))
 nest4 a b c d x = simp append_assoc
 
-nest5 : (a b c d e x : List ℕ) → a ++ b ++ c ++ d ++ e ++ x ≡ a ++ (b ++ (c ++ (d ++ (e ++ x))))
+pub nest5 : (a b c d e x : List ℕ) → a ++ b ++ c ++ d ++ e ++ x ≡ a ++ (b ++ (c ++ (d ++ (e ++ x))))
 nest5 a b c d e x = simp append_assoc
 
 nest6 : (a b c d e f x : List ℕ) → a ++ b ++ c ++ d ++ e ++ f ++ x ≡ a ++ (b ++ (c ++ (d ++ (e ++ (f ++ x)))))
 nest6 a b c d e f x = simp append_assoc
-
--- a member with a text, and what follows
-text_member : (name a b x y : List ℕ) → are_bytes a ≡ true → are_bytes b ≡ true → member name (text_json a) ++ x ≡ member name (text_json b) ++ y → (a ≡ b) × (x ≡ y)
-text_member name a b x y h k same = text_apart a b x y h k (member_apart name (text_json a) (text_json b) x y same)
 
 texts_member : (name : List ℕ) (a b : List (List ℕ)) (x y : List ℕ) → are_texts a ≡ true → are_texts b ≡ true → member name (texts_json a) ++ x ≡ member name (texts_json b) ++ y → (a ≡ b) × (x ≡ y)
 texts_member name a b x y h k same = texts_apart a b x y h k (member_apart name (texts_json a) (texts_json b) x y same)
@@ -400,33 +398,38 @@ small_session n h = grind (arith, nat_tests)
 
 -- ---- lines
 
-begun_apart : (a b : Option (List ℕ)) (x y : List ℕ) → option_map_or are_bytes a true ≡ true → option_map_or are_bytes b true ≡ true → begun a ++ x ≡ begun b ++ y → (a ≡ b) × (x ≡ y)
+pub begun_apart : (a b : Option (List ℕ)) (x y : List ℕ) → option_map_or are_bytes a true ≡ true → option_map_or are_bytes b true ≡ true → begun a ++ x ≡ begun b ++ y → (a ≡ b) × (x ≡ y)
 unfolding begun
 begun_apart a b x y h k same = optional_apart a b x y h k (ap (drop 8) same)
 
-event_parts : (a b : Event) → a.time ≡ b.time → a.device ≡ b.device → a.session ≡ b.session → a.told ≡ b.told → a ≡ b
-event_parts a b time device session told =
+event_parts : (a b : Event) → a.time ≡ b.time → a.origin ≡ b.origin → a.session ≡ b.session → a.told ≡ b.told → a ≡ b
+event_parts a b time origin session told =
     ap (λ (x : Option (List ℕ)). record a { time = x }) time
-    ∙ ap (λ (x : List ℕ). record { time = b.time; device = x; session = a.session; told = a.told }) device
-    ∙ ap (λ (x : ℕ). record { time = b.time; device = b.device; session = x; told = a.told }) session
+    ∙ ap (λ (x : Origin). record { time = b.time; origin = x; session = a.session; told = a.told }) origin
+    ∙ ap (λ (x : ℕ). record { time = b.time; origin = b.origin; session = x; told = a.told }) session
     ∙ ap (λ (x : Told). record b { told = x }) told
 
-line_is : (e : Event) → line_of e ≡ begun e.time ++ (member (codes "device") (text_json e.device) ++ (member (codes "session") (text_json (session_digits e.session)) ++ (told_json e.told ++ ended)))
-line_is e = nest4 (begun e.time) (member (codes "device") (text_json e.device)) (member (codes "session") (text_json (session_digits e.session))) (told_json e.told) ended
+pub line_is : (e : Event) → line_of e ≡ begun e.time ++ (origin_json e.origin ++ (member (codes "session") (text_json (session_digits e.session)) ++ (told_json e.told ++ ended)))
+line_is e = nest4 (begun e.time) (origin_json e.origin) (member (codes "session") (text_json (session_digits e.session))) (told_json e.told) ended
+
+-- after where an event comes from, its session follows
+pub before_session : (value x : List ℕ) → IsAfterOrigin (member (codes "session") value ++ x)
+unfolding member IsAfterOrigin
+before_session value x = (refl, refl)
 
 pub events_apart : (a b : Event) → AreApart a b
 events_apart a b h k same =
-    let h1 = and_parts (option_map_or are_bytes a.time true && are_bytes a.device && nat_lt a.session (2 ^ 32)) (is_told a.told) h in
-    let k1 = and_parts (option_map_or are_bytes b.time true && are_bytes b.device && nat_lt b.session (2 ^ 32)) (is_told b.told) k in
-    let h2 = and_parts (option_map_or are_bytes a.time true && are_bytes a.device) (nat_lt a.session (2 ^ 32)) h1.0 in
-    let k2 = and_parts (option_map_or are_bytes b.time true && are_bytes b.device) (nat_lt b.session (2 ^ 32)) k1.0 in
-    let h3 = and_parts (option_map_or are_bytes a.time true) (are_bytes a.device) h2.0 in
-    let k3 = and_parts (option_map_or are_bytes b.time true) (are_bytes b.device) k2.0 in
+    let h1 = and_parts (option_map_or are_bytes a.time true && is_origin a.origin && nat_lt a.session (2 ^ 32)) (is_told a.told) h in
+    let k1 = and_parts (option_map_or are_bytes b.time true && is_origin b.origin && nat_lt b.session (2 ^ 32)) (is_told b.told) k in
+    let h2 = and_parts (option_map_or are_bytes a.time true && is_origin a.origin) (nat_lt a.session (2 ^ 32)) h1.0 in
+    let k2 = and_parts (option_map_or are_bytes b.time true && is_origin b.origin) (nat_lt b.session (2 ^ 32)) k1.0 in
+    let h3 = and_parts (option_map_or are_bytes a.time true) (is_origin a.origin) h2.0 in
+    let k3 = and_parts (option_map_or are_bytes b.time true) (is_origin b.origin) k2.0 in
     let times = begun_apart a.time b.time _ _ h3.0 k3.0 (sym (line_is a) ∙ same ∙ line_is b) in
-    let devices = text_member (codes "device") a.device b.device _ _ h3.1 k3.1 times.1 in
-    let sessions = text_member (codes "session") (session_digits a.session) (session_digits b.session) _ _ (digits_are_bytes a.session) (digits_are_bytes b.session) devices.1 in
+    let origins = origins_apart a.origin b.origin _ _ h3.1 k3.1 (before_session (text_json (session_digits a.session)) _) (before_session (text_json (session_digits b.session)) _) times.1 in
+    let sessions = text_member (codes "session") (session_digits a.session) (session_digits b.session) _ _ (digits_are_bytes a.session) (digits_are_bytes b.session) origins.1 in
     let told = told_apart a.told b.told ended ended h1.1 k1.1 ended_last ended_last sessions.1 in
-    event_parts a b times.0 devices.0 (sessions_apart a.session b.session (small_session a.session h2.1) (small_session b.session k2.1) sessions.0) told.0
+    event_parts a b times.0 origins.0 (sessions_apart a.session b.session (small_session a.session h2.1) (small_session b.session k2.1) sessions.0) told.0
 
 small_size : (n : ℕ) → nat_lt n (2 ^ 64) ≡ true → n < 2 ^ 64
 small_size n h = grind (arith, nat_tests)

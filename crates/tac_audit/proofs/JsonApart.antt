@@ -264,6 +264,10 @@ pub member_apart : (name v w x y : List ℕ) → member name v ++ x ≡ member n
 member_apart name v w x y same =
     ap (drop 2) (append_cancel_left name (0x22 ∷ 0x3A ∷ (v ++ x)) (0x22 ∷ 0x3A ∷ (w ++ y)) (ap (drop 2) (sym (member_is name v x) ∙ same ∙ member_is name w y)))
 
+-- members of the same name with a text, and what follows
+pub text_member : (name a b x y : List ℕ) → are_bytes a ≡ true → are_bytes b ≡ true → member name (text_json a) ++ x ≡ member name (text_json b) ++ y → (a ≡ b) × (x ≡ y)
+text_member name a b x y h k same = text_apart a b x y h k (member_apart name (text_json a) (text_json b) x y same)
+
 -- ---- hexadecimal digits
 
 glyphs_apart : (d e : ℕ) → d < 16 → e < 16 → digit_glyph false d ≡ digit_glyph false e → d ≡ e

@@ -1,5 +1,7 @@
 mod JsonApart
+mod OriginsApart
 pub mod EventsApart
+pub mod TurnedAwayApart
 pub mod MaskingFacts
 pub mod AnswerFacts
 mod LoginFacts

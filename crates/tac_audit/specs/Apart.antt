@@ -1,16 +1,18 @@
 -- The lines of events are told apart, so what they tell is read back from them.
-use Rattle.std.specs.Prelude.{◌≡◌, ◌^◌, ℕ, List, Bool, true, ◌&&◌, nat_lt, IsTrue, Option}
+use Rattle.std.specs.Prelude.{◌≡◌, ◌≢◌, ◌^◌, ℕ, List, Bool, true, ◌&&◌, nat_lt, IsTrue, Option}
 use Rattle.std.specs.List.{list_all}
 use Rattle.std.specs.Option.{option_map_or}
 use Rattle.tac_audit.specs.declared.event.Asker.{Asker}
 use Rattle.tac_audit.specs.declared.event.Said.{Said}
 use Rattle.tac_audit.specs.declared.event.Told.{Told}
 use Rattle.tac_audit.specs.declared.event.Told.TheVariants.{Login, Command, Account, Refused}
+use Rattle.tac_audit.specs.declared.event.Origin.{Origin}
 use Rattle.tac_audit.specs.declared.event.Event.{Event}
+use Rattle.tac_audit.specs.declared.event.TurnedAway.{TurnedAway}
 use Rattle.tac_audit.specs.declared.event.Typist.{Typist}
 use Rattle.tac_audit.specs.declared.event.Typist.TheVariants.{Anyone, Operator}
 use Rattle.tac_audit.specs.declared.event.Typed.{Typed}
-use Rattle.tac_audit.specs.Event.{line_of, typed_line}
+use Rattle.tac_audit.specs.Event.{line_of, typed_line, turned_away_line}
 
 -- numbers below 256, as all bytes are
 abbrev pub are_bytes : List ℕ → Bool
@@ -35,10 +37,14 @@ is_told (Account asker kind task arguments said) =
     is_asker asker && are_bytes task && are_texts arguments && is_said said
 is_told (Refused why) = true
 
+abbrev pub is_origin : Origin → Bool
+is_origin origin =
+    are_bytes origin.device && option_map_or (λ named. are_bytes named.name) origin.named true
+
 -- an event as there can be one: bytes, and 32 bits of session
 abbrev pub is_event : Event → Bool
 is_event event =
-    option_map_or are_bytes event.time true && are_bytes event.device
+    option_map_or are_bytes event.time true && is_origin event.origin
     && nat_lt event.session (2 ^ 32) && is_told event.told
 
 -- a size below 2^64
@@ -54,6 +60,10 @@ is_typed typed =
     are_bytes typed.time && is_typist typed.typist && are_bytes typed.console
     && is_size typed.answer_bytes && are_texts typed.answer
 
+abbrev pub is_turned_away : TurnedAway → Bool
+is_turned_away turned =
+    are_bytes turned.time && is_origin turned.origin && nat_lt turned.count (2 ^ 64)
+
 -- events with the same line are the same
 abbrev pub AreApart : Event → Event → Type 0
 AreApart a b = IsTrue (is_event a) → IsTrue (is_event b) → line_of a ≡ line_of b → a ≡ b
@@ -62,3 +72,15 @@ AreApart a b = IsTrue (is_event a) → IsTrue (is_event b) → line_of a ≡ lin
 abbrev pub AreTypedApart : Typed → Typed → Type 0
 AreTypedApart a b =
     IsTrue (is_typed a) → IsTrue (is_typed b) → typed_line a ≡ typed_line b → a ≡ b
+
+-- the same of refused connections
+abbrev pub AreTurnedAwayApart : TurnedAway → TurnedAway → Type 0
+AreTurnedAwayApart a b =
+    IsTrue (is_turned_away a) → IsTrue (is_turned_away b) →
+    turned_away_line a ≡ turned_away_line b → a ≡ b
+
+-- theirs is no line of an event
+abbrev pub IsOther : Event → TurnedAway → Type 0
+IsOther event turned =
+    IsTrue (is_event event) → IsTrue (is_turned_away turned) →
+    line_of event ≢ turned_away_line turned

@@ -1,5 +1,5 @@
 -- The line that is written of an event (docs/AUDIT.md).
-use Rattle.std.specs.Prelude.{ℕ, List, [], ◌∷◌, ◌++◌, codes, Option, Some, None}
+use Rattle.std.specs.Prelude.{ℕ, List, [], ◌∷◌, ◌++◌, codes, Bool, true, false, Option, Some, None}
 use Rattle.std.specs.Int.{to_be_bytes, w32}
 use Rattle.std.specs.List.{flat_map}
 use Rattle.std.specs.Option.{option_map}
@@ -14,7 +14,13 @@ use Rattle.tac_audit.specs.declared.event.Why.{Why}
 use Rattle.tac_audit.specs.declared.event.Why.TheVariants as reasons
 use Rattle.tac_audit.specs.declared.event.Told.{Told}
 use Rattle.tac_audit.specs.declared.event.Told.TheVariants.{Login, Command, Account, Refused}
+use Rattle.tac_audit.specs.declared.event.Named.{Named}
+use Rattle.tac_audit.specs.declared.event.Origin.{Origin}
 use Rattle.tac_audit.specs.declared.event.Event.{Event}
+use Rattle.tac_audit.specs.declared.event.WhyTurnedAway.{WhyTurnedAway}
+use Rattle.tac_audit.specs.declared.event.WhyTurnedAway.TheVariants.{UnknownDevice}
+use Rattle.tac_audit.specs.declared.event.WhyTurnedAway.TheVariants.{TooManyConnections}
+use Rattle.tac_audit.specs.declared.event.TurnedAway.{TurnedAway}
 use Rattle.tac_audit.specs.declared.event.Typist.{Typist}
 use Rattle.tac_audit.specs.declared.event.Typist.TheVariants.{Anyone, Operator}
 use Rattle.tac_audit.specs.declared.event.Typed.{Typed}
@@ -37,6 +43,11 @@ why_word reasons.OutOfTurn = codes "out of turn"
 why_word reasons.Aborted = codes "aborted"
 why_word reasons.BadHeader = codes "bad header"
 
+-- why connections were refused
+abbrev pub turned_away_word : WhyTurnedAway → List ℕ
+turned_away_word UnknownDevice = codes "unknown device"
+turned_away_word TooManyConnections = codes "too many connections"
+
 abbrev pub kind_word : AcctKind → List ℕ
 kind_word Begin = codes "start"
 kind_word Stop = codes "stop"
@@ -48,6 +59,21 @@ unfoldable pub session_digits : ℕ → List ℕ
 session_digits session = flat_map hex_byte (to_be_bytes w32 session)
 
 -- ---- members
+
+-- that a device came by its old key, where it did
+abbrev pub key_json : Bool → List ℕ
+key_json false = []
+key_json true = member (codes "key") (text_json (codes "old"))
+
+-- what a devices' file says of a device
+abbrev pub named_json : Option Named → List ℕ
+named_json None = []
+named_json (Some named) =
+    member (codes "name") (text_json named.name) ++ key_json named.by_old_key
+
+-- where a line comes from
+unfoldable pub origin_json : Origin → List ℕ
+origin_json origin = member (codes "device") (text_json origin.device) ++ named_json origin.named
 
 -- who asks, and from where
 unfoldable pub asker_json : Asker → List ℕ
@@ -100,7 +126,7 @@ ended = 0x7D ∷ 10 ∷ []
 -- the line of a packet
 abbrev pub line_of : Event → List ℕ
 line_of event =
-    begun event.time ++ member (codes "device") (text_json event.device)
+    begun event.time ++ origin_json event.origin
     ++ member (codes "session") (text_json (session_digits event.session))
     ++ told_json event.told ++ ended
 
@@ -121,3 +147,10 @@ typed_line typed =
     ++ member (codes "console") (text_json typed.console)
     ++ size_json typed.answer_bytes
     ++ member (codes "answer") (texts_json typed.answer) ++ ended
+
+-- the line of connections that were refused, and so have no session
+abbrev pub turned_away_line : TurnedAway → List ℕ
+turned_away_line turned =
+    begun (Some turned.time) ++ origin_json turned.origin ++ type_json (codes "refused")
+    ++ member (codes "why") (text_json (turned_away_word turned.why))
+    ++ member (codes "count") (decimal turned.count) ++ ended

@@ -1,7 +1,11 @@
-//! What is told of a packet, and of a line at the console. No type here has room for a password, a
-//! challenge or a response.
+//! What is told of a packet, of a line at the console, and of connections that were refused. No type
+//! here has room for a password, a challenge or a response.
+
+ghost use Rattle.std.specs.Prelude.{◌≡◌, IfOk};
 
 use basics::{Bytes, Sequence};
+use pol_names::Name;
+use std::alloc::{AllocError, Global};
 use tac_request::AcctKind;
 
 /// Who asks, and from where: what a request says of itself.
@@ -103,15 +107,64 @@ impl Drop for Told {
     }
 }
 
+/// A device of a devices' file, as it came.
+#[derive(Clone, Copy, Debug)]
+pub struct Named {
+    pub name: Name,
+    /// Whether its connection is under its old key.
+    pub by_old_key: bool,
+}
+
+/// Where a line comes from: the address of a device, and which one of a devices' file that is.
+#[derive(Debug, Drop)]
+pub struct Origin {
+    /// The address and the port.
+    pub device: Bytes,
+    /// None where no devices are listed, or none of them has the address.
+    pub named: Option<Named>,
+}
+
+impl Origin {
+    /// An equal one. The error means that memory ran out.
+    pub fn copy(&self, alloc: Global) -> Result<Origin, AllocError>
+        ensures { IfOk result (λ copy. copy ≡ self.now) }
+    {
+        Ok(Origin {
+            device: self.device.copy(alloc)?,
+            named: self.named,
+        })
+    }
+}
+
 /// What is told of a packet, when its line was made, and on which session of which device.
 #[derive(Debug, Drop)]
 pub struct Event {
     /// By RFC 3339, where it is told.
     pub time: Option<Bytes>,
-    /// The address and the port.
-    pub device: Bytes,
+    pub origin: Origin,
     pub session: u32,
     pub told: Told,
+}
+
+/// Why a connection is refused: it is closed before a byte of it is read.
+#[derive(Clone, Copy, Debug, PartialEq, Eq)]
+pub enum WhyTurnedAway {
+    /// No device that may call is at its address.
+    UnknownDevice,
+    /// Its address has as many connections as it may have at once.
+    TooManyConnections,
+}
+
+/// Connections that were refused for the same reason. None of them has a session.
+#[derive(Debug, Drop)]
+pub struct TurnedAway {
+    /// By RFC 3339.
+    pub time: Bytes,
+    /// Where the last of them came from.
+    pub origin: Origin,
+    pub why: WhyTurnedAway,
+    /// How many they are.
+    pub count: u64,
 }
 
 /// Who typed a line at the console.

@@ -1,5 +1,5 @@
-//! What an auditor reads: the line of each request that a device made, and of each that an operator
-//! typed.
+//! What an auditor reads: the line of each request that a device made, of each that an operator
+//! typed, and of connections that were refused.
 #![tactic(auto)]
 
 mod event;
@@ -12,8 +12,10 @@ mod telling;
 mod typing;
 mod witness;
 
-pub use event::{Asker, Event, Said, Status, Told, Typed, Typist, Why};
-pub use line::{push_event, typed_line};
+pub use event::{
+    Asker, Event, Named, Origin, Said, Status, Told, TurnedAway, Typed, Typist, Why, WhyTurnedAway,
+};
+pub use line::{push_event, turned_away_line, typed_line};
 pub use logins::{Logins, Noted};
 pub use masking::{masked, masked_answer};
 pub use notice::{Notice, Typing};

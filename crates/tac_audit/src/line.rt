@@ -1,15 +1,18 @@
-//! The lines that are written of events.
+//! The lines that are written of events, of what is typed, and of connections that were refused.
 
 ghost use Rattle.std.specs.Prelude.{◌≡◌, ◌++◌, IfOk, OnOk};
 ghost use Rattle.std.specs.Option.{option_copied, option_map};
 ghost use Rattle.tac_audit.specs.Json as json;
 ghost use Rattle.tac_audit.specs.Event as lines;
-ghost use Rattle.tac_audit.specs.Apart.{AreApart, AreTypedApart};
+ghost use Rattle.tac_audit.specs.Apart.{AreApart, AreTypedApart, AreTurnedAwayApart, IsOther};
 ghost use Rattle.tac_audit.specs.declared.event.Told.TheVariants as told;
 ghost use Rattle.tac_audit.specs.declared.event.Event.{Event as EventValue};
 ghost use Rattle.tac_audit.specs.declared.event.Typed.{Typed as TypedValue};
+ghost use Rattle.tac_audit.specs.declared.event.TurnedAway.{TurnedAway as TurnedAwayValue};
 
-use crate::event::{Asker, Event, Said, Status, Told, Typed, Typist, Why};
+use crate::event::{
+    Asker, Event, Named, Origin, Said, Status, Told, TurnedAway, Typed, Typist, Why, WhyTurnedAway,
+};
 use crate::json::{hex_digit, write_list, write_member, write_number, write_optional, write_text};
 use basics::Bytes;
 use std::alloc::{AllocError, Global};
@@ -42,6 +45,15 @@ fn why_word(why: Why) -> &'static [u8]
     }
 }
 
+fn turned_away_word(why: WhyTurnedAway) -> &'static [u8]
+    ensures { result.now ≡ lines.turned_away_word why }
+{
+    match why {
+        WhyTurnedAway::UnknownDevice => b"unknown device",
+        WhyTurnedAway::TooManyConnections => b"too many connections",
+    }
+}
+
 fn kind_word(kind: AcctKind) -> &'static [u8]
     ensures { result.now ≡ lines.kind_word kind }
 {
@@ -71,6 +83,38 @@ fn session_digits(session: u32) -> [u8; 8]
 }
 
 // ---- members
+
+// That a device came by its old key, where it did.
+fn write_key(out: &mut Vec<u8>, by_old_key: bool) -> Result<(), AllocError>
+    ensures { OnOk result (out.new.items ≡ out.old.items ++ lines.key_json by_old_key) }
+{
+    if by_old_key {
+        write_member(out, b"key", b"old")
+    } else {
+        Ok(())
+    }
+}
+
+// What a devices' file says of a device.
+fn write_named(out: &mut Vec<u8>, named: Option<Named>) -> Result<(), AllocError>
+    ensures { OnOk result (out.new.items ≡ out.old.items ++ lines.named_json named) }
+{
+    match named {
+        Some(named) => {
+            write_member(out, b"name", named.name.as_slice())?;
+            write_key(out, named.by_old_key)
+        }
+        None => Ok(()),
+    }
+}
+
+#[tactic(auto, unfolding(crate::specs::Event::origin_json))]
+fn write_origin(out: &mut Vec<u8>, origin: &Origin) -> Result<(), AllocError>
+    ensures { OnOk result (out.new.items ≡ out.old.items ++ lines.origin_json origin.now) }
+{
+    write_member(out, b"device", origin.device.as_slice())?;
+    write_named(out, origin.named)
+}
 
 #[tactic(auto, unfolding(crate::specs::Event::asker_json))]
 fn write_asker(out: &mut Vec<u8>, asker: &Asker) -> io::Result<()>
@@ -234,16 +278,14 @@ fn write_ended(out: &mut Vec<u8>) -> Result<(), AllocError>
 
 // When, on which session of which device.
 fn write_head(out: &mut Vec<u8>, event: &Event) -> Result<(), AllocError>
-    ensures { OnOk result (out.new.items ≡ out.old.items ++ (lines.begun event.now.time
-        ++ json.member DEVICE.now (json.text_json event.now.device)
+    ensures { OnOk result (out.new.items ≡ out.old.items
+        ++ (lines.begun event.now.time ++ lines.origin_json event.now.origin
         ++ json.member SESSION.now (json.text_json (lines.session_digits event.now.session)))) }
 {
     write_begun(out, event.time.as_ref())?;
-    write_member(out, DEVICE, event.device.as_slice())?;
+    write_origin(out, &event.origin)?;
     write_member(out, SESSION, &session_digits(event.session))
 }
-
-const DEVICE: &[u8] = b"device";
 
 const SESSION: &[u8] = b"session";
 
@@ -317,6 +359,35 @@ pub fn typed_line(alloc: Global, typed: &Typed) -> Result<Vec<u8>, AllocError>
 {
     let mut out = Vec::new(alloc);
     match write_typed(&mut out, typed) {
+        Ok(()) => Ok(out),
+        Err(_) => Err(AllocError),
+    }
+}
+
+#[tactic(auto, unfolding(crate::specs::Event::type_json))]
+fn write_turned_away(out: &mut Vec<u8>, turned: &TurnedAway) -> io::Result<()>
+    ensures { OnOk result (out.new.items ≡ out.old.items ++ lines.turned_away_line turned.now) }
+{
+    write_begun(out, Some(&turned.time))?;
+    write_origin(out, &turned.origin)?;
+    write_member(out, b"type", b"refused")?;
+    write_member(out, b"why", turned_away_word(turned.why))?;
+    write_number(out, b"count", turned.count)?;
+    write_ended(out)?;
+    Ok(())
+}
+
+/// The line of connections that were refused, with its LF. The error means that memory ran out.
+#[tactic(auto, using(crate::proofs::TurnedAwayApart::turned_away_apart, crate::proofs::TurnedAwayApart::is_other))]
+pub fn turned_away_line(alloc: Global, turned: &TurnedAway) -> Result<Vec<u8>, AllocError>
+    ensures line { IfOk result (λ line. line.items ≡ lines.turned_away_line turned.now) }
+    // What was refused is read back from the line.
+    ensures apart { (a b : TurnedAwayValue) → AreTurnedAwayApart a b }
+    // No line of a packet is one of these.
+    ensures other { (event : EventValue) (turned : TurnedAwayValue) → IsOther event turned }
+{
+    let mut out = Vec::new(alloc);
+    match write_turned_away(&mut out, turned) {
         Ok(()) => Ok(out),
         Err(_) => Err(AllocError),
     }
