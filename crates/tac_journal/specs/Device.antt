@@ -1,6 +1,7 @@
 -- What the log of a connection is once a notice was told, or was refused.
 use Rattle.std.specs.Prelude.{◌≡◌, ◌⊎◌, ℕ, List, Option, Some, None, Result, Ok, Err}
 use Rattle.tac_conn.specs.declared.packet.Packet.{Packet}
+use Rattle.tac_audit.specs.declared.event.Origin.{Origin}
 use Rattle.tac_audit.specs.declared.logins.Logins.{Logins}
 use Rattle.tac_audit.specs.declared.logins.Noted.{Noted}
 use Rattle.tac_audit.specs.declared.notice.Notice.{Notice}
@@ -12,45 +13,45 @@ use Rattle.tac_journal.specs.Lines.{IsLine, AreLines}
 
 -- ---- a log, which takes lines so
 
--- it took the line of what is noted of this device; where nothing is noted, it is as it was
-abbrev pub HasLine : {S : Type 0} → (S → List ℕ → S → Type 0) → List ℕ → Option Noted → S → S
+-- it took the line of what is noted of this origin; where nothing is noted, it is as it was
+abbrev pub HasLine : {S : Type 0} → (S → List ℕ → S → Type 0) → Origin → Option Noted → S → S
     → Type 0
-HasLine takes device None old new = new ≡ old
-HasLine takes device (Some noted) old new =
-    (line : List ℕ) × IsLine device noted line × takes old line new
+HasLine takes origin None old new = new ≡ old
+HasLine takes origin (Some noted) old new =
+    (line : List ℕ) × IsLine origin noted line × takes old line new
 
 -- it refused that line, or the line never came to it
-abbrev pub LacksLine : {S : Type 0} → (S → List ℕ → S → Type 0) → List ℕ → Option Noted → S → S
+abbrev pub LacksLine : {S : Type 0} → (S → List ℕ → S → Type 0) → Origin → Option Noted → S → S
     → Type 0
-LacksLine refuses device None old new = new ≡ old
-LacksLine refuses device (Some noted) old new =
-    (new ≡ old) ⊎ ((line : List ℕ) × IsLine device noted line × refuses old line new)
+LacksLine refuses origin None old new = new ≡ old
+LacksLine refuses origin (Some noted) old new =
+    (new ≡ old) ⊎ ((line : List ℕ) × IsLine origin noted line × refuses old line new)
 
 -- it took the lines of all that, one after another, and no others
-abbrev pub HasLines : {S : Type 0} → (S → List ℕ → S → Type 0) → List ℕ → List Noted → S → S
+abbrev pub HasLines : {S : Type 0} → (S → List ℕ → S → Type 0) → Origin → List Noted → S → S
     → Type 0
-HasLines takes device noted old new =
-    (lines : List (List ℕ)) × AreLines device noted lines × AreTold takes old lines new
+HasLines takes origin noted old new =
+    (lines : List (List ℕ)) × AreLines origin noted lines × AreTold takes old lines new
 
 -- .. and then it refused the line of one more, or that never came to it
 abbrev pub HasLinesButLast : {S : Type 0} → (S → List ℕ → S → Type 0)
-    → (S → List ℕ → S → Type 0) → List ℕ → List Noted → Option Noted → S → S → Type 0
-HasLinesButLast {S} takes refuses device noted last old new =
-    (between : S) × HasLines takes device noted old between
-    × LacksLine refuses device last between new
+    → (S → List ℕ → S → Type 0) → Origin → List Noted → Option Noted → S → S → Type 0
+HasLinesButLast {S} takes refuses origin noted last old new =
+    (between : S) × HasLines takes origin noted old between
+    × LacksLine refuses origin last between new
 
 -- the line was taken; or it was refused, or never came to the log
 abbrev pub IsNoted : {S : Type 0} → (S → List ℕ → S → Type 0) → (S → List ℕ → S → Type 0)
-    → Result (Unit {0}) Refused → List ℕ → Noted → S → S → Type 0
-IsNoted takes refuses (Ok done) device noted old new = HasLine takes device (Some noted) old new
-IsNoted takes refuses (Err refused) device noted old new =
-    LacksLine refuses device (Some noted) old new
+    → Result (Unit {0}) Refused → Origin → Noted → S → S → Type 0
+IsNoted takes refuses (Ok done) origin noted old new = HasLine takes origin (Some noted) old new
+IsNoted takes refuses (Err refused) origin noted old new =
+    LacksLine refuses origin (Some noted) old new
 
 -- ---- a notice
 
--- the device, the logins that go on, and the log
+-- where its lines come from, the logins that go on, and the log
 pub record Place (S : Type 0) : Type 0 where
-  pub device : List ℕ
+  pub origin : Origin
   pub logins : Logins
   pub log : S
 
@@ -58,10 +59,10 @@ pub record Place (S : Type 0) : Type 0 where
 -- were, if the logins are those that went on then; and so they are after it
 pub record Takes {S : Type 0} (takes : S → List ℕ → S → Type 0) (was : Place S) (notice : Notice)
     (now : Place S) : Type 0 where
-  pub device : now.device ≡ was.device
+  pub origin : now.origin ≡ was.origin
   pub line :
       (earlier : List Packet) → Knows was.logins earlier →
-      HasLine takes was.device (noted_of earlier notice) was.log now.log
+      HasLine takes was.origin (noted_of earlier notice) was.log now.log
   pub logins :
       (earlier : List Packet) → Knows was.logins earlier → IsAnswered earlier notice →
       Knows now.logins (packets_after earlier notice)
@@ -71,4 +72,4 @@ abbrev pub Refuses : {S : Type 0} → (S → List ℕ → S → Type 0) → Plac
     → Type 0
 Refuses refuses was notice now =
     (earlier : List Packet) → Knows was.logins earlier →
-    LacksLine refuses was.device (noted_of earlier notice) was.log now.log
+    LacksLine refuses was.origin (noted_of earlier notice) was.log now.log

@@ -5,3 +5,4 @@ pub mod Logged
 pub mod Lines
 pub mod Device
 pub mod Console
+pub mod TurnedAway

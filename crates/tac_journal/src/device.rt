@@ -10,10 +10,9 @@ ghost use Rattle.tac_journal.specs.Device.{HasLines, HasLinesButLast, IsNoted};
 use crate::lines::line_of;
 use crate::moment::Moments;
 use crate::writer::{Append, log_lines};
-use basics::Bytes;
 use std::alloc::Global;
 use std::time::Clock;
-use tac_audit::{Logins, Noted, Notice, Refused, Witness};
+use tac_audit::{Logins, Noted, Notice, Origin, Refused, Witness};
 
 /// A witness of one connection that writes a line to a log for each notice of which anything is
 /// noted, by one append. A login is noted at its last reply, so its questions write nothing.
@@ -25,32 +24,32 @@ pub struct DeviceLog<'a, C, F> {
     clock: &'a C,
     moments: &'a Moments,
     log: F,
-    device: Bytes,
+    origin: Origin,
     logins: Logins,
 }
 
 impl<'a, C: Clock, F: Append + Drop> DeviceLog<'a, C, F> {
-    /// That of a connection of this device, by its address and port, from its beginning. The
-    /// moments are those of the thread that serves it. Takes no memory.
+    /// That of a connection of this origin, from its beginning. The moments are those of the thread
+    /// that serves it. Takes no memory.
     pub fn new(
         alloc: Global,
         clock: &'a C,
         moments: &'a Moments,
         log: F,
-        device: Bytes,
+        origin: Origin,
     ) -> DeviceLog<'a, C, F>
         // Once it took these notices, one after another, the log took exactly the lines of what is
         // noted of them, in their order, each at some time.
         ensures lines { (notices : List NoticeValue) (now : _) →
             AreTold ⟦<DeviceLog<'a, C, F> as Witness<Notice>>⟧.takes result notices now →
             AreAnswered [] notices →
-            HasLines F.takes device (noted_of_each [] notices) log now.log }
+            HasLines F.takes origin (noted_of_each [] notices) log now.log }
         // Once it then refused another, the log refused the line of that, or it never came there.
         ensures refused { (notices : List NoticeValue) (notice : NoticeValue) (between now : _) →
             AreTold ⟦<DeviceLog<'a, C, F> as Witness<Notice>>⟧.takes result notices between →
             ⟦<DeviceLog<'a, C, F> as Witness<Notice>>⟧.refuses between notice now →
             AreAnswered [] notices →
-            HasLinesButLast F.takes F.refuses device (noted_of_each [] notices)
+            HasLinesButLast F.takes F.refuses origin (noted_of_each [] notices)
             (noted_of (packets_after_each [] notices) notice) log now.log }
     {
         DeviceLog {
@@ -58,20 +57,20 @@ impl<'a, C: Clock, F: Append + Drop> DeviceLog<'a, C, F> {
             clock,
             moments,
             log,
-            device,
+            origin,
             logins: Logins::new(alloc),
         }
     }
 
     // Appends the line of what is noted, at the present time.
     fn append(&mut self, noted: Noted) -> Result<(), Refused>
-        ensures line { IsNoted F.takes F.refuses result self.old.device noted
+        ensures line { IsNoted F.takes F.refuses result self.old.origin noted
             self.old.log self.new.log }
-        ensures device { self.new.device ≡ self.old.device }
+        ensures origin { self.new.origin ≡ self.old.origin }
         ensures logins { self.new.logins ≡ self.old.logins }
     {
         let time = self.moments.now(self.alloc, self.clock)?;
-        let line = line_of(self.alloc, time, &self.device, noted);
+        let line = line_of(self.alloc, time, &self.origin, noted);
         log_lines(&mut self.log, line)
     }
 }
@@ -80,12 +79,12 @@ impl<C: Clock, F: Append + Drop> Witness<Notice> for DeviceLog<'_, C, F> {
     ghost use Rattle.tac_journal.specs.Device as device;
 
     ghost takes = { λ was notice now. device.Takes F.takes
-        (record { device = was.device; logins = was.logins; log = was.log }) notice
-        (record { device = now.device; logins = now.logins; log = now.log }) };
+        (record { origin = was.origin; logins = was.logins; log = was.log }) notice
+        (record { origin = now.origin; logins = now.logins; log = now.log }) };
 
     ghost refuses = { λ was notice now. device.Refuses F.refuses
-        (record { device = was.device; logins = was.logins; log = was.log }) notice
-        (record { device = now.device; logins = now.logins; log = now.log }) };
+        (record { origin = was.origin; logins = was.logins; log = was.log }) notice
+        (record { origin = now.origin; logins = now.logins; log = now.log }) };
 
     fn tell(&mut self, notice: &Notice) -> Result<(), Refused> {
         match self.logins.note(self.alloc, notice)? {

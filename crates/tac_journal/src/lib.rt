@@ -1,5 +1,5 @@
 //! The log of an auditor: a file that takes whole lines, and who appends them as a connection or a
-//! console tells what happens there.
+//! console tells what happens there, or as connections are refused.
 #![tactic(auto)]
 
 mod console;
@@ -12,6 +12,7 @@ mod moment;
 mod open_file;
 mod opening;
 mod tail;
+mod turned_away;
 mod typists;
 mod writer;
 
@@ -22,5 +23,6 @@ pub use log::{Log, Nowhere};
 pub use moment::Moments;
 pub use opening::LogFiles;
 pub use tac_audit::Refused;
+pub use turned_away::log_turned_away;
 pub use typists::{OneInput, Typists};
 pub use writer::{Append, LogWriter};

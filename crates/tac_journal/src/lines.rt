@@ -6,20 +6,20 @@ ghost use Rattle.tac_journal.specs.Lines.{event_of};
 
 use basics::Bytes;
 use std::alloc::{AllocError, Global};
-use tac_audit::{Event, Noted, push_event};
+use tac_audit::{Event, Noted, Origin, push_event};
 
-/// The line of what is noted of this device at this time. The error means that memory ran out.
+/// The line of what is noted of this origin at this time. The error means that memory ran out.
 pub(crate) fn line_of(
     alloc: Global,
     time: Bytes,
-    device: &Bytes,
+    origin: &Origin,
     noted: Noted,
 ) -> Result<Vec<u8>, AllocError>
-    ensures { IfOk result (λ line. line.items ≡ line_of (event_of time device.now noted)) }
+    ensures { IfOk result (λ line. line.items ≡ line_of (event_of time origin.now noted)) }
 {
     let event = Event {
         time: Some(time),
-        device: device.copy(alloc)?,
+        origin: origin.copy(alloc)?,
         session: noted.session,
         told: noted.told,
     };

@@ -4,8 +4,8 @@ use Rattle.tac_journal.proofs.device.DeviceLog.new.Goals as goal
 
 pub returns-clause-lines : goal.returns-clause-lines
 returns-clause-lines g c = λ notices now told answered.
-    all_lines (λ log. record { device = log.device; logins = log.logins; log = log.log }) g.F.Append.takes g.F.Append.refuses [] notices _ now told c.new.ensures answered
+    all_lines (λ log. record { origin = log.origin; logins = log.logins; log = log.log }) g.F.Append.takes g.F.Append.refuses [] notices _ now told c.new.ensures answered
 
 pub returns-clause-refused : goal.returns-clause-refused
 returns-clause-refused g c = λ notices notice between now told refused answered.
-    lines_but_last (λ log. record { device = log.device; logins = log.logins; log = log.log }) g.F.Append.takes g.F.Append.refuses [] notices notice _ between now told refused c.new.ensures answered
+    lines_but_last (λ log. record { origin = log.origin; logins = log.logins; log = log.log }) g.F.Append.takes g.F.Append.refuses [] notices notice _ between now told refused c.new.ensures answered
