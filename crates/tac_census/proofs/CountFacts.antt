@@ -1,13 +1,12 @@
 -- What of the counts changes where a connection comes or goes.
-use Rattle.std.proofs.Common.{◌≡◌, ◌≢◌, ◌<◌, ◌≤◌, ◌+◌, ◌-◌, ℕ, zero, suc, Bool, true, false, cond, List, [], ◌∷◌, ◌++◌, length, count_by, Option, Some, None, is_some, IfSome, refl, sym, ap, subst, ◌∙◌, arith}
+use Rattle.std.proofs.Common.{◌≡◌, ◌≢◌, ◌<◌, ◌+◌, ◌-◌, ℕ, zero, suc, Bool, true, false, cond, List, [], ◌∷◌, ◌++◌, length, count_by, Option, Some, is_some, IfSome, refl, sym, ap, ◌∙◌, arith}
 use Rattle.std.proofs.lemmas.Cmp.{nat_list_eq_equiv}
 use Rattle.std.proofs.lemmas.Slice.Eq.{bytes_eq-Decides}
 use Rattle.std.proofs.lemmas.List.Sums.{sum_by-cons}
 use Rattle.std.specs.Str.{bytes_eq}
-use Rattle.tac_census.specs.declared.caps.Caps.{Caps}
 use Rattle.std.specs.declared.net.ip_addr.IpAddr.{IpAddr}
 use Rattle.tac_census.specs.Address.{segments_of}
-use Rattle.tac_census.specs.Census.{Connections, without_first, with_one, without}
+use Rattle.tac_census.specs.Census.{Connections, count_of, without_first, with_one, without}
 use Rattle.tac_census.specs.Counting.{there_after, entry_of, looked_up, one_less, AreCounted}
 
 -- ---- entries
@@ -104,9 +103,6 @@ count-without_first segments others (first ∷ rest) =
 
 -- ---- what holds
 
-pub counted_none : (caps : Caps) (entry : List ℕ → Option ℕ) → ((segments : List ℕ) → entry segments ≡ None) → AreCounted caps 0 entry []
-counted_none caps entry none = record { many = refl; within = omega arith; entries = none; within_each = λ segments some. omega arith }
-
 -- of the others there are as many as of these, if they are the same
 as_many : (segments others : List ℕ) (there : List (List ℕ)) → bytes_eq segments others ≡ true → count_by (bytes_eq segments) there ≡ count_by (bytes_eq others) there
 as_many segments others there same = ap (λ one. count_by (bytes_eq one) there) ((bytes_eq-Decides segments others).0 same)
@@ -121,47 +117,34 @@ entry-put : (b : Bool) (these those : ℕ) → (b ≡ true → these ≡ those) 
 entry-put true these those same = ap (λ n. Some (n + 1)) (same refl) ∙ entry_of-more true those
 entry-put false these those same = entry_of-more false those
 
-within_more : (b : Bool) (these those most : ℕ) → (b ≡ true → these ≡ those) → these < most → those ≤ most → cond b 1 0 + those ≤ most
-within_more true these those most same room h = let e = same refl in omega arith
-within_more false these those most same room h = omega arith
-
 -- one more of these, where there is room
-pub counted_more : (caps : Caps) (all : ℕ) (entry entry' : List ℕ → Option ℕ) (segments : List ℕ) (there there' : List (List ℕ))
-    → AreCounted caps all entry there → there' ≡ segments ∷ there → all ≢ caps.in_all
-    → (0 < caps.per_address → count_by (bytes_eq segments) there < caps.per_address)
+pub counted_more : (in_all : ℕ) (all : ℕ) (entry entry' : List ℕ → Option ℕ) (segments : List ℕ) (there there' : List (List ℕ))
+    → AreCounted in_all all entry there → there' ≡ segments ∷ there → all ≢ in_all
     → ((others : List ℕ) → entry' others ≡ cond (bytes_eq segments others) (Some (count_by (bytes_eq segments) there + 1)) (entry others))
-    → AreCounted caps (all + 1) entry' there'
-counted_more caps all entry entry' segments there there' h is room room_each put = record {
+    → AreCounted in_all (all + 1) entry' there'
+counted_more in_all all entry entry' segments there there' h is room put = record {
   many = let e : length there' ≡ suc (length there) = ap length is in let m = h.many in omega arith;
   within = let e : length there' ≡ suc (length there) = ap length is in let m = h.many in let w = h.within in omega arith;
   entries = λ others. put others ∙ ap (cond (bytes_eq segments others) (Some (count_by (bytes_eq segments) there + 1))) (h.entries others)
       ∙ entry-put (bytes_eq segments others) _ _ (as_many segments others there) ∙ sym (ap entry_of (count-more segments others there there' is));
-  within_each = λ others some. subst (λ n. n ≤ caps.per_address) (sym (count-more segments others there there' is))
-      (within_more (bytes_eq segments others) _ _ caps.per_address (as_many segments others there) (room_each some) (h.within_each others some));
 }
 
 count-less : (segments others : List ℕ) (there there' : List (List ℕ)) → there' ≡ without_first segments there
     → count_by (bytes_eq others) there' ≡ cond (bytes_eq segments others) (count_by (bytes_eq others) there - 1) (count_by (bytes_eq others) there)
 count-less segments others there there' is = ap (count_by (bytes_eq others)) is ∙ count-without_first segments others there
 
-within_less : (b : Bool) (n most : ℕ) → n ≤ most → cond b (n - 1) n ≤ most
-within_less true n most h = omega arith
-within_less false n most h = h
-
 -- one less of these, where there is one
-pub counted_less : (caps : Caps) (all : ℕ) (entry entry' : List ℕ → Option ℕ) (segments : List ℕ) (there there' : List (List ℕ))
-    → AreCounted caps all entry there → there' ≡ without_first segments there → 0 < count_by (bytes_eq segments) there
+pub counted_less : (in_all : ℕ) (all : ℕ) (entry entry' : List ℕ → Option ℕ) (segments : List ℕ) (there there' : List (List ℕ))
+    → AreCounted in_all all entry there → there' ≡ without_first segments there → 0 < count_by (bytes_eq segments) there
     → ((others : List ℕ) → entry' others ≡ one_less (bytes_eq segments others) (entry others))
-    → AreCounted caps (all - 1) entry' there'
-counted_less caps all entry entry' segments there there' h is some put =
+    → AreCounted in_all (all - 1) entry' there'
+counted_less in_all all entry entry' segments there there' h is some put =
     let size : length there' + 1 ≡ length there = ap (λ l. length l + 1) is ∙ length-without_first segments there some in
     record {
       many = let m = h.many in omega arith;
       within = let w = h.within in omega arith;
       entries = λ others. put others ∙ ap (one_less (bytes_eq segments others)) (h.entries others)
           ∙ one_less-entry_of (bytes_eq segments others) _ ∙ sym (ap entry_of (count-less segments others there there' is));
-      within_each = λ others any. subst (λ n. n ≤ caps.per_address) (sym (count-less segments others there there' is))
-          (within_less (bytes_eq segments others) _ caps.per_address (h.within_each others any));
     }
 
 stays : (b : Bool) (these those : ℕ) → (b ≡ true → these ≡ those) → these ≡ 0 → cond b (those - 1) those ≡ those
@@ -169,17 +152,22 @@ stays true these those same none = let e = same refl in omega arith
 stays false these those same none = refl
 
 -- none of these, so none less
-pub counted_same : (caps : Caps) (all : ℕ) (entry entry' : List ℕ → Option ℕ) (segments : List ℕ) (there : List (List ℕ))
-    → AreCounted caps all entry there → count_by (bytes_eq segments) there ≡ 0
+pub counted_same : (in_all : ℕ) (all : ℕ) (entry entry' : List ℕ → Option ℕ) (segments : List ℕ) (there : List (List ℕ))
+    → AreCounted in_all all entry there → count_by (bytes_eq segments) there ≡ 0
     → ((others : List ℕ) → entry' others ≡ one_less (bytes_eq segments others) (entry others))
-    → AreCounted caps all entry' there
-counted_same caps all entry entry' segments there h none put = record {
+    → AreCounted in_all all entry' there
+counted_same in_all all entry entry' segments there h none put = record {
   many = h.many;
   within = h.within;
-  within_each = h.within_each;
   entries = λ others. put others ∙ ap (one_less (bytes_eq segments others)) (h.entries others) ∙ one_less-entry_of (bytes_eq segments others) _
       ∙ ap entry_of (stays (bytes_eq segments others) _ _ (as_many segments others there) none);
 }
+
+-- who comes is one more of this address
+pub count_of-with_one : (address : IpAddr) (before : Connections) → count_of address (with_one address before) ≡ 1 + count_of address before
+count_of-with_one address before =
+    count-cons (segments_of address) (segments_of address) before.present
+    ∙ ap (λ b. cond b 1 0 + count_of address before) (nat_list_eq_equiv.refl (segments_of address))
 
 -- who came last goes first
 pub without-with_one : (address : IpAddr) (before : Connections) → without address (with_one address before) ≡ before

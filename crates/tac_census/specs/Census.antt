@@ -1,18 +1,19 @@
--- The connections that there are at once, and how many there may be.
-use Rattle.std.specs.Prelude.{◌≡◌, ◌≢◌, ℕ, List, [], ◌∷◌, length, count_by, if◌then◌else◌}
+-- The connections that there are at once, and how many there may be of them.
+use Rattle.std.specs.Prelude.{◌≡◌, ◌≢◌, ◌≤◌, ℕ, List, [], ◌∷◌, length, count_by}
+use Rattle.std.specs.Prelude.{if◌then◌else◌}
 use Rattle.std.specs.Str.{bytes_eq}
 use Rattle.std.specs.declared.net.ip_addr.IpAddr.{IpAddr}
 use Rattle.tac_census.specs.Address.{segments_of}
-use Rattle.tac_census.specs.declared.caps.Caps.{Caps}
 
--- how many there may be, and of each that there is the segments of its address, the latest first
+-- how many there may be in all, and of each that there is the segments of its address, the latest
+-- first
 pub record Connections : Type 0 where
-  pub caps : Caps
+  pub in_all : ℕ
   pub present : List (List ℕ)
 
 -- no connections
-abbrev pub none : Caps → Connections
-none caps = record { caps = caps; present = [] }
+abbrev pub none : ℕ → Connections
+none in_all = record { in_all = in_all; present = [] }
 
 -- how many there are of this address
 abbrev pub count_of : IpAddr → Connections → ℕ
@@ -20,13 +21,11 @@ count_of address connections = count_by (bytes_eq (segments_of address)) connect
 
 -- there are as many as may be in all
 abbrev pub IsFull : Connections → Type 0
-IsFull connections = length connections.present ≡ connections.caps.in_all
+IsFull connections = length connections.present ≡ connections.in_all
 
--- there are as many of this address as may be of one; a 0 sets no such cap
-abbrev pub IsFullOf : IpAddr → Connections → Type 0
-IsFullOf address connections =
-    (connections.caps.per_address ≢ 0)
-    × (count_of address connections ≡ connections.caps.per_address)
+-- there are as many of this address as may be of it, or more; a 0 sets no such cap
+abbrev pub IsFullOf : IpAddr → ℕ → Connections → Type 0
+IsFullOf address most connections = (most ≢ 0) × (most ≤ count_of address connections)
 
 -- one more of this address
 abbrev pub with_one : IpAddr → Connections → Connections

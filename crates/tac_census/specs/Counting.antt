@@ -1,9 +1,8 @@
 -- What the fields of a census stand for, and what holds of them.
-use Rattle.std.specs.Prelude.{◌≡◌, ◌<◌, ◌≤◌, ◌-◌, ℕ, zero, suc, Bool, true, false, List, [], ◌∷◌}
+use Rattle.std.specs.Prelude.{◌≡◌, ◌≤◌, ◌-◌, ℕ, zero, suc, Bool, true, false, List, [], ◌∷◌}
 use Rattle.std.specs.Prelude.{length, count_by, Option, Some, None}
 use Rattle.std.specs.Str.{bytes_eq}
 use Rattle.std.specs.HashMap.{get}
-use Rattle.tac_census.specs.declared.caps.Caps.{Caps}
 use Rattle.tac_census.specs.declared.census.Census.TheInside.{Inside}
 use Rattle.tac_census.specs.Census.{Connections, without_first}
 
@@ -17,7 +16,7 @@ there_after there ((segments, false) ∷ later) = there_after (without_first seg
 
 abbrev pub connections_of : Inside → Connections
 connections_of census =
-    record { caps = census.caps; present = there_after [] census.history.items }
+    record { in_all = census.in_all; present = there_after [] census.history.items }
 
 -- ---- what the table has
 
@@ -39,17 +38,16 @@ one_less false entry = entry
 
 -- ---- what holds
 
--- the count in all and the entries of the table are those of who is there, and within the caps
-pub record AreCounted (caps : Caps) (all : ℕ) (entry : List ℕ → Option ℕ)
+-- the count in all and the entries of the table are those of who is there, and these are no more
+-- than may be
+pub record AreCounted (in_all all : ℕ) (entry : List ℕ → Option ℕ)
     (there : List (List ℕ)) : Type 0 where
   pub many : all ≡ length there
-  pub within : length there ≤ caps.in_all
+  pub within : length there ≤ in_all
   pub entries : (segments : List ℕ) → entry segments
       ≡ entry_of (count_by (bytes_eq segments) there)
-  pub within_each : (segments : List ℕ) → 0 < caps.per_address
-      → count_by (bytes_eq segments) there ≤ caps.per_address
 
 abbrev pub IsCounted : Inside → Type 0
 IsCounted census =
-    AreCounted census.caps census.all (get bytes_eq census.counts)
+    AreCounted census.in_all census.all (get bytes_eq census.counts)
     (there_after [] census.history.items)

@@ -1,11 +1,11 @@
 //! Counting the connections that come and go.
 
 ghost use Rattle.std.specs.Prelude.{◌≡◌, ◌<◌, ◌≤◌, ◌↔◌, ◌+◌, Err, OnOk, OnErr, length};
-ghost use Rattle.tac_census.specs.declared.caps.Refusal.TheVariants.{Full, AddressFull, Memory};
+ghost use Rattle.tac_census.specs.declared.refusal.Refusal.TheVariants.{Full, AddressFull, Memory};
 ghost use Rattle.tac_census.specs.Census as census;
 
 use crate::address::segments_of;
-use crate::caps::{Caps, Refusal};
+use crate::refusal::Refusal;
 use crate::table::{Table, count_of, take_one};
 use http_server::Log;
 use std::alloc::Global;
@@ -23,7 +23,8 @@ use std::net::IpAddr;
 /// addresses for it can make one linear in how many addresses have connections.
 #[derive(Drop)]
 pub struct Census {
-    caps: Caps,
+    // how many there may be
+    in_all: u32,
     all: u32,
     counts: Table,
     // Connections that came (true) and that went, by their segments. It has no bytes: only proofs
@@ -44,12 +45,12 @@ impl Model for Census {
 }
 
 impl Census {
-    /// No connections. Takes no memory.
-    pub fn new(alloc: Global, caps: Caps) -> Census
-        ensures { result ≡ census.none caps }
+    /// No connections, of which there may be so many at once. Takes no memory.
+    pub fn new(alloc: Global, in_all: u32) -> Census
+        ensures { result ≡ census.none in_all }
     {
         Census {
-            caps,
+            in_all,
             all: 0,
             counts: HashMap::new(alloc),
             history: Log::new(),
@@ -61,7 +62,7 @@ impl Census {
         ensures many { result ≡ length self.now.present }
 
         // There are never more than may be.
-        ensures within { result ≤ self.now.caps.in_all }
+        ensures within { result ≤ self.now.in_all }
     {
         self.all
     }
@@ -70,22 +71,26 @@ impl Census {
     pub fn of(&self, address: IpAddr) -> u32
         ensures many { result ≡ census.count_of address self.now }
 
-        // There are never more than may be, nor more than there are in all.
-        ensures within { 0 < self.now.caps.per_address → result ≤ self.now.caps.per_address }
+        // There are never more than there are in all.
         ensures few { result ≤ length self.now.present }
     {
         count_of(&self.counts, &segments_of(address))
     }
 
-    /// One more connection of this address, unless there are as many as may be. Takes memory only
-    /// for an address without connections, and only where the table has to grow. Two hash look-ups.
-    pub fn admit(&mut self, address: IpAddr) -> Result<(), Refusal>
+    /// One more connection of this address, unless there are as many as may be in all, or `most` of
+    /// this address, or more. A `most` of 0 sets no such cap; the next connection may come with
+    /// another. Takes memory only for an address without connections, and only where the table has
+    /// to grow. Two hash look-ups.
+    pub fn admit(&mut self, address: IpAddr, most: u32) -> Result<(), Refusal>
         ensures ok { OnOk result (self.new ≡ census.with_one address self.old) }
+
+        // With it there are no more of this address than may be.
+        ensures within { OnOk result (0 < most → census.count_of address self.new ≤ most) }
 
         // The caps come first: memory runs out only for a connection that may be.
         ensures full { (result ≡ Err Full) ↔ census.IsFull self.old }
         ensures address_full { (result ≡ Err AddressFull)
-            ↔ ((census.IsFull self.old → ⊥) × census.IsFullOf address self.old) }
+            ↔ ((census.IsFull self.old → ⊥) × census.IsFullOf address most self.old) }
 
         // An address that has connections takes no memory for one more.
         ensures memory { result ≡ Err Memory → census.count_of address self.old ≡ 0 }
@@ -93,11 +98,11 @@ impl Census {
         // A refusal changes nothing.
         ensures err { OnErr result (self.new ≡ self.old) }
     {
-        if self.all == self.caps.in_all {
+        if self.all == self.in_all {
             return Err(Refusal::Full);
         }
         let count = self.of(address);
-        if self.caps.per_address != 0 && count == self.caps.per_address {
+        if most != 0 && most <= count {
             return Err(Refusal::AddressFull);
         }
         let segments = segments_of(address);

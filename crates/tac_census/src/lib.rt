@@ -2,9 +2,9 @@
 #![tactic(auto)]
 
 mod address;
-mod caps;
 mod census;
+mod refusal;
 mod table;
 
-pub use caps::{Caps, Refusal};
 pub use census::Census;
+pub use refusal::Refusal;

@@ -16,6 +16,5 @@ returns c =
     rw (← c.self.view_is)
     (record {
       many = is;
-      within = λ some. subst (λ n. n ≤ was.caps.per_address) (sym is) (c.self.invariant.within_each (segments_of c.args.address) some);
       few = subst (λ n. n ≤ length was.present) (sym is) (count_by-le-length (bytes_eq (segments_of c.args.address)) was.present);
     })
