@@ -22,6 +22,8 @@ pub enum Rejection {
 pub enum Departure {
     /// Its device closed it.
     Finished,
+    /// Its device was taken out of the devices' file before its first packet was whole.
+    Unlisted,
     /// The protocol closes it: after its last reply, or after what it refuses.
     Protocol,
     /// Its device had no reply for too long.
@@ -70,8 +72,9 @@ impl Rejection {
 
 impl Departure {
     /// All of them, in the order in which they are told.
-    pub const ALL: [Departure; 12] = [
+    pub const ALL: [Departure; 13] = [
         Departure::Finished,
+        Departure::Unlisted,
         Departure::Protocol,
         Departure::Idle,
         Departure::LoginIdle,
@@ -89,6 +92,7 @@ impl Departure {
     pub fn name(self) -> &'static str {
         match self {
             Departure::Finished => "finished",
+            Departure::Unlisted => "unlisted",
             Departure::Protocol => "protocol",
             Departure::Idle => "idle",
             Departure::LoginIdle => "login_idle",
@@ -116,6 +120,7 @@ struct Rejected {
 #[derive(Drop)]
 struct Ended {
     finished: Count,
+    unlisted: Count,
     protocol: Count,
     idle: Count,
     login_idle: Count,
@@ -155,6 +160,7 @@ impl Ended {
     fn new() -> Ended {
         Ended {
             finished: Count::new(),
+            unlisted: Count::new(),
             protocol: Count::new(),
             idle: Count::new(),
             login_idle: Count::new(),
@@ -172,6 +178,7 @@ impl Ended {
     fn count(&self, why: Departure) -> &Count {
         match why {
             Departure::Finished => &self.finished,
+            Departure::Unlisted => &self.unlisted,
             Departure::Protocol => &self.protocol,
             Departure::Idle => &self.idle,
             Departure::LoginIdle => &self.login_idle,

@@ -218,6 +218,13 @@ fn write_log(out: &mut Vec<u8>, present: &Present) -> io::Result<()> {
 fn write_status(out: &mut Vec<u8>, counts: &Counts, present: &Present) -> io::Result<()> {
     write_server(out, present)?;
     write_connections(out, &counts.connections, present.connections_limit)?;
+    write_number(
+        out,
+        Kind::Gauge,
+        "tacd_devices",
+        "Devices that are listed; 0 where one key is for all.",
+        present.devices,
+    )?;
     write_answered(out, &counts.requests)?;
     write_refused(out, &counts.requests)?;
     write_desk(out, &counts.desk, present.records_limit)?;

@@ -13,6 +13,8 @@ pub struct Present {
     pub workers: u32,
     /// How many connections there may be at once.
     pub connections_limit: u32,
+    /// How many devices are listed, or 0 where one key is for all.
+    pub devices: u64,
     /// How many records are kept at most.
     pub records_limit: u64,
     /// Whether a log is kept.
