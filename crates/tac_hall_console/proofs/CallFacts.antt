@@ -13,8 +13,8 @@ use Rattle.tac_hall.specs.declared.fault.HallFault.{HallFault}
 use Rattle.tac_hall.specs.Seat.{made_of}
 use Rattle.tac_hall_console.specs.declared.fault.OperatorFault.{OperatorFault}
 use Rattle.tac_hall_console.specs.declared.fault.OperatorFault.TheVariants as faults
-use Rattle.tac_hall_console.specs.Commands.{is_rotate, is_reload}
-use Rattle.tac_hall_console.specs.Operated.{Outcome, ComesTo, IsRotation, IsReload, StopComesTo, LineComesTo, StopEnds, made, refused, told, refusal_line}
+use Rattle.tac_hall_console.specs.Commands.{is_rotate, is_reload, is_reload_devices}
+use Rattle.tac_hall_console.specs.Operated.{Outcome, ComesTo, IsRotation, IsReload, IsDevicesReload, TellsOfDevices, StopComesTo, LineComesTo, StopEnds, made, refused, replied, told, refusal_line}
 use Rattle.tac_hall_console.specs.Operating.{Tells, Adds, IsUntold, SendsUnlessMemory, Stops}
 
 -- ---- what is told of it
@@ -47,19 +47,30 @@ module _ (may also : Outcome → Seated → Type 0) (as_well : (outcome : Outcom
   untold_as was now (Err fault) a = untold was now a
 
 module _ (opening : Opening) (batch : Option (List Edit)) (was now : Seated) (line text : List ℕ) where
-  may_if : Bool → Bool → Outcome → Seated → Type 0
-  may_if rotates reloads outcome then =
-      MatchBool rotates (IsRotation opening was outcome then) (MatchBool reloads (IsReload opening was outcome then) (ComesTo opening was (action_of batch (asked_by line)) outcome then))
+  may_if : Bool → Bool → Bool → Outcome → Seated → Type 0
+  may_if rotates reloads devices outcome then =
+      MatchBool rotates (IsRotation opening was outcome then)
+      (MatchBool reloads (IsReload opening was outcome then) (MatchBool devices (IsDevicesReload was outcome then) (ComesTo opening was (action_of batch (asked_by line)) outcome then)))
 
   -- of a line `rotate`
   pub tells_rotation : is_rotate line ≡ true → Tells (IsRotation opening was) now text → Tells (LineComesTo opening batch was line) now text
   unfolding may_if
-  tells_rotation is t = subst (λ (b : Bool). Tells (may_if b (is_reload line)) now text) (sym is) t
+  tells_rotation is t = subst (λ (b : Bool). Tells (may_if b (is_reload line) (is_reload_devices line)) now text) (sym is) t
 
   -- of a line `reload`
   pub tells_reload : is_rotate line ≡ false → is_reload line ≡ true → Tells (IsReload opening was) now text → Tells (LineComesTo opening batch was line) now text
   unfolding may_if
-  tells_reload other is t = subst (λ (b : Bool). Tells (may_if b (is_reload line)) now text) (sym other) (subst (λ (b : Bool). Tells (may_if false b) now text) (sym is) t)
+  tells_reload other is t =
+      subst (λ (b : Bool). Tells (may_if b (is_reload line) (is_reload_devices line)) now text) (sym other) (subst (λ (b : Bool). Tells (may_if false b (is_reload_devices line)) now text) (sym is) t)
+
+  -- of a line `reload devices`
+  pub tells_devices : is_rotate line ≡ false → is_reload line ≡ false → is_reload_devices line ≡ true → now ≡ was → TellsOfDevices text → Tells (LineComesTo opening batch was line) now text
+  unfolding may_if
+  tells_devices other also is same t =
+      subst (λ (b : Bool). Tells (may_if b (is_reload line) (is_reload_devices line)) now text) (sym other)
+      (subst (λ (b : Bool). Tells (may_if false b (is_reload_devices line)) now text) (sym also)
+      (subst (λ (b : Bool). Tells (may_if false false b) now text) (sym is)
+      (record { outcome = replied text; came = (text, t, refl, same); is = refl })))
 
 -- ---- the Stop
 

@@ -14,8 +14,8 @@ use Rattle.tac_forum.specs.declared.limits.Rotated.{Rotated}
 use Rattle.tac_hall.specs.declared.call.Call.{Call}
 use Rattle.tac_hall.specs.declared.call.Call.TheVariants as calls
 use Rattle.tac_hall.specs.declared.entry.Made.{Made}
-use Rattle.tac_hall_console.specs.Commands.{is_rotate, is_reload}
-use Rattle.tac_hall_console.specs.Operated.{Outcome, CallsFor, ComesTo, IsRotation, IsReload, LineComesTo, CameTo, Makes, noticed, made, rotated, refused, unloaded, batch_by, entry_of, rotation_of, entries_of, rotations_of}
+use Rattle.tac_hall_console.specs.Commands.{is_rotate, is_reload, is_reload_devices}
+use Rattle.tac_hall_console.specs.Operated.{Outcome, CallsFor, ComesTo, IsRotation, IsReload, IsDevicesReload, LineComesTo, CameTo, Makes, noticed, made, rotated, refused, replied, batch_by, entry_of, rotation_of, entries_of, rotations_of}
 
 -- nothing was done
 makes_none : (was : Seated) → Makes was was [] []
@@ -54,18 +54,21 @@ module _ (opening : Opening) where
       (record { number = came.2.number; view = came.2.view; rotations = came.2.rotations ∙ sym (append-nil (history.rotations_of was.number was.seen)) })
   call_makes was now call (rotated rotation) came = absurd came
   call_makes was now call (refused fault) came = makes_caught was now came.1
-  call_makes was now call (unloaded line) came = absurd came
+  call_makes was now call (replied line) came = absurd came
 
   rotation_makes : (was now : Seated) (outcome : Outcome) → IsRotation opening was outcome now → Makes was now (entries_of (outcome ∷ [])) (rotations_of (outcome ∷ []))
   rotation_makes was now (noticed notice) came = absurd came
   rotation_makes was now (made entry) came = absurd came
   rotation_makes was now (rotated rotation) came = record { number = came.number; view = came.view ∙ sym (append-nil (view_of was.number was.seen)); rotations = came.rotations }
   rotation_makes was now (refused fault) came = makes_caught was now came.1
-  rotation_makes was now (unloaded line) came = absurd came
+  rotation_makes was now (replied line) came = absurd came
 
   reload_makes : (was now : Seated) (outcome : Outcome) → IsReload opening was outcome now → Makes was now (entries_of (outcome ∷ [])) (rotations_of (outcome ∷ []))
   reload_makes was now outcome (inl came) = call_makes was now (calls.Load came.0) outcome came.2
   reload_makes was now outcome (inr none) = rw none.2 (makes_same was now none.3)
+
+  devices_makes : (was now : Seated) (outcome : Outcome) → IsDevicesReload was outcome now → Makes was now (entries_of (outcome ∷ [])) (rotations_of (outcome ∷ []))
+  devices_makes was now outcome came = rw came.2 (makes_same was now came.3)
 
   action_makes : (was now : Seated) (action : Action) (outcome : Outcome) → ComesTo opening was action outcome now → Makes was now (entries_of (outcome ∷ [])) (rotations_of (outcome ∷ []))
   action_makes was now (actions.Edit edit) outcome came = call_makes was now (calls.Edit edit) outcome came
@@ -79,7 +82,9 @@ module _ (opening : Opening) where
 
   line_makes : (batch : Option (List Edit)) (was now : Seated) (line : List ℕ) (outcome : Outcome) → LineComesTo opening batch was line outcome now → Makes was now (entries_of (outcome ∷ [])) (rotations_of (outcome ∷ []))
   line_makes batch was now line outcome came =
-      either (is_rotate line) (rotation_makes was now outcome) (λ other. either (is_reload line) (reload_makes was now outcome) (action_makes was now (action_of batch (asked_by line)) outcome) other) came
+      either (is_rotate line) (rotation_makes was now outcome)
+      (either (is_reload line) (reload_makes was now outcome)
+      (either (is_reload_devices line) (devices_makes was now outcome) (action_makes was now (action_of batch (asked_by line)) outcome))) came
 
   -- lines, one after another
   pub came_makes : (batch : Option (List Edit)) (was now : Seated) (lines : List (List ℕ)) (outcomes : List Outcome) → CameTo opening batch was lines outcomes now → Makes was now (entries_of outcomes) (rotations_of outcomes)

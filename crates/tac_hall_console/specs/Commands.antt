@@ -22,6 +22,9 @@ is_rotate line = bytes_eq line (codes "rotate")
 abbrev pub is_reload : List ℕ → Bool
 is_reload line = bytes_eq line (codes "reload")
 
+abbrev pub is_reload_devices : List ℕ → Bool
+is_reload_devices line = bytes_eq line (codes "reload devices")
+
 -- the lines before the first `quit`
 abbrev pub commands : List (List ℕ) → List (List ℕ)
 commands [] = []

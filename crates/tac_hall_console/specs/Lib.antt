@@ -1,4 +1,5 @@
 pub mod Commands
+pub mod DevicesAnswer
 pub mod FaultText
 pub mod Operated
 pub mod Operating

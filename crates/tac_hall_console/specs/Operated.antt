@@ -37,19 +37,21 @@ use Rattle.tac_hall.specs.FaultText.{fault_text}
 use Rattle.tac_hall.specs.Seat.{made_of}
 use Rattle.tac_hall_console.specs.declared.fault.OperatorFault.{OperatorFault}
 use Rattle.tac_hall_console.specs.declared.fault.OperatorFault.TheVariants as faults
-use Rattle.tac_hall_console.specs.Commands.{ended_lines, is_rotate, is_reload}
+use Rattle.tac_hall_console.specs.Commands.{ended_lines, is_rotate, is_reload, is_reload_devices}
 use Rattle.tac_hall_console.specs.Commands.{commands, quits}
+use Rattle.tac_hall_console.specs.DevicesAnswer.{IsDevicesAnswer}
 
 -- ---- a line
 
 -- what came of a line: a notice without a call, or its call was made, or the present segment was
--- ended, or the one or the other was refused; or there was no policy to load, which this line tells
+-- ended, or the one or the other was refused; or this line was told, and the history has nothing of
+-- it
 pub data Outcome : Type 0 where
   noticed : Notice → Outcome
   made : Made → Outcome
   rotated : Rotated → Outcome
   refused : HallFault → Outcome
-  unloaded : List ℕ → Outcome
+  replied : List ℕ → Outcome
 
 -- what a view has of it
 abbrev pub entry_of : Outcome → Option Made
@@ -57,7 +59,7 @@ entry_of (noticed notice) = None
 entry_of (made entry) = Some entry
 entry_of (rotated rotation) = None
 entry_of (refused fault) = None
-entry_of (unloaded line) = None
+entry_of (replied line) = None
 
 abbrev pub entries_of : List Outcome → List Made
 entries_of outcomes = filter_map entry_of outcomes
@@ -71,7 +73,7 @@ CallsFor opening was call (made entry) now =
 CallsFor opening was call (rotated rotation) now = ⊥
 CallsFor opening was call (refused fault) now =
     IsRefused opening now call fault × CatchesUp was now
-CallsFor opening was call (unloaded line) now = ⊥
+CallsFor opening was call (replied line) now = ⊥
 
 -- the edits of a batch are one call, and only a notice makes none
 abbrev pub ComesTo : Opening → Seated → Action → Outcome → Seated → Type 0
@@ -88,7 +90,7 @@ IsRotation opening was (noticed notice) now = ⊥
 IsRotation opening was (made entry) now = ⊥
 IsRotation opening was (rotated rotation) now = IsRotated was rotation now
 IsRotation opening was (refused fault) now = IsUnrotated opening now fault × CatchesUp was now
-IsRotation opening was (unloaded line) now = ⊥
+IsRotation opening was (replied line) now = ⊥
 
 -- ---- another policy
 
@@ -123,17 +125,29 @@ abbrev pub IsReload : Opening → Seated → Outcome → Seated → Type 0
 IsReload opening was outcome now =
     ((policy : List Subject) × Reads (Ok policy)
     × CallsFor opening was (calls.Load policy) outcome now)
-    ⊎ ((line : List ℕ) × Unloads line × (outcome ≡ unloaded line) × (now ≡ was))
+    ⊎ ((line : List ℕ) × Unloads line × (outcome ≡ replied line) × (now ≡ was))
+
+-- ---- other devices
+
+-- what is answered where the devices' file is read again; or that there was no memory for it
+abbrev pub TellsOfDevices : List ℕ → Type 0
+TellsOfDevices line = IsDevicesAnswer line ⊎ (line ≡ no_memory_line)
+
+-- that is told, and no call was made
+abbrev pub IsDevicesReload : Seated → Outcome → Seated → Type 0
+IsDevicesReload was outcome now =
+    (line : List ℕ) × TellsOfDevices line × (outcome ≡ replied line) × (now ≡ was)
 
 -- ---- a line, by what it is
 
--- what may come of a line at a console with this batch and seat, and the seat after it: `rotate`
--- and `reload` are no lines of a desk's console
+-- what may come of a line at a console with this batch and seat, and the seat after it: `rotate`,
+-- `reload` and `reload devices` are no lines of a desk's console
 abbrev pub LineComesTo : Opening → Option (List Edit) → Seated → List ℕ → Outcome → Seated → Type 0
 LineComesTo opening batch was line outcome now =
     MatchBool (is_rotate line) (IsRotation opening was outcome now)
     (MatchBool (is_reload line) (IsReload opening was outcome now)
-    (ComesTo opening was (action_of batch (asked_by line)) outcome now))
+    (MatchBool (is_reload_devices line) (IsDevicesReload was outcome now)
+    (ComesTo opening was (action_of batch (asked_by line)) outcome now)))
 
 -- the Stop is one call
 abbrev pub StopComesTo : Opening → Seated → Outcome → Seated → Type 0
@@ -143,7 +157,8 @@ StopComesTo opening was outcome now = CallsFor opening was calls.Stop outcome no
 abbrev pub batch_by : Option (List Edit) → List ℕ → Option (List Edit)
 batch_by batch line =
     if is_rotate line then batch
-    else if is_reload line then batch else batch_after batch (asked_by line)
+    else if is_reload line then batch
+    else if is_reload_devices line then batch else batch_after batch (asked_by line)
 
 -- how the answer to a call is printed; of a Stop nothing is
 abbrev pub answer_text : Call → CallAnswer → List ℕ
@@ -168,7 +183,7 @@ told (noticed notice) = notice_text notice
 told (made entry) = answer_text entry.call entry.answer
 told (rotated rotation) = rotated_line rotation
 told (refused fault) = refusal_line fault
-told (unloaded line) = line
+told (replied line) = line
 
 -- ---- lines, one after another
 
@@ -189,7 +204,7 @@ rotation_of (noticed notice) = None
 rotation_of (made entry) = None
 rotation_of (rotated rotation) = Some rotation
 rotation_of (refused fault) = None
-rotation_of (unloaded line) = None
+rotation_of (replied line) = None
 
 abbrev pub rotations_of : List Outcome → List Rotated
 rotations_of outcomes = filter_map rotation_of outcomes
@@ -276,7 +291,7 @@ IsRefusal (noticed notice) = ⊥
 IsRefusal (made entry) = ⊥
 IsRefusal (rotated rotation) = ⊥
 IsRefusal (refused fault) = Unit {0}
-IsRefusal (unloaded line) = ⊥
+IsRefusal (replied line) = ⊥
 
 -- after lines that went so the Stop was made, and it ends so: what came of it is told, unless the
 -- lines ended in a fault. Memory runs out only where a refusal is told

@@ -1,11 +1,12 @@
 //! What is told of a line, and of a call.
 
-ghost use Rattle.std.specs.Prelude.{◌≡◌, ◌++◌, Err, IfOk, OnOk, OnErr};
+ghost use Rattle.std.specs.Prelude.{◌≡◌, ◌++◌, [], Err, IfOk, OnOk, OnErr};
 ghost use Rattle.tac_console.specs.Batching.{action_of, batch_after};
 ghost use Rattle.tac_console.specs.ConsoleText.{asked_by};
 ghost use Rattle.tac_hall.specs.History.{IsOfKind};
 ghost use Rattle.tac_hall_console.specs.Commands.{is_rotate as rotate_test};
 ghost use Rattle.tac_hall_console.specs.Commands.{is_reload as reload_test};
+ghost use Rattle.tac_hall_console.specs.Commands.{is_reload_devices as reload_devices_test};
 ghost use Rattle.tac_hall_console.specs.Operated as operated;
 ghost use Rattle.tac_hall_console.specs.Operated.{CallsFor, ComesTo, answer_text, refusal_line};
 ghost use Rattle.tac_hall_console.specs.Operating as operating;
@@ -27,7 +28,7 @@ use tac_hall::{Call, CallAnswer, HallFault};
 // Room for one line, since most answers are one.
 const LINE: usize = 64;
 
-// What is told where there is no memory for a policy.
+// What is told where there is no memory for a policy, or for a devices' file.
 const NO_MEMORY: &[u8] = b"refused 12 Memory\n";
 
 /// The seat of a console, and the batch of its lines.
@@ -179,10 +180,36 @@ fn reload<H: Wait, J: Run, D: Desk, S: Source>(
     }
 }
 
+// What is answered where the source reads its devices' file again. The console goes on where there
+// is no memory for that: then the answer is in the room, which is empty.
+fn reload_devices<S: Source>(
+    alloc: Global,
+    source: &S,
+    room: Vec<u8>,
+) -> Result<Vec<u8>, AllocError>
+    requires { room.items ≡ [] }
+    ensures { IfOk result (λ answer. operated.TellsOfDevices answer.items) }
+{
+    match source.reload_devices(alloc) {
+        Ok(answer) => Ok(answer.into_vec()),
+        Err(_) => {
+            let mut answer = room;
+            answer.extend_from_slice(NO_MEMORY)?;
+            Ok(answer)
+        }
+    }
+}
+
 fn is_reload(line: &[u8]) -> bool
     ensures { result ≡ reload_test line.now }
 {
     line == b"reload".as_slice()
+}
+
+fn is_reload_devices(line: &[u8]) -> bool
+    ensures { result ≡ reload_devices_test line.now }
+{
+    line == b"reload devices".as_slice()
 }
 
 fn is_rotate(line: &[u8]) -> bool
@@ -241,6 +268,10 @@ pub(crate) fn answer_line<H: Wait, J: Run, D: Desk, S: Source>(
     if is_reload(line) {
         reload(rt, alloc, desk, source, &mut console.seat, &mut text)?;
         return Ok(text);
+    }
+    if is_reload_devices(line) {
+        let answer = reload_devices(alloc, source, text)?;
+        return Ok(answer);
     }
     answer_asked(rt, alloc, desk, console, line, &mut text)?;
     Ok(text)

@@ -9,4 +9,4 @@ mod reloading;
 
 pub use fault::OperatorFault;
 pub use operating::operate;
-pub use reloading::{Source, Unread};
+pub use reloading::{Source, Unread, no_devices, unread_devices};

@@ -43,10 +43,11 @@ fn stop<H: Wait, J: Run, D: Desk, W: Write>(
 /// Between `begin` and `commit` edits are kept instead, without a call, and the `commit` is one
 /// call with all of them. A call that is refused is told as `hall N REFUSAL`; no batch is open
 /// after that of a `commit` either. The line `rotate` ends the present segment, and `reload` puts
-/// the policy of the source in the place of the present one, in one call; both leave the batch as
-/// it is. A source without a text is told as `unread WHY`, a text that is refused as by its check,
-/// and one that finds no memory as `refused 12 Memory`. Any other line is answered by `refused 1
-/// BadEdit`.
+/// the policy of the source in the place of the present one, in one call. A source without a text
+/// is told as `unread WHY`, a text that is refused as by its check, and one that finds no memory as
+/// `refused 12 Memory`. The line `reload devices` makes no call: it has the source read its devices'
+/// file again, and is answered as that says, or by `refused 12 Memory`. These three leave the batch
+/// as it is. Any other line is answered by `refused 1 BadEdit`.
 ///
 /// A line `quit`, or the end of the input, makes the Stop, which is one call; so does a fault. It
 /// is refused only as Closed, or as LogFull where the log is full. Edits that are kept then are
@@ -63,8 +64,8 @@ fn stop<H: Wait, J: Run, D: Desk, W: Write>(
 /// been made even so, without its answer; or it was a Stop that was refused, and isn't told.
 /// Where the Stop was refused, whoever started the console has to stop the desk's callers
 /// otherwise. A read or a write that is interrupted is tried again; a write that takes nothing is
-/// a fault. It may wait for the desk's lock, the witness, the reader and the writer. Linear in what
-/// is read and written, but for what the desk and the witness take.
+/// a fault. It may wait for the desk's lock, the source, the witness, the reader and the writer.
+/// Linear in what is read and written, but for what the desk, the source and the witness take.
 pub fn operate<H, J: Run, D: Desk, S: Source, V: Witness<Typing>, R: Read, W: Write>(
     rt: &H,
     desk: &SharedDesk<J, D>,

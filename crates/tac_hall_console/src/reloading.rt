@@ -1,7 +1,10 @@
-//! The policy that `reload` puts in the place of the present one.
+//! What is read again where an operator says so: a policy, which takes the place of the present one,
+//! and a devices' file.
 
 ghost use Rattle.std.specs.Prelude.{◌≡◌, IfOk};
 ghost use Rattle.tac_console.specs.Faults as faults;
+ghost use Rattle.tac_hall_console.specs.DevicesAnswer.{IsDevicesAnswer, no_devices_line};
+ghost use Rattle.tac_hall_console.specs.DevicesAnswer.{unread_devices_line};
 ghost use Rattle.tac_hall_console.specs.Operated as operated;
 
 use basics::Bytes;
@@ -18,10 +21,17 @@ pub enum Unread {
     Memory,
 }
 
-/// Where the text of a policy comes from, each time that it is asked for.
+/// Where a policy and devices come from, each time that they are asked for.
 pub trait Source {
-    /// The text as it is now. It may wait for what it is read from.
+    /// The text of the policy as it is now. It may wait for what it is read from.
     fn text(&self, alloc: Global) -> Result<Vec<u8>, Unread>;
+
+    /// Reads the devices' file again, if there is one. If its text is taken, its devices are served
+    /// from the next connection on; else all is as before. The result is the answer, a line with its
+    /// LF, and says which. The error means that memory ran out, and that all is as before. It may
+    /// wait for what it is read from.
+    fn reload_devices(&self, alloc: Global) -> Result<Bytes, AllocError>
+        ensures { IfOk result IsDevicesAnswer };
 }
 
 // The line that says why a text is no policy.
@@ -39,6 +49,24 @@ fn no_text(alloc: Global, why: &[u8]) -> Result<Bytes, AllocError>
 {
     let mut line = Vec::new(alloc);
     line.extend_from_slice(b"unread ")?;
+    line.extend_from_slice(why)?;
+    line.extend_from_slice(b"\n")?;
+    Ok(Bytes::from(line))
+}
+
+/// What a source answers that has no devices' file.
+pub fn no_devices(alloc: Global) -> Result<Bytes, AllocError>
+    ensures { IfOk result (λ line. line ≡ no_devices_line) }
+{
+    Bytes::from_slice(alloc, b"no devices\n")
+}
+
+/// What a source answers whose devices' file can't be read for this reason, which has no line end.
+pub fn unread_devices(alloc: Global, why: &[u8]) -> Result<Bytes, AllocError>
+    ensures { IfOk result (λ line. line ≡ unread_devices_line why.now) }
+{
+    let mut line = Vec::new(alloc);
+    line.extend_from_slice(b"devices unread ")?;
     line.extend_from_slice(why)?;
     line.extend_from_slice(b"\n")?;
     Ok(Bytes::from(line))

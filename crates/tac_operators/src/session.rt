@@ -37,6 +37,7 @@ insert SUBJECT N permit PATTERN | insert SUBJECT N deny PATTERN
 drop SUBJECT N | shift SUBJECT N M
 begin | commit | abandon   edits between them are made all or none
 reload                     the policy's file is read again
+reload devices             the devices' file is read again
 rotate                     ends the present segment of the history
 operator NAME              who types, which others are told
 status                     how the server is, as Prometheus reads it

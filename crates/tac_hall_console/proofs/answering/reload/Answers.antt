@@ -1,6 +1,6 @@
 use Rattle.std.proofs.Common.{rules, inl, inr, refl}
 use Rattle.tac_hall.specs.declared.call.Call.TheVariants as calls
-use Rattle.tac_hall_console.specs.Operated.{CallsFor, IsReload, unloaded, no_memory_line}
+use Rattle.tac_hall_console.specs.Operated.{CallsFor, IsReload, replied, no_memory_line}
 use Rattle.tac_hall_console.proofs.CallFacts.{tells_ok, adds_as, untold_as}
 use Rattle.tac_hall_console.proofs.ReloadFacts.{loads, unloads}
 use Rattle.tac_hall_console.proofs.answering.reload.Goals as goal
@@ -20,10 +20,10 @@ returns-in-Ok-Ok-clause-err g c =
 pub returns-in-Ok-Err-clause-ok : goal.returns-in-Ok-Err-clause-ok
 returns-in-Ok-Err-clause-ok g c =
     let read = rw (c.in-Ok-Err.is, c.in-Ok-Err.field-0-is) at c.read_source.ensures in
-    tells_ok (IsReload g.J.Run.opening c.args.seat.now) (unloaded c.in-Ok-Err.line) c.args.seat.now c.args.out.now.items c.extend_from_slice.new.self.items c.extend_from_slice.result
+    tells_ok (IsReload g.J.Run.opening c.args.seat.now) (replied c.in-Ok-Err.line) c.args.seat.now c.args.out.now.items c.extend_from_slice.new.self.items c.extend_from_slice.result
     (unloads g.J.Run.opening c.args.seat.now c.in-Ok-Err.line (inl read)) (search rules)
 
 pub returns-in-Err-clause-ok : goal.returns-in-Err-clause-ok
 returns-in-Err-clause-ok g c =
-    tells_ok (IsReload g.J.Run.opening c.args.seat.now) (unloaded no_memory_line) c.args.seat.now c.args.out.now.items c.extend_from_slice-in-Err.new.self.items c.extend_from_slice-in-Err.result
+    tells_ok (IsReload g.J.Run.opening c.args.seat.now) (replied no_memory_line) c.args.seat.now c.args.out.now.items c.extend_from_slice-in-Err.new.self.items c.extend_from_slice-in-Err.result
     (unloads g.J.Run.opening c.args.seat.now no_memory_line (inr refl)) (search rules)
