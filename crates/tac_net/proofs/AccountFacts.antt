@@ -4,6 +4,7 @@ use Rattle.std.specs.Prelude.{All}
 use Rattle.std.proofs.lemmas.List.Elements.{All-nil, All-cons, All-head, All-tail}
 use Rattle.tac_wire.specs.Stream.{cut}
 use Rattle.tac_conn.specs.declared.ask.Ask.{Ask}
+use Rattle.tac_audit.specs.declared.event.Named.{Named}
 use Rattle.tac_audit.specs.declared.notice.Notice.{Notice}
 use Rattle.tac_audit.specs.Witness.{AreTold}
 use Rattle.tac_audit.proofs.NoticeFacts.{are_answered}
@@ -19,10 +20,9 @@ use Rattle.tac_worker.specs.Worked.{answers_of}
 use Rattle.tac_loop.specs.declared.line.Line.{Line}
 use Rattle.tac_loop.specs.Calls.{Call}
 use Rattle.tac_loop.specs.Board.{Board, AreAll, AreApart, IsKnown, IsAccounted, IsWorking}
-use Rattle.tac_net.specs.Callers.{IsKeyOfOne}
 use Rattle.tac_net.specs.Logs.{HasLogged}
 use Rattle.tac_net.specs.declared.callers.Callers.{Callers}
-use Rattle.tac_net.specs.Connections.{IsTold, IsRefused, TellsLog, DeskLine, DeskBoard, IsDeskBoard, IsConnectionOf, HasServed}
+use Rattle.tac_net.specs.Connections.{IsTold, IsRefused, TellsLog, Begins, DeskLine, DeskBoard, IsDeskBoard, IsConnectionOf, HasServed}
 use Rattle.tac_net.proofs.LogFacts.{all_answered, served_as}
 
 -- ---- one for each
@@ -112,13 +112,13 @@ knowing told link = record {
 
 module _ {C V : Type 0} (refuses : C → Ask → HallFault → Type 0) (takes refuses_notice : V → Notice → V → Type 0) (log : Keeping) where
   -- it stands so, with what it was told
-  record Knows (end : Option End) (link : Linked C V) : Type 0 where
+  record Knows (who : Option Named) (end : Option End) (link : Linked C V) : Type 0 where
     told : List Notice
     stands : StandsSo refuses IsTold (IsRefused log.is_kept) end (knowing told link)
-    logged : HasLogged log told
+    logged : HasLogged log who told
 
-  knows_open : (link : Linked C V) → TellsLog takes refuses_notice log link.first → IsOpen refuses takes refuses_notice link → Knows None link
-  knows_open link t o = record {
+  knows_open : (who : Option Named) (link : Linked C V) → TellsLog takes refuses_notice log who link.first → IsOpen refuses takes refuses_notice link → Knows who None link
+  knows_open who link t o = record {
     told = o.told;
     stands = record {
       made = o.made;
@@ -135,31 +135,31 @@ module _ {C V : Type 0} (refuses : C → Ask → HallFault → Type 0) (takes re
     logged = t.logged o.told link.witness o.took (are_answered link.key (cut link.heard).packets (cut link.heard).tail (answers_of o.made) o.told o.untold (sym o.parts));
   }
 
-  refused_so : (told : List Notice) (first between now : V) (refused : Option Notice) → TellsLog takes refuses_notice log first → AreTold takes first told between → RefusesOne refuses_notice between refused now
+  refused_so : (who : Option Named) (told : List Notice) (first between now : V) (refused : Option Notice) → TellsLog takes refuses_notice log who first → AreTold takes first told between → RefusesOne refuses_notice between refused now
       → RefusesOne (IsRefused log.is_kept) told refused told
-  refused_so told first between now None t a r = refl
-  refused_so told first between now (Some notice) t a r = (t.refused told between now notice a r, refl)
+  refused_so who told first between now None t a r = refl
+  refused_so who told first between now (Some notice) t a r = (t.refused told between now notice a r, refl)
 
-  knows_over : (end : End) (link : Linked C V) → TellsLog takes refuses_notice log link.first → IsOver refuses takes refuses_notice link end → Knows (Some end) link
-  knows_over end link t work =
+  knows_over : (who : Option Named) (end : End) (link : Linked C V) → TellsLog takes refuses_notice log who link.first → IsOver refuses takes refuses_notice link end → Knows who (Some end) link
+  knows_over who end link t work =
       let tells = work.told in
       let took = tells.takes in
       record {
         told = tells.told;
-        stands = served_as work (tells.told, told_all [] tells.told, refused_so tells.told link.first took.0 link.witness (refused_of end tells.left) t took.1 took.2);
+        stands = served_as work (tells.told, told_all [] tells.told, refused_so who tells.told link.first took.0 link.witness (refused_of end tells.left) t took.1 took.2);
         logged = t.logged tells.told took.0 took.1 (all_answered work);
       }
 
-  knows_so : (end : Option End) (link : Linked C V) → TellsLog takes refuses_notice log link.first → StandsSo refuses takes refuses_notice end link → Knows end link
-  knows_so None link t h = knows_open link t h
-  knows_so (Some end) link t h = knows_over end link t h
+  knows_so : (who : Option Named) (end : Option End) (link : Linked C V) → TellsLog takes refuses_notice log who link.first → StandsSo refuses takes refuses_notice end link → Knows who end link
+  knows_so who None link t h = knows_open who link t h
+  knows_so who (Some end) link t h = knows_over who end link t h
 
 -- ---- a connection
 
 module _ {V S : Type 0} (takes refuses_notice : V → Notice → V → Type 0) (opening : Opening) (callers : Callers) (log : Keeping) where
   -- what is known of it at first
-  abbrev Begins : Line Seated V S → Type 0
-  Begins line = IsKeyOfOne callers line.link.key × TellsLog takes refuses_notice log line.link.first
+  abbrev Begun : Line Seated V S → Type 0
+  Begun line = Begins takes refuses_notice callers log line.link.key line.link.first
 
   abbrev Accounted : Seated → List Call → ℕ → Line Seated V S → Type 0
   Accounted first calls next line = IsAccounted (MakesOne opening) CatchesUp (Refuses opening) takes refuses_notice first calls next line
@@ -177,14 +177,14 @@ module _ {V S : Type 0} (takes refuses_notice : V → Notice → V → Type 0) (
     accounted : IsAccounted (MakesOne opening) CatchesUp (Refuses opening) IsTold (IsRefused log.is_kept) first calls next other
     is : IsConnectionOf callers log other
 
-  same_line : (first : Seated) (calls : List Call) (next : ℕ) (line : Line Seated V S) → Begins line → Accounted first calls next line → (other : DeskLine) × IsSame first calls next line other
+  same_line : (first : Seated) (calls : List Call) (next : ℕ) (line : Line Seated V S) → Begun line → Accounted first calls next line → (other : DeskLine) × IsSame first calls next line other
   same_line first calls next line begins a =
-      let k = knows_so (Refuses opening) takes refuses_notice log line.link.end line.link begins.1 a.stands in (
+      let k = knows_so (Refuses opening) takes refuses_notice log begins.0 line.link.end line.link begins.2 a.stands in (
         told_line k.told line,
         record {
           number = refl;
           accounted = record { called = a.called; numbered = a.numbered; caller = a.caller; stands = k.stands };
-          is = record { keyed = begins.0; first = refl; logged = k.logged };
+          is = record { who = begins.0; keyed = begins.1; first = refl; logged = k.logged };
         },
       )
 
@@ -257,7 +257,7 @@ module _ {V S : Type 0} (takes refuses_notice : V → Notice → V → Type 0) (
 -- what a board has done whose witnesses tell a log, the seat has done for connections that are
 -- known by what was told
 pub served_by : {V S : Type 0} (takes refuses_notice : V → Notice → V → Type 0) (opening : Opening) (callers : Callers) (log : Keeping) (connections : ℕ) (board : Board Seated V S)
-    → IsWorking (MakesOne opening) CatchesUp (Refuses opening) takes refuses_notice board → AreAll (λ line. IsKeyOfOne callers line.link.key × TellsLog takes refuses_notice log line.link.first) board → board.next ≤ connections
+    → IsWorking (MakesOne opening) CatchesUp (Refuses opening) takes refuses_notice board → AreAll (λ line. Begins takes refuses_notice callers log line.link.key line.link.first) board → board.next ≤ connections
     → HasServed opening callers log connections board.first board.caller
 served_by {V} {S} takes refuses_notice opening callers log connections board h begins within =
     let same = same_line takes refuses_notice opening callers log board.first h.calls board.next in

@@ -5,12 +5,16 @@ use denote.Param.Send.{IsSend, IsSync, sendable}
 use Rattle.std.proofs.Crossing.{crosses}
 use Rattle.std.specs.contracts.net.tcp.TcpListener as TcpListener
 use Rattle.tac_hall.proofs.Crossing.{Key-sync}
+use Rattle.boxcar.proofs.slot.OnceSlot.TheSendSync as slot
+use Rattle.boxcar.proofs.tag.Tag.TheSendSync as tag
 use Rattle.tac_devices.proofs.Crossing.{Devices-sync}
+use Rattle.tac_devices.specs.contracts.devices.Devices as Devices
 use Rattle.tac_census.proofs.census.Census.TheSendSync as census
 use Rattle.tac_status.proofs.counts.Counts.TheSendSync as counts
 use Rattle.tac_status.specs.contracts.counts.Counts as Counts
 use Rattle.tac_digests.proofs.digests.Digests.TheSendSync as digests
 use Rattle.tac_net.specs.contracts.callers.Callers as Callers
+use Rattle.tac_net.specs.contracts.directory.Directory as Directory
 use Rattle.tac_net.specs.contracts.hashing.Hashing as Hashing
 use Rattle.tac_net.specs.contracts.intake.Arrival as Arrival
 use Rattle.tac_net.specs.contracts.intake.Inbox as Inbox
@@ -25,8 +29,14 @@ Listener-sync = search (crosses, sendable) depth 60
 pub Number-sync : IsSync (UInt w32)
 Number-sync = search sendable depth 60
 
+pub Devices-send : IsSend Devices.the_row
+Devices-send = search (crosses, sendable) depth 60
+
+pub Directory-sync : IsSync Directory.the_field.row
+Directory-sync = search (Devices-sync, Devices-send, slot.the_sync, slot.the_send, tag.the_sync, crosses, sendable) depth 60 fits 20000
+
 pub Callers-sync : IsSync Callers.the_field.row
-Callers-sync = search (Key-sync, Devices-sync, crosses, sendable) depth 60 fits 20000
+Callers-sync = search (Key-sync, Directory-sync, crosses, sendable) depth 60 fits 20000
 
 pub Settings-sync : IsSync Settings.the_row
 Settings-sync = search (Callers-sync, crosses, sendable) depth 60

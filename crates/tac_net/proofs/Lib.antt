@@ -3,6 +3,7 @@ pub mod AccountFacts
 pub mod FitFacts
 pub mod WitnessFacts
 pub mod StandingFacts
+pub mod CallerFacts
 pub mod Crossing
 pub mod ServingFacts
 pub mod SendFacts

@@ -3,6 +3,8 @@ use Rattle.std.proofs.Common.{◌≡◌, inr, ℕ, List, [], ◌∷◌, true, Op
 use Rattle.std.proofs.lemmas.List.Elements.{All-nil, All-cons}
 use Rattle.tac_wire.specs.Stream.{cut}
 use Rattle.tac_conn.specs.declared.ask.Ask.{Ask}
+use Rattle.tac_audit.specs.declared.event.Named.{Named}
+use Rattle.tac_audit.specs.declared.event.Origin.{Origin}
 use Rattle.tac_audit.specs.declared.notice.Notice.{Notice}
 use Rattle.tac_audit.specs.declared.notice.Typing.{Typing}
 use Rattle.tac_audit.specs.Noted.{noted_of_each, AreAnswered}
@@ -72,14 +74,14 @@ module _ {W : Type 0} (was now : W) where
 -- ---- a witness
 
 -- the log has the lines of all that it took
-module _ {W S L : Type 0} (takes refuses : W → Notice → W → Type 0) (entry : W → S) (log_of : S → L) (keeping : L → Keeping) (device : List ℕ) (old : S) (log : L) (same : log_of old ≡ log) (was : W)
+module _ {W S L : Type 0} (takes refuses : W → Notice → W → Type 0) (entry : W → S) (log_of : S → L) (keeping : L → Keeping) (origin : Origin) (who : Option Named) (named : origin.named ≡ who) (old : S) (log : L) (same : log_of old ≡ log) (was : W)
     (lines : (notices : List Notice) (now : W) → AreTold takes was notices now → AreAnswered [] notices
-    → HasLines (λ (was : S) (line : List ℕ) (now : S). (now ≡ was) × (keeping (log_of was)).took line) device (noted_of_each [] notices) old (entry now)) where
-  pub tells_log : (keeping log).is_kept ≡ true → TellsLog takes refuses (keeping log) was
+    → HasLines (λ (was : S) (line : List ℕ) (now : S). (now ≡ was) × (keeping (log_of was)).took line) origin (noted_of_each [] notices) old (entry now)) where
+  pub tells_log : (keeping log).is_kept ≡ true → TellsLog takes refuses (keeping log) who was
   tells_log kept = record {
     logged = λ told now t answered.
         let has = lines told now t answered in
-        inr (device, has.0, has.1, subst (λ (l : L). All (keeping l).took has.0) same (taken (λ (s : S). (keeping (log_of s)).took) has.0 old (entry now) has.2));
+        inr (origin, named, has.0, has.1, subst (λ (l : L). All (keeping l).took has.0) same (taken (λ (s : S). (keeping (log_of s)).took) has.0 old (entry now) has.2));
     refused = λ told between now notice t r. kept;
   }
 

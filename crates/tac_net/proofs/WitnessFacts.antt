@@ -1,5 +1,6 @@
 -- What a witness tells a log that may have none.
 use Rattle.std.proofs.Common.{◌≡◌, inl, List, [], ◌∷◌, false, Option, None, Some, refl, sym, subst}
+use Rattle.tac_audit.specs.declared.event.Named.{Named}
 use Rattle.tac_audit.specs.declared.notice.Notice.{Notice}
 use Rattle.tac_audit.specs.Witness.{AreTold}
 use Rattle.tac_journal.specs.Log.{Keeping}
@@ -30,8 +31,8 @@ module _ {D W : Type 0} (log_of : D → Option W) (takes refuses : W → Notice 
       let more = told_some one.0 t.0 told now one.1 t.2 in
       (more.0, more.1, (one.0, one.2, more.2))
 
-  pub tells_some : (log : Keeping) (w : W) (was : D) → log_of was ≡ Some w → TellsLog takes refuses log w → TellsLog Takes Refuses log was
-  tells_some log w was is tells = record {
+  pub tells_some : (log : Keeping) (who : Option Named) (w : W) (was : D) → log_of was ≡ Some w → TellsLog takes refuses log who w → TellsLog Takes Refuses log who was
+  tells_some log who w was is tells = record {
     logged = λ told now t answered. let all = told_some w was told now is t in tells.logged told all.0 all.2 answered;
     refused = λ told between now notice t r.
         let all = told_some w was told between is t in
@@ -49,8 +50,8 @@ module _ {D W : Type 0} (log_of : D → Option W) (takes refuses : W → Notice 
   told_none was [] now is t = subst (λ (d : D). log_of d ≡ None) (sym t) is
   told_none was (notice ∷ told) now is t = told_none t.0 told now (takes_none notice (log_of t.0) (subst (λ (o : Option W). TakesBy takes o notice (log_of t.0)) is t.1)) t.2
 
-  pub tells_none : (log : Keeping) (was : D) → log_of was ≡ None → log.is_kept ≡ false → TellsLog Takes Refuses log was
-  tells_none log was is none = record {
+  pub tells_none : (log : Keeping) (who : Option Named) (was : D) → log_of was ≡ None → log.is_kept ≡ false → TellsLog Takes Refuses log who was
+  tells_none log who was is none = record {
     logged = λ told now t answered. inl none;
     refused = λ told between now notice t r. absurd (subst (λ (o : Option W). RefusesBy refuses o notice (log_of now)) (told_none was told between is t) r);
   }

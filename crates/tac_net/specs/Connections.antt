@@ -1,6 +1,7 @@
 -- What a worker of a shared desk has done that served many connections in turns, and what several
 -- have.
-use Rattle.std.specs.Prelude.{◌≡◌, ◌≤◌, ℕ, List, [], ◌∷◌, ◌++◌, Bool, true}
+use Rattle.std.specs.Prelude.{◌≡◌, ◌≤◌, ℕ, List, [], ◌∷◌, ◌++◌, Bool, true, Option}
+use Rattle.tac_audit.specs.declared.event.Named.{Named}
 use Rattle.tac_audit.specs.declared.notice.Notice.{Notice}
 use Rattle.tac_audit.specs.Noted.{AreAnswered}
 use Rattle.tac_audit.specs.Witness.{AreTold}
@@ -24,14 +25,21 @@ IsTold was notice now = now ≡ was ++ notice ∷ []
 abbrev pub IsRefused : Bool → List Notice → Notice → List Notice → Type 0
 IsRefused is_kept was notice now = (is_kept ≡ true) × (now ≡ was)
 
--- whatever this witness takes, the log has the lines of it; and it refuses a notice only where a
--- log is kept
+-- whatever this witness takes, the log has the lines of it, which name its device so; and it
+-- refuses a notice only where a log is kept
 pub record TellsLog {V : Type 0} (takes refuses : V → Notice → V → Type 0) (log : Keeping)
-    (first : V) : Type 0 where
+    (who : Option Named) (first : V) : Type 0 where
   pub logged : (told : List Notice) (now : V) → AreTold takes first told now → AreAnswered [] told
-      → HasLogged log told
+      → HasLogged log who told
   pub refused : (told : List Notice) (between now : V) (notice : Notice)
       → AreTold takes first told between → refuses between notice now → log.is_kept ≡ true
+
+-- a connection begins under this key with this witness: it is the key of a device that may call,
+-- and the lines of the log name that device
+abbrev pub Begins : {V : Type 0} → (V → Notice → V → Type 0) → (V → Notice → V → Type 0)
+    → Callers → Keeping → List ℕ → V → Type 0
+Begins takes refuses callers log key first =
+    (who : Option Named) × IsKeyOfOne callers key who × TellsLog takes refuses log who first
 
 -- ---- a seat
 
@@ -50,11 +58,12 @@ IsDeskBoard opening is_kept board =
     IsTold (IsRefused is_kept) board
 
 -- its key is that of a device that may call, and the log, if one is kept, took the lines of all
--- that its witness was told
+-- that its witness was told, which name this device
 pub record IsConnectionOf (callers : Callers) (log : Keeping) (line : DeskLine) : Type 0 where
-  pub keyed : IsKeyOfOne callers line.link.key
+  pub who : Option Named
+  pub keyed : IsKeyOfOne callers line.link.key who
   pub first : line.link.first ≡ []
-  pub logged : HasLogged log line.link.witness
+  pub logged : HasLogged log who line.link.witness
 
 -- a seat made its calls for at most so many connections, each by the key of a device that may call,
 -- and no other calls

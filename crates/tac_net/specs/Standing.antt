@@ -4,8 +4,7 @@ use Rattle.tac_audit.specs.declared.notice.Notice.{Notice}
 use Rattle.tac_forum.specs.Seat.{Seated}
 use Rattle.tac_journal.specs.Log.{Keeping}
 use Rattle.tac_loop.specs.Board.{Board, AreAll}
-use Rattle.tac_net.specs.Callers.{IsKeyOfOne}
-use Rattle.tac_net.specs.Connections.{TellsLog}
+use Rattle.tac_net.specs.Connections.{Begins}
 use Rattle.tac_net.specs.declared.callers.Callers.{Callers}
 use Rattle.tac_net.specs.declared.settings.Settings.{Settings}
 
@@ -15,12 +14,9 @@ pub record Standing (L : Type 0) : Type 0 where
   pub settings : Settings
   pub log : L
 
--- each of its connections is by the key of a device that may call, and whatever the witness of it
--- takes, the log has the lines of; so many of the connections that it may serve are left
+-- each of its connections began by the key of a device that may call, with a witness that tells the
+-- log; so many of the connections that it may serve are left
 pub record Stands {V S : Type 0} (takes refuses : V → Notice → V → Type 0) (callers : Callers)
     (log : Keeping) (connections : ℕ) (board : Board Seated V S) (left : ℕ) : Type 0 where
-  pub each :
-      AreAll
-      (λ line. IsKeyOfOne callers line.link.key × TellsLog takes refuses log line.link.first)
-      board
+  pub each : AreAll (λ line. Begins takes refuses callers log line.link.key line.link.first) board
   pub count : board.next + left ≡ connections

@@ -1,13 +1,16 @@
 //! Accepting connections.
 
-use crate::callers::Callers;
-use crate::intake::{Arrival, Intake};
+use crate::intake::Arrival;
 use crate::pause::Pause;
+use crate::premises::Premises;
 use mio::net::TcpListener;
 use std::io::ErrorKind;
 use std::sync::Wait;
 use std::time::Clock;
-use tac_status::ConnectionCounts;
+use tac_desk::Desk;
+use tac_forum::Run;
+use tac_journal::{Log, LogFiles};
+use tac_status::Rejection;
 
 /// How many connections are accepted in a row for other workers.
 const MOST_AT_ONCE: usize = 64;
@@ -36,6 +39,42 @@ fn until(moment: u64, now: Option<u64>) -> u64 {
     match now {
         Some(now) => moment.saturating_sub(now),
         None => 0,
+    }
+}
+
+// Finds a worker for a connection, unless its device is unknown or there are too many. It comes back
+// where that is the first one's own.
+fn receive<R, J: Run, D: Desk, L: Log>(
+    premises: &Premises<'_, R, J, D, L>,
+    arrival: Arrival,
+) -> Option<Arrival>
+where
+    R: Wait + Clock + AllocGlobal + Eprint + LogFiles,
+{
+    let Premises {
+        rt,
+        settings,
+        intake,
+        counts,
+        ..
+    } = *premises;
+    let address = arrival.address;
+    // an unknown device is turned away first, so it takes nobody's place
+    let Some(found) = settings.callers.find(&address.ip()) else {
+        counts.connections.reject(Rejection::UnknownDevice);
+        intake.turned_away().unknown(premises, address);
+        return None;
+    };
+    let most = found.connections().unwrap_or(settings.per_address);
+    match intake.place(rt, &counts.connections, arrival, most) {
+        Ok(own) => own,
+        Err(why) => {
+            counts.connections.reject(why);
+            if why == Rejection::PerAddress {
+                intake.turned_away().crowded(premises, address, found);
+            }
+            None
+        }
     }
 }
 
@@ -80,18 +119,18 @@ impl Acceptor {
     }
 
     // Accepts one, which may be another worker's or be closed.
-    fn accept<R: Wait + Clock + Eprint>(
+    fn accept<R, J: Run, D: Desk, L: Log>(
         &mut self,
-        rt: &R,
-        intake: &Intake,
-        callers: &Callers,
-        counts: &ConnectionCounts,
+        premises: &Premises<'_, R, J, D, L>,
         now: Option<u64>,
-    ) -> Option<Arrival> {
+    ) -> Option<Arrival>
+    where
+        R: Wait + Clock + AllocGlobal + Eprint + LogFiles,
+    {
         match self.listener.accept() {
             Ok((stream, address)) => {
                 self.pause = Pause::first();
-                intake.place(rt, callers, counts, Arrival { stream, address })
+                receive(premises, Arrival { stream, address })
             }
             Err(error) => {
                 self.failed(error.kind(), now);
@@ -102,19 +141,19 @@ impl Acceptor {
 
     /// Accepts connections and hands them to the workers, up to one that is the first worker's own.
     /// There is none where no more wait, and where others are to have their turns first.
-    pub(crate) fn next<R: Wait + Clock + Eprint>(
+    pub(crate) fn next<R, J: Run, D: Desk, L: Log>(
         &mut self,
-        rt: &R,
-        intake: &Intake,
-        callers: &Callers,
-        counts: &ConnectionCounts,
+        premises: &Premises<'_, R, J, D, L>,
         now: Option<u64>,
-    ) -> Option<Arrival> {
+    ) -> Option<Arrival>
+    where
+        R: Wait + Clock + AllocGlobal + Eprint + LogFiles,
+    {
         for _ in 0..MOST_AT_ONCE {
             if self.opens_in(now) != Some(0) {
                 return None;
             }
-            if let Some(arrival) = self.accept(rt, intake, callers, counts, now) {
+            if let Some(arrival) = self.accept(premises, now) {
                 return Some(arrival);
             }
         }

@@ -1,6 +1,6 @@
 //! Passwords that are worked out in threads of their own, so that no worker and no desk waits.
 
-use crate::hush::Hush;
+use crate::hush::{COMPLAINT_PAUSE, Hush};
 use crate::intake::Intake;
 use crate::vigil::Vigil;
 use std::alloc::{AllocError, Global};
@@ -22,13 +22,13 @@ impl Hashing {
     pub(crate) fn new(alloc: Global) -> Result<Hashing, AllocError> {
         Ok(Hashing {
             digests: Digests::new(alloc)?,
-            hush: Hush::new(),
+            hush: Hush::new(COMPLAINT_PAUSE),
         })
     }
 
     // Says that a login found no room, once a minute at most.
     fn complain<R: Clock + Eprint>(&self, rt: &R) {
-        if self.hush.is_over(rt) {
+        if self.hush.breaks(rt) {
             let _ = eprintln!(rt;
                 "tacd: {MOST_DIGESTS} passwords wait to be compared with hashes; the connections \
                  of further logins are closed"

@@ -1,10 +1,9 @@
 //! Where new connections go.
 
-use crate::callers::Callers;
-use crate::hush::Hush;
 use crate::packet_memory::PacketMemory;
 use crate::poller::{Poller, WOKEN};
 use crate::settings::Settings;
+use crate::turned_away::TurnedAway;
 use brief_lock::take;
 use mio::Waker;
 use mio::net::TcpStream;
@@ -14,8 +13,7 @@ use std::mem::swap;
 use std::net::{IpAddr, SocketAddr};
 use std::sync::atomic::{AtomicU32, AtomicU64, Ordering};
 use std::sync::{Mutex, Wait};
-use std::time::Clock;
-use tac_census::{Caps, Census, Refusal};
+use tac_census::{Census, Refusal};
 use tac_status::{ConnectionCounts, Departure, Rejection};
 
 /// A connection that was accepted: its stream, and the address of its device.
@@ -42,8 +40,7 @@ pub(crate) struct Intake {
     inboxes: Vec<Inbox>,
     census: Mutex<Census>,
     packet_memory: PacketMemory,
-    // until when nothing is said of unknown devices
-    hush: Hush,
+    turned_away: TurnedAway,
     // how many connections may still be handed to workers
     left: AtomicU64,
 }
@@ -83,15 +80,11 @@ impl Inbox {
 impl Intake {
     /// That of a server with these settings, which has no workers yet.
     pub(crate) fn new(alloc: Global, settings: &Settings) -> Intake {
-        let caps = Caps {
-            in_all: settings.connections_at_once,
-            per_address: settings.per_address,
-        };
         Intake {
             inboxes: Vec::new(alloc),
-            census: Mutex::new(Census::new(alloc, caps)),
+            census: Mutex::new(Census::new(alloc, settings.connections_at_once)),
             packet_memory: PacketMemory::new(settings.packet_memory),
-            hush: Hush::new(),
+            turned_away: TurnedAway::new(),
             left: AtomicU64::new(0),
         }
     }
@@ -158,34 +151,26 @@ impl Intake {
         None
     }
 
-    // Says that a device is unknown that called from this address, once a minute at most.
-    fn complain<R: Clock + Eprint>(&self, rt: &R, address: IpAddr) {
-        if self.hush.is_over(rt) {
-            // as a devices' file has it
-            let address = address.to_canonical();
-            let _ = eprintln!(rt; "tacd: {address}: unknown device, its connection is closed");
-        }
+    /// What is said of connections that are closed as soon as they come.
+    pub(crate) fn turned_away(&self) -> &TurnedAway {
+        &self.turned_away
     }
 
-    // The worker for one more connection from this address, for which it is counted. An unknown
-    // device is turned away before that, so it takes nobody's place.
-    fn admit<R: Wait + Clock + Eprint>(
+    // The worker for one more connection from this address, of which there may be so many, or any
+    // number where that is 0. The connection is counted.
+    fn admit<R: Wait>(
         &self,
         rt: &R,
-        callers: &Callers,
         address: IpAddr,
+        most: u32,
     ) -> Result<(usize, &Inbox), Rejection> {
-        if callers.key_of(&address).is_none() {
-            self.complain(rt, address);
-            return Err(Rejection::UnknownDevice);
-        }
         let Some(at) = self.idlest() else {
             return Err(Rejection::Served);
         };
         let Some(inbox) = self.inboxes.get(at) else {
             return Err(Rejection::Served);
         };
-        match take(rt, &self.census).admit(address) {
+        match take(rt, &self.census).admit(address, most) {
             Ok(()) => Ok((at, inbox)),
             Err(Refusal::Full) => Err(Rejection::AtOnce),
             Err(Refusal::AddressFull) => Err(Rejection::PerAddress),
@@ -193,23 +178,17 @@ impl Intake {
         }
     }
 
-    /// Finds a worker for a connection that the first one accepted. It comes back where that is the
-    /// first one's own. Else it is that worker's, or is closed where its device is unknown or there
-    /// are too many.
-    pub(crate) fn place<R: Wait + Clock + Eprint>(
+    /// Finds a worker for a connection that the first one accepted, of whose address there may be so
+    /// many, or any number where that is 0. It comes back where that is the first one's own. Else it
+    /// is that worker's, or is closed where there are too many.
+    pub(crate) fn place<R: Wait>(
         &self,
         rt: &R,
-        callers: &Callers,
         counts: &ConnectionCounts,
         arrival: Arrival,
-    ) -> Option<Arrival> {
-        let (at, inbox) = match self.admit(rt, callers, arrival.address.ip()) {
-            Ok(place) => place,
-            Err(why) => {
-                counts.reject(why);
-                return None;
-            }
-        };
+        most: u32,
+    ) -> Result<Option<Arrival>, Rejection> {
+        let (at, inbox) = self.admit(rt, arrival.address.ip(), most)?;
         counts.accept();
         inbox.count();
         let own = self.hand(rt, counts, at, arrival);
@@ -217,7 +196,7 @@ impl Intake {
         if self.left.fetch_sub(1, Ordering::SeqCst) == 1 {
             self.wake_all();
         }
-        own
+        Ok(own)
     }
 
     /// What was handed to a worker since it asked last. The list that it gives is empty.

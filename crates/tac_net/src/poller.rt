@@ -16,6 +16,10 @@ pub(crate) const WOKEN: Token = Token(usize::MAX);
 /// What an event of the listener has for a key.
 pub(crate) const CALLED: Token = Token(usize::MAX - 1);
 
+/// What the keys of connections have in common of which the first packet is awaited, and no others
+/// but the two above.
+const LEAD: usize = usize::MAX / 2 + 1;
+
 /// How many events one wait tells at most.
 const MOST_EVENTS: usize = 256;
 
@@ -24,6 +28,29 @@ const MOST_EVENTS: usize = 256;
 pub(crate) struct Poller {
     poll: Poll,
     events: Events,
+}
+
+/// The key for a wait of the connection under this key among those of which the first packet is
+/// awaited.
+pub(crate) fn lead_key(key: usize) -> usize {
+    LEAD | key
+}
+
+/// The key among these of what an event has for a key, if it is of one of them.
+pub(crate) fn lead_of(key: usize) -> Option<usize> {
+    if key & LEAD == 0 {
+        return None;
+    }
+    Some(key & !LEAD)
+}
+
+// What a wait is to tell of a socket, which waits for room to write or not.
+fn interests(is_full: bool) -> Interest {
+    if is_full {
+        Interest::READABLE | Interest::WRITABLE
+    } else {
+        Interest::READABLE
+    }
 }
 
 impl Poller {
@@ -54,21 +81,20 @@ impl Poller {
         is_full: bool,
     ) -> io::Result<()> {
         let descriptor = socket.as_raw_fd();
-        let interests = if is_full {
-            Interest::READABLE | Interest::WRITABLE
-        } else {
-            Interest::READABLE
-        };
         self.registry()
-            .register(&mut SourceFd(&descriptor), Token(key), interests)
+            .register(&mut SourceFd(&descriptor), Token(key), interests(is_full))
     }
 
-    /// From now on a wait also tells when this socket may be written, which is registered.
-    pub(crate) fn register_writing<S: AsRawFd>(&self, socket: &S, key: usize) -> io::Result<()> {
+    /// The same of a socket that is registered, whatever its key was.
+    pub(crate) fn register_again<S: AsRawFd>(
+        &self,
+        socket: &S,
+        key: usize,
+        is_full: bool,
+    ) -> io::Result<()> {
         let descriptor = socket.as_raw_fd();
-        let interests = Interest::READABLE | Interest::WRITABLE;
         self.registry()
-            .reregister(&mut SourceFd(&descriptor), Token(key), interests)
+            .reregister(&mut SourceFd(&descriptor), Token(key), interests(is_full))
     }
 
     /// Waits so long at most.

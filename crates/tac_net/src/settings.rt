@@ -20,14 +20,17 @@ pub struct Settings {
     pub connections: u32,
     /// How many connections there may be at once. One more is closed as soon as it is accepted.
     pub connections_at_once: u32,
-    /// How many of them may be of one IP address; 0 means that none is too many. The port doesn't
-    /// count, and an IPv4 address inside an IPv6 one is that address.
+    /// How many of them may be of one IP address, unless a devices' file says it of that address; 0
+    /// means that none is too many. The port doesn't count, and an IPv4 address inside an IPv6 one is
+    /// that address.
     pub per_address: u32,
     /// How many bytes packets that aren't answered yet may take, those of all connections together.
     /// The first 4 kB of each connection aren't counted. A connection that needs more is closed.
     pub packet_memory: u64,
     /// When a connection is given up.
     pub idle: Idle,
+    /// For how long the reply to a failed login is held back, in milliseconds.
+    pub fail_delay: u32,
     /// How long the segments of its history may be. Nothing is printed of one that begins by
     /// itself.
     pub limits: Limits,

@@ -1,17 +1,21 @@
 //! The socket of a device.
 
-use crate::packet_memory::{PacketMemory, PacketShare};
+ghost use Rattle.std.specs.Prelude.{◌≤◌, length};
+
+use crate::delay::Delay;
+use crate::lead::Lead;
+use crate::packet_memory::PacketShare;
 use crate::patience::{Idle, Patience};
-use std::cell::Cell;
+use crate::visits::Visits;
 use std::io::{self, ErrorKind, Read, Write};
 use std::net::IpAddr;
 use std::time::Clock;
 use tac_wire::Key;
 
 /// The socket of a device, which never waits: a read or a write that would have to wait fails as
-/// WouldBlock. It knows its device's key, and what says when that is given up. It takes packet
-/// memory for the bytes that came since the last reply; a read that finds none fails as
-/// OutOfMemory.
+/// WouldBlock. So does a write of a reply to a failed login until that was held back for long
+/// enough. It knows its device's key, and what says when that is given up. It takes packet memory for
+/// the bytes that came since the last reply; a read that finds none fails as OutOfMemory.
 ///
 /// A read that came short has read all that was there, so the next one of the same visit is
 /// answered WouldBlock at once, without asking the system: of what came since, a wait will tell. At
@@ -23,30 +27,13 @@ pub struct Socket<'a, S, C> {
     key: &'a Key,
     clock: &'a C,
     patience: Patience,
+    delay: Delay,
     share: PacketShare<'a>,
     visits: &'a Visits,
     // at which visit a read came short, if one did since the last read that had nothing
     drained: Option<u64>,
-}
-
-/// How often a worker has turned to one of its connections.
-#[derive(Drop)]
-pub struct Visits {
-    count: Cell<u64>,
-}
-
-impl Visits {
-    /// Never.
-    pub fn new() -> Visits {
-        Visits {
-            count: Cell::new(0),
-        }
-    }
-
-    /// Once more.
-    pub fn next(&self) {
-        self.count.set(self.count.get().wrapping_add(1));
-    }
+    // what was read already, and is read again before anything else
+    begun: Vec<u8>,
 }
 
 // The present time in milliseconds, where the clock can be read.
@@ -58,25 +45,33 @@ pub(crate) fn now<C: Clock>(clock: &C) -> Option<u64> {
 }
 
 impl<'a, S, C: Clock> Socket<'a, S, C> {
-    /// That of a connection that was just accepted, as a stream that never waits: from this
-    /// address, of a device with this key.
+    /// That of a connection whose device has this key. What came on it is read again first. Replies
+    /// to failed logins are held back for so many milliseconds.
     pub fn new(
-        stream: S,
-        address: IpAddr,
+        lead: Lead<'a, S>,
         key: &'a Key,
         clock: &'a C,
-        memory: &'a PacketMemory,
         visits: &'a Visits,
+        fail_delay: u32,
     ) -> Socket<'a, S, C> {
-        Socket {
+        let Lead {
             stream,
             address,
+            patience,
+            share,
+            begun,
+        } = lead;
+        Socket {
+            stream,
+            address: address.ip(),
             key,
             clock,
-            patience: Patience::accepted(now(clock)),
-            share: PacketShare::new(memory),
+            patience,
+            delay: Delay::new(fail_delay),
+            share,
             visits,
             drained: None,
+            begun,
         }
     }
 
@@ -106,15 +101,47 @@ impl<'a, S, C: Clock> Socket<'a, S, C> {
     }
 
     /// Whether its device is given up by now. Its last reply asked for a name or a password, or
-    /// not.
+    /// not. While a reply is held back it isn't.
     pub fn is_over(&self, idle: Idle, asks: bool, now: Option<u64>) -> bool {
-        self.patience.is_over(idle, asks, now)
+        !self.delay.is_held(now) && self.patience.is_over(idle, asks, now)
+    }
+
+    /// Whether a reply is held back.
+    pub fn is_held(&self) -> bool {
+        self.delay.is_held(now(self.clock))
+    }
+
+    /// Until when a reply is held back, in milliseconds by the clock, for which a write is to be
+    /// tried again then. It is told once of each.
+    pub fn take_until(&self) -> Option<u64> {
+        self.delay.take_until(now(self.clock))
+    }
+}
+
+impl<S, C> Socket<'_, S, C> {
+    // Gives what was read already, as far as there is room for it.
+    fn read_again(&mut self, buf: &mut [u8]) -> usize
+        ensures { result ≤ length buf.old }
+    {
+        let n = buf.len().min(self.begun.len());
+        for (place, byte) in buf.iter_mut().zip(self.begun.drain(..n)) {
+            *place = byte;
+        }
+        n
+    }
+
+    // Whether the reply that is to be written is held back now.
+    fn holds(&mut self, now: Option<u64>) -> bool {
+        self.visits.has_failed() && self.delay.holds(now)
     }
 }
 
 impl<S: Read, C> Read for Socket<'_, S, C> {
     fn read(&mut self, buf: &mut [u8]) -> io::Result<usize> {
-        let visit = Some(self.visits.count.get());
+        if !self.begun.is_empty() {
+            return Ok(self.read_again(buf));
+        }
+        let visit = Some(self.visits.number());
         if self.drained == visit {
             self.drained = None;
             return Err(io::Error::from(ErrorKind::WouldBlock));
@@ -131,10 +158,14 @@ impl<S: Read, C> Read for Socket<'_, S, C> {
 impl<S: Write, C: Clock> Write for Socket<'_, S, C> {
     fn write(&mut self, buf: &[u8]) -> io::Result<usize> {
         let time = now(self.clock);
+        if self.holds(time) {
+            return Err(io::Error::from(ErrorKind::WouldBlock));
+        }
         match self.stream.write(buf) {
             Ok(taken) => {
                 if taken == buf.len() {
                     self.patience = self.patience.taken(time);
+                    self.delay.end();
                     self.share.clear();
                 } else {
                     self.patience = self.patience.untaken(time);

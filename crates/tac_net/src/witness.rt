@@ -1,88 +1,133 @@
 //! Who is told of the packets of a device.
 
-ghost use Rattle.std.specs.Prelude.{IfOk};
+ghost use Rattle.std.specs.Prelude.{◌≡◌, IfOk};
 ghost use Rattle.tac_net.specs.Connections.{TellsLog};
 ghost use Rattle.tac_net.specs.Witness as witness;
 
+use crate::visits::Visits;
 use basics::Bytes;
 use std::alloc::{AllocError, Global};
 use std::net::SocketAddr;
 use std::sync::Wait;
 use std::time::Clock;
-use tac_audit::{Notice, Refused, Witness};
+use tac_audit::{Named, Notice, Origin, Refused, Witness};
 use tac_authen::AuthenStatus;
 use tac_conn::{Reply, ReplyBody};
 use tac_journal::{DeviceLog, Log, LogFiles, LogWriter, Moments};
 use tac_status::RequestCounts;
 
+/// What the last reply of a connection does.
+#[derive(Clone, Copy, PartialEq, Eq)]
+enum Last {
+    /// It asks for a name or a password, which a person types.
+    Asks,
+    /// It says that a login failed.
+    Fails,
+    /// Anything else, or there was none.
+    Other,
+}
+
 /// Who is told of the packets of one connection, each before its reply is sent: the auditor's log,
-/// where one is kept. What that takes is counted. It knows whether the last reply asked for
-/// something that a person types.
+/// where one is kept. What that takes is counted. It knows what the last reply does.
 #[derive(Drop)]
 pub(crate) struct DeviceWitness<'a, R, L> {
     log: Option<DeviceLog<'a, R, LogWriter<'a, R, L>>>,
     counts: &'a RequestCounts,
-    asks: bool,
+    visits: &'a Visits,
+    last: Last,
 }
 
-// Whether a reply asks for a name or a password (RFC 8907, section 5.4.2.1).
-fn asks_for_text(reply: &Reply) -> bool {
-    match &reply.body {
-        ReplyBody::Authentication(reply) => {
-            reply.status == AuthenStatus::GETUSER || reply.status == AuthenStatus::GETPASS
-        }
-        _ => false,
+// What a reply does (RFC 8907, section 5.2).
+fn last_of(reply: &Reply) -> Last {
+    let ReplyBody::Authentication(reply) = &reply.body else {
+        return Last::Other;
+    };
+    match reply.status {
+        AuthenStatus::GETUSER | AuthenStatus::GETPASS => Last::Asks,
+        AuthenStatus::FAIL => Last::Fails,
+        _ => Last::Other,
     }
 }
 
-// The same once this was told: it stays as it was where there is no reply.
-fn asks_after(notice: &Notice, asks: bool) -> bool {
-    match notice {
-        Notice::Packet(_, Some(reply)) => asks_for_text(reply),
-        _ => asks,
-    }
-}
-
-// How a device is named in a log: by its address and its port.
-fn device_of(alloc: Global, address: SocketAddr) -> Result<Bytes, AllocError> {
+/// What lines tell a connection comes from: an address and its port, and a name where devices are
+/// listed.
+pub(crate) fn origin_of(
+    alloc: Global,
+    address: SocketAddr,
+    named: Option<Named>,
+) -> Result<Origin, AllocError>
+    ensures { IfOk result (λ origin. origin.named ≡ named) }
+{
     let text = format!(in alloc; "{address}")?;
-    Bytes::from_slice(alloc, text.as_bytes())
+    let device = Bytes::from_slice(alloc, text.as_bytes())?;
+    Ok(Origin { device, named })
+}
+
+/// What a connection is told by: what counts its requests, when lines are told, and what its socket
+/// is told.
+#[derive(Clone, Copy)]
+pub(crate) struct Told<'a> {
+    pub(crate) counts: &'a RequestCounts,
+    pub(crate) moments: &'a Moments,
+    pub(crate) visits: &'a Visits,
 }
 
 impl<'a, R, L: Log> DeviceWitness<'a, R, L>
 where
     R: Wait + Clock + AllocGlobal + Eprint + LogFiles,
 {
-    /// That of a connection on which nothing came, from this address.
+    /// That of a connection on which nothing came, from this address, which lines name so.
     pub(crate) fn new(
         rt: &'a R,
         log: &'a L,
-        counts: &'a RequestCounts,
-        moments: &'a Moments,
+        told: Told<'a>,
         address: SocketAddr,
+        named: Option<Named>,
     ) -> Result<DeviceWitness<'a, R, L>, AllocError>
         ensures { IfOk result (λ made. TellsLog (witness.Takes L.keeping)
-            (witness.Refuses L.keeping) (L.keeping log.now) made) }
+            (witness.Refuses L.keeping) (L.keeping log.now) named made) }
     {
+        let Told {
+            counts,
+            moments,
+            visits,
+        } = told;
         if !log.is_kept() {
             return Ok(DeviceWitness {
                 log: None,
                 counts,
-                asks: false,
+                visits,
+                last: Last::Other,
             });
         }
-        let device = device_of(rt.alloc(), address)?;
-        let log = DeviceLog::new(rt.alloc(), rt, moments, LogWriter::new(rt, log), device);
+        let origin = origin_of(rt.alloc(), address, named)?;
+        let log = DeviceLog::new(rt.alloc(), rt, moments, LogWriter::new(rt, log), origin);
         Ok(DeviceWitness {
             log: Some(log),
             counts,
-            asks: false,
+            visits,
+            last: Last::Other,
         })
     }
 
     /// Whether the last reply asked for a name or a password.
     pub(crate) fn asks(&self) -> bool {
-        self.asks
+        self.last == Last::Asks
+    }
+
+    /// Whether the last reply said that a login failed.
+    pub(crate) fn has_failed(&self) -> bool {
+        self.last == Last::Fails
+    }
+
+    // Something was told: the last reply is as it was where there is no other.
+    fn follow(&mut self, notice: &Notice)
+        ensures { self.new.log ≡ self.old.log }
+    {
+        if let Notice::Packet(_, Some(reply)) = notice {
+            self.last = last_of(reply);
+            self.visits.replied(self.has_failed());
+        }
     }
 }
 
@@ -101,7 +146,7 @@ where
             log.tell(notice)?;
         }
         self.counts.note(notice);
-        self.asks = asks_after(notice, self.asks);
+        self.follow(notice);
         Ok(())
     }
 }

@@ -1,26 +1,33 @@
 //! A worker: a seat that serves many connections in turns.
 
-ghost use Rattle.std.specs.Prelude.{◌≡◌, IfSome, IfNone};
+ghost use Rattle.std.specs.Prelude.{◌≡◌, IfSome};
 ghost use Rattle.std.specs.Net.Socket.{socket_ip};
-ghost use Rattle.tac_net.specs.Callers.{MayCall, IsStranger};
+ghost use Rattle.tac_net.specs.Callers.{MayCall};
 ghost use Rattle.tac_net.specs.Connections.{HasServed};
 
 use crate::acceptor::Acceptor;
+use crate::callers::Caller;
 use crate::departing::{Parting, departure};
 use crate::intake::Arrival;
-use crate::poller::{CALLED, Poller, WOKEN};
+use crate::lead::Lead;
+use crate::poller::{CALLED, Poller, WOKEN, lead_key, lead_of};
 use crate::premises::Premises;
-use crate::socket::{Socket, Visits, now};
-use crate::witness::DeviceWitness;
+use crate::socket::{Socket, now};
+use crate::visits::Visits;
+use crate::witness::{DeviceWitness, Told};
 use mio::event::Event;
 use mio::net::TcpStream;
+use slab::Slab;
+use std::collections::VecDeque;
 use std::marker::Model;
 use std::mem::replace;
 use std::net::{IpAddr, SocketAddr};
 use std::sync::Wait;
 use std::time::{Clock, Duration};
+use tac_audit::Named;
 use tac_desk::Desk;
 use tac_digests::{Done, Job};
+use tac_first::Shown;
 use tac_forum::{Run, Seat};
 use tac_journal::{Log, LogFiles, Moments};
 use tac_loop::{Stop, Switchboard};
@@ -58,10 +65,14 @@ where
     at: usize,
     acceptor: Option<Acceptor>,
     board: Board<'a, R, J, D, L>,
+    // the connections whose first packet is to show which key they have
+    leads: Slab<Lead<'a, TcpStream>>,
     // how many connections it may still add
     left: u32,
     // the keys of those that are to have more steps without being heard
     busy: Vec<usize>,
+    // the keys of those whose reply is held back, and until when, the first first
+    held: VecDeque<(u64, usize)>,
     chunk: Chunk,
     // when it was last looked for devices that are to be given up
     swept: u64,
@@ -102,20 +113,21 @@ fn terms_by<'a, R: AllocGlobal, J: Run, D: Desk, L>(
     }
 }
 
-// By what a connection from this address is served, if a device may call from there.
+// By what a connection from this address is served that shows this of its device's keys, and how
+// lines name it, if a device may call from there.
 fn terms_of<'a, R: AllocGlobal, J: Run, D: Desk, L>(
     premises: &Premises<'a, R, J, D, L>,
     address: SocketAddr,
-) -> Option<Terms<'a, R, OpenGate>>
-    ensures found { IfSome result (λ terms. MayCall premises.now.settings.now.callers
-        (socket_ip address) terms.key.now) }
-    ensures none { IfNone result (IsStranger premises.now.settings.now.callers
-        (socket_ip address)) }
+    shown: Shown,
+) -> Option<(Terms<'a, R, OpenGate>, Option<Named>)>
+    ensures { IfSome result (λ found. MayCall premises.now.settings.now.callers
+        (socket_ip address) found.0.key.now found.1) }
 {
-    let Some(key) = premises.settings.callers.key_of(&address.ip()) else {
+    let Some(found) = premises.settings.callers.find(&address.ip()) else {
         return None;
     };
-    Some(terms_by(premises, key))
+    let Caller { key, named } = found.caller(shown);
+    Some((terms_by(premises, key), named))
 }
 
 // A connection from this address, which this worker had, is gone.
@@ -156,8 +168,10 @@ where
             at,
             acceptor,
             board: Switchboard::new(alloc, DeskCaller::new(premises.rt, premises.desk, seat)),
+            leads: Slab::new(alloc),
             left: premises.settings.connections,
             busy: Vec::new(alloc),
+            held: VecDeque::new(alloc),
             chunk: [0; CHUNK],
             swept: 0,
         }
@@ -204,15 +218,34 @@ where
         }
     }
 
+    // Tries again later to send a reply that is held back, if that is what a connection waits for.
+    // The answer is whether it waits for room to write.
+    fn hold(&mut self, key: usize) -> bool
+        ensures { self.new ≡ self.old }
+    {
+        let Some(line) = self.board.get(key) else {
+            return false;
+        };
+        let socket = line.socket();
+        let (is_held, until) = (socket.is_held(), socket.take_until());
+        let Some(until) = until else {
+            return !is_held;
+        };
+        if let Err(_) = self.held.push_back((until, key)) {
+            self.remove(key, Parting::Memory);
+        }
+        false
+    }
+
     // Serves a connection for some steps, and lets go of it where it is over. The answer is whether
     // it waits for room to write.
     fn go(&mut self, key: usize) -> bool
         ensures { self.new ≡ self.old }
     {
-        self.visits.next();
         let Some(line) = self.board.get(key) else {
             return false;
         };
+        self.visits.next(line.link().witness().has_failed());
         let terms = terms_by(self.premises, line.socket().key());
         let stop = self.board.serve(key, &terms, &mut self.chunk, STEPS);
         match stop {
@@ -224,7 +257,7 @@ where
                 self.hand_out(key);
                 false
             }
-            Stop::Full => true,
+            Stop::Full => self.hold(key),
             Stop::Ended(_) | Stop::Broken => {
                 self.remove(key, Parting::Left(stop));
                 false
@@ -234,82 +267,120 @@ where
     }
 
     // From now on a wait tells when a connection may be read, and also when it may be written where
-    // it waits for that. Where the system refuses it, the connection is over.
-    fn register(&mut self, poller: &Poller, key: usize, is_full: bool)
+    // it waits for that. A lead's was registered under another key. Where the system refuses it, the
+    // connection is over.
+    fn register(&mut self, poller: &Poller, key: usize, was_lead: bool, is_full: bool)
         ensures { self.new ≡ self.old }
     {
         let Some(line) = self.board.get(key) else {
             return;
         };
-        if let Err(_) = poller.register(line.socket().stream(), key, is_full) {
-            self.remove(key, Parting::Unwatched);
-        }
-    }
-
-    // The same of one that was registered, and waits for room to write.
-    fn await_room(&mut self, poller: &Poller, key: usize)
-        ensures { self.new ≡ self.old }
-    {
-        let Some(line) = self.board.get(key) else {
-            return;
+        let stream = line.socket().stream();
+        let registered = if was_lead {
+            poller.register_again(stream, key, is_full)
+        } else {
+            poller.register(stream, key, is_full)
         };
-        if let Err(_) = poller.register_writing(line.socket().stream(), key) {
+        if let Err(_) = registered {
             self.remove(key, Parting::Unwatched);
         }
     }
 
-    // Serves a connection that is registered.
+    // Serves a connection that is registered. Where it then waits for room to write, a wait is to
+    // tell of that too.
     fn serve(&mut self, poller: &Poller, key: usize)
         ensures { self.new ≡ self.old }
     {
         if self.go(key) {
-            self.await_room(poller, key);
+            self.register(poller, key, true, true);
         }
     }
 
-    // Adds a connection, if its device may call, and there may be one more and memory for it.
-    fn admit(&mut self, arrival: Arrival) -> Option<usize>
+    // Adds a connection that shows this of its device's keys, if that may still call, and there may
+    // be one more and memory for it.
+    fn admit(&mut self, lead: Lead<'a, TcpStream>, shown: Shown) -> Result<usize, Departure>
         ensures { self.new ≡ self.old }
     {
-        let left = self.left.checked_sub(1)?;
+        let Some(left) = self.left.checked_sub(1) else {
+            return Err(Departure::Server);
+        };
         let Premises {
             rt,
-            intake,
+            settings,
             log,
             counts,
             ..
         } = *self.premises;
-        let Arrival { stream, address } = arrival;
-        let Some(terms) = terms_of(self.premises, address) else {
-            return None;
+        let Some((terms, named)) = terms_of(self.premises, lead.address, shown) else {
+            return Err(Departure::Unlisted);
         };
-        let Ok(witness) = DeviceWitness::new(rt, log, &counts.requests, self.moments, address)
-        else {
-            return None;
+        let told = Told {
+            counts: &counts.requests,
+            moments: self.moments,
+            visits: self.visits,
         };
-        let memory = intake.packet_memory();
-        let socket = Socket::new(stream, address.ip(), terms.key, rt, memory, self.visits);
+        let Ok(witness) = DeviceWitness::new(rt, log, told, lead.address, named) else {
+            return Err(Departure::Memory);
+        };
+        let socket = Socket::new(lead, terms.key, rt, self.visits, settings.fail_delay);
         let Ok(key) = self.board.add(&terms, witness, socket) else {
-            return None;
+            return Err(Departure::Memory);
         };
         self.left = left;
-        Some(key)
+        Ok(key)
     }
 
-    // Adds a connection that was counted, as those of unknown devices aren't, and serves what has
-    // come already: it may be over by that, and needs no registration then.
+    // Begins to serve a connection, and serves what has come already: it may be over by that, and
+    // needs no registration then.
+    fn begin(&mut self, poller: &Poller, lead: Lead<'a, TcpStream>, shown: Shown, was_lead: bool)
+        ensures { self.new ≡ self.old }
+    {
+        let address = lead.address.ip();
+        match self.admit(lead, shown) {
+            Ok(key) => {
+                let is_full = self.go(key);
+                self.register(poller, key, was_lead, is_full);
+            }
+            Err(why) => leave(self.premises, self.at, address, why),
+        }
+    }
+
+    // Waits for the first packet of a connection, whose socket is registered or not.
+    fn await_packet(&mut self, poller: &Poller, lead: Lead<'a, TcpStream>, is_registered: bool)
+        ensures { self.new ≡ self.old }
+    {
+        let key = self.leads.vacant_key();
+        let registered = if is_registered {
+            poller.register_again(&lead.stream, lead_key(key), false)
+        } else {
+            poller.register(&lead.stream, lead_key(key), false)
+        };
+        let address = lead.address.ip();
+        if let Err(_) = registered {
+            leave(self.premises, self.at, address, Departure::Server);
+        } else if let Err(_) = self.leads.insert(lead) {
+            leave(self.premises, self.at, address, Departure::Memory);
+        }
+    }
+
+    // Adds a connection that was counted, as those of unknown devices aren't.
     fn add(&mut self, poller: &Poller, arrival: Arrival)
         ensures { self.new ≡ self.old }
     {
         // a connection on which replies are held back for a while is served all the same
         let _ = arrival.stream.set_nodelay(true);
-        let address = arrival.address.ip();
-        match self.admit(arrival) {
-            Some(key) => {
-                let is_full = self.go(key);
-                self.register(poller, key, is_full);
-            }
-            None => leave(self.premises, self.at, address, Departure::Memory),
+        let Premises {
+            rt,
+            settings,
+            intake,
+            ..
+        } = *self.premises;
+        let Arrival { stream, address } = arrival;
+        let mut lead = Lead::new(rt.alloc(), stream, address, intake.packet_memory(), now(rt));
+        match lead.look(rt.alloc(), &settings.callers, &mut self.chunk) {
+            Ok(Some(shown)) => self.begin(poller, lead, shown, false),
+            Ok(None) => self.await_packet(poller, lead, false),
+            Err(why) => leave(self.premises, self.at, address.ip(), why),
         }
     }
 
@@ -341,6 +412,22 @@ where
         }
     }
 
+    // Goes on with a connection of which the first packet is awaited.
+    fn follow(&mut self, poller: &Poller, key: usize)
+        ensures { self.new ≡ self.old }
+    {
+        let Premises { rt, settings, .. } = *self.premises;
+        let Some(lead) = self.leads.try_remove(key) else {
+            return;
+        };
+        let mut lead = lead;
+        match lead.look(rt.alloc(), &settings.callers, &mut self.chunk) {
+            Ok(Some(shown)) => self.begin(poller, lead, shown, true),
+            Ok(None) => self.await_packet(poller, lead, true),
+            Err(why) => leave(self.premises, self.at, lead.address.ip(), why),
+        }
+    }
+
     // Does what an event asks for.
     fn answer(&mut self, poller: &Poller, event: &Event)
         ensures { self.new ≡ self.old }
@@ -353,6 +440,8 @@ where
             if let Some(acceptor) = &mut self.acceptor {
                 acceptor.called();
             }
+        } else if let Some(key) = lead_of(token.0) {
+            self.follow(poller, key);
         } else {
             self.serve(poller, token.0);
             if event.is_read_closed() {
@@ -386,21 +475,36 @@ where
         }
     }
 
+    // The next of those whose reply was held back until now.
+    fn released(&mut self, now: Option<u64>) -> Option<usize>
+        ensures { self.new ≡ self.old }
+    {
+        let (until, key) = *self.held.front()?;
+        if now.is_some_and(|now| now < until) {
+            return None;
+        }
+        self.held.pop_front();
+        Some(key)
+    }
+
+    // Sends the replies that were held back until now.
+    fn release(&mut self, poller: &Poller, now: Option<u64>)
+        ensures { self.new ≡ self.old }
+    {
+        'replies: for _ in 0..self.held.len() {
+            let Some(key) = self.released(now) else {
+                return;
+            };
+            self.serve(poller, key);
+        }
+    }
+
     // The next connection of its own, if it accepts for all and one waits.
     fn accepted(&mut self, now: Option<u64>) -> Option<Arrival>
         ensures { self.new ≡ self.old }
     {
-        let Premises {
-            rt,
-            settings,
-            intake,
-            counts,
-            ..
-        } = *self.premises;
         match &mut self.acceptor {
-            Some(acceptor) => {
-                acceptor.next(rt, intake, &settings.callers, &counts.connections, now)
-            }
+            Some(acceptor) => acceptor.next(self.premises, now),
             None => None,
         }
     }
@@ -432,6 +536,37 @@ where
         keys
     }
 
+    // The keys of the connections whose first packet was awaited for too long, or of some of them
+    // where memory is out.
+    fn leads_over(&self, now: Option<u64>) -> Vec<usize> {
+        let idle = self.premises.settings.idle;
+        let mut keys = Vec::new(self.premises.rt.alloc());
+        for (key, lead) in self.leads.iter() {
+            if lead.is_over(idle, now) && keys.push(key).is_err() {
+                return keys;
+            }
+        }
+        keys
+    }
+
+    // Gives up a device whose first packet was awaited for too long.
+    fn give_up(&mut self, key: usize)
+        ensures { self.new ≡ self.old }
+    {
+        if let Some(lead) = self.leads.try_remove(key) {
+            leave(self.premises, self.at, lead.address.ip(), Departure::Idle);
+        }
+    }
+
+    // Gives up all of these.
+    fn sweep_leads(&mut self, now: Option<u64>)
+        ensures { self.new ≡ self.old }
+    {
+        'keys: for key in self.leads_over(now) {
+            self.give_up(key);
+        }
+    }
+
     // Gives up devices, if it is time to look for them.
     fn sweep(&mut self, now: Option<u64>)
         ensures { self.new ≡ self.old }
@@ -444,6 +579,16 @@ where
         'keys: for (key, asks) in self.over(now) {
             self.remove(key, Parting::GivenUp { asks });
         }
+        self.sweep_leads(now);
+    }
+
+    // How long it is until a reply that is held back may be sent, in milliseconds.
+    fn releases_in(&self, now: Option<u64>) -> u64 {
+        match (self.held.front(), now) {
+            (Some((until, _)), Some(now)) => until.saturating_sub(now),
+            (Some(_), None) => 0,
+            (None, _) => SWEEP,
+        }
     }
 
     // For how long it may wait.
@@ -452,10 +597,10 @@ where
             return Duration::ZERO;
         }
         let opens = match &self.acceptor {
-            Some(acceptor) => acceptor.opens_in(now),
-            None => None,
+            Some(acceptor) => acceptor.opens_in(now).unwrap_or(SWEEP),
+            None => SWEEP,
         };
-        Duration::from_millis(opens.unwrap_or(SWEEP).min(SWEEP))
+        Duration::from_millis(opens.min(self.releases_in(now)).min(SWEEP))
     }
 
     // Waits until there is something to do, and does it.
@@ -467,6 +612,7 @@ where
         let now = now(rt);
         self.answer_all(poller);
         self.go_on(poller);
+        self.release(poller, now);
         self.accept(poller, now);
         self.sweep(now);
     }
@@ -480,7 +626,7 @@ where
         }
         self.acceptor = None;
         self.collect(poller);
-        self.board.len() == 0
+        self.board.len() == 0 && self.leads.is_empty()
     }
 
     // Its seat, once it serves no more.
@@ -495,8 +641,10 @@ where
             at: _,
             acceptor: _,
             board,
+            leads: _,
             left: _,
             busy: _,
+            held: _,
             chunk: _,
             swept: _,
         } = self;
