@@ -1,0 +1,16 @@
+//! Files of tac_plus F4.0.4: what one says, by the lines that say it.
+#![tactic(auto)]
+
+mod blocks;
+mod configuration;
+mod fault;
+mod reader;
+mod reading;
+mod subject;
+
+pub use configuration::{
+    Attribute, Command, Configuration, Extra, Host, Method, Password, Purpose, Rule, Service,
+    Setting, Subject, Word,
+};
+pub use fault::{FileFault, Mistake};
+pub use reading::read_configuration;
