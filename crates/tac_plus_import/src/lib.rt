@@ -1,0 +1,16 @@
+//! What of a file of tac_plus F4.0.4 a policy says, and what it can't say.
+#![tactic(auto)]
+
+mod chain;
+mod commands;
+mod hosts;
+mod importing;
+mod remark;
+mod rules;
+mod secrets;
+mod services;
+mod subjects;
+mod text;
+
+pub use importing::{Import, Wanted, import_file};
+pub use remark::{Remark, What};
