@@ -1,0 +1,9 @@
+pub mod FrontFacts
+pub mod VectorFacts
+pub mod SpaceFacts
+pub mod PortFacts
+pub mod WordFacts
+pub mod LineLaws
+pub mod BinaryFacts
+pub mod ProxyLaws
+pub mod WrittenFacts
