@@ -34,7 +34,7 @@ device a|at 1.2.3.4 /8
 fault line 2 1 BadLine
 device a|key
 fault line 2 1 BadLine
-device a|old-key k
+device a|old-key
 fault line 2 1 BadLine
 device a|connections 1 2
 fault line 2 1 BadLine
@@ -117,6 +117,10 @@ fault line 5 6 Repeated
 device a|at 1.0.0.0/8|key k|device b|at 1.0.0.0/008
 fault line 3 6 Repeated
 device a|at ::|at 0:0::0/128
+fault line 4 6 Repeated
+device a|at ::1|old-key k|key k
+fault line 1 8 NoKey
+device a|at ::1|old-key k
 fault line 3 8 NoKey
 device a|key k|device b|device c|at ::1
 fault line 1 9 NoAddress

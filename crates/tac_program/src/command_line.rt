@@ -3,12 +3,15 @@
 use crate::help::{
     ABOUT, ADDRESS_HELP, AFTER_LONG_HELP, ASKED_HELP, AT_ONCE_HELP, CASES_HELP, CHECK_PAGE,
     CONNECTIONS_HELP, CONSOLE_OPTION_HELP, CONSOLE_PAGE, CONSOLE_PATH_HELP, DEVICES_FILE_HELP,
-    DEVICES_HELP, DEVICES_PAGE, DIFF_PAGE, EDITS_HELP, EXIT_CODE_HELP, FILE_HELP, GIVEN_PAGE,
-    GIVEN_USER_HELP, IDLE_HELP, KEEP_EDITS_HELP, KEEP_RECORDS_HELP, KEY_FILE_HELP, KEY_HELP,
-    LINE_HELP, LINT_PAGE, LOG_HELP, LOGIN_IDLE_HELP, LONG_ABOUT, NEW_HELP, NO_CONSOLE_HELP,
-    OLD_HELP, PACKET_MEMORY_HELP, PER_ADDRESS_HELP, PORT_HELP, Page, REPLAY_LOG_HELP, REPLAY_PAGE,
-    ROTATE_AT_HELP, SERVE_PAGE, SERVICE_HELP, SYNC_HELP, TEST_PAGE, TIME_HELP, USER_HELP, WHY_PAGE,
-    WORD_HELP, WORKERS_HELP,
+    DEVICES_HELP, DEVICES_PAGE, DIFF_PAGE, EDITS_HELP, EXIT_CODE_HELP, FAIL_DELAY_HELP, FILE_HELP,
+    GIVEN_PAGE, GIVEN_USER_HELP, IDLE_HELP, KEEP_EDITS_HELP, KEEP_RECORDS_HELP, KEY_FILE_HELP,
+    KEY_HELP, LINE_HELP, LINT_PAGE, LOG_HELP, LOGIN_IDLE_HELP, LONG_ABOUT, NEW_HELP,
+    NO_CONSOLE_HELP, OLD_HELP, PACKET_MEMORY_HELP, PER_ADDRESS_HELP, PORT_HELP, Page,
+    REPLAY_LOG_HELP, REPLAY_PAGE, ROTATE_AT_HELP, SERVE_PAGE, SERVICE_HELP, SYNC_HELP, TEST_PAGE,
+    TIME_HELP, USER_HELP, WHY_PAGE, WORD_HELP, WORKERS_HELP,
+};
+use crate::importing::{
+    DEVICES_TO, DEVICES_TO_HELP, IMPORT, IMPORT_FILE_HELP, IMPORT_PAGE, KEY_TO, KEY_TO_HELP,
 };
 use clap::{Arg, ArgAction, ArgGroup, ArgMatches, Command, value_parser};
 use std::alloc::{AllocError, Global};
@@ -85,6 +88,9 @@ pub(crate) const IDLE: &str = "idle";
 
 /// The same where the last reply asked for a name or a password.
 pub(crate) const LOGIN_IDLE: &str = "login-idle";
+
+/// For how many milliseconds the reply to a failed login is held back.
+pub(crate) const FAIL_DELAY: &str = "fail-delay";
 
 /// The most records that are kept, of a server that forgets the older half of them where one more
 /// comes.
@@ -198,13 +204,22 @@ fn with_limits<'a>(alloc: Global, command: Command<'a>) -> Result<Command<'a>, A
     let each = (0, 1_000_000);
     let megabytes = (1, 65_536);
     let seconds = (0, 86_400);
+    let milliseconds = (0, 3_000);
     command
         .arg(number(alloc, WORKERS, "W", (1, 63), WORKERS_HELP))?
         .arg(number(alloc, CONNECTIONS_AT_ONCE, "N", at_once, AT_ONCE_HELP).default_value("10000"))?
         .arg(number(alloc, PER_ADDRESS, "N", each, PER_ADDRESS_HELP).default_value("64"))?
         .arg(number(alloc, PACKET_MEMORY, "MB", megabytes, PACKET_MEMORY_HELP).default_value("64"))?
         .arg(number(alloc, IDLE, "SECONDS", seconds, IDLE_HELP).default_value("300"))?
-        .arg(number(alloc, LOGIN_IDLE, "SECONDS", seconds, LOGIN_IDLE_HELP).default_value("60"))
+        .arg(number(alloc, LOGIN_IDLE, "SECONDS", seconds, LOGIN_IDLE_HELP).default_value("60"))?
+        .arg(number(
+            alloc,
+            FAIL_DELAY,
+            "MILLISECONDS",
+            milliseconds,
+            FAIL_DELAY_HELP,
+        )
+        .default_value("0"))
 }
 
 // The options of a server, in the order of its help.
@@ -285,6 +300,13 @@ fn devices<'a>(alloc: Global) -> Result<Command<'a>, AllocError> {
         .arg(Arg::new(alloc, ADDRESSES).num_args(0..).help(ASKED_HELP))
 }
 
+fn import<'a>(alloc: Global) -> Result<Command<'a>, AllocError> {
+    with_page(alloc, IMPORT, IMPORT_PAGE)
+        .arg(text(alloc, KEY_TO, "OUT", KEY_TO_HELP))?
+        .arg(text(alloc, DEVICES_TO, "OUT", DEVICES_TO_HELP))?
+        .arg(required(alloc, FILE, IMPORT_FILE_HELP))
+}
+
 fn replay<'a>(alloc: Global) -> Result<Command<'a>, AllocError> {
     with_page(alloc, REPLAY, REPLAY_PAGE)
         .arg(text(alloc, LOG, "PATH", REPLAY_LOG_HELP))?
@@ -312,7 +334,7 @@ pub(crate) fn word_of<'a>(matches: &ArgMatches<'a>, id: &str) -> &'a str {
 }
 
 /// The version of the program.
-pub(crate) const VERSION: &str = "0.15.0";
+pub(crate) const VERSION: &str = "0.17.0";
 
 /// What the program's command line may be.
 pub(crate) fn command<'a>(alloc: Global) -> Result<Command<'a>, AllocError> {
@@ -331,5 +353,6 @@ pub(crate) fn command<'a>(alloc: Global) -> Result<Command<'a>, AllocError> {
     let command = with(command, given(alloc))?;
     let command = with(command, test(alloc))?;
     let command = with(command, devices(alloc))?;
+    let command = with(command, import(alloc))?;
     with(command, replay(alloc))
 }

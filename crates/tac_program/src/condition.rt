@@ -8,6 +8,7 @@ use std::io::{self, Write};
 use std::time::{Clock, Duration};
 use tac_journal::Journal;
 use tac_keep::Tray;
+use tac_net::Callers;
 use tac_operators::{ConsoleHost, Status};
 use tac_status::{Counts, Present, resident_bytes, status_text};
 
@@ -24,6 +25,7 @@ pub(crate) struct Condition<'a, H> {
     journal: &'a Option<Journal<'a>>,
     workers: u32,
     connections_limit: u32,
+    callers: &'a Callers,
     records_limit: u64,
     // when it began
     began: Option<Duration>,
@@ -44,6 +46,7 @@ impl<'a, H: Clock> Condition<'a, H> {
             journal,
             workers: options.settings.workers,
             connections_limit: options.settings.connections_at_once,
+            callers: &options.settings.callers,
             records_limit: options.record_limit.most as u64,
             began: host.monotonic().ok(),
         }
@@ -104,6 +107,7 @@ impl<H: Clock + ConsoleHost> Status for Condition<'_, H> {
             memory: memory(self.host),
             workers: self.workers,
             connections_limit: self.connections_limit,
+            devices: self.callers.count() as u64,
             records_limit: self.records_limit,
             has_log: self.journal.is_some(),
             log_takes_lines,

@@ -20,7 +20,15 @@ const TRIES: u32 = 20;
 const PAUSE: u64 = 250;
 
 /// What an answer begins with whose line wasn't obeyed.
-const REFUSALS: [&[u8]; 5] = [b"refused", b"fault", b"hall", b"unread", b"busy"];
+const REFUSALS: [&[u8]; 7] = [
+    b"refused",
+    b"fault",
+    b"hall",
+    b"unread",
+    b"devices fault",
+    b"devices unread",
+    b"busy",
+];
 
 /// What comes before the answer to an edit that was made and isn't kept.
 const UNKEPT: &[u8] = b"not kept: ";

@@ -16,6 +16,7 @@ use std::io::{Read, Write};
 use std::rt::Files;
 use tac_devices::{Asked, Devices, DevicesFault, ListingEnd, list_devices, read_devices};
 use tac_io::{AnswerFault, InputFault, read_whole, write_answer};
+use tac_net::Directory;
 
 // Reads a text, and works out what is told of it and of these addresses.
 fn answer<R: Read>(
@@ -145,8 +146,9 @@ fn open_devices<R: Read, W: Write>(
     write_answer(writer, devices_read(alloc, reader))
 }
 
-/// The devices of the file at a path. The error is the status to end with, and the reason was said.
-pub(crate) fn devices_of_file<R>(rt: &R, path: &str) -> Result<Devices, Status>
+// The devices of the file at a path. The error here and below is the status to end with, and the
+// reason was said.
+fn devices_of_file<R>(rt: &R, path: &str) -> Result<Devices, Status>
 where
     R: Files + Print + Eprint + AllocGlobal,
 {
@@ -157,6 +159,21 @@ where
         Err(fault) => {
             complain_of_devices(rt, path, fault);
             Err(Status::of_answer(fault))
+        }
+    }
+}
+
+/// The directory of these devices, which may be read again.
+pub(crate) fn directory_of_file<R>(rt: &R, path: &str) -> Result<Directory, Status>
+where
+    R: Files + Print + Eprint + AllocGlobal,
+{
+    let devices = devices_of_file(rt, path)?;
+    match Directory::new(rt.alloc(), devices) {
+        Ok(directory) => Ok(directory),
+        Err(_) => {
+            complain_of_devices(rt, path, AnswerFault::Memory);
+            Err(Status::OutOfMemory)
         }
     }
 }

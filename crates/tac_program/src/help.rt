@@ -122,6 +122,7 @@ Lines of the console, where a SUBJECT is 'user NAME' or 'group NAME':
   begin, commit, abandon
                        edits after 'begin', up to 64, are kept, and made by 'commit' all or none
   reload               the policy's file is read again, and takes the place of the policy
+  reload devices       the file of --devices is read again, and counts from the next connection on
   quit                 the server stops, as it does where the input ends
 
 An edit, a 'commit' and a 'reload' are answered by 'ok', and then by what they change for users: the
@@ -129,6 +130,9 @@ shortest line that is now permitted, the shortest that is now denied, and what i
 for services, as 'tacd diff --help' has it. Or they are answered by 'refused' and why, and have
 changed nothing. A file that is refused is told as by 'tacd check', and one that can't be read by
 'unread' and why.
+A 'reload devices' is answered by 'devices ok' and how many; a file that is refused as by 'tacd
+devices', and one that can't be read by 'devices unread' and why. Then those before are served on.
+Without --devices it is 'no devices'.
 A line that the server doesn't take is answered by 'hall' and why.
 
 With --keep-edits PATH, an edit is on the disk before it is answered: PATH has the policy with all
@@ -190,6 +194,9 @@ pub(crate) const IDLE_HELP: &str =
 pub(crate) const LOGIN_IDLE_HELP: &str =
     "In place of --idle where the last reply asked for a name or a password, 0 to 86400; 0 is never";
 
+pub(crate) const FAIL_DELAY_HELP: &str =
+    "For how many milliseconds the reply to a failed login is held back, 0 to 3000";
+
 pub(crate) const KEEP_RECORDS_HELP: &str =
     "Keep the latest records, at most N, 1000 to 10000000; else the first 1000000 are kept";
 
@@ -200,7 +207,7 @@ pub(crate) const AT_ONCE_HELP: &str =
     "How many connections there may be at once, 1 to 1000000; one more is closed";
 
 pub(crate) const PER_ADDRESS_HELP: &str =
-    "How many of them may be of one IP address, 0 to 1000000; 0 is any number";
+    "How many of them may be of one IP address, 0 to 1000000, unless --devices says it; 0 is any number";
 
 pub(crate) const PACKET_MEMORY_HELP: &str =
     "The memory for packets that aren't answered yet, 1 to 65536 MB";
@@ -255,7 +262,8 @@ Examples:
 
 Exit status:
   0  each line was answered, and none was refused
-  1  an answer began with 'refused', 'fault', 'hall', 'unread' or 'busy'
+  1  an answer began with 'refused', 'fault', 'hall', 'unread', 'devices fault', 'devices unread' or
+     'busy'
   2  the command line is wrong
   3  memory ran out
   4  no server is at PATH, all of its places are taken, it ended the session, or reading or writing

@@ -10,6 +10,7 @@ mod console_client;
 mod descriptors;
 mod devices;
 mod help;
+mod importing;
 mod keeping;
 mod opening;
 mod operators;

@@ -7,11 +7,11 @@ ghost use Rattle.std.specs.Prelude.{◌≡◌};
 ghost use Rattle.tac_program.specs.Opening as opening;
 
 use crate::command_line::{
-    ADDRESS, CONNECTIONS, CONNECTIONS_AT_ONCE, CONSOLE, DEVICES_FILE, FILE, IDLE, KEEP_EDITS,
-    KEEP_RECORDS, KEY, KEY_FILE, LOG, LOGIN_IDLE, MAX_CALLS, NO_CONSOLE, PACKET_MEMORY,
+    ADDRESS, CONNECTIONS, CONNECTIONS_AT_ONCE, CONSOLE, DEVICES_FILE, FAIL_DELAY, FILE, IDLE,
+    KEEP_EDITS, KEEP_RECORDS, KEY, KEY_FILE, LOG, LOGIN_IDLE, MAX_CALLS, NO_CONSOLE, PACKET_MEMORY,
     PER_ADDRESS, PORT, ROTATE_AT, SYNC, WORKERS, word_of,
 };
-use crate::devices::devices_of_file;
+use crate::devices::directory_of_file;
 use crate::opening::open_secret;
 use crate::status::Status;
 use basics::split_once;
@@ -49,6 +49,8 @@ pub(crate) struct Options<'a> {
     pub(crate) address: SocketAddr,
     /// The policy's file.
     pub(crate) path: &'a str,
+    /// The devices' file, if there is one.
+    pub(crate) devices: Option<&'a str>,
     /// How many records are kept, and what is done with one more.
     pub(crate) record_limit: RecordLimit,
     /// The file that takes the lines of an auditor, if there is one.
@@ -150,10 +152,7 @@ where
     R: Files + Print + Eprint + AllocGlobal,
 {
     match matches.get_str(DEVICES_FILE) {
-        Some(path) => {
-            let devices = devices_of_file(rt, path)?;
-            Ok(Callers::Listed(devices))
-        }
+        Some(path) => Ok(Callers::Listed(directory_of_file(rt, path)?)),
         None => {
             let key = key_of(rt, matches)?;
             Ok(Callers::Any(key))
@@ -216,6 +215,7 @@ fn settings_of(matches: &ArgMatches<'_>, callers: Callers, processors: usize) ->
             idle: matches.get_one::<u32>(IDLE)?,
             login: matches.get_one::<u32>(LOGIN_IDLE)?,
         },
+        fail_delay: matches.get_one::<u32>(FAIL_DELAY)?,
         limits: Limits {
             calls: MAX_CALLS as usize,
             rotate_at: matches.get_one::<u32>(ROTATE_AT)? as usize,
@@ -253,6 +253,7 @@ impl<'a> Options<'a> {
                 address: SocketAddr::from((address, settings.port)),
                 settings,
                 path: word_of(matches, FILE),
+                devices: matches.get_str(DEVICES_FILE),
                 record_limit: record_limit_of(matches.get_one::<u32>(KEEP_RECORDS)),
                 log: matches.get_str(LOG),
                 syncs: matches.get_flag(SYNC),

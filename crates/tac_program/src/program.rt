@@ -9,6 +9,7 @@ use crate::command_line::{
 use crate::complaint::{complain, name_lint};
 use crate::console_client::type_at_console;
 use crate::devices::devices;
+use crate::importing::{IMPORT, import};
 use crate::opening::open_file;
 use crate::options::Options;
 use crate::replaying::replay_script;
@@ -128,6 +129,9 @@ where
     }
     if let Some(options) = matches.subcommand_matches(TEST) {
         return Some(test(rt, options));
+    }
+    if let Some(options) = matches.subcommand_matches(IMPORT) {
+        return Some(import(rt, options));
     }
     let options = matches.subcommand_matches(DEVICES)?;
     Some(devices(rt, options))

@@ -11,7 +11,7 @@ use std::alloc::Global;
 use std::collections::BTreeMap;
 use std::fs::File;
 use std::io;
-use tac_audit::{Event, Logins, Notice, Refused, Witness, push_event};
+use tac_audit::{Event, Logins, Notice, Origin, Refused, Witness, push_event};
 use tac_journal::LogFiles;
 use tac_server::{Noticed, replay, replay_told};
 
@@ -37,6 +37,15 @@ fn time_of(alloc: Global, time: Option<&str>) -> Result<Option<Bytes>, Refused> 
     }
 }
 
+// Where the lines of a connection come from, by its number.
+fn origin_of(alloc: Global, number: u32) -> Result<Origin, Refused> {
+    let device = format!(in alloc; "connection {number}")?;
+    Ok(Origin {
+        device: Bytes::from_slice(alloc, device.as_bytes())?,
+        named: None,
+    })
+}
+
 impl<'a> ScriptLog<'a> {
     fn new(alloc: Global, time: Option<&'a str>) -> ScriptLog<'a> {
         ScriptLog {
@@ -56,10 +65,9 @@ impl<'a> ScriptLog<'a> {
         let Some(noted) = logins.note(self.alloc, notice)? else {
             return Ok(());
         };
-        let device = format!(in self.alloc; "connection {number}")?;
         let event = Event {
             time: time_of(self.alloc, self.time)?,
-            device: Bytes::from_slice(self.alloc, device.as_bytes())?,
+            origin: origin_of(self.alloc, number)?,
             session: noted.session,
             told: noted.told,
         };

@@ -13,8 +13,9 @@ use crate::keeping::{first_file, tell_of_edits};
 use crate::opening::{open_desk, open_secret};
 use crate::operators::serve_operators;
 use crate::options::Options;
-use crate::source::{ConsoleSide, PolicyFile};
+use crate::source::{ConsoleSide, DevicesFile, SecretFile};
 use crate::status::Status;
+use std::cell::RefCell;
 use std::io;
 use std::io::{Read, Write};
 use std::net::{Net, SocketAddr, TcpListener, TcpStream};
@@ -118,6 +119,23 @@ pub(crate) fn watched<'a, H: Eprint, D: Desk>(
     FillingDesk::new(host, desk, options.record_limit)
 }
 
+// The devices' file that may be read again, if there is one.
+fn devices_file<'a, R: Files + Eprint, H>(
+    rt: &'a R,
+    host: &'a H,
+    options: &'a Options<'_>,
+) -> Option<DevicesFile<'a, R, H>> {
+    match (options.devices, options.settings.callers.directory()) {
+        (Some(path), Some(directory)) => Some(DevicesFile {
+            file: SecretFile::of_devices(rt, path),
+            locks: host,
+            directory,
+            taken: RefCell::new(None),
+        }),
+        _ => None,
+    }
+}
+
 /// Serves a desk with a console on this input and output, at which these type, until that ends.
 pub(crate) fn serve_desk<R, H, D: Desk + Send, I: Read + Drop, O: Write + Drop, T: Typists + Drop>(
     rt: &R,
@@ -133,11 +151,11 @@ where
     H: Threads + Wait + Clock + Sync + AllocGlobal + Eprint + LogFiles + Net,
 {
     let (mut input, mut output, typists) = console;
-    let file = PolicyFile {
-        host: rt,
-        path: options.path,
+    let source = ConsoleSide {
+        policy: SecretFile::of_policy(rt, options.path),
+        devices: devices_file(rt, host, options),
+        typists,
     };
-    let source = ConsoleSide { file, typists };
     let files = ServerFiles {
         log: journal,
         source: &source,

@@ -9,3 +9,4 @@ mod files;
 mod host;
 mod notices;
 mod secrets;
+mod turned_away;

@@ -1,6 +1,6 @@
-//! Another policy in the place of the one that is served.
+//! Another policy in the place of the one that is served, and other devices.
 
-use crate::console::shelf::Given::{self, Nothing, Text, Why};
+use crate::console::shelf::Given::{self, NoFile, Nothing, Text, Why};
 use crate::console::support::{reloads, reloads_in_two};
 use crate::hall::support::OPS;
 use std::test::Fail;
@@ -176,6 +176,133 @@ fn at_a_full_log(rt: HostRuntime) -> Result<(), Fail> {
         > reload
         hall 1 LogFull
         hall 1 LogFull
+        ",
+    )
+}
+
+const CAMPUS: Given = Text(
+    "device core-1
+at 192.0.2.1
+at 2001:db8::1
+key wintry-tundra-ridge-41
+device access
+at 192.0.2.128/25
+key short
+",
+);
+
+const BAD_PREFIX: Given = Text("device one\nkey fjord\n\nat 192.0.2.1/24\n");
+
+// Each is told as its source says, and none is a call.
+#[test]
+fn other_devices(rt: HostRuntime) -> Result<(), Fail> {
+    reloads(
+        &rt,
+        &[
+            CAMPUS,
+            BAD_PREFIX,
+            Text("device one\nat ::1\n"),
+            Why("devices: No such file or directory (os error 2)"),
+            Nothing,
+            NoFile,
+            Text(""),
+        ],
+        "
+        > reload devices
+        devices ok: 2 devices, 3 prefixes
+        > reload devices
+        devices fault line 4 4 BadPrefix
+        > reload devices
+        devices fault line 1 8 NoKey
+        > reload devices
+        devices unread devices: No such file or directory (os error 2)
+        > reload devices
+        refused 12 Memory
+        > reload devices
+        no devices
+        > reload devices
+        devices ok: 0 devices, 0 prefixes
+        > policy
+        policy 2
+        group ops
+        permit show .*
+        user bob in ops
+        > rotate
+        rotated 0 entries 1
+        ",
+    )
+}
+
+#[test]
+fn other_devices_in_an_open_batch(rt: HostRuntime) -> Result<(), Fail> {
+    reloads(
+        &rt,
+        &[CAMPUS, BAD_PREFIX, Nothing, NoFile],
+        "
+        > begin
+        ok
+        > insert group ops 1 deny show .*
+        kept 1
+        > reload devices
+        devices ok: 2 devices, 3 prefixes
+        > reload devices
+        devices fault line 4 4 BadPrefix
+        > reload devices
+        refused 12 Memory
+        > reload devices
+        no devices
+        > insert group ops 1 permit ping
+        kept 2
+        > commit
+        ok
+        user bob now permits: ping
+        user bob now denies: show 
+        > rotate
+        rotated 0 entries 1
+        ",
+    )
+}
+
+// It is no call, so a log that is full takes it all the same.
+#[test]
+fn other_devices_at_a_full_log(rt: HostRuntime) -> Result<(), Fail> {
+    reloads_in_two(
+        &rt,
+        &[CAMPUS],
+        "
+        > shadow
+        none
+        > shadow
+        none
+        > shadow
+        hall 1 LogFull
+        > reload devices
+        devices ok: 2 devices, 3 prefixes
+        hall 1 LogFull
+        ",
+    )
+}
+
+#[test]
+fn devices_exactly_so(rt: HostRuntime) -> Result<(), Fail> {
+    reloads(
+        &rt,
+        &[CAMPUS],
+        "
+        > Reload devices
+        refused 1 BadEdit
+        > reload  devices
+        refused 1 BadEdit
+        > reload devices 
+        refused 1 BadEdit
+        > reload devices campus.devices
+        refused 1 BadEdit
+        > devices
+        refused 1 BadEdit
+        > reload devices
+        devices ok: 2 devices, 3 prefixes
+        > rotate
+        rotated 0 entries 0
         ",
     )
 }

@@ -1,10 +1,11 @@
-//! A source of policies that has what a test says.
+//! A source of policies and devices that has what a test says.
 
 use basics::Bytes;
 use std::alloc::{AllocError, Global};
 use std::cell::Cell;
 use tac_audit::Typist;
-use tac_hall_console::{Source, Unread};
+use tac_devices::renew_devices;
+use tac_hall_console::{Source, Unread, no_devices, unread_devices};
 use tac_journal::Typists;
 
 /// What a source gives.
@@ -16,6 +17,8 @@ pub(crate) enum Given {
     Why(&'static str),
     /// No text for want of memory.
     Nothing,
+    /// No devices' file.
+    NoFile,
 }
 
 /// Gives these, one each time that it is asked, and nothing after the last.
@@ -62,7 +65,22 @@ impl Source for Shelf {
                 Ok(why) => Err(Unread::Why(why)),
                 Err(_) => Err(Unread::Memory),
             },
-            Given::Nothing => Err(Unread::Memory),
+            Given::Nothing | Given::NoFile => Err(Unread::Memory),
+        }
+    }
+
+    fn reload_devices(&self, alloc: Global) -> Result<Bytes, AllocError> {
+        match self.next() {
+            Given::Text(text) => {
+                let (line, _) = renew_devices(alloc, text.as_bytes())?;
+                Ok(Bytes::from(line))
+            }
+            Given::Why(why) => {
+                let why = Bytes::from_slice(alloc, why.as_bytes())?;
+                unread_devices(alloc, why.as_slice())
+            }
+            Given::Nothing => Err(AllocError),
+            Given::NoFile => no_devices(alloc),
         }
     }
 }

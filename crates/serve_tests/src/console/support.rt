@@ -25,7 +25,7 @@ pub(crate) const WHOLE: Manner = Manner {
 };
 
 /// The limits of a shared desk, whether another seat has stopped it before its console begins, and
-/// what each `reload` finds.
+/// what each `reload` and each `reload devices` finds.
 #[derive(Clone, Copy)]
 pub(crate) struct Course {
     pub(crate) limits: Limits,
@@ -271,8 +271,8 @@ pub(crate) fn fills<R: Wait + AllocGlobal>(rt: &R, limits: Limits, talk: &str) -
     talks(rt, limits, &[], talk, HallFault::LogFull)
 }
 
-/// A conversation in which each `reload` finds one of these, in their order, at a shared desk whose
-/// log is never full.
+/// A conversation in which each `reload` and each `reload devices` finds one of these, in their
+/// order, at a shared desk whose log is never full.
 pub(crate) fn reloads<R: Wait + AllocGlobal>(
     rt: &R,
     given: &'static [Given],

@@ -311,3 +311,23 @@ refused 12 Memory
 ";
     tells(&rt, WELL, "reload\nreload\nreload\n", (wanted, Ok(())))
 }
+
+// So it is of other devices.
+#[test]
+fn other_devices(rt: HostRuntime) -> Result<(), Fail> {
+    let wanted = "> reload devices [devices fault line 1 1 BadLine
+]
+devices fault line 1 1 BadLine
+> reload devices [devices unread ops.policy: it is a folder
+]
+devices unread ops.policy: it is a folder
+> reload devices [refused 12 Memory
+]
+refused 12 Memory
+> shadow [none
+]
+none
+";
+    let text = "reload devices\nreload devices\nreload devices\nshadow\n";
+    tells(&rt, WELL, text, (wanted, Ok(())))
+}

@@ -13,10 +13,11 @@ fn present() -> Present {
         memory: 5,
         workers: 6,
         connections_limit: 7,
-        records_limit: 8,
+        devices: 8,
+        records_limit: 9,
         has_log: true,
         log_takes_lines: false,
-        operators: 9,
+        operators: 10,
     }
 }
 
@@ -45,6 +46,7 @@ tacd_connections_accepted_total 0
 # HELP tacd_connections_ended_total Connections that were served and have ended.
 # TYPE tacd_connections_ended_total counter
 tacd_connections_ended_total{why=\"finished\"} 0
+tacd_connections_ended_total{why=\"unlisted\"} 0
 tacd_connections_ended_total{why=\"protocol\"} 0
 tacd_connections_ended_total{why=\"idle\"} 0
 tacd_connections_ended_total{why=\"login_idle\"} 0
@@ -63,6 +65,9 @@ tacd_connections_refused_total{why=\"at_once\"} 0
 tacd_connections_refused_total{why=\"per_address\"} 0
 tacd_connections_refused_total{why=\"served\"} 0
 tacd_connections_refused_total{why=\"memory\"} 0
+# HELP tacd_devices Devices that are listed; 0 where one key is for all.
+# TYPE tacd_devices gauge
+tacd_devices 8
 # HELP tacd_requests_total Requests that were answered.
 # TYPE tacd_requests_total counter
 tacd_requests_total{type=\"login\",status=\"PASS\"} 0
@@ -83,7 +88,7 @@ tacd_requests_refused_total{why=\"unanswered\"} 0
 tacd_records 0
 # HELP tacd_records_limit How many may be kept.
 # TYPE tacd_records_limit gauge
-tacd_records_limit 8
+tacd_records_limit 9
 # HELP tacd_subjects Users and groups of the policy.
 # TYPE tacd_subjects gauge
 tacd_subjects 0
@@ -104,7 +109,7 @@ tacd_log 1
 tacd_log_takes_lines 0
 # HELP tacd_operators Operators at the console.
 # TYPE tacd_operators gauge
-tacd_operators 9
+tacd_operators 10
 ";
 
 #[test]

@@ -94,8 +94,8 @@ where
     let second = UnixStream::connect(rt, path)?;
     hears(
         &second,
-        "drop group ops 1\nwho\noperator ben\nwho\n",
-        "ready\n\nbusy anna\n\nnobody\n\nok\n\nben\n\n",
+        "drop group ops 1\nreload devices\nwho\noperator ben\nwho\n",
+        "ready\n\nbusy anna\n\nreload devices\n\nnobody\n\nok\n\nben\n\n",
     )?;
     has_ended(&first)?;
     hears(&second, "drop group ops 1\ndrop", "drop group ops 1\n\n")?;

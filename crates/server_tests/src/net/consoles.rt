@@ -4,6 +4,7 @@ use crate::net::clients::{
     asks, asks_often, desk_of, is_answered, is_closed, is_overtaken, key, permission,
     sends_too_much, visits, waits_at_its_name,
 };
+use basics::Bytes;
 use std::alloc::{AllocError, Global};
 use std::io::{self, ErrorKind, Read, Write};
 use std::net::{Ipv4Addr, Net, SocketAddr, TcpListener, TcpStream};
@@ -15,12 +16,12 @@ use std::time::{Clock, Duration, Instant};
 use tac_audit::Typist;
 use tac_desks::PlainDesk;
 use tac_forum::Limits;
-use tac_hall_console::{Source, Unread};
+use tac_hall_console::{Source, Unread, no_devices};
 use tac_journal::{Log, LogFiles, Refused, Typists};
 use tac_net::{Callers, Idle, Port, ServeFault, ServerFiles, Settings, serve};
 use tac_status::Counts;
 
-/// A source without a text, whose lines anyone types.
+/// A source without a text and without devices, whose lines anyone types.
 pub(crate) struct Nothing;
 
 impl Typists for Nothing {
@@ -37,6 +38,10 @@ impl Typists for Nothing {
 impl Source for Nothing {
     fn text(&self, _alloc: Global) -> Result<Vec<u8>, Unread> {
         Err(Unread::Memory)
+    }
+
+    fn reload_devices(&self, alloc: Global) -> Result<Bytes, AllocError> {
+        no_devices(alloc)
     }
 }
 
@@ -315,6 +320,7 @@ where
         per_address: course.per_address,
         packet_memory: course.packet_memory,
         idle: course.idle,
+        fail_delay: 0,
         limits: course.limits,
     };
     let desk = desk_of(rt.alloc())?;

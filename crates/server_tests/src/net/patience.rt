@@ -4,9 +4,9 @@
 use std::alloc::Global;
 use std::cell::{Cell, RefCell};
 use std::io::{self, ErrorKind, Read, Write};
-use std::net::{IpAddr, Ipv4Addr};
+use std::net::{Ipv4Addr, SocketAddr};
 use std::time::{Clock, Duration};
-use tac_net::{Idle, PacketMemory, Pause, Socket, Visits, accepted};
+use tac_net::{Idle, Lead, PacketMemory, Pause, Socket, Visits, accepted};
 use tac_wire::Key;
 use tac_worker::End;
 
@@ -114,9 +114,20 @@ fn number_of(digits: &[u8]) -> u64 {
     number
 }
 
+// Whether the connection is told now that a reply is held back, and until when.
+fn is_told_of(socket: &Line<'_>) -> u8 {
+    if socket.take_until().is_some() {
+        b'y'
+    } else {
+        b'-'
+    }
+}
+
 // Does a step: at a millisecond what a letter says, which has to go as the next letter says. At `?`
 // it is asked whether the device is given up, and at `p` the same after a reply that asked for a
-// name; `v` is another visit. Four bytes are read at once, and a reply has two.
+// name; `v` is another visit. At `F` there is another reply, to a failed login, and at `P` any other;
+// at `h` it is asked whether one is held back of which nothing was told. Four bytes are read at once,
+// and a reply has two.
 fn is_so(
     clock: &Set,
     idle: Idle,
@@ -135,13 +146,21 @@ fn is_so(
         b'p' => is_over(socket, clock, idle, true),
         b's' | b'b' | b'f' => told(socket.read(&mut [0; 4])),
         b'v' => {
-            visits.next();
+            visits.next(false);
             b'-'
         }
+        b'F' | b'P' => {
+            visits.replied(*letter == b'F');
+            b'-'
+        }
+        b'h' => is_told_of(socket),
         _ => told(socket.write(b"ok")),
     };
     went == *wanted
 }
+
+/// For how many milliseconds replies to failed logins are held back.
+const FAIL_DELAY: u32 = 1_000;
 
 // Whether all steps go as they are to go, from a connection that is accepted at 0.
 fn is_borne(alloc: Global, idle: Idle, steps: &str) -> bool {
@@ -151,11 +170,12 @@ fn is_borne(alloc: Global, idle: Idle, steps: &str) -> bool {
     let device = Device {
         letter: Cell::new(b's'),
     };
-    let address = IpAddr::V4(Ipv4Addr::LOCALHOST);
+    let address = SocketAddr::from((Ipv4Addr::LOCALHOST, 1));
     let Some(key) = Key::read(b"k") else {
         return false;
     };
-    let mut socket = Socket::new(&device, address, &key, &clock, &memory, &visits);
+    let lead = Lead::new(alloc, &device, address, &memory, Some(0));
+    let mut socket = Socket::new(lead, &key, &clock, &visits, FAIL_DELAY);
     for step in steps.split(' ') {
         if !is_so(&clock, idle, &visits, &device, &mut socket, step) {
             return false;
@@ -165,7 +185,7 @@ fn is_borne(alloc: Global, idle: Idle, steps: &str) -> bool {
 }
 
 /// After so many seconds a device is given up, at a prompt after so many, and what it does.
-const DEVICES: [(u32, u32, &str); 11] = [
+const DEVICES: [(u32, u32, &str); 13] = [
     // before its first reply ten seconds, or fewer
     (300, 60, "9000s. 9999?- 10000?x"),
     (3, 60, "2999?- 3000?x"),
@@ -186,6 +206,15 @@ const DEVICES: [(u32, u32, &str); 11] = [
         60,
         "0b1 0b. 0b1 0v- 0b1 0b. 1f4 1b1 1v- 2n. 3b1 3b. 4o1 4b1",
     ),
+    // a reply to a failed login from its first write on, of which the worker is told once
+    (
+        300,
+        60,
+        "0P- 0t2 5F- 5h- 5t. 5hy 5h- 1004t. 1004h- 1005h- 1005o1 1005t2 1006P- 1006t2 1007F- 1008n. \
+         1008hy 2008n. 2008t2",
+    ),
+    // whose device isn't given up meanwhile
+    (1, 60, "500F- 500t. 1200?- 1499t. 1500t2 2499?- 2500?x"),
     // never
     (
         0,

@@ -6,7 +6,7 @@ use basics::Bytes;
 use std::alloc::Global;
 use std::process::Abort;
 use std::test::Fail;
-use tac_first::{Keys, Shown, choose};
+use tac_first::{Keys, Shown, choose, shown_by};
 use tac_wire::{Frame, HEADER_SIZE, Header, Key};
 
 fn key(text: &str) -> Result<Key, Fail> {
@@ -232,4 +232,53 @@ fn keys_that_are_meant(rt: HostRuntime) -> Result<(), Fail> {
         &one,
         "tundra c0010100.00000001.0000000d.01010101.05000000.'alice' = Present",
     )
+}
+
+// `KEY BYTES = Some(Shown)`: what these bytes show that begin with a packet, or with a part of one.
+fn are_shown<R: Abort + AllocGlobal>(rt: &R, keys: &Keys, line: &str) -> Result<(), Fail> {
+    let (given, wanted) = line.split_once(" = ").ok_or("nothing is wanted")?;
+    let (by, packet) = given.split_once(' ').ok_or("no bytes")?;
+    let bytes = sent(rt.alloc(), by, packet)?;
+    let shown = shown_by(rt.alloc(), keys, bytes.as_slice())?;
+    let told = format!(in rt.alloc(); "{shown:?}")?;
+    assert_eq!(rt; told.as_str(), wanted, "by {by} {packet}");
+    Ok(())
+}
+
+fn pieces_shown<R: Abort + AllocGlobal>(rt: &R, keys: &Keys, lines: &str) -> Result<(), Fail> {
+    for line in lines.lines() {
+        are_shown(rt, keys, line.trim_start())?;
+    }
+    Ok(())
+}
+
+#[test]
+fn bytes_so_far(rt: HostRuntime) -> Result<(), Fail> {
+    pieces_shown(
+        &rt,
+        &keys()?,
+        "tundra c0010100.00000001.000000 = None
+        tundra c0010100.00000001.0000000d = None
+        tundra c0010100.00000001.0000000d.01010101.05000000.'alic' = None
+        tundra c0010100.00000001.0000000d.01010101.05000000.'alice' = Some(Old)
+        tundra c0010100.00000001.0000000d.01010101.05000000.'alice, and more' = Some(Old)
+        fjord c0010100.00000001.0000000d.01010101.05000000.'alic' = None
+        fjord c0010100.00000001.0000000d.01010101.05000000.'alice' = Some(Present)
+        clear c0010101.00000001.000000 = None
+        clear c0010101.00000001.0000000d = Some(Present)
+        clear b0010100.00000001.0000000d = Some(Present)
+        clear c1010100.00000001.0000000d = None
+        clear c2010100.00000001.0000000d = Some(Present)
+        clear c0010100.00000001.00020003 = None
+        clear c0010100.00000001.00020004 = Some(Present)",
+    )
+}
+
+#[test]
+fn no_bytes_without_an_old_key(rt: HostRuntime) -> Result<(), Fail> {
+    let keys = Keys {
+        present: key("fjord")?,
+        old: None,
+    };
+    pieces_shown(&rt, &keys, "clear c0 = Some(Present)")
 }

@@ -17,7 +17,7 @@ use std::sync::atomic::{AtomicU64, Ordering};
 use std::test::Fail;
 use std::thread::{Threads, join, yield_now};
 use std::time::Clock;
-use tac_audit::{Notice, Witness};
+use tac_audit::{Notice, Origin, Witness};
 use tac_journal::{DeviceLog, Journal, Log, LogFiles, LogWriter, Moments, Refused};
 
 // A log of which a test reads the lines.
@@ -107,9 +107,12 @@ where
     R: Wait + AllocGlobal + LogFiles,
 {
     let alloc = host.alloc();
-    let name = Bytes::from_slice(alloc, b"d")?;
+    let origin = Origin {
+        device: Bytes::from_slice(alloc, b"d")?,
+        named: None,
+    };
     let moments = Moments::new();
-    let mut log = DeviceLog::new(alloc, host, &moments, LogWriter::new(host, log), name);
+    let mut log = DeviceLog::new(alloc, host, &moments, LogWriter::new(host, log), origin);
     exchange(&mut log, notice, answers)?;
     if let Some(pause) = pause {
         host.pass(pause);

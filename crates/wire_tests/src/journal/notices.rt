@@ -6,6 +6,7 @@ ghost use Rattle.tac_journal.specs.Log.{somewhere};
 use crate::journal::host::Host;
 use crate::talk::{Talk, Turned, Wanted};
 use basics::Bytes;
+use pol_names::Name;
 use std::alloc::Global;
 use std::cell::{Cell, RefCell};
 use std::fmt::Write;
@@ -14,7 +15,7 @@ use std::process::Abort;
 use std::sync::Wait;
 use std::test::Fail;
 use std::time::{Clock, Duration};
-use tac_audit::{Notice, Witness};
+use tac_audit::{Named, Notice, Origin, Witness};
 use tac_journal::{DeviceLog, Log, LogFiles, LogWriter, Moments, Refused};
 
 // A log that takes so many appends, and no more.
@@ -51,7 +52,8 @@ fn without_head(line: &str) -> Result<&str, Fail> {
         return Ok("nothing\n");
     }
     match line.strip_prefix(
-        "{\"time\":\"1970-01-01T00:00:00.000Z\",\"device\":\"d\",\"session\":",
+        "{\"time\":\"1970-01-01T00:00:00.000Z\",\"device\":\"d\",\"name\":\"core-1\",\"key\":\"old\",\
+         \"session\":",
     ) {
         Some(rest) => Ok(rest),
         None => Err(Fail::from("no such line")),
@@ -80,8 +82,8 @@ impl Log for Few {
     }
 }
 
-// A clock that can't be read.
-struct Stopped;
+/// A clock that can't be read.
+pub(crate) struct Stopped;
 
 impl Clock for Stopped {
     fn monotonic(&self) -> io::Result<Duration> {
@@ -163,6 +165,18 @@ fn comes_each<W: Witness<Notice>>(
     Ok(())
 }
 
+// A device that came by its old key.
+fn origin(alloc: Global) -> Result<Origin, Fail> {
+    let name = Name::read(b"core-1").ok_or("no name")?;
+    Ok(Origin {
+        device: Bytes::from_slice(alloc, b"d")?,
+        named: Some(Named {
+            name,
+            by_old_key: true,
+        }),
+    })
+}
+
 // The same at a log that takes so many lines, by this clock.
 fn told_by<R, C: Clock>(
     rt: &R,
@@ -178,8 +192,8 @@ where
     let host = Host::at(rt, 0);
     let few = Few::of(alloc, lines);
     let moments = Moments::new();
-    let name = Bytes::from_slice(alloc, b"d")?;
-    let mut log = DeviceLog::new(alloc, clock, &moments, LogWriter::new(&host, &few), name);
+    let writer = LogWriter::new(&host, &few);
+    let mut log = DeviceLog::new(alloc, clock, &moments, writer, origin(alloc)?);
     comes_each(alloc, &mut log, &few, told, packets)
 }
 
@@ -194,8 +208,8 @@ where
     Ok(())
 }
 
-// These one after another.
-fn joined(alloc: Global, texts: &[&str]) -> Result<String, Fail> {
+/// These one after another, each with its line end.
+pub(crate) fn joined(alloc: Global, texts: &[&str]) -> Result<String, Fail> {
     let mut all = String::new(alloc);
     for text in texts {
         write!(all, "{text}\n")?;

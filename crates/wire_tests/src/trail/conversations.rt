@@ -7,7 +7,7 @@ use std::alloc::{AllocError, Global};
 use std::fmt::Write;
 use std::process::Abort;
 use std::test::Fail;
-use tac_audit::{Event, Logins, Noted, Notice, push_event};
+use tac_audit::{Event, Logins, Noted, Notice, Origin, push_event};
 
 // A time and a device that are made up.
 fn made_up(alloc: Global) -> Result<(Bytes, Bytes), AllocError> {
@@ -19,9 +19,13 @@ fn made_up(alloc: Global) -> Result<(Bytes, Bytes), AllocError> {
 // What is told, by these two.
 fn event_of(time: Bytes, device: Bytes, noted: Noted) -> Event {
     let Noted { session, told } = noted;
+    let origin = Origin {
+        device,
+        named: None,
+    };
     Event {
         time: Some(time),
-        device,
+        origin,
         session,
         told,
     }
