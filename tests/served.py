@@ -83,6 +83,7 @@ def cases(name):
         no_memory_for_a_policy,
         without_a_console,
         a_console_at_standard_input,
+        statuses_of_the_console_client,
         too_few_files_may_be_open,
         a_port_that_is_taken,
     ):
@@ -110,10 +111,10 @@ class Server:
     """A server with these options, its console at standard input unless they say otherwise."""
 
     def __init__(self, program, *options, key=("--key-file", "key"), host="127.0.0.1", port=None,
-                 output=subprocess.PIPE, policy=POLICY, before=None):
+                 output=subprocess.PIPE, policy=POLICY, devices=DEVICES.decode(), before=None):
         self.folder = tempfile.TemporaryDirectory(prefix="tacd-served-")
         self.address = (host, port or free_port())
-        files = {"policy": policy.encode(), "key": KEY + b"\n", "devices": DEVICES}
+        files = {"policy": policy.encode(), "key": KEY + b"\n", "devices": devices.encode()}
         for name, text in files.items():
             path = pathlib.Path(self.folder.name, name)
             path.write_bytes(text)
@@ -462,13 +463,13 @@ def strangers_are_closed(program):
             require(key.decode().strip() not in told, f"a key is told: {told}")
 
 
-def typed(program, server, line):
-    """What the console at its socket answers."""
+def typed(program, server, line, status=0):
+    """What the console at its socket answers, by a client that ends so."""
     words = ["tacd", "console", "console", line]
     ran = subprocess.run(
         words, executable=program, cwd=server.folder.name, capture_output=True, timeout=LONGEST_WAIT
     )
-    require((ran.stderr, ran.returncode) == (b"", 0), f"{line} ends with {ran}")
+    require((ran.stderr, ran.returncode) == (b"", status), f"{line} ends with {ran}")
     return ran.stdout.decode()
 
 
@@ -594,6 +595,54 @@ def a_console_at_standard_input(program):
     with open("/dev/full", "wb") as full, Server(program, "--workers", "3", output=full) as server:
         unwritten = "tacd: the output could not be written\n"
         server.ends(lines, "", unwritten, status=4, is_listening=False)
+
+
+# What a console may answer to `reload devices`, and the status of `tacd console` then.
+RELOADED = {
+    "devices ok: 2 devices, 3 prefixes": 0,
+    "no devices": 0,
+    "devices fault line 7 4 BadPrefix": 1,
+    "devices unread devices: No such file or directory (os error 2)": 1,
+    "refused 12 Memory": 1,
+    "not kept: No space left on device (os error 28)\nno devices": 5,
+    "not kept: No space left on device (os error 28)\ndevices fault line 7 4 BadPrefix": 1,
+}
+
+
+def statuses_of_the_console_client(program):
+    """Of each answer to `reload devices`, which a console gives that is a test's own."""
+    with tempfile.TemporaryDirectory(prefix="tacd-served-") as folder:
+        with socket.socket(socket.AF_UNIX) as console:
+            console.bind(f"{folder}/console")
+            console.listen()
+            console.settimeout(LONGEST_WAIT)
+            for answer, status in RELOADED.items():
+                client = subprocess.Popen(
+                    ["tacd", "console", "console", "reload", "devices"],
+                    executable=program,
+                    cwd=folder,
+                    env={"USER": "ben"},
+                    stdout=subprocess.PIPE,
+                    stderr=subprocess.PIPE,
+                )
+                typed_lines = answers_all(console, "ready", "ok", answer)
+                printed, said = client.communicate(timeout=LONGEST_WAIT)
+                require(typed_lines == ["operator ben\n", "reload devices\n"], f"{typed_lines}")
+                came = (printed.decode(), said, client.returncode)
+                require(came == (f"{answer}\n", b"", status), f"{answer} ends with {came}")
+
+
+def answers_all(console, first, *answers):
+    """Says the first text to one operator, and answers each of his lines. The result is these."""
+    lines = []
+    with console.accept()[0] as stream, stream.makefile("rw") as session:
+        stream.settimeout(LONGEST_WAIT)
+        print(first, end="\n\n", file=session, flush=True)
+        for answer in answers:
+            lines.append(session.readline())
+            print(answer, end="\n\n", file=session, flush=True)
+    return lines
+
 
 
 def too_few_files_may_be_open(program):

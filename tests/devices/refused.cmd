@@ -50,6 +50,22 @@ status 1
 
 file devices
 device a
+old-key
+
+$ tacd devices devices
+devices fault line 2 1 BadLine
+status 1
+
+file devices
+device a
+old-keys k
+
+$ tacd devices devices
+devices fault line 2 1 BadLine
+status 1
+
+file devices
+device a
 connections 1 2
 
 $ tacd devices devices
@@ -122,6 +138,13 @@ key k
 
 $ tacd devices devices
 devices fault line 2 3 NoDevice
+status 1
+
+file devices
+|old-key |
+
+$ tacd devices devices
+devices fault line 1 3 NoDevice
 status 1
 
 file devices
@@ -255,6 +278,33 @@ status 1
 
 file devices
 device a
+|old-key |
+
+$ tacd devices devices
+devices fault line 2 5 BadValue
+status 1
+
+file devices
+device a
+old-key kkkkkkkkkkkkkkkkkkkkkkkkkkkkkkkkkkkkkkkkkkkkkkkkkkkkkkkkkkkkkkkkkkkkkkkkkkkkkkkkkkkkkkkkkkkkkkkkkkkkkkkkkkkkkkkkkkkkkkkkkkkkkkkkk
+
+$ tacd devices devices
+devices fault line 2 5 BadValue
+status 1
+
+# It comes before Repeated.
+file devices
+device a
+key k
+old-key l
+|old-key |
+
+$ tacd devices devices
+devices fault line 4 5 BadValue
+status 1
+
+file devices
+device a
 connections 0
 
 $ tacd devices devices
@@ -308,6 +358,35 @@ status 1
 
 file devices
 device a
+old-key k
+old-key l
+
+$ tacd devices devices
+devices fault line 3 6 Repeated
+status 1
+
+# A key isn't the old key of its own device, whichever line comes first.
+file devices
+device a
+key k
+old-key k
+
+$ tacd devices devices
+devices fault line 3 6 Repeated
+status 1
+
+file devices
+device a
+at ::1
+old-key two words
+key two words
+
+$ tacd devices devices
+devices fault line 4 6 Repeated
+status 1
+
+file devices
+device a
 connections 4
 connections 4
 
@@ -354,6 +433,16 @@ at ::1
 
 $ tacd devices devices
 devices fault line 3 8 NoKey
+status 1
+
+# An old key alone is no key.
+file devices
+device a
+at ::1
+old-key k
+
+$ tacd devices devices
+devices fault line 1 8 NoKey
 status 1
 
 file devices

@@ -55,6 +55,45 @@ line 13: the key of line 7
 line 13: a key of 15 characters
 line 16: the key of line 2
 
+# Old keys are no keys that something is remarked on: they may stand twice, be short, and be the
+# keys of others.
+file change.devices
+device a
+at ::1
+key wintry-tundra-ridge-41
+old-key tundra
+device b
+at ::2
+|old-key  two blanks |
+key wide-kelp-forest-0092
+device c
+old-key wide-kelp-forest-0092
+key tundra-of-tundras
+at ::3
+device d
+at ::4
+key two-blanks-are-there
+old-key tundra
+
+$ tacd devices change.devices
+devices ok: 4 devices, 4 prefixes
+
+$ tacd devices change.devices ::1 ::3 ::5
+::1 a ::1/128 line 2
+::3 c ::3/128 line 12
+::5 may not call
+status 5
+
+# 128 characters of either are fine.
+file long.devices
+device a
+at ::1
+key kkkkkkkkkkkkkkkkkkkkkkkkkkkkkkkkkkkkkkkkkkkkkkkkkkkkkkkkkkkkkkkkkkkkkkkkkkkkkkkkkkkkkkkkkkkkkkkkkkkkkkkkkkkkkkkkkkkkkkkkkkkkkkkk
+old-key lkkkkkkkkkkkkkkkkkkkkkkkkkkkkkkkkkkkkkkkkkkkkkkkkkkkkkkkkkkkkkkkkkkkkkkkkkkkkkkkkkkkkkkkkkkkkkkkkkkkkkkkkkkkkkkkkkkkkkkkkkkkkkkk
+
+$ tacd devices long.devices
+devices ok: 1 devices, 1 prefixes
+
 # Nobody may call.
 file none.devices
 |# none yet|

@@ -11,15 +11,15 @@ status 2
 
 $ tacd
 ! error: 'tacd' requires a subcommand but one was not provided
-!   [subcommands: serve, console, check, lint, diff, why, given, test, devices, replay, help]
+!   [subcommands: serve, console, check, lint, diff, why, given, test, devices, import, replay, help]
 !
 ! Usage: tacd <COMMAND>
 !
 ! For more information, try '--help'.
 status 2
 
-$ tacd export
-! error: unrecognized subcommand 'export'
+$ tacd show
+! error: unrecognized subcommand 'show'
 !
 ! Usage: tacd <COMMAND>
 !

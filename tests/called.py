@@ -1,0 +1,376 @@
+"""Servers with a devices' file, and devices that call them: their names, their old keys, how many
+connections they have, the file that is read again; and replies to failed logins, which are held
+back. Each case is a function, as in served.py."""
+
+import contextlib
+import json
+import pathlib
+import resource
+import threading
+import time
+
+from cases import Case, Check, Outcome, Play
+from served import (
+    ASK,
+    BAD_BODY,
+    CLOSING,
+    KEPT,
+    LOGIN,
+    NAME_WANTED,
+    PERMITTED,
+    RECORD,
+    SOON,
+    STORED,
+    Server,
+    answer,
+    connect,
+    is_answered,
+    is_closed,
+    is_permitted,
+    packet,
+    require,
+    typed,
+)
+
+NEW, OLD, THIRD = b"fjord-and-fell-2026-11", b"tundra and taiga", b"wide-kelp-forest-0092"
+ONE = f"device one\nat 127.0.0.1\nkey {NEW.decode()}\n"
+BOTH_KEYS = f"{ONE}old-key {OLD.decode()}\n"
+OTHERS = f"device others\nat 127.0.0.0/30\nkey {THIRD.decode()}\n"
+STRANGER = "127.0.0.9"
+UNKNOWN = f"tacd: {STRANGER}: unknown device, its connection is closed\n"
+POLICY = "group ops\npermit show .*\nuser bob in ops\nlogin blue-lake\n"
+
+# A login by PAP, as bob.
+RIGHT = "c10101{flag}.0000000{id}.00000014.0101020103000009'bobblue-lake'"
+WRONG = "c10101{flag}.0000000{id}.00000013.0101020103000008'bobred-lake'"
+PASSED = "c10102{flag}.0000000{id}.00000006.010000000000"
+FAILED = "c10102{flag}.0000000{id}.0000001b.020000150000'Authentication failed'"
+
+
+def cases(name):
+    """Each case of this file, with the name of the function that plays it."""
+    for play in (
+        devices_are_named,
+        an_old_key_is_taken,
+        a_first_packet_in_pieces,
+        a_first_packet_that_never_comes,
+        so_many_connections_of_an_address,
+        refused_connections_are_logged,
+        a_stranger_beside_a_thousand,
+        devices_are_read_again,
+        a_device_is_taken_out_in_its_first_packet,
+        a_devices_file_that_is_refused,
+        no_devices,
+        failed_logins_are_held_back,
+        failed_logins_are_answered_at_once,
+    ):
+        expected = Outcome(b"", b"", 0)
+        yield Case(f"{name}: {play.__name__}", [Check(Play(play), expected, "its devices called")])
+
+
+def serving(program, devices, *options, **more):
+    """A server of these devices, with a log, and a console at a socket."""
+    more = {"key": ("--devices", "devices"), "policy": POLICY, "devices": devices, **more}
+    return Server(program, "--console", "console", "--log", "log", *options, **more)
+
+
+def ends(program, server, complained=""):
+    """It is told to end. No key is in what it printed, nor in its log."""
+    told = "".join(typed(program, server, line) for line in ("status", "quit"))
+    server.ends(complained=complained)
+    told += pathlib.Path(server.folder.name, "log").read_text("utf-8")
+    for key in (NEW, OLD, THIRD):
+        require(key.decode() not in told, f"a key is told: {told}")
+
+
+def events(server):
+    """The lines of the log that a device made."""
+    lines = pathlib.Path(server.folder.name, "log").read_text("utf-8").splitlines()
+    return [event for event in map(json.loads, lines) if "device" in event]
+
+
+def asks(server, source, key, sent=ASK, wanted=PERMITTED):
+    """Whether a device at this address is answered so under this key, on a connection of its own."""
+    with connect(server, source) as device:
+        return is_answered(device, sent, wanted, key=key, flag=CLOSING)
+
+
+def devices_are_named(program):
+    """Each line has the device's name after its address, and of a connection under its one key no
+    more than that. Without a devices' file a line has neither."""
+    with serving(program, ONE + OTHERS) as server:
+        require(asks(server, "127.0.0.1", NEW), "one isn't answered")
+        require(asks(server, "127.0.0.2", THIRD, RECORD, STORED), "the others aren't answered")
+        with connect(server, "127.0.0.1") as device:
+            refusal = packet(BAD_BODY, NEW)
+            came = answer(device, packet(ASK, THIRD, flag=CLOSING), len(refusal))
+            require(came == refusal, f"another key is answered by {came}")
+        told = [(list(event)[1:4], event["name"], event["type"]) for event in events(server)]
+        head = ["device", "name", "session"]
+        wanted = [(head, "one", "command"), (head, "others", "account"), (head, "one", "refused")]
+        require(told == wanted, f"the log has {told}")
+        ends(program, server)
+    with Server(program, "--log", "log") as server:
+        require(is_permitted(server), "bob isn't permitted")
+        server.quits()
+        told = [list(event)[1:3] for event in events(server)]
+        require(told == [["device", "session"]], f"the log has {told}")
+
+
+def an_old_key_is_taken(program):
+    """A device under its old key is served as one under the new, on IPv4 and IPv6 sockets, and its
+    lines say so. A third key is refused under the new one."""
+    for options in ((), ("--address", "::")):
+        with serving(program, BOTH_KEYS, *options) as server:
+            for key in (OLD, NEW, OLD):
+                for sent, wanted in ((ASK, PERMITTED), (LOGIN, NAME_WANTED), (RECORD, STORED)):
+                    asked = asks(server, "127.0.0.1", key, sent, wanted)
+                    require(asked, f"{options}: {sent} isn't answered under {key}")
+            with connect(server, "127.0.0.1") as device:
+                refusal = packet(BAD_BODY, NEW)
+                came = answer(device, packet(ASK, THIRD, flag=CLOSING), len(refusal))
+                require(came == refusal, f"{options}: a third key is answered by {came}")
+            told = [event.get("key") for event in events(server) if event["type"] != "login"]
+            wanted = ["old", "old", None, None, "old", "old", None]
+            require(told == wanted, f"{options}: the log has {told}")
+            heads = {tuple(event)[1:4] for event in events(server) if "key" in event}
+            require(heads == {("device", "name", "key")}, f"{options}: the log has {heads}")
+            ends(program, server)
+
+
+def a_first_packet_in_pieces(program):
+    """Its key is known once it is whole, and nothing of it is lost. What stands after it is served
+    too. The one worker serves another meanwhile. A header that is refused closes the connection."""
+    with serving(program, BOTH_KEYS + OTHERS, "--workers", "1") as server:
+        with connect(server, "127.0.0.1") as device:
+            sent = packet(ASK, OLD, flag=KEPT)
+            for byte in sent[:-1]:
+                device.sendall(bytes([byte]))
+                time.sleep(0.001)
+            require(asks(server, "127.0.0.2", THIRD), "another isn't answered")
+            wanted = packet(PERMITTED, OLD, flag=KEPT) * 2
+            came = answer(device, sent[-1:] + sent, len(wanted))
+            require(came == wanted, f"in pieces it is answered by {came}")
+        with connect(server, "127.0.0.1") as device:
+            device.sendall(bytes.fromhex("d0010100fedcba9800000000"))
+            require(is_closed(device, SOON), "a bad header is taken")
+        told = [event.get("why", event["type"]) for event in events(server)]
+        require(told == ["command", "command", "command", "bad header"], f"the log has {told}")
+        ends(program, server)
+
+
+def a_first_packet_that_never_comes(program):
+    """It has the time of a first reply, and one that is cut off is over at once."""
+    with serving(program, BOTH_KEYS, "--idle", "1") as server:
+        with connect(server, "127.0.0.1") as silent, connect(server, "127.0.0.1") as cut:
+            cut.sendall(packet(ASK, OLD, flag=KEPT)[:20])
+            cut.shutdown(1)
+            require(is_closed(cut, SOON), "one that is cut off is kept")
+            silent.sendall(packet(ASK, OLD, flag=KEPT)[:20])
+            require(is_closed(silent, SOON), "a silent one is kept")
+        told = typed(program, server, "status")
+        for line in ('{why="finished"} 1', '{why="idle"} 1'):
+            require(f"tacd_connections_ended_total{line}\n" in told, f"it tells {told}")
+        require("\ntacd_connections 0\n" in told, f"it tells {told}")
+        ends(program, server)
+
+
+def so_many_connections_of_an_address(program):
+    """Each address of a device may have as many as the file says, whatever the option is, and where
+    it says nothing as many as the option."""
+    devices = f"{OTHERS}connections 3\n{ONE}device two\nat 127.0.0.2\nkey {THIRD.decode()}\n"
+    with serving(program, devices, "--per-address", "2") as server:
+        for source, key, count in (
+            ("127.0.0.3", THIRD, 3),
+            ("127.0.0.1", NEW, 2),
+            ("127.0.0.2", THIRD, 2),
+        ):
+            with contextlib.ExitStack() as stack:
+                for number in range(count):
+                    device = stack.enter_context(connect(server, source))
+                    asked = is_answered(device, ASK, PERMITTED, key=key, flag=KEPT)
+                    require(asked, f"{source}: connection {number} isn't answered")
+                with connect(server, source) as one_more:
+                    require(is_closed(one_more, SOON), f"{source}: one more is served")
+            until = time.monotonic() + SOON
+            while not asks(server, source, key):
+                require(time.monotonic() < until, f"{source} isn't answered any more")
+        told = [event for event in events(server) if "count" in event]
+        require(told[0]["name"] == "others", f"the log has {told}")
+        require(told[0]["why"] == "too many connections", f"the log has {told}")
+        ends(program, server)
+
+
+def refused_connections_are_logged(program):
+    """A line a second at most has how many strangers there were since the last."""
+    with serving(program, ONE) as server:
+        began = time.monotonic()
+        for _ in range(30):
+            with connect(server, STRANGER) as stranger:
+                require(is_closed(stranger, SOON), "a stranger is served")
+        took = time.monotonic() - began
+        told = events(server)
+        keys = ["time", "device", "type", "why", "count"]
+        require([list(event) for event in told] == [keys] * len(told), f"the log has {told}")
+        require(1 <= len(told) <= 1 + took, f"in {took} seconds the log has {told}")
+        require(told[0]["count"] == 1 and told[0]["why"] == "unknown device", f"it has {told}")
+        require(told[0]["device"].startswith(f"{STRANGER}:"), f"it has {told}")
+        time.sleep(1.1)
+        connect(server, STRANGER).close()
+        until = time.monotonic() + SOON
+        while sum(event["count"] for event in events(server)) < 31:
+            require(time.monotonic() < until, f"the log has {events(server)}")
+        require(asks(server, "127.0.0.1", NEW), "a device isn't answered")
+        ends(program, server, UNKNOWN)
+
+
+def a_stranger_beside_a_thousand(program):
+    """Connections that wait don't keep a stranger waiting, nor a device."""
+    files, most = resource.getrlimit(resource.RLIMIT_NOFILE)
+    if files < 2048:
+        resource.setrlimit(resource.RLIMIT_NOFILE, (min(2048, most), most))
+    with serving(program, BOTH_KEYS, "--per-address", "0") as server, contextlib.ExitStack() as stack:
+        for number in range(1000):
+            device = stack.enter_context(connect(server, "127.0.0.1"))
+            if number % 2:
+                device.sendall(packet(ASK, OLD, flag=KEPT)[:30])
+        for _ in range(20):
+            with connect(server, STRANGER) as stranger:
+                require(is_closed(stranger, SOON), "a stranger is served")
+        require(asks(server, "127.0.0.1", OLD), "a device isn't answered")
+        stack.close()
+        ends(program, server, UNKNOWN)
+
+
+def replace(server, devices):
+    pathlib.Path(server.folder.name, "devices").write_text(devices)
+
+
+def devices_are_read_again(program):
+    """From the next connection on. One that is open goes on under the key that it began with."""
+    with serving(program, BOTH_KEYS + OTHERS) as server:
+        require(not asks(server, STRANGER, THIRD), "a stranger is answered")
+        with connect(server, "127.0.0.1") as under_old, connect(server, "127.0.0.2") as other:
+            for device, key in ((under_old, OLD), (other, THIRD)):
+                asked = is_answered(device, ASK, PERMITTED, key=key, flag=KEPT)
+                require(asked, f"it isn't answered under {key} before")
+            replace(server, f"{ONE}device nine\nat {STRANGER}\nkey {OLD.decode()}\n")
+            told = typed(program, server, "reload devices")
+            require(told == "devices ok: 2 devices, 2 prefixes\n", f"it tells {told}")
+            for device, key in ((under_old, OLD), (other, THIRD)):
+                asked = is_answered(device, ASK, PERMITTED, key=key, flag=KEPT)
+                require(asked, f"it isn't answered under {key} after")
+        require(asks(server, "127.0.0.1", NEW), "one isn't answered under its key")
+        require(not asks(server, "127.0.0.1", OLD), "one is answered under its old key")
+        require(not asks(server, "127.0.0.2", THIRD), "who was taken out is answered")
+        require(asks(server, STRANGER, OLD), "who was added isn't answered")
+        told = typed(program, server, "status")
+        require("\ntacd_devices 2\n" in told, f"it tells {told}")
+        ends(program, server, UNKNOWN)
+
+
+def a_device_is_taken_out_in_its_first_packet(program):
+    """It is closed without a byte, and counted as that."""
+    with serving(program, BOTH_KEYS) as server:
+        require(asks(server, "127.0.0.1", OLD), "the device isn't answered at first")
+        with connect(server, "127.0.0.1") as device:
+            sent = packet(ASK, OLD, flag=KEPT)
+            device.sendall(sent[:20])
+            time.sleep(0.1)
+            replace(server, OTHERS.replace("127.0.0.0/30", "127.0.0.8/30"))
+            told = typed(program, server, "reload devices")
+            require(told == "devices ok: 1 devices, 1 prefixes\n", f"it tells {told}")
+            device.sendall(sent[20:])
+            require(is_closed(device, SOON), "the device is served")
+        told = typed(program, server, "status")
+        require('\ntacd_connections_ended_total{why="unlisted"} 1\n' in told, f"it tells {told}")
+        ends(program, server)
+
+
+def a_devices_file_that_is_refused(program):
+    """Or that can't be read: then those before are served on."""
+    with serving(program, ONE) as server:
+        require(asks(server, "127.0.0.1", NEW), "the device isn't answered at first")
+        path = pathlib.Path(server.folder.name, "devices")
+        for text, wanted in (
+            (f"{ONE}key {THIRD.decode()}\n", "devices fault line 4 6 Repeated\n"),
+            ("device one\n", "devices fault line 1 8 NoKey\n"),
+        ):
+            replace(server, text)
+            told = typed(program, server, "reload devices", status=1)
+            require(told == wanted, f"it tells {told}")
+            require(asks(server, "127.0.0.1", NEW), "the device isn't answered")
+        path.unlink()
+        told = typed(program, server, "reload devices", status=1)
+        wanted = "devices unread devices: No such file or directory (os error 2)\n"
+        require(told == wanted, f"it tells {told}")
+        path.mkdir()
+        told = typed(program, server, "reload devices", status=1)
+        require(told == "devices unread devices: it is a folder\n", f"it tells {told}")
+        require(asks(server, "127.0.0.1", NEW), "the device isn't answered")
+        path.rmdir()
+        path.touch(0o600)
+        told = typed(program, server, "reload devices")
+        require(told == "devices ok: 0 devices, 0 prefixes\n", f"it tells {told}")
+        require(not asks(server, "127.0.0.1", NEW), "the device is answered")
+        ends(program, server, UNKNOWN.replace(STRANGER, "127.0.0.1"))
+
+
+def no_devices(program):
+    """A server of one key has none to be read again, in a batch as well, which stays open."""
+    with Server(program, policy=POLICY) as server:
+        lines = "reload devices\nbegin\ninsert group ops 1 deny ping\nreload devices\ncommit\nquit\n"
+        server.ends(lines, "no devices\nok\nkept 1\nno devices\nok\n")
+
+
+def seconds(device, sent, wanted, **parts):
+    """How long it takes until it is answered so."""
+    began = time.monotonic()
+    require(is_answered(device, sent, wanted, **parts), f"{sent} isn't answered so")
+    return time.monotonic() - began
+
+
+def failed_logins_are_held_back(program):
+    """Each by a second, so three on one connection take three. The one worker serves others at once,
+    and right logins. A connection isn't given up meanwhile, and the server ends at once. A worker
+    counts from when it woke, which is up to a turn before the packet came."""
+    options = ("--workers", "1", "--fail-delay", "1000", "--idle", "1", "--per-address", "0")
+    with Server(program, *options, policy=POLICY) as server:
+        with connect(server) as device:
+            took = seconds(device, RIGHT, PASSED, flag=KEPT, id=1)
+            require(took < 0.5, f"a right login takes {took}")
+            took = seconds(device, WRONG, FAILED, flag=KEPT, id=2)
+            require(0.9 <= took < 2, f"a wrong login takes {took}")
+            took = seconds(device, RIGHT, PASSED, flag=KEPT, id=3)
+            require(took < 0.5, f"a right login after it takes {took}")
+        with connect(server) as guesser, contextlib.ExitStack() as stack:
+            guesses = b"".join(packet(WRONG, flag=KEPT, id=number) for number in (1, 2, 3))
+            wanted = b"".join(packet(FAILED, flag=KEPT, id=number) for number in (1, 2, 3))
+            for _ in range(50):
+                stack.enter_context(connect(server)).sendall(packet(WRONG, flag=KEPT, id=1))
+            came = []
+            thread = threading.Thread(target=lambda: came.append(answer(guesser, guesses, len(wanted))))
+            began = time.monotonic()
+            thread.start()
+            for _ in range(5):
+                with connect(server) as device:
+                    took = seconds(device, RIGHT, PASSED, flag=CLOSING, id=1)
+                    require(took < 0.5, f"beside guessers a right login takes {took}")
+            thread.join()
+            took = time.monotonic() - began
+            require(came == [wanted] and 2.9 <= took < 5, f"in {took} seconds came {came}")
+        with connect(server) as device:
+            device.sendall(packet(WRONG, flag=KEPT, id=1))
+            time.sleep(0.1)
+            began = time.monotonic()
+            server.quits()
+            require(time.monotonic() - began < 0.9, "the end waits for a reply")
+
+
+def failed_logins_are_answered_at_once(program):
+    """Unless the option says otherwise."""
+    with Server(program, policy=POLICY) as server:
+        with connect(server) as device:
+            took = seconds(device, WRONG, FAILED, flag=CLOSING, id=1)
+            require(took < 0.5, f"a wrong login takes {took}")
+        server.quits()

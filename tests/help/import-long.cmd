@@ -1,0 +1,2 @@
+$ tacd import --help
+prints import-long.out

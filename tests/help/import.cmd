@@ -1,0 +1,2 @@
+$ tacd import -h
+prints import.out
