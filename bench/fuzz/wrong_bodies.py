@@ -533,6 +533,12 @@ WRONG_BODIES = [
 """,
     ),
     WrongBody(
+        "a device's key may be its old one too",
+        "devices.py",
+        "    if device.key is not None and device.key.text == text:\n",
+        "    if False:\n",
+    ),
+    WrongBody(
         "a key that stands three times is told of the second",
         "devices.py",
         "        if len(text) < LEAST_KEY:",

@@ -49,6 +49,8 @@ def names(choices):
 def block(choices, name, prefixes):
     """A device that is right, unless its prefixes are there already."""
     settings = [f"key {choices.choice(KEYS)}"]
+    if choices.chance(0.3):
+        settings.append(f"old-key {choices.choice(KEYS)}")
     for _ in range(choices.count(1, 6)):
         text, prefix = drawn_prefix(choices)
         if choices.chance(0.02) or prefix not in prefixes:
@@ -80,7 +82,7 @@ def spoiled(choices, lines):
             again = choices.choice(lines) if lines else "at ::1"
             return lines[:at] + [again] + lines[at:]
         case 5:
-            kinds = choices.choice([("key",), ("at",), ("key", "at")])
+            kinds = choices.choice([("key",), ("at",), ("key", "at"), ("key", "old-key")])
             return [
                 line for line in lines if not line.lstrip().startswith(kinds) or choices.chance(0.6)
             ]
@@ -93,8 +95,9 @@ def bad_line(choices):
             f"device {choices.choice(BAD_NAMES)}",
             f"at {choices.choice(BAD_PREFIXES)}",
             f"key {choices.choice(BAD_KEYS)}",
+            f"old-key {choices.choice(BAD_KEYS)}",
             f"connections {choices.choice(BAD_CONNECTIONS)}",
-            choices.choice(["device", "at", "key", "at ::1 ", "Key k", "keys k", "old-key k", "x"]),
+            choices.choice(["device", "at", "key", "at ::1 ", "Key k", "keys k", "old-keys k", "x"]),
         ]
     )
 

@@ -25,6 +25,7 @@ class Device:
         self.name = name
         self.line = line
         self.key = None
+        self.old_key = None
         self.connections = None
         # each with the line that says it
         self.prefixes = {}
@@ -105,9 +106,9 @@ def take(devices, number, line):
     if line == "" or line.startswith("#"):
         return
     word, blank, rest = line.partition(" ")
-    if blank == "" or word not in ("device", "at", "key", "connections"):
+    if blank == "" or word not in ("device", "at", "key", "old-key", "connections"):
         raise Refused("1 BadLine")
-    if word != "key" and " " in rest:
+    if word not in ("key", "old-key") and " " in rest:
         raise Refused("1 BadLine")
     if word == "device":
         begin(devices, number, rest)
@@ -117,6 +118,8 @@ def take(devices, number, line):
         place(devices, number, rest)
     elif word == "key":
         set_key(devices[-1], number, rest)
+    elif word == "old-key":
+        set_old_key(devices[-1], rest)
     else:
         set_connections(devices[-1], rest)
 
@@ -147,7 +150,19 @@ def set_key(device, number, text):
         raise Refused("5 BadValue")
     if device.key is not None:
         raise Refused("6 Repeated")
+    if device.old_key == text:
+        raise Refused("6 Repeated")
     device.key = Key(text, number)
+
+
+def set_old_key(device, text):
+    if not is_secret(text):
+        raise Refused("5 BadValue")
+    if device.old_key is not None:
+        raise Refused("6 Repeated")
+    if device.key is not None and device.key.text == text:
+        raise Refused("6 Repeated")
+    device.old_key = text
 
 
 def set_connections(device, text):
