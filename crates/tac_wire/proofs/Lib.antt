@@ -1,4 +1,5 @@
 pub mod HeaderFacts
 pub mod PadFacts
+pub mod DoorFacts
 pub mod CutFacts
 pub mod StreamFacts

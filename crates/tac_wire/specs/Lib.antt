@@ -2,6 +2,8 @@ pub mod Header
 pub mod Key
 pub mod Flag
 pub mod Pad
+pub mod Door
+pub mod KeyDoor
 pub mod Body
 pub mod Cut
 pub mod Stream

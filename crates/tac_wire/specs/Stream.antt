@@ -4,9 +4,10 @@
 use Rattle.std.specs.Prelude.{◌≡◌, ℕ, zero, suc, ◌+◌, ◌^◌, ◌<◌, ◌==◌, Bool, not, ◌&&◌}
 use Rattle.std.specs.Prelude.{nat_lt, nat_le, List, [], ◌∷◌, ◌++◌, length, take, drop, Option, Some}
 use Rattle.std.specs.Prelude.{None, if◌then◌else◌}
-use Rattle.tac_wire.specs.Flag.{has_flag}
 use Rattle.tac_wire.specs.Header.{header_bytes, header_of, major_ver, minor_ver_one}
-use Rattle.tac_wire.specs.Header.{major_version, minor_version, unencrypted_flag}
+use Rattle.tac_wire.specs.Header.{major_version, minor_version}
+use Rattle.tac_wire.specs.Door.{refuses}
+use Rattle.tac_wire.specs.declared.door.Door.{Door}
 use Rattle.tac_wire.specs.declared.header.Header.{Header}
 use Rattle.tac_wire.specs.declared.frame.Frame.{Frame}
 use Rattle.tac_wire.specs.declared.frame.FrameFault.{FrameFault}
@@ -22,21 +23,17 @@ abbrev pub is_served_version : ℕ → Bool
 is_served_version version =
     major_version version == major_ver && nat_le (minor_version version) minor_ver_one
 
--- a body that has no pad
-abbrev pub is_unencrypted : ℕ → Bool
-is_unencrypted flags = has_flag unencrypted_flag flags
-
 -- the longest body is that of an authentication CONTINUE: five bytes, and two fields of at
 -- most 65535
 abbrev pub max_body : ℕ
 max_body = 131075
 
 -- why a header is refused: the first fault that it has
-abbrev pub header_fault : Header → Option FrameFault
-header_fault header =
+abbrev pub header_fault : Door → Header → Option FrameFault
+header_fault door header =
     if not (is_served_version header.version)
     then Some BadVersion
-    else if is_unencrypted header.flags
+    else if refuses door header.flags
     then Some Unencrypted
     else if nat_lt max_body header.length then Some TooLong else None
 
@@ -65,18 +62,18 @@ header_item (Some reason) header rest = refused (record { header = header; fault
 header_item None header rest = packet_item header rest
 
 -- a header is judged as soon as it is there, whatever there is of the body
-unfoldable pub first_item : List ℕ → Item
-first_item bytes =
+unfoldable pub first_item : Door → List ℕ → Item
+first_item door bytes =
     let header = header_of (take 12 bytes) in
     if nat_le 12 (length bytes)
-    then header_item (header_fault header) header (drop 12 bytes)
+    then header_item (header_fault door header) header (drop 12 bytes)
     else unfinished
 
 -- a packet that is taken: no fault, a body of the header's length, and a session
 -- number of four bytes
-abbrev pub IsTaken : Frame → Type 0
-IsTaken frame =
-    (header_fault frame.header ≡ None) × (length frame.body ≡ frame.header.length)
+abbrev pub IsTaken : Door → Frame → Type 0
+IsTaken door frame =
+    (header_fault door frame.header ≡ None) × (length frame.body ≡ frame.header.length)
     × (frame.header.session < 2 ^ 32)
 
 -- ---- a whole stream
@@ -106,21 +103,21 @@ parts_by parts_of (refused header) bytes = only (fault header)
 parts_by parts_of unfinished bytes = only (open_end bytes)
 
 -- the parts, where at most so many packets are cut off
-unfoldable pub cut_within : ℕ → List ℕ → Parts
-cut_within zero bytes = only (open_end bytes)
-cut_within (suc most) bytes = parts_by (cut_within most) (first_item bytes) bytes
+unfoldable pub cut_within : Door → ℕ → List ℕ → Parts
+cut_within door zero bytes = only (open_end bytes)
+cut_within door (suc most) bytes = parts_by (cut_within door most) (first_item door bytes) bytes
 
 -- the parts of a stream: there are fewer packets than bytes, since each takes twelve bytes or more
-unfoldable pub cut : List ℕ → Parts
-cut bytes = cut_within (length bytes) bytes
+unfoldable pub cut : Door → List ℕ → Parts
+cut door bytes = cut_within door (length bytes) bytes
 
 -- what more bytes make of the parts so far: an open end goes on, and a fault stays
-abbrev pub resumed : List Frame → Tail → List ℕ → Parts
-resumed packets (open_end bytes) more = before_parts packets (cut (bytes ++ more))
-resumed packets (fault header) more = record { packets = packets; tail = fault header }
+abbrev pub resumed : Door → List Frame → Tail → List ℕ → Parts
+resumed door packets (open_end bytes) more = before_parts packets (cut door (bytes ++ more))
+resumed door packets (fault header) more = record { packets = packets; tail = fault header }
 
-abbrev pub continued : Parts → List ℕ → Parts
-continued parts more = resumed parts.packets parts.tail more
+abbrev pub continued : Door → Parts → List ℕ → Parts
+continued door parts more = resumed door parts.packets parts.tail more
 
 -- ---- a framer
 
@@ -139,9 +136,9 @@ told (whole frame rest) = Packet frame
 told (refused header) = Fault header
 told unfinished = Need
 
-abbrev pub next_of : Pending → Next
-next_of (unread bytes) = told (first_item bytes)
-next_of ended = Ended
+abbrev pub next_of : Door → Pending → Next
+next_of door (unread bytes) = told (first_item door bytes)
+next_of door ended = Ended
 
 -- a packet is told
 abbrev pub IsPacket : Next → Type 0
@@ -156,9 +153,9 @@ left_by (whole frame rest) bytes = unread rest
 left_by (refused header) bytes = ended
 left_by unfinished bytes = unread bytes
 
-abbrev pub left_of : Pending → Pending
-left_of (unread bytes) = left_by (first_item bytes) bytes
-left_of ended = ended
+abbrev pub left_of : Door → Pending → Pending
+left_of door (unread bytes) = left_by (first_item door bytes) bytes
+left_of door ended = ended
 
 -- a packet that is told is written at the head of these bytes
 abbrev pub BeginsWith : Next → List ℕ → Type 0

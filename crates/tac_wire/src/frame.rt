@@ -3,6 +3,7 @@
 ghost use Rattle.std.specs.Prelude.{◌≡◌};
 ghost use Rattle.tac_wire.specs.Stream.{header_fault};
 
+use crate::door::Door;
 use crate::header::Header;
 use basics::Bytes;
 
@@ -24,7 +25,7 @@ impl Frame {
 pub enum FrameFault {
     /// The major version isn't 0xc, or the minor version is above 1.
     BadVersion,
-    /// The body has no pad.
+    /// The body has no pad, where it has to have one.
     Unencrypted,
     /// The body would be longer than [`Frame::MAX_BODY`].
     TooLong,
@@ -39,14 +40,14 @@ pub struct RefusedHeader {
 }
 
 // Why a header is refused, if it is.
-pub(crate) fn fault_of(header: &Header) -> Option<FrameFault>
-    ensures { result ≡ header_fault header.now }
+pub(crate) fn fault_of(door: &Door, header: &Header) -> Option<FrameFault>
+    ensures { result ≡ header_fault door.now header.now }
 {
     let major = header.version >> 4;
     let minor = header.version & 0x0f;
     if major != 0xc || minor > 1 {
         Some(FrameFault::BadVersion)
-    } else if header.flags & Header::UNENCRYPTED != 0 {
+    } else if door.refuses(header.flags) {
         Some(FrameFault::Unencrypted)
     } else if header.length > Frame::MAX_BODY {
         Some(FrameFault::TooLong)

@@ -2,8 +2,10 @@
 
 ghost use Rattle.std.specs.Prelude.{◌≡◌, ◌≢◌, ◌<◌, ◌++◌, List, ℕ, [], length, IfOk, OnOk, OnErr};
 ghost use Rattle.tac_wire.specs.Stream as stream;
+ghost use Rattle.tac_wire.specs.declared.door.Door.{Door as DoorValue};
 ghost use Rattle.tac_wire.specs.declared.frame.Frame.{Frame as FrameValue};
 
+use crate::door::Door;
 use crate::frame::{Frame, RefusedHeader, fault_of};
 use crate::header::{HEADER_SIZE, Header};
 use basics::Bytes;
@@ -53,16 +55,18 @@ impl Model for Framer {
 
 // What these bytes begin with.
 #[tactic(auto, unfolding(crate::specs::Stream::first_item))]
-fn first_item(alloc: Global, bytes: &[u8]) -> Result<Next, AllocError>
-    ensures exact { IfOk result (λ next. next ≡ stream.told (stream.first_item bytes.now)) }
+fn first_item(alloc: Global, door: &Door, bytes: &[u8]) -> Result<Next, AllocError>
+    ensures exact { IfOk result
+        (λ next. next ≡ stream.told (stream.first_item door.now bytes.now)) }
     ensures found { IfOk result (λ next. stream.BeginsWith next bytes.now) }
-    ensures memory { OnErr result (stream.IsPacket (stream.told (stream.first_item bytes.now))) }
+    ensures memory { OnErr result
+        (stream.IsPacket (stream.told (stream.first_item door.now bytes.now))) }
 {
     let Some((head, rest)) = bytes.split_first_chunk::<HEADER_SIZE>() else {
         return Ok(Next::Need);
     };
     let header = Header::read(head);
-    if let Some(fault) = fault_of(&header) {
+    if let Some(fault) = fault_of(door, &header) {
         return Ok(Next::Fault(RefusedHeader { header, fault }));
     }
     let len = header.length as usize;
@@ -113,8 +117,8 @@ impl Framer {
         // Only a piece that is kept takes memory.
         ensures memory { OnErr result ((self.old ≢ stream.ended) × (0 < length piece.now)) }
         // However a stream is cut into pieces, the same packets, fault and rest come out.
-        ensures pieces { (bytes more : List ℕ) →
-            stream.cut (bytes ++ more) ≡ stream.continued (stream.cut bytes) more }
+        ensures pieces { (door : DoorValue) (bytes more : List ℕ) →
+            stream.cut door (bytes ++ more) ≡ stream.continued door (stream.cut door bytes) more }
     {
         if self.ended {
             return Ok(());
@@ -126,25 +130,27 @@ impl Framer {
     /// Tells what stands first in what is held, and removes it. A fault is told once. The error
     /// means that memory ran out for a packet's body; nothing has changed then.
     #[inline]
-    pub fn next(&mut self) -> Result<Next, AllocError>
-        ensures told { IfOk result (λ next. next ≡ stream.next_of self.old) }
-        ensures left { OnOk result (self.new ≡ stream.left_of self.old) }
+    pub fn next(&mut self, door: &Door) -> Result<Next, AllocError>
+        ensures told { IfOk result (λ next. next ≡ stream.next_of door.now self.old) }
+        ensures left { OnOk result (self.new ≡ stream.left_of door.now self.old) }
         ensures err { OnErr result (self.new ≡ self.old) }
         // Only a packet takes memory, for its body; all else is told in any case.
-        ensures memory { OnErr result (stream.IsPacket (stream.next_of self.old)) }
+        ensures memory { OnErr result (stream.IsPacket (stream.next_of door.now self.old)) }
         // No byte is lost, and none is added.
         ensures found { IfOk result (λ next. stream.WasInFront next self.old self.new) }
         // Each packet that is taken is told as soon as it stands there, whatever follows.
-        ensures again { (frame : FrameValue) (rest : List ℕ) → stream.IsTaken frame →
-            stream.first_item (stream.frame_bytes frame ++ rest) ≡ stream.whole frame rest }
+        ensures again { (frame : FrameValue) (rest : List ℕ) → stream.IsTaken door.now frame →
+            stream.first_item door.now (stream.frame_bytes frame ++ rest)
+            ≡ stream.whole frame rest }
         // One item after another, this gives the parts of the stream.
         ensures items { (bytes : List ℕ) →
-            stream.cut bytes ≡ stream.parts_by stream.cut (stream.first_item bytes) bytes }
+            stream.cut door.now bytes
+            ≡ stream.parts_by (stream.cut door.now) (stream.first_item door.now bytes) bytes }
     {
         if self.ended {
             return Ok(Next::Ended);
         }
-        let next = first_item(self.alloc, &self.buffer[self.read..])?;
+        let next = first_item(self.alloc, door, &self.buffer[self.read..])?;
         match &next {
             Next::Packet(frame) => self.read += HEADER_SIZE + frame.body.len(),
             Next::Fault(_) => self.end(),

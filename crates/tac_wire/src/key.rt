@@ -41,6 +41,17 @@ impl Key {
         Some(Key { symbols })
     }
 
+    /// Another with the same symbols. Takes no memory.
+    pub fn copy(&self) -> Key
+        ensures { result ≡ self.now }
+    {
+        let mut symbols = ArrayVec::new();
+        symbols
+            .try_extend_from_slice(self.symbols.as_slice())
+            .unwrap();
+        Key { symbols }
+    }
+
     /// The key's symbols.
     pub fn as_slice(&self) -> &[u8]
         ensures { result.now ≡ self.now }
