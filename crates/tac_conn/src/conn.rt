@@ -21,7 +21,7 @@ use crate::session::{Session, find_session, settle};
 use crate::step::Step;
 use basics::Sequence;
 use std::alloc::{AllocError, Global};
-use tac_wire::{Frame, Header, Key};
+use tac_wire::{Door, Frame, Header};
 
 /// One connection: what is kept of the packets that came on it.
 #[derive(Drop)]
@@ -140,29 +140,29 @@ impl Conn {
         self.take_open(packet)
     }
 
-    /// Takes a packet that came, with the pad on its body, where no answer is waited for, and gives
-    /// it back without the pad, beside what is done for it.
+    /// Takes a packet that came by a door, where no answer is waited for, and gives it back in
+    /// clear, beside what is done for it.
     ///
     /// A closed connection answers [`Step::Close`] and stays as it is. The error means that memory
     /// ran out: nothing has changed, and the packet is gone.
-    pub fn take(&mut self, key: &Key, frame: Frame) -> Result<(Packet, Step), AllocError>
+    pub fn take(&mut self, door: &Door, frame: Frame) -> Result<(Packet, Step), AllocError>
         requires { standing.pending_of self.old ≡ None }
-        ensures packet { IfOk result (λ taken. taken.0 ≡ clear key.now frame) }
+        ensures packet { IfOk result (λ taken. taken.0 ≡ clear door.now frame) }
         // What is done is the packet's outcome, by the clear packets that came before it.
         ensures step { (earlier : List PacketValue) → standing.Stands self.old earlier →
-            let outcome = history.outcome earlier (clear key.now frame) in
+            let outcome = history.outcome earlier (clear door.now frame) in
             IfOk result (λ taken. taken.1 ≡ standing.step_of outcome) }
         ensures stands { (earlier : List PacketValue) → standing.Stands self.old earlier →
-            OnOk result (standing.Stands self.new (clear key.now frame ∷ earlier)) }
+            OnOk result (standing.Stands self.new (clear door.now frame ∷ earlier)) }
         ensures pending { IfOk result
             (λ taken. standing.pending_of self.new ≡ standing.slot_in taken.1) }
         ensures kind { IfOk result (λ taken. standing.HasItsSlot taken.1) }
         ensures closed { IsTrue (standing.closed_of self.old) →
-            (result ≡ Ok (clear key.now frame, steps.Close)) × (self.new ≡ self.old) }
+            (result ≡ Ok (clear door.now frame, steps.Close)) × (self.new ≡ self.old) }
         ensures err { OnErr result (self.new ≡ self.old) }
         // Only a packet that is read takes memory, so any other is refused in any case.
         ensures memory { (earlier : List PacketValue) → standing.Stands self.old earlier →
-            OnErr result (IsTrue (history.is_read_after earlier (clear key.now frame))) }
+            OnErr result (IsTrue (history.is_read_after earlier (clear door.now frame))) }
 
         // Nothing is granted unless the desk is asked.
         ensures ungranted { (earlier : List PacketValue) (packet : PacketValue) →
@@ -171,7 +171,7 @@ impl Conn {
         ensures alone { (packets : List PacketValue) → history.is_single packets ≡ false →
             history.open_sessions packets ≤ 1 }
     {
-        let packet = Packet::clear(key, frame);
+        let packet = Packet::clear(door, frame);
         match self.take_clear(&packet) {
             Ok(step) => Ok((packet, step)),
             Err(error) => Err(error),

@@ -4,7 +4,7 @@ ghost use Rattle.std.specs.Prelude.{◌≡◌};
 ghost use Rattle.tac_conn.specs.Packet.{clear};
 
 use basics::Bytes;
-use tac_wire::{Frame, Header, Key, pad_in_place};
+use tac_wire::{Door, Frame, Header};
 
 /// A packet that came, without the pad.
 #[derive(Drop, PartialEq, Eq)]
@@ -14,14 +14,14 @@ pub struct Packet {
 }
 
 impl Packet {
-    /// The packet of a frame: the pad is taken off where it stands (RFC 8907, section 4.5). Takes
-    /// no memory.
-    pub fn clear(key: &Key, frame: Frame) -> Packet
-        ensures { result ≡ clear key.now frame }
+    /// The packet of a frame: the pad is taken off where it stands (RFC 8907, section 4.5), if the
+    /// door has one. Takes no memory.
+    pub fn clear(door: &Door, frame: Frame) -> Packet
+        ensures { result ≡ clear door.now frame }
     {
         let Frame { header, body } = frame;
         let mut body = body.into_vec();
-        pad_in_place(&header, key, body.as_mut_slice());
+        door.open(&header, &mut body);
         Packet {
             header,
             body: Bytes::from(body),
