@@ -2,6 +2,7 @@
 use Rattle.std.specs.Prelude.{◌≡◌, ◌≤◌, ◌<◌, ℕ, suc, List, length, take, drop, Bool, true, false}
 use Rattle.std.specs.Prelude.{Option, None, Result, Ok, Err}
 use Rattle.std.specs.declared.alloc.AllocError.{AllocError}
+use Rattle.tac_wire.specs.declared.door.Door.{Door}
 use Rattle.tac_wire.specs.Stream.{Pending, unread, ended, cut}
 use Rattle.tac_conn.specs.declared.ask.Slot.{Slot}
 use Rattle.tac_conn.specs.Standing as conns
@@ -23,20 +24,22 @@ IsReady stream = (closed_of stream ≡ false) × (pending_of stream ≡ None)
 
 -- it represents a connection on which these bytes came: so many of their packets were taken, and
 -- what is held has the others, and the same tail
-pub record Stands (key : List ℕ) (stream : Stream) (bytes : List ℕ) (taken : ℕ) : Type 0 where
+pub record Stands (door : Door) (stream : Stream) (bytes : List ℕ) (taken : ℕ) : Type 0 where
   pub held : List ℕ
   pub framer : stream.framer ≡ unread held
-  pub left : cut held ≡ record { packets = drop taken (cut bytes).packets; tail = (cut bytes).tail }
-  pub within : taken ≤ length (cut bytes).packets
-  pub conn : conns.Stands stream.conn (packets_of key (take taken (cut bytes).packets))
+  pub left :
+      cut door held
+      ≡ record { packets = drop taken (cut door bytes).packets; tail = (cut door bytes).tail }
+  pub within : taken ≤ length (cut door bytes).packets
+  pub conn : conns.Stands stream.conn (packets_of door (take taken (cut door bytes).packets))
 
 -- what it represents after this turn: the packet was taken, if there was one; closed, it represents
 -- nothing
-abbrev pub StandsAfter : Turn → List ℕ → Stream → List ℕ → ℕ → Type 0
-StandsAfter (Packet packet step) key stream bytes taken = Stands key stream bytes (suc taken)
-StandsAfter Need key stream bytes taken = Stands key stream bytes taken
-StandsAfter (Refused header) key stream bytes taken = Unit {0}
-StandsAfter Close key stream bytes taken = Unit {0}
+abbrev pub StandsAfter : Turn → Door → Stream → List ℕ → ℕ → Type 0
+StandsAfter (Packet packet step) door stream bytes taken = Stands door stream bytes (suc taken)
+StandsAfter Need door stream bytes taken = Stands door stream bytes taken
+StandsAfter (Refused header) door stream bytes taken = Unit {0}
+StandsAfter Close door stream bytes taken = Unit {0}
 
 -- an ask waits for its answer, and where nothing is asked nothing waits
 abbrev pub Waits : Turn → Stream → Type 0

@@ -1,6 +1,7 @@
 -- What is to be done next on a connection, by all bytes that came on it (RFC 8907, section 4).
 use Rattle.std.specs.Prelude.{◌≡◌, ◌⊎◌, ℕ, List, [], ◌∷◌, map, reverse, take, drop, Bool, true}
 use Rattle.std.specs.Prelude.{false, Option, None}
+use Rattle.tac_wire.specs.declared.door.Door.{Door}
 use Rattle.tac_wire.specs.declared.frame.Frame.{Frame}
 use Rattle.tac_wire.specs.Stream.{Tail, open_end, fault, cut}
 use Rattle.tac_conn.specs.declared.packet.Packet.{Packet}
@@ -14,8 +15,8 @@ use Rattle.tac_stream.specs.declared.turn.Turn.{Turn}
 use Rattle.tac_stream.specs.declared.turn.Turn.TheVariants as turns
 
 -- the packets without their pads, the latest first, as the history of a connection has them
-abbrev pub packets_of : List ℕ → List Frame → List Packet
-packets_of key frames = reverse (map (clear key) frames)
+abbrev pub packets_of : Door → List Frame → List Packet
+packets_of door frames = reverse (map (clear door) frames)
 
 -- a header that is refused closes the connection
 abbrev pub closed_by : Tail → Bool
@@ -33,32 +34,34 @@ tail_turn (fault refused) = turns.Refused refused.header
 
 -- what is done for the first of these packets, where others came earlier, the latest first; the
 -- tail follows the packets
-abbrev pub turn_by : List ℕ → List Packet → List Frame → Tail → Turn
-turn_by key earlier (frame ∷ frames) tail = packet_turn earlier (clear key frame)
-turn_by key earlier [] tail = tail_turn tail
+abbrev pub turn_by : Door → List Packet → List Frame → Tail → Turn
+turn_by door earlier (frame ∷ frames) tail = packet_turn earlier (clear door frame)
+turn_by door earlier [] tail = tail_turn tail
 
 -- what is to be done where so many of the packets in these bytes were taken
-unfoldable pub next_turn : List ℕ → List ℕ → ℕ → Turn
-next_turn key bytes taken =
-    let parts = cut bytes
-    in turn_by key (packets_of key (take taken parts.packets))
+unfoldable pub next_turn : Door → List ℕ → ℕ → Turn
+next_turn door bytes taken =
+    let parts = cut door bytes
+    in turn_by door (packets_of door (take taken parts.packets))
     (drop taken parts.packets) parts.tail
 
 -- the turn is the one for the first of the packets that are left
-pub record IsForFirst (key bytes : List ℕ) (taken : ℕ) (turn : Turn) : Type 0 where
+pub record IsForFirst (door : Door) (bytes : List ℕ) (taken : ℕ) (turn : Turn) : Type 0 where
   pub frame : Frame
   pub more : List Frame
-  pub left : drop taken (cut bytes).packets ≡ frame ∷ more
-  pub is : turn ≡ packet_turn (packets_of key (take taken (cut bytes).packets)) (clear key frame)
+  pub left : drop taken (cut door bytes).packets ≡ frame ∷ more
+  pub is :
+      turn
+      ≡ packet_turn (packets_of door (take taken (cut door bytes).packets)) (clear door frame)
 
 -- no packet is left, and the turn is the one for what follows them
-pub record IsForTail (bytes : List ℕ) (taken : ℕ) (turn : Turn) : Type 0 where
-  pub left : drop taken (cut bytes).packets ≡ []
-  pub is : turn ≡ tail_turn (cut bytes).tail
+pub record IsForTail (door : Door) (bytes : List ℕ) (taken : ℕ) (turn : Turn) : Type 0 where
+  pub left : drop taken (cut door bytes).packets ≡ []
+  pub is : turn ≡ tail_turn (cut door bytes).tail
 
 -- which of the two a turn is
-abbrev pub IsTurn : List ℕ → List ℕ → ℕ → Turn → Type 0
-IsTurn key bytes taken turn = IsForFirst key bytes taken turn ⊎ IsForTail bytes taken turn
+abbrev pub IsTurn : Door → List ℕ → ℕ → Turn → Type 0
+IsTurn door bytes taken turn = IsForFirst door bytes taken turn ⊎ IsForTail door bytes taken turn
 
 -- whether the connection closes at once: an ask may close it with its answer
 abbrev pub closes_at_once : Step → Bool
