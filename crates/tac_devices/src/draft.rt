@@ -17,11 +17,11 @@ use basics::Sequence;
 use pol_names::Name;
 use std::alloc::{AllocError, Global};
 use tac_first::Keys;
-use tac_wire::Key;
+use tac_wire::{Key, KeyDoor};
 
 /// A key, and the line that says it.
 pub(crate) struct KeyLine {
-    pub(crate) key: Key,
+    pub(crate) key: KeyDoor,
     pub(crate) line: usize,
 }
 
@@ -38,7 +38,7 @@ pub(crate) struct Entry {
     pub(crate) line: usize,
     pub(crate) places: Sequence<Place>,
     pub(crate) key: Option<KeyLine>,
-    pub(crate) old_key: Option<Key>,
+    pub(crate) old_key: Option<KeyDoor>,
     pub(crate) connections: Option<u32>,
 }
 
@@ -155,6 +155,7 @@ impl Entry {
         if self.key.is_some() {
             return Err(LineFault::Refused(DevicesRefusal::Repeated));
         }
+        let key = KeyDoor::new(key);
         self.key = Some(KeyLine { key, line });
         self.check_keys()
     }
@@ -168,7 +169,7 @@ impl Entry {
         if self.old_key.is_some() {
             return Err(LineFault::Refused(DevicesRefusal::Repeated));
         }
-        self.old_key = Some(old_key);
+        self.old_key = Some(KeyDoor::new(old_key));
         self.check_keys()
     }
 
@@ -323,7 +324,7 @@ fn check(entries: &[Entry]) -> Result<(), DevicesFault>
 }
 
 impl KeyLine {
-    fn into_parts(self) -> (Key, usize)
+    fn into_parts(self) -> (KeyDoor, usize)
         ensures { result ≡ (self.key, self.line) }
     {
         let KeyLine { key, line } = self;

@@ -174,9 +174,9 @@ pub fn fault_line(alloc: Global, fault: DevicesFault) -> Result<Vec<u8>, AllocEr
     Ok(line)
 }
 
-/// What is printed of the text of a devices' file, and how it ends: how many devices and prefixes it
-/// has, and what is remarked on their keys; or where addresses are asked about, the device of each.
-/// The error means that memory ran out.
+/// What is printed of the text of a devices' file, and how it ends: how many devices and prefixes
+/// it has, and what is remarked on their keys; or where addresses are asked about, the device of
+/// each. The error means that memory ran out.
 pub fn list_devices(
     alloc: Global,
     text: &[u8],

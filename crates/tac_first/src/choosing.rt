@@ -6,13 +6,13 @@ ghost use Rattle.tac_first.specs.Choice.{chosen, chosen_of, is_served, ShowsItsK
 use crate::fit::{IN_RANGE, fit_of};
 use crate::keys::{Keys, Shown};
 use std::alloc::{AllocError, Global};
-use tac_wire::{Frame, Key};
+use tac_wire::{Frame, KeyDoor};
 
 // Which of two keys a packet shows.
 fn choose_between(
     alloc: Global,
-    present: &Key,
-    old: &Key,
+    present: &KeyDoor,
+    old: &KeyDoor,
     frame: &Frame,
 ) -> Result<Shown, AllocError>
     ensures exact { IfOk result (λ shown. shown ≡ chosen_of present.now (Some old.now) frame.now) }

@@ -12,7 +12,7 @@ use crate::in_range::{is_acct_request_in_range, is_author_request_in_range, is_s
 use std::alloc::{AllocError, Global};
 use tac_authen::read_start;
 use tac_request::{read_acct_request, read_author_request};
-use tac_wire::{BodyFault, Frame, Key, PacketType, pad_in_place};
+use tac_wire::{BodyFault, Frame, KeyDoor, PacketType};
 
 /// The body isn't one of its type.
 const NONE: u8 = 0;
@@ -31,11 +31,11 @@ fn grade_of(is_in_range: bool) -> u8
 }
 
 // The body without the pad of this key.
-fn clear_body(alloc: Global, key: &Key, frame: &Frame) -> Result<Vec<u8>, AllocError>
+fn clear_body(alloc: Global, key: &KeyDoor, frame: &Frame) -> Result<Vec<u8>, AllocError>
     ensures { IfOk result (λ body. body.items ≡ padded frame.now.header key.now frame.now.body) }
 {
     let mut body = Vec::from_slice(alloc, frame.body.as_slice())?;
-    pad_in_place(&frame.header, key, body.as_mut_slice());
+    key.door().open(&frame.header, &mut body);
     Ok(body)
 }
 
@@ -72,7 +72,7 @@ fn grade_acct_request(alloc: Global, body: &[u8]) -> Result<u8, AllocError>
 }
 
 /// How well a packet fits a key. The error means that memory ran out.
-pub(crate) fn fit_of(alloc: Global, key: &Key, frame: &Frame) -> Result<u8, AllocError>
+pub(crate) fn fit_of(alloc: Global, key: &KeyDoor, frame: &Frame) -> Result<u8, AllocError>
     ensures exact { IfOk result (λ fit. fit ≡ fits key.now frame.now) }
     ensures memory { OnErr result (IsTrue (is_served frame.now.header.kind.0)) }
 {

@@ -2,38 +2,37 @@
 
 ghost use Rattle.std.specs.Prelude.{◌≡◌, IfOk, OnErr, IsSome, is_some};
 ghost use Rattle.tac_wire.specs.Stream as stream;
+ghost use Rattle.tac_wire.specs.declared.door.Door.TheVariants.{Padded};
 ghost use Rattle.tac_first.specs.SoFar as so_far;
 
 use crate::choosing::choose;
 use crate::keys::{Keys, Shown};
 use basics::Bytes;
 use std::alloc::{AllocError, Global};
-use tac_wire::{Frame, HEADER_SIZE, Header};
+use tac_wire::{Frame, HEADER_SIZE, Header, KeyDoor};
 
-// Whether a stream ends at this header.
-fn is_refused(header: &Header) -> bool
-    ensures { result ≡ is_some (stream.header_fault header.now) }
+// Whether a stream under a key ends at this header.
+fn is_refused(key: &KeyDoor, header: &Header) -> bool
+    ensures { result ≡ is_some (stream.header_fault (Padded key.now) header.now) }
 {
     let major = header.version >> 4;
     let minor = header.version & 0x0f;
-    major != 0xc
-        || minor > 1
-        || header.flags & Header::UNENCRYPTED != 0
-        || header.length > Frame::MAX_BODY
+    major != 0xc || minor > 1 || key.door().refuses(header.flags) || header.length > Frame::MAX_BODY
 }
 
 // Which key the packet shows that the bytes begin with, once it is whole.
 #[tactic(auto, unfolding(tac_wire::specs::Stream::first_item))]
 fn shown_by_first(alloc: Global, keys: &Keys, bytes: &[u8]) -> Result<Option<Shown>, AllocError>
     ensures exact { IfOk result (λ shown.
-        shown ≡ so_far.shown_by_item keys.now (stream.first_item bytes.now)) }
-    ensures memory { OnErr result (stream.IsPacket (stream.told (stream.first_item bytes.now))) }
+        shown ≡ so_far.shown_by_item keys.now (so_far.first_under keys.now bytes.now)) }
+    ensures memory { OnErr result
+        (stream.IsPacket (stream.told (so_far.first_under keys.now bytes.now))) }
 {
     let Some((head, rest)) = bytes.split_first_chunk::<HEADER_SIZE>() else {
         return Ok(None);
     };
     let header = Header::read(head);
-    if is_refused(&header) {
+    if is_refused(&keys.present, &header) {
         return Ok(Some(Shown::Present));
     }
     let len = header.length as usize;
@@ -57,7 +56,7 @@ pub fn shown_by(alloc: Global, keys: &Keys, bytes: &[u8]) -> Result<Option<Shown
     ensures stays { so_far.Stays keys.now }
     // Only a whole packet takes memory, and only where there is an old key.
     ensures memory { OnErr result (IsSome keys.now.old
-        × stream.IsPacket (stream.told (stream.first_item bytes.now))) }
+        × stream.IsPacket (stream.told (so_far.first_under keys.now bytes.now))) }
 {
     if keys.old.is_none() {
         return Ok(Some(Shown::Present));
