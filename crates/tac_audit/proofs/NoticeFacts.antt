@@ -1,5 +1,6 @@
 -- All that a witness of a connection is told is answered as its packets are.
-use Rattle.std.proofs.Common.{◌≡◌, Bool, true, false, cond, not, List, [], ◌∷◌, ◌++◌, ℕ, refl, sym, ap, ◌∙◌, subst}
+use Rattle.std.proofs.Common.{◌≡◌, Bool, true, false, cond, not, List, [], ◌∷◌, ◌++◌, refl, sym, ap, ◌∙◌, subst}
+use Rattle.tac_wire.specs.declared.door.Door.{Door}
 use Rattle.tac_wire.specs.declared.frame.Frame.{Frame}
 use Rattle.tac_wire.specs.Stream.{Tail, open_end, fault}
 use Rattle.tac_conn.specs.declared.ask.Answer.{Answer}
@@ -48,12 +49,12 @@ tail_answered : (earlier : List Packet) (tail : Tail) → AreAnswered earlier (n
 tail_answered earlier (open_end bytes) = tt
 tail_answered earlier (fault refused) = (tt, tt)
 
-all_answered : (key : List ℕ) (earlier : List Packet) (frames : List Frame) (tail : Tail) (answers : List Answer) → is_closed earlier ≡ false → AreAnswered earlier (notices_to key earlier frames tail answers)
+all_answered : (door : Door) (earlier : List Packet) (frames : List Frame) (tail : Tail) (answers : List Answer) → is_closed earlier ≡ false → AreAnswered earlier (notices_to door earlier frames tail answers)
 unfolding notices_to
-all_answered key earlier [] tail answers alive = tail_answered earlier tail
-all_answered key earlier (frame ∷ frames) tail answers alive =
-    for_answered earlier (clear key frame) alive (outcome earlier (clear key frame)) answers _ refl
-    (λ stays left. all_answered key (clear key frame ∷ earlier) frames tail left stays)
+all_answered door earlier [] tail answers alive = tail_answered earlier tail
+all_answered door earlier (frame ∷ frames) tail answers alive =
+    for_answered earlier (clear door frame) alive (outcome earlier (clear door frame)) answers _ refl
+    (λ stays left. all_answered door (clear door frame ∷ earlier) frames tail left stays)
 
 -- the first of them are
 first_answered : (earlier : List Packet) (told later : List Notice) → AreAnswered earlier (told ++ later) → AreAnswered earlier told
@@ -64,6 +65,6 @@ none_closed : is_closed [] ≡ false
 unfolding is_closed
 none_closed = refl
 
-pub are_answered : (key : List ℕ) (frames : List Frame) (tail : Tail) (answers : List Answer) (told later : List Notice) → told ++ later ≡ notices_to key [] frames tail answers → AreAnswered [] told
-are_answered key frames tail answers told later e =
-    first_answered [] told later (subst (AreAnswered []) (sym e) (all_answered key [] frames tail answers none_closed))
+pub are_answered : (door : Door) (frames : List Frame) (tail : Tail) (answers : List Answer) (told later : List Notice) → told ++ later ≡ notices_to door [] frames tail answers → AreAnswered [] told
+are_answered door frames tail answers told later e =
+    first_answered [] told later (subst (AreAnswered []) (sym e) (all_answered door [] frames tail answers none_closed))

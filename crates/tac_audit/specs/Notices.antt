@@ -1,6 +1,7 @@
 -- What a witness of a connection is told (docs/AUDIT.md): of the packets in their order, each with
 -- its reply if it has one, and at the end a header that is refused.
-use Rattle.std.specs.Prelude.{ℕ, List, [], ◌∷◌, filter_map, Option, Some, None, if◌then◌else◌}
+use Rattle.std.specs.Prelude.{List, [], ◌∷◌, filter_map, Option, Some, None, if◌then◌else◌}
+use Rattle.tac_wire.specs.declared.door.Door.{Door}
 use Rattle.tac_wire.specs.declared.frame.Frame.{Frame}
 use Rattle.tac_wire.specs.Stream.{Tail, open_end, fault}
 use Rattle.tac_conn.specs.declared.ask.Answer.{Answer}
@@ -43,11 +44,11 @@ notices_at (fault refused) = notices.BadHeader refused.header ∷ []
 
 -- of these packets, one after another, on a connection on which others came earlier, the latest
 -- first, and of what follows them, where what they ask is answered so
-unfoldable pub notices_to : List ℕ → List Packet → List Frame → Tail → List Answer → List Notice
-notices_to key earlier [] tail answers = notices_at tail
-notices_to key earlier (frame ∷ frames) tail answers =
-    notices_for (clear key frame) (outcome earlier (clear key frame)) answers
-    (λ left. notices_to key (clear key frame ∷ earlier) frames tail left)
+unfoldable pub notices_to : Door → List Packet → List Frame → Tail → List Answer → List Notice
+notices_to door earlier [] tail answers = notices_at tail
+notices_to door earlier (frame ∷ frames) tail answers =
+    notices_for (clear door frame) (outcome earlier (clear door frame)) answers
+    (λ left. notices_to door (clear door frame ∷ earlier) frames tail left)
 
 -- the replies of which it is told
 abbrev pub reply_told : Notice → Option ReplyValue

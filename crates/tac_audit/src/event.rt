@@ -1,5 +1,5 @@
-//! What is told of a packet, of a line at the console, and of connections that were refused. No type
-//! here has room for a password, a challenge or a response.
+//! What is told of a packet, of a line at the console, and of connections that were refused. No
+//! type here has room for a password, a challenge or a response.
 
 ghost use Rattle.std.specs.Prelude.{◌≡◌, IfOk};
 

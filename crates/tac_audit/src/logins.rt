@@ -1,7 +1,8 @@
 //! The logins that go on, on the open sessions, and what is noted of each notice by them.
 
-ghost use Rattle.std.specs.Prelude.{◌≡◌, ◌∷◌, ◌++◌, [], List, ℕ, None, IfOk, OnOk};
+ghost use Rattle.std.specs.Prelude.{◌≡◌, ◌∷◌, ◌++◌, [], List, None, IfOk, OnOk};
 ghost use Rattle.std.specs.Option.{option_copied, option_map};
+ghost use Rattle.tac_wire.specs.declared.door.Door.{Door as DoorValue};
 ghost use Rattle.tac_wire.specs.declared.frame.Frame.{Frame as FrameValue};
 ghost use Rattle.tac_wire.specs.Stream.{Tail};
 ghost use Rattle.tac_conn.specs.declared.ask.Answer.{Answer as AnswerValue};
@@ -144,9 +145,9 @@ impl Logins {
             notes.IsAnswered earlier notice.now →
             OnOk result (logins.Knows self.new (notes.packets_after earlier notice.now)) }
         // All that a witness of a connection is told, up to any notice, is answered so.
-        ensures answered { (key : List ℕ) (frames : List FrameValue) (tail : Tail)
+        ensures answered { (door : DoorValue) (frames : List FrameValue) (tail : Tail)
             (answers : List AnswerValue) (told later : List NoticeValue) →
-            told ++ later ≡ notices_to key [] frames tail answers → notes.AreAnswered [] told }
+            told ++ later ≡ notices_to door [] frames tail answers → notes.AreAnswered [] told }
     {
         match notice {
             Notice::Packet(packet, reply) => self.note_packet(alloc, packet, reply.as_ref()),
