@@ -2,6 +2,7 @@
 use Rattle.std.specs.Prelude.{ℕ, List, [], ◌∷◌, ◌++◌, length, take, drop, Bool, true, false, not}
 use Rattle.std.specs.Prelude.{if◌then◌else◌}
 use Rattle.std.specs.List.{flat_map}
+use Rattle.tac_wire.specs.declared.door.Door.{Door}
 use Rattle.tac_wire.specs.declared.frame.Frame.{Frame}
 use Rattle.tac_wire.specs.Stream.{Tail, open_end, cut}
 use Rattle.tac_conn.specs.declared.packet.Packet.{Packet}
@@ -57,41 +58,42 @@ unless_closed said go_on = if said.closes then said else sent_before said.sent (
 -- what is said to these packets, one after another, on a connection on which others came earlier,
 -- the latest first: to each by what the desk represents after the one before, until the connection
 -- closes; the tail follows them
-unfoldable pub said_to : List ℕ → Meaning → List Packet → List Frame → Tail → Said
-said_to key meaning earlier [] tail =
+unfoldable pub said_to : Door → Meaning → List Packet → List Frame → Tail → Said
+said_to door meaning earlier [] tail =
     record { sent = []; closes = closed_by tail; meaning = meaning }
-said_to key meaning earlier (frame ∷ frames) tail =
-    unless_closed (says meaning (outcome earlier (clear key frame)))
-    (λ next. said_to key next (clear key frame ∷ earlier) frames tail)
+said_to door meaning earlier (frame ∷ frames) tail =
+    unless_closed (says meaning (outcome earlier (clear door frame)))
+    (λ next. said_to door next (clear door frame ∷ earlier) frames tail)
 
 -- what is said to a stream of which so many packets were taken: to the others
-abbrev pub said_from : List ℕ → Meaning → List ℕ → ℕ → Said
-said_from key meaning bytes taken =
-    let parts = cut bytes in
-    said_to key meaning (packets_of key (take taken parts.packets))
+abbrev pub said_from : Door → Meaning → List ℕ → ℕ → Said
+said_from door meaning bytes taken =
+    let parts = cut door bytes in
+    said_to door meaning (packets_of door (take taken parts.packets))
     (drop taken parts.packets) parts.tail
 
 -- what is said to the next packets of it, so many of them
-abbrev pub said_part : List ℕ → Meaning → List ℕ → ℕ → ℕ → Said
-said_part key meaning bytes taken count =
-    let packets = (cut bytes).packets in
-    said_to key meaning (packets_of key (take taken packets)) (take count (drop taken packets))
+abbrev pub said_part : Door → Meaning → List ℕ → ℕ → ℕ → Said
+said_part door meaning bytes taken count =
+    let packets = (cut door bytes).packets in
+    said_to door meaning (packets_of door (take taken packets)) (take count (drop taken packets))
     (open_end [])
 
 -- how many packets are whole in these bytes
-abbrev pub whole_packets : List ℕ → ℕ
-whole_packets bytes = length (cut bytes).packets
+abbrev pub whole_packets : Door → List ℕ → ℕ
+whole_packets door bytes = length (cut door bytes).packets
 
 -- what is said to more bytes, on a connection on which these came before: to the packets that they
 -- complete
-abbrev pub said_on : List ℕ → Meaning → List ℕ → List ℕ → Said
-said_on key meaning before more = said_from key meaning (before ++ more) (whole_packets before)
+abbrev pub said_on : Door → Meaning → List ℕ → List ℕ → Said
+said_on door meaning before more =
+    said_from door meaning (before ++ more) (whole_packets door before)
 
 -- what is said to the first of the packets that they complete, so many of them
-abbrev pub said_first : List ℕ → Meaning → List ℕ → List ℕ → ℕ → Said
-said_first key meaning before more count =
-    said_part key meaning (before ++ more) (whole_packets before) count
+abbrev pub said_first : Door → Meaning → List ℕ → List ℕ → ℕ → Said
+said_first door meaning before more count =
+    said_part door meaning (before ++ more) (whole_packets door before) count
 
--- the bytes of packets as they are sent, under this key
-abbrev pub sent_bytes : List ℕ → List Packet → List ℕ
-sent_bytes key packets = flat_map (sent key) packets
+-- the bytes of packets as they are sent by this door
+abbrev pub sent_bytes : Door → List Packet → List ℕ
+sent_bytes door packets = flat_map (sent door) packets

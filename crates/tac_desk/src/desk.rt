@@ -39,8 +39,8 @@ pub trait Desk: Drop {
         // A login passes exactly for a user who is there, and proves to know the secret.
         ensures passes { (result ≡ Ok Answer.Pass) ↔ Passes (meaning self.old) ask.now }
 
-        // Only a record that is to be stored and an answer with arguments take memory, and a refusal
-        // changes nothing.
+        // Only a record that is to be stored and an answer with arguments take memory, and a
+        // refusal changes nothing.
         ensures sure { takes_memory (meaning self.old) ask.now ≡ false → IsOk result }
         ensures err { OnErr result (meaning self.new ≡ meaning self.old) };
 
