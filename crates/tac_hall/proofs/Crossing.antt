@@ -18,6 +18,7 @@ use Rattle.tac_hall.specs.contracts.entry.Entry as Entry
 use Rattle.tac_hall.specs.contracts.seat.Seat as Seat
 use Rattle.tac_hall.specs.contracts.segment.Segment as Segment
 use denote.RattleType.{RattleType}
+use Rattle.tac_wire.specs.contracts.door.Door as Door
 use Rattle.tac_wire.specs.contracts.key.Key as Key
 use Rattle.tac_desk.specs.declared.desk.Desk as desk
 use Rattle.tac_hall.specs.contracts.laws.Room as Room
@@ -130,6 +131,9 @@ Seat-send = search (Made-send, crosses, sendable) depth 60
 
 pub Key-sync : IsSync Key.the_row
 Key-sync = search (crosses, sendable) depth 60
+
+pub Door-sync : IsSync Door.the_row
+Door-sync = search (crosses, sendable) depth 60
 
 module _ (D : RattleType) (g : desk.Ghosts D.Denot) where
   pub Room-send : IsSend D → IsSend (Room.the_row D g)
