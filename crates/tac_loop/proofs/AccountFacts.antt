@@ -38,10 +38,10 @@ module _ {C V : Type 0} (refuses : C → Ask → HallFault → Type 0) (takes re
           called = noted;
           left = o.left;
           asked = o.asked ∙ ap (λ (l : List Ask). l ++ o.left) asks_same;
-          writes = subst (λ (l : List Answer). WritesSome link.key (served link.key link.heard l) l (Some []) (Some (put link))) answers_same o.writes;
+          writes = subst (λ (l : List Answer). WritesSome link.door (served link.door link.heard l) l (Some []) (Some (put link))) answers_same o.writes;
           told = o.told;
           untold = o.untold;
-          parts = ap (notices link.key link.heard) (sym answers_same) ∙ o.parts;
+          parts = ap (notices link.door link.heard) (sym answers_same) ∙ o.parts;
           took = o.took;
           replies = o.replies;
         },
@@ -52,7 +52,7 @@ module _ {C V S : Type 0} (makes : C → Exchange → C → Type 0) (rests : C �
     (a : IsAccounted makes rests refuses takes refuses_notice first calls next line) where
   -- once it has ended, it was served by exactly the calls of its number
   pub served_by_its_own : (end : End) → line.link.end ≡ Some end
-      → IsServedBy end line.link.key (λ made. made ≡ calls_of line.number calls) (refuses line.link.caller) (λ told refused. TakesUntil takes refuses_notice line.link.first told refused line.link.witness) (traffic_on line.link)
+      → IsServedBy end line.link.door (λ made. made ≡ calls_of line.number calls) (refuses line.link.caller) (λ told refused. TakesUntil takes refuses_notice line.link.first told refused line.link.witness) (traffic_on line.link)
   served_by_its_own end is =
       over_by refuses takes refuses_notice line.link end (calls_of line.number calls) a.called (subst (λ (e : Option End). StandsSo refuses takes refuses_notice e line.link) is a.stands)
 

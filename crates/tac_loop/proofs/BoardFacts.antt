@@ -5,6 +5,7 @@ use Rattle.std.proofs.lemmas.List.Elements.{All-nil, All-append, All-weaker, All
 use Rattle.std.proofs.lemmas.List.{map-append}
 use mathlib.Core.Logic.{dite}
 use native.Mathlib.Decide.{ℕ_discrete}
+use Rattle.tac_wire.specs.declared.door.Door.{Door}
 use Rattle.slab.specs.Slab.{Slab}
 use Rattle.tac_conn.specs.declared.ask.Answer.{Answer}
 use Rattle.tac_conn.specs.declared.ask.Ask.{Ask}
@@ -237,9 +238,9 @@ module _ {C V S : Type 0} (makes : C → Exchange → C → Type 0) (rests : C �
       }
 
   -- one came
-  pub came : (board : Board C V S) (later : List (Option (Line C V S))) (vacant key : ℕ) (device : List ℕ) (witness : V) (socket : S) (line : Line C V S) → Working board → line ≡ came_next device witness socket board → Stands line
+  pub came : (board : Board C V S) (later : List (Option (Line C V S))) (vacant key : ℕ) (door : Door) (witness : V) (socket : S) (line : Line C V S) → Working board → line ≡ came_next door witness socket board → Stands line
       → at board.lines key ≡ None → at later key ≡ Some line → ((other : ℕ) → other ≢ key → at later other ≡ at board.lines other) → Working (record board { lines = later; vacant = vacant; next = board.next + 1 })
-  came board later vacant key device witness socket line h is stands none here rest =
+  came board later vacant key door witness socket line h is stands none here rest =
       let lines = board.lines in
       let next = board.next in
       let n : line.number ≡ next = ap (λ (l : Line C V S). l.number) is in
@@ -308,7 +309,7 @@ module _ {C V S : Type 0} (is : Line C V S → Type 0) where
     all_served keep (Some line) turns key stop was now there s h =
         let then = s.then in
         let stays_so = stays makes rests remaining contents s.goes.steps (woken line) then was.caller now.caller s.goes.goes in
-        let mine = keep line then (record { key = stays_so.key; first = stays_so.first }) (h.0 key line (sym there)) in
+        let mine = keep line then (record { door = stays_so.door; first = stays_so.first }) (h.0 key line (sym there)) in
         subst (AreAll is) (sym s.rest) (
           of_update was.lines (set was.lines key (Some then)) key then (λ k l. is l) (set_here was.lines key line (Some then) (sym there)) (λ other ne. set_else was.lines key other (Some then) ne) mine (λ k l ne e. h.0 k l e),
           h.1,

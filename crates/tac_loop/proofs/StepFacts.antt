@@ -98,21 +98,21 @@ module _ {C V S : Type 0} (makes : C → Exchange → C → Type 0) (rests : C �
   -- ---- what stays
 
   module _ (remaining contents : S → Option (List ℕ)) where
-    -- the key of its device, and its witness at first
+    -- its door, and its witness at first
     pub record Stays (was now : Line C V S) : Type 0 where
-      pub key : now.link.key ≡ was.link.key
+      pub door : now.link.door ≡ was.link.door
       pub first : now.link.first ≡ was.link.first
 
     stays_step : (due : Due) (was now : Line C V S) (before after : C) → StepsAt makes rests remaining contents due was now before after → Stays was now
-    stays_step next.Turn was now before after h = record { key = h.0.key; first = h.0.first }
-    stays_step next.Hear was now before after h = record { key = ap (λ (l : Linked C V). l.key) h.0.same; first = ap (λ (l : Linked C V). l.first) h.0.same }
-    stays_step next.Send was now before after h = record { key = ap (λ (l : Linked C V). l.key) h.0.link; first = ap (λ (l : Linked C V). l.first) h.0.link }
-    stays_step next.Close was now before after h = record { key = ap (λ (l : Line C V S). l.link.key) h.0; first = ap (λ (l : Line C V S). l.link.first) h.0 }
+    stays_step next.Turn was now before after h = record { door = h.0.door; first = h.0.first }
+    stays_step next.Hear was now before after h = record { door = ap (λ (l : Linked C V). l.door) h.0.same; first = ap (λ (l : Linked C V). l.first) h.0.same }
+    stays_step next.Send was now before after h = record { door = ap (λ (l : Linked C V). l.door) h.0.link; first = ap (λ (l : Linked C V). l.first) h.0.link }
+    stays_step next.Close was now before after h = record { door = ap (λ (l : Line C V S). l.link.door) h.0; first = ap (λ (l : Line C V S). l.link.first) h.0 }
 
     pub stays : (n : ℕ) (was now : Line C V S) (before after : C) → Goes makes rests remaining contents n was now before after → Stays was now
     unfolding Goes
-    stays zero was now before after h = record { key = ap (λ (l : Line C V S). l.link.key) h.0; first = ap (λ (l : Line C V S). l.link.first) h.0 }
+    stays zero was now before after h = record { door = ap (λ (l : Line C V S). l.link.door) h.0; first = ap (λ (l : Line C V S). l.link.first) h.0 }
     stays (suc n) was now before after h =
         let s = stays n was h.0 before h.1 h.2 in
         let t = stays_step (due_of h.0.link) h.0 now h.1 after h.3 in
-        record { key = t.key ∙ s.key; first = t.first ∙ s.first }
+        record { door = t.door ∙ s.door; first = t.first ∙ s.first }

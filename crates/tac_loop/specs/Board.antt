@@ -2,6 +2,7 @@
 use Rattle.std.specs.Prelude.{◌≡◌, ◌≢◌, ◌⊎◌, ◌<◌, ◌+◌, ℕ, List, [], ◌∷◌, ◌++◌, map, All}
 use Rattle.std.specs.Prelude.{Contains, Option, Some, None, slice_index_or}
 use Rattle.std.specs.Prelude.{slice_set}
+use Rattle.tac_wire.specs.declared.door.Door.{Door}
 use Rattle.tac_conn.specs.declared.ask.Ask.{Ask}
 use Rattle.tac_audit.specs.declared.notice.Notice.{Notice}
 use Rattle.tac_hall.specs.declared.fault.HallFault.{HallFault}
@@ -60,9 +61,9 @@ module _ {C V S : Type 0} where
 
   -- ---- one more
 
-  -- the next connection, which has this key, witness and socket
-  abbrev pub came : List ℕ → V → S → Board C V S → Line C V S
-  came key witness socket board = begun board.next key witness socket board.caller
+  -- the next connection, which has this door, witness and socket
+  abbrev pub came : Door → V → S → Board C V S → Line C V S
+  came door witness socket board = begun board.next door witness socket board.caller
 
   -- this connection came, and was put under a key that had none
   pub record Adds (line : Line C V S) (key : ℕ) (was now : Board C V S) : Type 0 where

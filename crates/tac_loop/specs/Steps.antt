@@ -2,6 +2,7 @@
 use Rattle.std.specs.Prelude.{◌≡◌, ◌≤◌, ℕ, zero, suc, List, length, take}
 use Rattle.std.specs.Prelude.{Bool, true, false, Option, Some, None}
 use Rattle.std.specs.Io.KnownBytes.{Appends}
+use Rattle.tac_wire.specs.declared.door.Door.{Door}
 use Rattle.tac_worker.specs.declared.due.Due.{Due}
 use Rattle.tac_worker.specs.declared.due.Due.TheVariants as next
 use Rattle.tac_worker.specs.declared.worked.End.{End}
@@ -32,10 +33,10 @@ or_busy None = Busy
 
 module _ {C V S : Type 0} where
   -- a connection on which nothing came
-  abbrev pub begun : ℕ → List ℕ → V → S → C → Line C V S
-  begun number key witness socket caller = record {
+  abbrev pub begun : ℕ → Door → V → S → C → Line C V S
+  begun number door witness socket caller = record {
     number = number;
-    link = fresh key witness caller;
+    link = fresh door witness caller;
     source = record { socket = socket; idle = false; full = false; broken = false };
   }
 

@@ -39,7 +39,7 @@ impl<'a, C: Caller, V: Witness<Notice>, S> Line<'a, C, V, S> {
         socket: S,
         caller: &C,
     ) -> Line<'a, C, V, S>
-        ensures line { result ≡ steps.begun number terms.now.key.now witness socket caller.now }
+        ensures line { result ≡ steps.begun number terms.now.door.now witness socket caller.now }
         ensures stands { linked.StandsSo C.refuses V.takes V.refuses result.link.end result.link }
     {
         let link = Link::new(terms, witness, caller);

@@ -80,7 +80,7 @@ impl<'a, C: Steady, V: Witness<Notice>, S: Read + Write + Drop> Switchboard<'a, 
         }
     }
 
-    /// Adds a connection on which nothing came, whose device has the key of these terms, and
+    /// Adds a connection on which nothing came, which has the door of these terms, and
     /// answers under which key it is served. Where memory is refused, nothing changes, and its
     /// witness and its socket come back. It takes memory only where more are served than ever
     /// before; linear in their count then, and else constant.
@@ -90,7 +90,7 @@ impl<'a, C: Steady, V: Witness<Notice>, S: Read + Write + Drop> Switchboard<'a, 
         witness: V,
         socket: S,
     ) -> Result<usize, NotAdded<V, S>>
-        ensures added { IfOk result (λ key. board.Adds (board.came terms.now.key.now witness socket
+        ensures added { IfOk result (λ key. board.Adds (board.came terms.now.door.now witness socket
             self.old) key self.old self.new) }
         ensures err { OnErr result (self.new ≡ self.old) }
         ensures back { IfErr result (λ not. not ≡ record { witness = witness; socket = socket }) }

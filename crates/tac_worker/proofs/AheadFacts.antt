@@ -39,7 +39,7 @@ module _ {S V : Type 0} (refuses : S → Ask → HallFault → Type 0) (takes re
   pub kept_bare : (link : Inside S V) → link.ahead ≡ None → WaitsForIt link.digest link.ahead → (link.end ≡ Some WriteFault → ⊥) → IsLinked refuses takes refuses_notice link.end (connection_of link) link.stream → IsKept refuses takes refuses_notice link
   kept_bare link none password whole linked = record {
     linked = subst (λ (ahead : Option Ahead). IsLinked refuses takes refuses_notice link.end (connection_of link) (seen_by ahead link.stream)) (sym none) linked;
-    ahead = subst (λ (ahead : Option Ahead). IsAhead link.key.now ahead link.stream) (sym none) tt;
+    ahead = subst (λ (ahead : Option Ahead). IsAhead link.door.now ahead link.stream) (sym none) tt;
     due = λ rests. none;
     password = password;
     whole = whole;
@@ -51,7 +51,7 @@ module _ {S V : Type 0} (refuses : S → Ask → HallFault → Type 0) (takes re
 
   -- something may be found where it doesn't rest
   pub kept_ahead : (was now : Inside S V) → IsKept refuses takes refuses_notice was → was.rests ≡ false → connection_of now ≡ connection_of was → now.end ≡ was.end → seen_by now.ahead now.stream ≡ seen_by was.ahead was.stream
-      → IsAhead now.key.now now.ahead now.stream → now.rests ≡ was.rests → WaitsForIt now.digest now.ahead → IsKept refuses takes refuses_notice now
+      → IsAhead now.door.now now.ahead now.stream → now.rests ≡ was.rests → WaitsForIt now.digest now.ahead → IsKept refuses takes refuses_notice now
   kept_ahead was now kept rests same end seen ahead still password = record {
     linked =
         subst (λ (e : Option End). IsLinked refuses takes refuses_notice e (connection_of now) (seen_by now.ahead now.stream)) (sym end)
@@ -64,25 +64,25 @@ module _ {S V : Type 0} (refuses : S → Ask → HallFault → Type 0) (takes re
   }
 
   -- what was found ahead is the first ask that wasn't called
-  asks_ahead : (link : Linked S V) (was now : Stream) (turn : Result Turn AllocError) → ServingOn refuses takes refuses_notice link was → IsTurnOf link.key was turn now → IsSomeOfPassword (ask_of turn) → AsksPassword link
+  asks_ahead : (link : Linked S V) (was now : Stream) (turn : Result Turn AllocError) → ServingOn refuses takes refuses_notice link was → IsTurnOf link.door was turn now → IsSomeOfPassword (ask_of turn) → AsksPassword link
   asks_ahead link was now (Ok (turns.Packet packet (steps.Asks ask slot))) s n password =
-      let taken = take s.taken (cut s.input).packets in
-      let left = drop s.taken (cut s.input).packets in
-      let earlier = packets_of link.key taken in
-      let f = next_is link.key s.input s.taken packet (steps.Asks ask slot) (n.found s.input s.taken s.ready s.stands) in
-      let later = if slot.single then asks_in link.key (clear link.key f.frame ∷ earlier) f.more else [] in
+      let taken = take s.taken (cut link.door s.input).packets in
+      let left = drop s.taken (cut link.door s.input).packets in
+      let earlier = packets_of link.door taken in
+      let f = next_is link.door s.input s.taken packet (steps.Asks ask slot) (n.found s.input s.taken s.ready s.stands) in
+      let later = if slot.single then asks_in link.door (clear link.door f.frame ∷ earlier) f.more else [] in
       let came = f.serves in
-      let first : asks_in link.key earlier (f.frame ∷ f.more) ≡ ask ∷ later = asks_first link.key earlier f.frame f.more ∙ rw came refl in
+      let first : asks_in link.door earlier (f.frame ∷ f.more) ≡ ask ∷ later = asks_first link.door earlier f.frame f.more ∙ rw came refl in
       let called = ap (map (λ (call : Ask × Answer). call.0)) (noted_made [] s.goes.made link.called s.goes.makes) ∙ asks_called s.goes.made in
       record {
         ask = ask;
         later = later;
         next =
-            ap (asks link.key) (s.read ∙ append-nil s.input)
-            ∙ ap (asks_in link.key []) (sym (take-append-drop s.taken (cut s.input).packets))
+            ap (asks link.door) (s.read ∙ append-nil s.input)
+            ∙ ap (asks_in link.door []) (sym (take-append-drop s.taken (cut link.door s.input).packets))
             ∙ s.goes.handled.asks left
-            ∙ ap (λ (l : List Packet). asks_of s.goes.made ++ asks_in link.key l left) (append-nil earlier)
-            ∙ ap (λ (l : List Frame). asks_of s.goes.made ++ asks_in link.key earlier l) f.left
+            ∙ ap (λ (l : List Packet). asks_of s.goes.made ++ asks_in link.door l left) (append-nil earlier)
+            ∙ ap (λ (l : List Frame). asks_of s.goes.made ++ asks_in link.door earlier l) f.left
             ∙ ap (λ (l : List Ask). asks_of s.goes.made ++ l) first
             ∙ ap (λ (l : List Ask). l ++ ask ∷ later) (sym called);
         password = password;
@@ -100,6 +100,6 @@ module _ {S V : Type 0} (refuses : S → Ask → HallFault → Type 0) (takes re
   asks_password link kept unended password =
       by link.ahead kept.ahead (as_open refuses takes refuses_notice link.end (connection_of link) (seen_by link.ahead link.stream) unended kept.linked).0 password
     where
-      by : (ahead : Option Ahead) → IsAhead link.key.now ahead link.stream → ServingOn refuses takes refuses_notice (connection_of link) (seen_by ahead link.stream) → IsSomeOfPassword (ask_ahead ahead) → AsksPassword (connection_of link)
+      by : (ahead : Option Ahead) → IsAhead link.door.now ahead link.stream → ServingOn refuses takes refuses_notice (connection_of link) (seen_by ahead link.stream) → IsSomeOfPassword (ask_ahead ahead) → AsksPassword (connection_of link)
       by (Some ahead) found s p = asks_ahead (connection_of link) ahead.was.value link.stream ahead.turn s found p
       by None found s p = absurd p

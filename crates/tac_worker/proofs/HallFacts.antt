@@ -1,5 +1,6 @@
 -- Calls that a seat of a hall makes for a connection.
 use Rattle.std.proofs.Common.{◌≡◌, ℕ, List, [], ◌∷◌, ◌++◌, map, Option, Some, None, refl, sym, ap, subst, ◌∙◌, append_assoc, append-nil, arith}
+use Rattle.tac_wire.specs.declared.door.Door.{Door}
 use Rattle.tac_conn.specs.declared.ask.Ask.{Ask}
 use Rattle.tac_audit.specs.declared.notice.Notice.{Notice}
 use Rattle.tac_hall.specs.declared.entry.Made.{Made}
@@ -60,17 +61,17 @@ unrefused_end : (left : List Notice) → LeavesUntold Unwitnessed left → refus
 unrefused_end [] some none = absurd (omega (arith, some))
 unrefused_end (notice ∷ left) some none = cc
 
-pub never_unwitnessed : (end : End) (key : List ℕ) (was now : Calling) (before after old new : Option (List ℕ)) → IsServed end key was now before after old new → end ≡ Unwitnessed → ⊥
-never_unwitnessed end key was now before after old new work e =
+pub never_unwitnessed : (end : End) (door : Door) (was now : Calling) (before after old new : Option (List ℕ)) → IsServed end door was now before after old new → end ≡ Unwitnessed → ⊥
+never_unwitnessed end door was now before after old new work e =
     unrefused_end work.told.left (subst (λ (x : End). LeavesUntold x work.told.left) e work.told.leaves) (subst (λ (x : End). refused_of x work.told.left ≡ None) e work.told.takes)
 
 -- ---- a connection
 
-module _ (end : End) (key : List ℕ) (traffic : Traffic) where
+module _ (end : End) (door : Door) (traffic : Traffic) where
   -- of whoever made these exchanges and was told these notices more may be known
-  pub served_as : (makes others : List Exchange → Type 0) (refuses : Ask → HallFault → Type 0) (tells told : List Notice → Option Notice → Type 0) (work : IsServedBy end key makes refuses tells traffic) → others work.ends.made
+  pub served_as : (makes others : List Exchange → Type 0) (refuses : Ask → HallFault → Type 0) (tells told : List Notice → Option Notice → Type 0) (work : IsServedBy end door makes refuses tells traffic) → others work.ends.made
       → ((notices : List Notice) (refused : Option Notice) → tells notices refused → told notices refused)
-      → IsServedBy end key others refuses told traffic
+      → IsServedBy end door others refuses told traffic
   served_as makes others refuses tells told work m t = record {
     input = work.input;
     read = work.read;
@@ -82,8 +83,8 @@ module _ (end : End) (key : List ℕ) (traffic : Traffic) where
   }
 
   -- with the receipts that the seat got, though it kept none
-  pub served_with_receipts : (was now : Sitting) (are_told : List Notice → Option Notice → Type 0) (work : IsServedAt end key was now are_told traffic)
-      → IsServedBy end key (Makes (record { seat = was; receipts = [] }) (record { seat = now; receipts = map (receipt_for was.number) work.ends.made })) (Refuses now) are_told traffic
+  pub served_with_receipts : (was now : Sitting) (are_told : List Notice → Option Notice → Type 0) (work : IsServedAt end door was now are_told traffic)
+      → IsServedBy end door (Makes (record { seat = was; receipts = [] }) (record { seat = now; receipts = map (receipt_for was.number) work.ends.made })) (Refuses now) are_told traffic
   served_with_receipts was now are_told work =
       let all = work.ends.makes in
       served_as (λ made. AreAllMade MakesOne Rests was made now) (Makes (record { seat = was; receipts = [] }) (record { seat = now; receipts = map (receipt_for was.number) work.ends.made })) (Refuses now) are_told are_told work (record {
@@ -92,15 +93,15 @@ module _ (end : End) (key : List ℕ) (traffic : Traffic) where
         receipts = refl;
       }) (λ notices refused t. t)
 
-pub served_keeping : {V : Type 0} (takes refuses : V → Notice → V → Type 0) (end : End) (key : List ℕ) (before after old new : Option (List ℕ)) (was now : Calling) (seen sees : V)
+pub served_keeping : {V : Type 0} (takes refuses : V → Notice → V → Type 0) (end : End) (door : Door) (before after old new : Option (List ℕ)) (was now : Calling) (seen sees : V)
     → ((witness then : V) (notice : Notice) → refuses witness notice then → ⊥)
-    → IsServedBy end key (λ made. AreAllMade MakesWithReceipt (λ mid end. end ≡ mid) was made now) (λ ask fault. Refuses now.seat ask fault) (λ told refused. TakesUntil takes refuses seen told refused sees)
+    → IsServedBy end door (λ made. AreAllMade MakesWithReceipt (λ mid end. end ≡ mid) was made now) (λ ask fault. Refuses now.seat ask fault) (λ told refused. TakesUntil takes refuses seen told refused sees)
     (record { before = before; after = after; old = old; new = new })
-    → IsServed end key was now before after old new
-served_keeping takes refuses end key before after old new was now seen sees never work =
+    → IsServed end door was now before after old new
+served_keeping takes refuses end door before after old new was now seen sees never work =
     let all = made_at_rest MakesWithReceipt was work.ends.made now work.ends.makes in
     let seats = of_seat was work.ends.made now all in
-    served_as end key (record { before = before; after = after; old = old; new = new }) (λ made. AreAllMade MakesWithReceipt (λ mid end. end ≡ mid) was made now) (Makes was now) (λ ask fault. Refuses now.seat ask fault)
+    served_as end door (record { before = before; after = after; old = old; new = new }) (λ made. AreAllMade MakesWithReceipt (λ mid end. end ≡ mid) was made now) (Makes was now) (λ ask fault. Refuses now.seat ask fault)
     (λ told refused. TakesUntil takes refuses seen told refused sees) (λ told refused. refused ≡ None) work (record {
       number = number_made was.seat work.ends.made now.seat seats;
       view = view_made was.seat work.ends.made now.seat seats;

@@ -2,6 +2,7 @@
 use Rattle.std.proofs.Common.{◌≡◌, ℕ, List, [], ◌++◌, length, ◌<◌, Option, Some, Result, Ok, Err, IsErrAnd, refl, sym, ap, ◌∙◌, append-nil}
 use Rattle.std.specs.Io.KnownBytes.{Consumes, Keeps, IsAtEnd}
 use Rattle.std.proofs.KnownBytes.{Consumes-nil, Consumes-kept}
+use Rattle.tac_wire.specs.declared.door.Door.{Door}
 use Rattle.tac_wire.specs.declared.frame.Frame.{Frame}
 use Rattle.tac_wire.specs.Stream.{Parts, Tail, open_end, fault, cut, continued}
 use Rattle.tac_stream.specs.declared.stream.Stream.{Stream}
@@ -10,23 +11,23 @@ use Rattle.tac_worker.specs.declared.worked.End.TheVariants.{Finished, Memory, R
 use Rattle.tac_worker.specs.Working.{Prolongs, HearsMore, Heard, Noted}
 
 -- after a header that is refused no packet comes; else the open end goes on
-pub prolongs_cut : (piece : List ℕ) → ((bytes more : List ℕ) → cut (bytes ++ more) ≡ continued (cut bytes) more) → Prolongs piece
-prolongs_cut piece law = λ bytes. by_tail bytes (cut bytes).packets (cut bytes).tail refl
+pub prolongs_cut : (piece : List ℕ) → ((door : Door) (bytes more : List ℕ) → cut door (bytes ++ more) ≡ continued door (cut door bytes) more) → Prolongs piece
+prolongs_cut piece law = λ door bytes. by_tail door bytes (cut door bytes).packets (cut door bytes).tail refl
   where
-    by_tail : (bytes : List ℕ) (packets : List Frame) (tail : Tail) → cut bytes ≡ record { packets = packets; tail = tail }
-        → (more : List Frame) × ((cut (bytes ++ piece)).packets ≡ packets ++ more)
-    by_tail bytes packets (open_end rest) e = ((cut (rest ++ piece)).packets, ap (λ (p : Parts). p.packets) (law bytes piece ∙ ap (λ (p : Parts). continued p piece) e))
-    by_tail bytes packets (fault reason) e = ([], ap (λ (p : Parts). p.packets) (law bytes piece ∙ ap (λ (p : Parts). continued p piece) e) ∙ sym (append-nil packets))
+    by_tail : (door : Door) (bytes : List ℕ) (packets : List Frame) (tail : Tail) → cut door bytes ≡ record { packets = packets; tail = tail }
+        → (more : List Frame) × ((cut door (bytes ++ piece)).packets ≡ packets ++ more)
+    by_tail door bytes packets (open_end rest) e = ((cut door (rest ++ piece)).packets, ap (λ (p : Parts). p.packets) (law door bytes piece ∙ ap (λ (p : Parts). continued door p piece) e))
+    by_tail door bytes packets (fault reason) e = ([], ap (λ (p : Parts). p.packets) (law door bytes piece ∙ ap (λ (p : Parts). continued door p piece) e) ∙ sym (append-nil packets))
 
 -- nothing was read
 pub hears_nothing : (before after : Option (List ℕ)) (stream : Stream) → Keeps before after → HearsMore before after stream stream
 hears_nothing before after stream kept = record {
   piece = [];
   read = Consumes-kept before before after [] (Consumes-nil before) kept;
-  prolongs = λ bytes. ([], rw (append-nil bytes) (sym (append-nil (cut bytes).packets)));
+  prolongs = λ door bytes. ([], rw (append-nil bytes) (sym (append-nil (cut door bytes).packets)));
   closed = refl;
   pending = refl;
-  stands = λ key bytes taken open_still stands. rw (append-nil bytes) stands;
+  stands = λ door bytes taken open_still stands. rw (append-nil bytes) stands;
 }
 
 -- a piece was read, and there was no memory for it

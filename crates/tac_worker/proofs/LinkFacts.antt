@@ -2,6 +2,7 @@
 use Rattle.std.proofs.Common.{◌≡◌, ◌≤◌, ℕ, suc, List, [], ◌∷◌, ◌++◌, map, length, take, drop, Bool, true, false, Option, Some, None, Result, Ok, Err, refl, sym, ap, subst, ◌∙◌, append_assoc, append-nil, length-append, arith, true≢false}
 use Rattle.std.proofs.lemmas.List.{take-append-drop, length-map}
 use Rattle.std.specs.Io.KnownBytes.{Appends}
+use Rattle.tac_wire.specs.declared.door.Door.{Door}
 use Rattle.tac_wire.specs.declared.frame.Frame.{Frame}
 use Rattle.tac_wire.specs.Stream.{cut}
 use Rattle.tac_conn.specs.declared.ask.Answer.{Answer}
@@ -72,7 +73,7 @@ module _ {S V : Type 0} (refuses : S → Ask → HallFault → Type 0) (takes re
   Links end link stream = IsLinked refuses takes refuses_notice end link stream
 
   abbrev pub ServingOn : Linked S V → Stream → Type 0
-  ServingOn link stream = Serving IsNoted takes link.key (worker_at [] link.first) (worker_at link.called link.witness) (traffic_on link) stream
+  ServingOn link stream = Serving IsNoted takes link.door (worker_at [] link.first) (worker_at link.called link.witness) (traffic_on link) stream
 
   -- where it hasn't ended
   pub as_open : (end : Option End) (link : Linked S V) (stream : Stream) → end ≡ None → Links end link stream → Links None link stream
@@ -83,11 +84,11 @@ module _ {S V : Type 0} (refuses : S → Ask → HallFault → Type 0) (takes re
 
   -- what was noted is what was called
   over_noted : (link : Linked S V) (end : End)
-      → IsServedBy end link.key (λ made. AreAllMade IsNoted NoneIsNoted [] made link.called) (refuses link.caller) (λ told refused. TakesUntil takes refuses_notice link.first told refused link.witness) (traffic_on link)
+      → IsServedBy end link.door (λ made. AreAllMade IsNoted NoneIsNoted [] made link.called) (refuses link.caller) (λ told refused. TakesUntil takes refuses_notice link.first told refused link.witness) (traffic_on link)
       → IsOver refuses takes refuses_notice link end
   over_noted link end work =
       let all = work.ends.makes in
-      served_as end link.key (traffic_on link) (λ made. AreAllMade IsNoted NoneIsNoted [] made link.called) (λ made. link.called ≡ map answered made) (refuses link.caller)
+      served_as end link.door (traffic_on link) (λ made. AreAllMade IsNoted NoneIsNoted [] made link.called) (λ made. link.called ≡ map answered made) (refuses link.caller)
       (λ told refused. TakesUntil takes refuses_notice link.first told refused link.witness) (λ told refused. TakesUntil takes refuses_notice link.first told refused link.witness) work
       (all.2 ∙ noted_made [] work.ends.made all.0 all.1) (λ notices refused t. t)
 
@@ -96,10 +97,10 @@ module _ {S V : Type 0} (refuses : S → Ask → HallFault → Type 0) (takes re
   -- with these bytes put there
   abbrev LinksBy : List ℕ → Option End → Linked S V → Stream → Type 0
   LinksBy bytes None link stream =
-      (s : Serving IsNoted takes link.key (worker_at [] link.first) (worker_at link.called link.witness) (traffic_of (Some link.heard) (Some []) (Some []) (Some bytes)) stream)
-      × (link.rests ≡ true → IsAtRest IsNoted NoneIsNoted (λ _. refuses link.caller) takes refuses_notice link.key s.input s.taken (worker_at link.called link.witness) (worker_at link.called link.witness) (Some bytes) (Some bytes) stream)
+      (s : Serving IsNoted takes link.door (worker_at [] link.first) (worker_at link.called link.witness) (traffic_of (Some link.heard) (Some []) (Some []) (Some bytes)) stream)
+      × (link.rests ≡ true → IsAtRest IsNoted NoneIsNoted (λ _. refuses link.caller) takes refuses_notice link.door s.input s.taken (worker_at link.called link.witness) (worker_at link.called link.witness) (Some bytes) (Some bytes) stream)
   LinksBy bytes (Some end) link stream =
-      IsServedBy end link.key (λ made. link.called ≡ map answered made) (refuses link.caller) (λ told refused. TakesUntil takes refuses_notice link.first told refused link.witness)
+      IsServedBy end link.door (λ made. link.called ≡ map answered made) (refuses link.caller) (λ told refused. TakesUntil takes refuses_notice link.first told refused link.witness)
       (traffic_of (Some link.heard) (Some []) (Some []) (Some bytes))
 
   put_still : (n : ℕ) (link : Linked S V) → put link ≡ put (after_sending n link)
@@ -112,16 +113,16 @@ module _ {S V : Type 0} (refuses : S → Ask → HallFault → Type 0) (takes re
 
   -- ---- nothing came
 
-  pub linked_first : (key : List ℕ) (witness : V) (caller : S) (stream : Stream) → IsReady stream → Stands key stream [] 0 → Links None (fresh key witness caller) stream
-  linked_first key witness caller stream ready stands =
-      (serving_first IsNoted takes key (worker [] witness) (Some []) (Some []) stream ready stands, λ e. absurd (true≢false (sym e)))
+  pub linked_first : (door : Door) (witness : V) (caller : S) (stream : Stream) → IsReady stream → Stands door stream [] 0 → Links None (fresh door witness caller) stream
+  linked_first door witness caller stream ready stands =
+      (serving_first IsNoted takes door (worker [] witness) (Some []) (Some []) stream ready stands, λ e. absurd (true≢false (sym e)))
 
   -- ---- a read
 
   module _ (link : Linked S V) (piece : List ℕ) (stream then : Stream) (s : ServingOn link stream)
-      (r : IsAtRest IsNoted NoneIsNoted (λ _. refuses link.caller) takes refuses_notice link.key s.input s.taken (worker link.called link.witness) (worker link.called link.witness) (Some (put link)) (Some (put link)) stream) where
+      (r : IsAtRest IsNoted NoneIsNoted (λ _. refuses link.caller) takes refuses_notice link.door s.input s.taken (worker link.called link.witness) (worker link.called link.witness) (Some (put link)) (Some (put link)) stream) where
     -- with more that was to be read
-    abbrev reread : Serving IsNoted takes link.key (worker [] link.first) (worker link.called link.witness) (traffic_of (Some (link.heard ++ piece)) (Some piece) (Some []) (Some (put link))) stream
+    abbrev reread : Serving IsNoted takes link.door (worker [] link.first) (worker link.called link.witness) (traffic_of (Some (link.heard ++ piece)) (Some piece) (Some []) (Some (put link))) stream
     reread = record {
       input = s.input;
       taken = s.taken;
@@ -134,7 +135,7 @@ module _ {S V : Type 0} (refuses : S → Ask → HallFault → Type 0) (takes re
 
     pub linked_more : HearsMore (Some piece) (Some []) stream then → Links None (record link { heard = link.heard ++ piece; rests = false }) then
     linked_more h = (
-      serving_more IsNoted NoneIsNoted (λ x. refl) (λ _. refuses link.caller) takes refuses_notice link.key (worker [] link.first) (worker link.called link.witness) (Some (link.heard ++ piece)) (Some piece) (Some []) (Some (put link)) stream reread
+      serving_more IsNoted NoneIsNoted (λ x. refl) (λ _. refuses link.caller) takes refuses_notice link.door (worker [] link.first) (worker link.called link.witness) (Some (link.heard ++ piece)) (Some piece) (Some []) (Some (put link)) stream reread
           (worker link.called link.witness) (Some (put link)) stream r (Some []) then h,
       λ e. absurd (true≢false (sym e)),
     )
@@ -142,7 +143,7 @@ module _ {S V : Type 0} (refuses : S → Ask → HallFault → Type 0) (takes re
     pub linked_heard : (end : End) → Heard (Err end) (Some piece) (Some []) stream then → Links (Some end) (record link { heard = link.heard ++ piece; end = Some end }) then
     linked_heard end h =
         over_noted (record link { heard = link.heard ++ piece; end = Some end }) end
-        (served_read IsNoted NoneIsNoted (λ x. refl) (λ _. refuses link.caller) takes refuses_notice link.key (worker [] link.first) (worker link.called link.witness) (Some (link.heard ++ piece)) (Some piece) (Some []) (Some (put link)) stream reread
+        (served_read IsNoted NoneIsNoted (λ x. refl) (λ _. refuses link.caller) takes refuses_notice link.door (worker [] link.first) (worker link.called link.witness) (Some (link.heard ++ piece)) (Some piece) (Some []) (Some (put link)) stream reread
         (worker link.called link.witness) (Some (put link)) stream r end (Some []) then h)
 
   -- ---- how it stands
@@ -150,17 +151,17 @@ module _ {S V : Type 0} (refuses : S → Ask → HallFault → Type 0) (takes re
   -- as it would where nothing more is done
   opened : (link : Linked S V) (stream : Stream) → ServingOn link stream → IsOpen refuses takes refuses_notice link
   opened link stream s =
-      let front = take s.taken (cut s.input).packets in
-      let rest = drop s.taken (cut s.input).packets in
+      let front = take s.taken (cut link.door s.input).packets in
+      let rest = drop s.taken (cut link.door s.input).packets in
       let now = worker link.called link.witness in
-      let cut_off = done_memory IsNoted NoneIsNoted (λ _. refuses link.caller) takes refuses_notice link.key (packets_of link.key front ++ []) rest (cut s.input).tail link.called link.called link.witness (Some (put link)) refl in
-      let all : Done IsNoted NoneIsNoted (λ _. refuses link.caller) takes refuses_notice link.key Memory [] (front ++ rest) (cut s.input).tail (worker [] link.first) now (Some []) (Some (put link)) =
-      done-after IsNoted takes link.key [] front (worker [] link.first) now (Some []) (Some (put link)) s.goes NoneIsNoted (λ _. refuses link.caller) refuses_notice Memory rest now (Some (put link)) (cut s.input).tail cut_off in
+      let cut_off = done_memory IsNoted NoneIsNoted (λ _. refuses link.caller) takes refuses_notice link.door (packets_of link.door front ++ []) rest (cut link.door s.input).tail link.called link.called link.witness (Some (put link)) refl in
+      let all : Done IsNoted NoneIsNoted (λ _. refuses link.caller) takes refuses_notice link.door Memory [] (front ++ rest) (cut link.door s.input).tail (worker [] link.first) now (Some []) (Some (put link)) =
+      done-after IsNoted takes link.door [] front (worker [] link.first) now (Some []) (Some (put link)) s.goes NoneIsNoted (λ _. refuses link.caller) refuses_notice Memory rest now (Some (put link)) (cut link.door s.input).tail cut_off in
       let whole =
-      subst (λ (fs : List Frame). Done IsNoted NoneIsNoted (λ _. refuses link.caller) takes refuses_notice link.key Memory [] fs (cut s.input).tail (worker [] link.first) now (Some []) (Some (put link)))
-      (take-append-drop s.taken (cut s.input).packets) all in
+      subst (λ (fs : List Frame). Done IsNoted NoneIsNoted (λ _. refuses link.caller) takes refuses_notice link.door Memory [] fs (cut link.door s.input).tail (worker [] link.first) now (Some []) (Some (put link)))
+      (take-append-drop s.taken (cut link.door s.input).packets) all in
       let d =
-      subst (λ (bytes : List ℕ). Done IsNoted NoneIsNoted (λ _. refuses link.caller) takes refuses_notice link.key Memory [] (cut bytes).packets (cut bytes).tail (worker [] link.first) now (Some []) (Some (put link)))
+      subst (λ (bytes : List ℕ). Done IsNoted NoneIsNoted (λ _. refuses link.caller) takes refuses_notice link.door Memory [] (cut link.door bytes).packets (cut link.door bytes).tail (worker [] link.first) now (Some []) (Some (put link)))
       (sym (s.read ∙ append-nil s.input)) whole in
       let made = d.ends.makes in
       let told = d.told.takes in
@@ -191,21 +192,21 @@ module _ {S V : Type 0} (makes : S → Exchange → S → Type 0) (rests : S →
 
     abbrev pub Went_by : Result Went End → List ℕ → ℕ → Type 0
     Went_by result input taken =
-        Turned (NotesOne makes) (NotesNone rests) (RefusesNoted refuses) takes refuses_notice result link.key input taken (worker (noting before link.called) link.witness) (worker (noting after called) witness)
+        Turned (NotesOne makes) (NotesNone rests) (RefusesNoted refuses) takes refuses_notice result link.door input taken (worker (noting before link.called) link.witness) (worker (noting after called) witness)
         (Some link.pending) (Some pending) then
 
     turned_link : (result : Result Went End) (input : List ℕ) (taken : ℕ) → Went_by result input taken
-        → Turned IsNoted NoneIsNoted (λ _. refuses after) takes refuses_notice result link.key input taken (worker link.called link.witness) (worker called witness) (Some (put link)) (Some (put after_turn)) then
+        → Turned IsNoted NoneIsNoted (λ _. refuses after) takes refuses_notice result link.door input taken (worker link.called link.witness) (worker called witness) (Some (put link)) (Some (put after_turn)) then
     turned_link result input taken t =
         turned_as (NotesOne makes) (NotesNone rests) (RefusesNoted refuses) IsNoted NoneIsNoted (λ _. refuses after) takes refuses_notice (λ (n : Noting S). n.called) (λ was now exchange m. m.1) (λ was now m. m.1)
-        link.key input taken (worker (noting before link.called) link.witness) (worker (noting after called) witness) (Some link.pending) (Some pending) (Some (put link)) (Some (put after_turn)) then
+        link.door input taken (worker (noting before link.called) link.witness) (worker (noting after called) witness) (Some link.pending) (Some pending) (Some (put link)) (Some (put after_turn)) then
         (put_after link.sent link.pending pending) refl result t
 
     module _ (stream : Stream) (s : ServingOn refuses takes refuses_notice link stream) where
       -- a packet was served
       pub linked_on : link.rests ≡ false → Went_by (Ok On) s.input s.taken → Links refuses takes refuses_notice None after_turn then
       linked_on rest t = (
-        serving_on IsNoted NoneIsNoted (λ x. refl) (λ _. refuses after) takes refuses_notice link.key (worker [] link.first) (worker link.called link.witness) (Some link.heard) (Some []) (Some []) (Some (put link)) stream s
+        serving_on IsNoted NoneIsNoted (λ x. refl) (λ _. refuses after) takes refuses_notice link.door (worker [] link.first) (worker link.called link.witness) (Some link.heard) (Some []) (Some []) (Some (put link)) stream s
             (worker called witness) (Some (put after_turn)) then (turned_link (Ok On) s.input s.taken t),
         λ e. absurd (true≢false (sym e ∙ rest)),
       )
@@ -214,7 +215,7 @@ module _ {S V : Type 0} (makes : S → Exchange → S → Type 0) (rests : S →
       pub linked_rests : Went_by (Ok Rests) s.input s.taken → Links refuses takes refuses_notice None (record after_turn { rests = true }) then
       linked_rests went =
           let t =
-          serving_rests IsNoted NoneIsNoted (λ x. refl) (λ _. refuses after) takes refuses_notice link.key (worker [] link.first) (worker link.called link.witness) (Some link.heard) (Some []) (Some []) (Some (put link)) stream s
+          serving_rests IsNoted NoneIsNoted (λ x. refl) (λ _. refuses after) takes refuses_notice link.door (worker [] link.first) (worker link.called link.witness) (Some link.heard) (Some []) (Some []) (Some (put link)) stream s
           (worker called witness) (Some (put after_turn)) then (turned_link (Ok Rests) s.input s.taken went) in
           (t.0, λ e. t.1)
 
@@ -222,7 +223,7 @@ module _ {S V : Type 0} (makes : S → Exchange → S → Type 0) (rests : S →
       pub linked_over : (end : End) → Went_by (Err end) s.input s.taken → Links refuses takes refuses_notice (Some end) (record after_turn { end = Some end }) then
       linked_over end t =
           over_noted refuses takes refuses_notice after_turn end
-          (served_turn IsNoted NoneIsNoted (λ x. refl) (λ _. refuses after) takes refuses_notice link.key (worker [] link.first) (worker link.called link.witness) (Some link.heard) (Some []) (Some []) (Some (put link)) stream s
+          (served_turn IsNoted NoneIsNoted (λ x. refl) (λ _. refuses after) takes refuses_notice link.door (worker [] link.first) (worker link.called link.witness) (Some link.heard) (Some []) (Some []) (Some (put link)) stream s
           end (worker called witness) (Some (put after_turn)) (turned_link (Err end) s.input s.taken t))
 
     -- the caller made this, and it was noted
@@ -252,7 +253,7 @@ module _ {S V : Type 0} (makes : S → Exchange → S → Type 0) (rests : S →
           makes = all;
           called = noted;
           caller = refl;
-          key = refl;
+          door = refl;
           heard = refl;
           sent = refl;
           first = refl;
@@ -277,7 +278,7 @@ answers_noted (exchange ∷ made) = ap (λ (l : List Answer). exchange.answer �
 module _ {S V : Type 0} (refuses : S → Ask → HallFault → Type 0) (takes refuses_notice : V → Notice → V → Type 0) where
   -- whoever knows which exchanges were made for it, knows that it was served by these
   pub over_by : (link : Linked S V) (end : End) (made : List Exchange) → link.called ≡ map answered made → IsOver refuses takes refuses_notice link end
-      → IsServedBy end link.key (λ others. others ≡ made) (refuses link.caller) (λ told refused. TakesUntil takes refuses_notice link.first told refused link.witness) (traffic_on link)
+      → IsServedBy end link.door (λ others. others ≡ made) (refuses link.caller) (λ told refused. TakesUntil takes refuses_notice link.first told refused link.witness) (traffic_on link)
   over_by link end made noted work =
       let same : map answered work.ends.made ≡ map answered made = sym work.ends.makes ∙ noted in
       let asks_same : asks_of work.ends.made ≡ asks_of made = asks_noted work.ends.made ∙ ap (map (λ (call : Ask × Answer). call.0)) same ∙ sym (asks_noted made) in
@@ -294,7 +295,7 @@ module _ {S V : Type 0} (refuses : S → Ask → HallFault → Type 0) (takes re
           left = work.ends.left;
           asks = work.ends.asks ∙ ap (λ (l : List Ask). l ++ work.ends.left) asks_same;
           leaves = work.ends.leaves;
-          writes = subst (λ (l : List Answer). Writes end link.key (served link.key work.input l) l (Some []) (Some (put link))) answers_same work.ends.writes;
+          writes = subst (λ (l : List Answer). Writes end link.door (served link.door work.input l) l (Some []) (Some (put link))) answers_same work.ends.writes;
         };
-        told = subst (λ (l : List Answer). Tells end link.key (notices link.key work.input l) (λ told refused. TakesUntil takes refuses_notice link.first told refused link.witness) (Some []) (Some (put link))) answers_same work.told;
+        told = subst (λ (l : List Answer). Tells end link.door (notices link.door work.input l) (λ told refused. TakesUntil takes refuses_notice link.first told refused link.witness) (Some []) (Some (put link))) answers_same work.told;
       }

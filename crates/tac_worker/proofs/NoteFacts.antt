@@ -1,6 +1,7 @@
 -- What is noted of a turn.
 use Rattle.std.proofs.Common.{◌≡◌, ℕ, List, [], ◌∷◌, ◌++◌, map, Option, Result, Ok, Err, refl, sym, ap, subst, ◌∙◌, append_assoc, append-nil}
 use Rattle.std.specs.Io.KnownBytes.{Appends}
+use Rattle.tac_wire.specs.declared.door.Door.{Door}
 use Rattle.tac_conn.specs.declared.ask.Answer.{Answer}
 use Rattle.tac_conn.specs.declared.ask.Ask.{Ask}
 use Rattle.tac_audit.specs.declared.notice.Notice.{Notice}
@@ -32,29 +33,29 @@ noted_made was (exchange ∷ made) now m =
 -- ---- who is told of what was written
 
 module _ (old new before after : Option (List ℕ)) (lift : (bytes : List ℕ) → Appends old new bytes → Appends before after bytes) where
-  writes_as : (end : End) (key : List ℕ) (sendings : List Sending) (answers : List Answer) → Writes end key sendings answers old new → Writes end key sendings answers before after
-  writes_as Finished key sendings answers w = lift _ w
-  writes_as ByProtocol key sendings answers w = lift _ w
-  writes_as Stopped key sendings answers w = lift _ w
-  writes_as LogFull key sendings answers w = lift _ w
-  writes_as Memory key sendings answers w = record { first = w.first; others = w.others; parts = w.parts; carries = w.carries; written = lift _ w.written }
-  writes_as ReadFault key sendings answers w = lift _ w
-  writes_as WriteFault key sendings answers w = record { first = w.first; others = w.others; parts = w.parts; some_left = w.some_left; written = lift _ w.written }
-  writes_as Unwitnessed key sendings answers w = record { first = w.first; next = w.next; others = w.others; parts = w.parts; one = w.one; carries = w.carries; written = lift _ w.written }
-  writes_as Held key sendings answers w = lift _ w
-  writes_as NoSeat key sendings answers w = lift _ w
+  writes_as : (end : End) (door : Door) (sendings : List Sending) (answers : List Answer) → Writes end door sendings answers old new → Writes end door sendings answers before after
+  writes_as Finished door sendings answers w = lift _ w
+  writes_as ByProtocol door sendings answers w = lift _ w
+  writes_as Stopped door sendings answers w = lift _ w
+  writes_as LogFull door sendings answers w = lift _ w
+  writes_as Memory door sendings answers w = record { first = w.first; others = w.others; parts = w.parts; carries = w.carries; written = lift _ w.written }
+  writes_as ReadFault door sendings answers w = lift _ w
+  writes_as WriteFault door sendings answers w = record { first = w.first; others = w.others; parts = w.parts; some_left = w.some_left; written = lift _ w.written }
+  writes_as Unwitnessed door sendings answers w = record { first = w.first; next = w.next; others = w.others; parts = w.parts; one = w.one; carries = w.carries; written = lift _ w.written }
+  writes_as Held door sendings answers w = lift _ w
+  writes_as NoSeat door sendings answers w = lift _ w
 
-  told_as : (end : End) (key : List ℕ) (told : List Notice) → WritesTold end key told old new → WritesTold end key told before after
-  told_as Finished key told w = lift _ w
-  told_as ByProtocol key told w = lift _ w
-  told_as Stopped key told w = lift _ w
-  told_as LogFull key told w = lift _ w
-  told_as Memory key told w = lift _ w
-  told_as ReadFault key told w = lift _ w
-  told_as WriteFault key told w = record { before = w.before; last = w.last; parts = w.parts; first = w.first; others = w.others; cuts = w.cuts; some_left = w.some_left; written = lift _ w.written }
-  told_as Unwitnessed key told w = lift _ w
-  told_as Held key told w = lift _ w
-  told_as NoSeat key told w = lift _ w
+  told_as : (end : End) (door : Door) (told : List Notice) → WritesTold end door told old new → WritesTold end door told before after
+  told_as Finished door told w = lift _ w
+  told_as ByProtocol door told w = lift _ w
+  told_as Stopped door told w = lift _ w
+  told_as LogFull door told w = lift _ w
+  told_as Memory door told w = lift _ w
+  told_as ReadFault door told w = lift _ w
+  told_as WriteFault door told w = record { before = w.before; last = w.last; parts = w.parts; first = w.first; others = w.others; cuts = w.cuts; some_left = w.some_left; written = lift _ w.written }
+  told_as Unwitnessed door told w = lift _ w
+  told_as Held door told w = lift _ w
+  told_as NoSeat door told w = lift _ w
 
 -- ---- a turn, of whose caller less is known
 
@@ -71,10 +72,10 @@ module _ {S T V : Type 0} (step : S → Exchange → S → Type 0) (rests : S �
   pub all_made_as : (was : S) (made : List Exchange) (now : S) → AreAllMade step rests was made now → AreAllMade other_step other_rests (less was) made (less now)
   all_made_as was made now m = (less m.0, made_as was made m.0 m.1, rests_less m.0 now m.2)
 
-  module _ (key bytes : List ℕ) (taken : ℕ) (was now : Worker S V) (old new before after : Option (List ℕ)) (stream : Stream) (lift : (written : List ℕ) → Appends old new written → Appends before after written)
+  module _ (door : Door) (bytes : List ℕ) (taken : ℕ) (was now : Worker S V) (old new before after : Option (List ℕ)) (stream : Stream) (lift : (written : List ℕ) → Appends old new written → Appends before after written)
       (refused : ◌≡◌ {A = Ask → HallFault → Type 0} (other_refuses (less now.caller)) (refuses now.caller)) where
-    pub turned_as : (result : Result Went End) → Turned step rests refuses takes refuses_notice result key bytes taken was now old new stream
-        → Turned other_step other_rests other_refuses takes refuses_notice result key bytes taken (worker_as was) (worker_as now) before after stream
+    pub turned_as : (result : Result Went End) → Turned step rests refuses takes refuses_notice result door bytes taken was now old new stream
+        → Turned other_step other_rests other_refuses takes refuses_notice result door bytes taken (worker_as was) (worker_as now) before after stream
     turned_as (Ok On) t = record {
       frame = t.frame;
       more = t.more;
@@ -103,7 +104,7 @@ module _ {S T V : Type 0} (step : S → Exchange → S → Type 0) (rests : S �
         left = t.ends.left;
         asks = t.ends.asks;
         leaves = subst (λ (r : Ask → HallFault → Type 0). Leaves end r t.ends.left) (sym refused) t.ends.leaves;
-        writes = writes_as old new before after lift end key _ _ t.ends.writes;
+        writes = writes_as old new before after lift end door _ _ t.ends.writes;
       };
       told = record {
         told = t.told.told;
@@ -111,15 +112,15 @@ module _ {S T V : Type 0} (step : S → Exchange → S → Type 0) (rests : S �
         parts = t.told.parts;
         takes = t.told.takes;
         leaves = t.told.leaves;
-        writes = told_as old new before after lift end key _ t.told.writes;
+        writes = told_as old new before after lift end door _ t.told.writes;
       };
     }
 
 -- of the notes nothing is known
 pub turned_unnoted : {S V : Type 0} (makes : S → Exchange → S → Type 0) (rests : S → S → Type 0) (refuses : S → Ask → HallFault → Type 0) (takes refuses_notice : V → Notice → V → Type 0)
-    (result : Result Went End) (key bytes : List ℕ) (taken : ℕ) (was now : Worker (Noting S) V) (old new : Option (List ℕ)) (stream : Stream)
-    → Turned (NotesOne makes) (NotesNone rests) (RefusesNoted refuses) takes refuses_notice result key bytes taken was now old new stream
-    → Turned makes rests refuses takes refuses_notice result key bytes taken (record { caller = was.caller.caller; witness = was.witness }) (record { caller = now.caller.caller; witness = now.witness }) old new stream
-turned_unnoted {S} makes rests refuses takes refuses_notice result key bytes taken was now old new stream t =
+    (result : Result Went End) (door : Door) (bytes : List ℕ) (taken : ℕ) (was now : Worker (Noting S) V) (old new : Option (List ℕ)) (stream : Stream)
+    → Turned (NotesOne makes) (NotesNone rests) (RefusesNoted refuses) takes refuses_notice result door bytes taken was now old new stream
+    → Turned makes rests refuses takes refuses_notice result door bytes taken (record { caller = was.caller.caller; witness = was.witness }) (record { caller = now.caller.caller; witness = now.witness }) old new stream
+turned_unnoted {S} makes rests refuses takes refuses_notice result door bytes taken was now old new stream t =
     turned_as (NotesOne makes) (NotesNone rests) (RefusesNoted refuses) makes rests refuses takes refuses_notice (λ (n : Noting S). n.caller) (λ was now exchange m. m.0) (λ was now m. m.0)
-    key bytes taken was now old new old new stream (λ written w. w) refl result t
+    door bytes taken was now old new old new stream (λ written w. w) refl result t

@@ -1,5 +1,6 @@
 -- What is told is what is sent.
-use Rattle.std.proofs.Common.{◌≡◌, ℕ, List, [], ◌∷◌, map, Bool, true, false, if◌then◌else◌, refl, ap}
+use Rattle.std.proofs.Common.{◌≡◌, List, [], ◌∷◌, map, Bool, true, false, if◌then◌else◌, refl, ap}
+use Rattle.tac_wire.specs.declared.door.Door.{Door}
 use Rattle.tac_wire.specs.declared.frame.Frame.{Frame}
 use Rattle.tac_wire.specs.Stream.{Tail, open_end, fault}
 use Rattle.tac_conn.specs.declared.ask.Answer.{Answer}
@@ -50,13 +51,13 @@ unfolding packets_told packets_sent
 tail_same (open_end rest) = refl
 tail_same (fault refused) = refl
 
-all_same : (key : List ℕ) (earlier : List Packet) (frames : List Frame) (tail : Tail) (answers : List Answer)
-    → packets_told (notices_to key earlier frames tail answers) ≡ packets_sent (served_to key earlier frames answers)
+all_same : (door : Door) (earlier : List Packet) (frames : List Frame) (tail : Tail) (answers : List Answer)
+    → packets_told (notices_to door earlier frames tail answers) ≡ packets_sent (served_to door earlier frames answers)
 unfolding notices_to served_to
-all_same key earlier [] tail answers = tail_same tail
-all_same key earlier (frame ∷ frames) tail answers =
-    one_same (clear key frame) (λ left. notices_to key (clear key frame ∷ earlier) frames tail left) (λ left. served_to key (clear key frame ∷ earlier) frames left)
-    (λ left. all_same key (clear key frame ∷ earlier) frames tail left) (outcome earlier (clear key frame)) answers
+all_same door earlier [] tail answers = tail_same tail
+all_same door earlier (frame ∷ frames) tail answers =
+    one_same (clear door frame) (λ left. notices_to door (clear door frame ∷ earlier) frames tail left) (λ left. served_to door (clear door frame ∷ earlier) frames left)
+    (λ left. all_same door (clear door frame ∷ earlier) frames tail left) (outcome earlier (clear door frame)) answers
 
 pub replies_law : ToldLaw
 unfolding packets_told packets_sent

@@ -5,6 +5,7 @@ use Rattle.std.specs.declared.alloc.AllocError.{AllocError}
 use Rattle.tac_conn.specs.declared.ask.Ask.{Ask}
 use Rattle.tac_conn.specs.declared.step.Step.{Step}
 use Rattle.tac_conn.specs.declared.step.Step.TheVariants as steps
+use Rattle.tac_wire.specs.declared.door.Door.{Door}
 use Rattle.tac_wire.specs.Stream.{cut}
 use Rattle.tac_stream.specs.declared.stream.Stream.{Stream}
 use Rattle.tac_stream.specs.declared.turn.Turn.{Turn}
@@ -18,18 +19,18 @@ use Rattle.tac_worker.specs.declared.link.Digest.TheVariants as digests
 use Rattle.tac_worker.specs.Linked.{IsOfPassword}
 
 -- it is the turn of what stood first on this stream, which is the other one since
-pub record IsTurnOf (key : List ℕ) (was : Stream) (turn : Result Turn AllocError) (now : Stream)
+pub record IsTurnOf (door : Door) (was : Stream) (turn : Result Turn AllocError) (now : Stream)
     : Type 0 where
-  pub found : (bytes : List ℕ) (taken : ℕ) → IsReady was → Stands key was bytes taken
-      → IfOk turn (IsTurn key bytes taken)
-  pub stands : (bytes : List ℕ) (taken : ℕ) → IsReady was → Stands key was bytes taken
-      → IfOk turn (λ turn. StandsAfter turn key now bytes taken)
+  pub found : (bytes : List ℕ) (taken : ℕ) → IsReady was → Stands door was bytes taken
+      → IfOk turn (IsTurn door bytes taken)
+  pub stands : (bytes : List ℕ) (taken : ℕ) → IsReady was → Stands door was bytes taken
+      → IfOk turn (λ turn. StandsAfter turn door now bytes taken)
   pub closed : closed_of now ≡ closes_by turn
   pub pending : IsReady was → IfOk turn (λ turn. pending_of now ≡ slot_in turn)
   pub waits : IfOk turn (λ turn. Waits turn now)
   pub kind : IfOk turn HasItsSlot
-  pub memory : (bytes : List ℕ) (taken : ℕ) → Stands key was bytes taken
-      → OnErr turn (taken < length (cut bytes).packets)
+  pub memory : (bytes : List ℕ) (taken : ℕ) → Stands door was bytes taken
+      → OnErr turn (taken < length (cut door bytes).packets)
 
 -- the stream as though nothing were found ahead
 abbrev pub seen_by : Option Ahead → Stream → Stream
@@ -37,8 +38,8 @@ seen_by (Some ahead) stream = ahead.was.value
 seen_by None stream = stream
 
 -- what is found ahead is the turn of what stands first
-abbrev pub IsAhead : List ℕ → Option Ahead → Stream → Type 0
-IsAhead key ahead stream = IfSome ahead (λ ahead. IsTurnOf key ahead.was.value ahead.turn stream)
+abbrev pub IsAhead : Door → Option Ahead → Stream → Type 0
+IsAhead door ahead stream = IfSome ahead (λ ahead. IsTurnOf door ahead.was.value ahead.turn stream)
 
 -- ---- a password in what is found
 

@@ -1,6 +1,7 @@
 -- What a seat of a desk that many share has done for a connection.
-use Rattle.std.proofs.Common.{ℕ, List, [], Option, refl, sym, append-nil}
+use Rattle.std.proofs.Common.{List, [], Option, refl, sym, append-nil}
 use Rattle.std.proofs.lemmas.List.Elements.{All-nil}
+use Rattle.tac_wire.specs.declared.door.Door.{Door}
 use Rattle.tac_conn.specs.declared.ask.Ask.{Ask}
 use Rattle.tac_audit.specs.declared.notice.Notice.{Notice}
 use Rattle.tac_forum.specs.History.{Opening}
@@ -31,8 +32,8 @@ abbrev pub Refuses : Opening → Seated → Ask → HallFault → Type 0
 Refuses opening seat ask fault = IsRefused opening seat (calls.Ask ask) fault
 
 -- a connection was served by calls of this seat, and its witness was told so
-abbrev pub IsServedAt : Opening → End → List ℕ → Seated → Seated
+abbrev pub IsServedAt : Opening → End → Door → Seated → Seated
     → (List Notice → Option Notice → Type 0) → Traffic → Type 0
-IsServedAt opening end key was now are_told traffic =
-    IsServedBy end key (λ made. AreAllMade (MakesOne opening) CatchesUp was made now)
+IsServedAt opening end door was now are_told traffic =
+    IsServedBy end door (λ made. AreAllMade (MakesOne opening) CatchesUp was made now)
     (Refuses opening now) are_told traffic

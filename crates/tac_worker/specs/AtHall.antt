@@ -1,5 +1,6 @@
 -- What a seat of a hall has done for a connection.
-use Rattle.std.specs.Prelude.{◌≡◌, ℕ, List, [], ◌∷◌, ◌++◌, Option}
+use Rattle.std.specs.Prelude.{◌≡◌, List, [], ◌∷◌, ◌++◌, Option}
+use Rattle.tac_wire.specs.declared.door.Door.{Door}
 use Rattle.tac_conn.specs.declared.ask.Ask.{Ask}
 use Rattle.tac_audit.specs.declared.notice.Notice.{Notice}
 use Rattle.tac_hall.specs.declared.call.Call.TheVariants as calls
@@ -29,8 +30,8 @@ abbrev pub Refuses : Sitting → Ask → HallFault → Type 0
 Refuses seat ask fault = IsRefused seat (calls.Ask ask) fault
 
 -- a connection was served by calls of this seat, and its witness was told so
-abbrev pub IsServedAt : End → List ℕ → Sitting → Sitting
+abbrev pub IsServedAt : End → Door → Sitting → Sitting
     → (List Notice → Option Notice → Type 0) → Traffic → Type 0
-IsServedAt end key was now are_told traffic =
-    IsServedBy end key (λ made. AreAllMade MakesOne Rests was made now) (Refuses now)
+IsServedAt end door was now are_told traffic =
+    IsServedBy end door (λ made. AreAllMade MakesOne Rests was made now) (Refuses now)
     are_told traffic

@@ -2,6 +2,7 @@
 use Rattle.std.specs.Prelude.{◌≡◌, ◌≤◌, ℕ, List, [], ◌∷◌, ◌++◌, map, length, take, drop}
 use Rattle.std.specs.Prelude.{Bool, true, false, Option, Some, None}
 use Rattle.std.specs.Io.KnownBytes.{Consumes, IsAtEnd}
+use Rattle.tac_wire.specs.declared.door.Door.{Door}
 use Rattle.tac_conn.specs.declared.ask.Answer.{Answer}
 use Rattle.tac_conn.specs.declared.ask.Ask.{Ask}
 use Rattle.tac_conn.specs.declared.ask.Ask.TheVariants.{Authenticate, Authorise, Serve, Account}
@@ -24,8 +25,8 @@ use Rattle.tac_worker.specs.Working.{Serving, IsAtRest}
 
 -- a connection, with what came on it, what was called for it, and what was put on it to be sent
 pub record Linked (S V : Type 0) : Type 0 where
-  -- the key of its device
-  pub key : List ℕ
+  -- by which its packets come and go
+  pub door : Door
   -- the bytes that reads gave
   pub heard : List ℕ
   -- the asks that were called for it, each with its answer
@@ -72,9 +73,9 @@ module _ {S V : Type 0} where
   -- ---- a connection
 
   -- on which nothing came
-  abbrev pub fresh : List ℕ → V → S → Linked S V
-  fresh key witness caller = record {
-    key = key;
+  abbrev pub fresh : Door → V → S → Linked S V
+  fresh door witness caller = record {
+    door = door;
     heard = [];
     called = [];
     sent = [];
@@ -94,7 +95,7 @@ module _ {S V : Type 0} where
   pub record AsksPassword (link : Linked S V) : Type 0 where
     pub ask : Ask
     pub later : List Ask
-    pub next : asks link.key link.heard ≡ map (λ call. call.0) link.called ++ ask ∷ later
+    pub next : asks link.door link.heard ≡ map (λ call. call.0) link.called ++ ask ∷ later
     pub password : IsOfPassword ask
 
   -- what came is all that was to be read, and nothing was written before what was put on it
@@ -112,7 +113,7 @@ module _ {S V : Type 0} (refuses : S → Ask → HallFault → Type 0)
   -- it ended so: `serve` says the same of a reader of these bytes
   abbrev pub IsOver : Linked S V → End → Type 0
   IsOver link end =
-      IsServedBy end link.key (λ made. link.called ≡ map answered made) (refuses link.caller)
+      IsServedBy end link.door (λ made. link.called ≡ map answered made) (refuses link.caller)
       (λ told refused. TakesUntil takes refuses_notice link.first told refused link.witness)
       (traffic_on link)
 
@@ -123,14 +124,14 @@ module _ {S V : Type 0} (refuses : S → Ask → HallFault → Type 0)
     pub made : List Exchange
     pub called : link.called ≡ map answered made
     pub left : List Ask
-    pub asked : asks link.key link.heard ≡ asks_of made ++ left
-    pub writes : WritesSome link.key (served link.key link.heard (answers_of made))
+    pub asked : asks link.door link.heard ≡ asks_of made ++ left
+    pub writes : WritesSome link.door (served link.door link.heard (answers_of made))
         (answers_of made) (Some []) (Some (put link))
     pub told : List Notice
     pub untold : List Notice
-    pub parts : notices link.key link.heard (answers_of made) ≡ told ++ untold
+    pub parts : notices link.door link.heard (answers_of made) ≡ told ++ untold
     pub took : AreTold takes link.first told link.witness
-    pub replies : put link ≡ bytes_told link.key told
+    pub replies : put link ≡ bytes_told link.door told
 
   -- so it stands, whether it ended or is open
   abbrev pub StandsSo : Option End → Linked S V → Type 0
@@ -143,13 +144,13 @@ module _ {S V : Type 0} (refuses : S → Ask → HallFault → Type 0)
   abbrev pub Rested : Linked S V → Stream → List ℕ → ℕ → Type 0
   Rested link stream input taken =
       link.rests ≡ true → IsAtRest IsNoted NoneIsNoted (λ _. refuses link.caller) takes
-      refuses_notice link.key input taken (worker_at link.called link.witness)
+      refuses_notice link.door input taken (worker_at link.called link.witness)
       (worker_at link.called link.witness) (Some (put link)) (Some (put link)) stream
 
   -- while it is open all that came is served, as far as it was taken
   abbrev pub IsLinked : Option End → Linked S V → Stream → Type 0
   IsLinked None link stream =
-      (s : Serving IsNoted takes link.key (worker_at [] link.first)
+      (s : Serving IsNoted takes link.door (worker_at [] link.first)
       (worker_at link.called link.witness) (traffic_on link) stream)
       × Rested link stream s.input s.taken
   IsLinked (Some end) link stream = IsOver link end
@@ -165,7 +166,7 @@ module _ {S V : Type 0} where
     pub makes : AreAllMade step rest before made after
     pub called : now.called ≡ was.called ++ map answered made
     pub caller : now.caller ≡ after
-    pub key : now.key ≡ was.key
+    pub door : now.door ≡ was.door
     pub heard : now.heard ≡ was.heard
     pub sent : now.sent ≡ was.sent
     pub first : now.first ≡ was.first

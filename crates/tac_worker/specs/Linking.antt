@@ -11,7 +11,7 @@ use Rattle.tac_worker.specs.Linked.{Linked, IsLinked}
 module _ {S V : Type 0} where
   abbrev pub connection_of : Inside S V → Linked S V
   connection_of link = record {
-    key = link.key.now;
+    door = link.door.now;
     heard = link.pieces;
     called = link.called;
     sent = link.sent;
@@ -28,7 +28,7 @@ module _ {S V : Type 0} where
       (takes refuses_notice : V → Notice → V → Type 0) (link : Inside S V) : Type 0 where
     pub linked : IsLinked refuses takes refuses_notice link.end (connection_of link)
         (seen_by link.ahead link.stream)
-    pub ahead : IsAhead link.key.now link.ahead link.stream
+    pub ahead : IsAhead link.door.now link.ahead link.stream
     pub due : link.rests ≡ true → link.ahead ≡ None
     pub password : WaitsForIt link.digest link.ahead
     -- what waits never fails to take a reply

@@ -2,6 +2,7 @@
 -- ask (RFC 8907, section 4). No desk stands here: the answers are taken as they are.
 use Rattle.std.specs.Prelude.{ℕ, List, [], ◌∷◌, flat_map, filter_map, Bool, ◌||◌}
 use Rattle.std.specs.Prelude.{Option, Some, None, if◌then◌else◌}
+use Rattle.tac_wire.specs.declared.door.Door.{Door}
 use Rattle.tac_wire.specs.declared.frame.Frame.{Frame}
 use Rattle.tac_wire.specs.Stream.{cut}
 use Rattle.tac_conn.specs.declared.ask.Answer.{Answer}
@@ -58,35 +59,35 @@ asked_by Close later = []
 
 -- the same for these packets, one after another, on a connection on which others came earlier, the
 -- latest first
-unfoldable pub served_to : List ℕ → List Packet → List Frame → List Answer → List Sending
-served_to key earlier [] answers = []
-served_to key earlier (frame ∷ frames) answers =
-    served_for (outcome earlier (clear key frame)) answers
-    (λ left. served_to key (clear key frame ∷ earlier) frames left)
+unfoldable pub served_to : Door → List Packet → List Frame → List Answer → List Sending
+served_to door earlier [] answers = []
+served_to door earlier (frame ∷ frames) answers =
+    served_for (outcome earlier (clear door frame)) answers
+    (λ left. served_to door (clear door frame ∷ earlier) frames left)
 
-unfoldable pub asks_in : List ℕ → List Packet → List Frame → List Ask
-asks_in key earlier [] = []
-asks_in key earlier (frame ∷ frames) =
-    asked_by (outcome earlier (clear key frame)) (asks_in key (clear key frame ∷ earlier) frames)
+unfoldable pub asks_in : Door → List Packet → List Frame → List Ask
+asks_in door earlier [] = []
+asks_in door earlier (frame ∷ frames) =
+    asked_by (outcome earlier (clear door frame)) (asks_in door (clear door frame ∷ earlier) frames)
 
 -- ---- to a stream
 
 -- what is sent for these bytes: each ask takes the next answer
-abbrev pub served : List ℕ → List ℕ → List Answer → List Sending
-served key bytes answers = served_to key [] (cut bytes).packets answers
+abbrev pub served : Door → List ℕ → List Answer → List Sending
+served door bytes answers = served_to door [] (cut door bytes).packets answers
 
 -- what these bytes ask
-abbrev pub asks : List ℕ → List ℕ → List Ask
-asks key bytes = asks_in key [] (cut bytes).packets
+abbrev pub asks : Door → List ℕ → List Ask
+asks door bytes = asks_in door [] (cut door bytes).packets
 
 -- whether these bytes close the connection
-abbrev pub closes : List ℕ → List ℕ → Bool
-closes key bytes =
-    let parts = cut bytes in is_closed (packets_of key parts.packets) || closed_by parts.tail
+abbrev pub closes : Door → List ℕ → Bool
+closes door bytes =
+    let parts = cut door bytes in is_closed (packets_of door parts.packets) || closed_by parts.tail
 
--- the bytes that are sent, under this key
-abbrev pub bytes_sent : List ℕ → List Sending → List ℕ
-bytes_sent key sendings = flat_map (λ sending. sent key sending.packet) sendings
+-- the bytes that are sent, by this door
+abbrev pub bytes_sent : Door → List Sending → List ℕ
+bytes_sent door sendings = flat_map (λ sending. sent door sending.packet) sendings
 
 -- the answers that are sent
 abbrev pub carried : List Sending → List Answer

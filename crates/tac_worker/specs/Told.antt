@@ -3,6 +3,7 @@
 use Rattle.std.specs.Prelude.{◌≡◌, ◌<◌, ℕ, List, [], ◌∷◌, ◌++◌, length, map, flat_map}
 use Rattle.std.specs.Prelude.{Option, Some, None}
 use Rattle.std.specs.Io.KnownBytes.{Appends}
+use Rattle.tac_wire.specs.declared.door.Door.{Door}
 use Rattle.tac_wire.specs.declared.frame.Frame.{Frame}
 use Rattle.tac_wire.specs.Stream.{Tail, cut}
 use Rattle.tac_conn.specs.declared.ask.Answer.{Answer}
@@ -19,21 +20,21 @@ use Rattle.tac_worker.specs.Served.{served_to}
 -- ---- of a stream
 
 -- what there is to tell of these bytes: each ask takes the next answer
-abbrev pub notices : List ℕ → List ℕ → List Answer → List Notice
-notices key bytes answers =
-    let parts = cut bytes in notices_to key [] parts.packets parts.tail answers
+abbrev pub notices : Door → List ℕ → List Answer → List Notice
+notices door bytes answers =
+    let parts = cut door bytes in notices_to door [] parts.packets parts.tail answers
 
--- the bytes of the replies that are told, under this key
-abbrev pub bytes_told : List ℕ → List Notice → List ℕ
-bytes_told key told = flat_map (λ reply. sent key (packet_of reply)) (replies_told told)
+-- the bytes of the replies that are told, as they are sent by this door
+abbrev pub bytes_told : Door → List Notice → List ℕ
+bytes_told door told = flat_map (λ reply. sent door (packet_of reply)) (replies_told told)
 
 -- the replies that are told are those that are sent
 abbrev pub ToldLaw : Type 0
 ToldLaw =
-    (key : List ℕ) (earlier : List Packet) (frames : List Frame) (tail : Tail)
+    (door : Door) (earlier : List Packet) (frames : List Frame) (tail : Tail)
     (answers : List Answer)
-    → map packet_of (replies_told (notices_to key earlier frames tail answers))
-    ≡ map (λ sending. sending.packet) (served_to key earlier frames answers)
+    → map packet_of (replies_told (notices_to door earlier frames tail answers))
+    ≡ map (λ sending. sending.packet) (served_to door earlier frames answers)
 
 -- ---- to a witness
 
@@ -65,29 +66,29 @@ refused_of end left = None
 
 -- the bytes of the replies in these notices were written, but of the last reply a beginning, not
 -- all
-pub record WritesAllButLast (key : List ℕ) (told : List Notice) (old new : Option (List ℕ))
+pub record WritesAllButLast (door : Door) (told : List Notice) (old new : Option (List ℕ))
     : Type 0 where
   pub before : List Notice
   pub last : Notice
   pub parts : told ≡ before ++ last ∷ []
   pub first : List ℕ
   pub others : List ℕ
-  pub cuts : bytes_told key (last ∷ []) ≡ first ++ others
+  pub cuts : bytes_told door (last ∷ []) ≡ first ++ others
   pub some_left : 0 < length others
-  pub written : Appends old new (bytes_told key before ++ first)
+  pub written : Appends old new (bytes_told door before ++ first)
 
 -- exactly the bytes of the replies in these notices, unless the writer failed
-abbrev pub WritesTold : End → List ℕ → List Notice → Option (List ℕ) → Option (List ℕ) → Type 0
-WritesTold WriteFault key told old new = WritesAllButLast key told old new
-WritesTold end key told old new = Appends old new (bytes_told key told)
+abbrev pub WritesTold : End → Door → List Notice → Option (List ℕ) → Option (List ℕ) → Type 0
+WritesTold WriteFault door told old new = WritesAllButLast door told old new
+WritesTold end door told old new = Appends old new (bytes_told door told)
 
 -- of what there is to tell the first notices were told, and the replies in them were written.
 -- `are_told` says which notices the witness took, and which one it refused then
-pub record Tells (end : End) (key : List ℕ) (to_tell : List Notice)
+pub record Tells (end : End) (door : Door) (to_tell : List Notice)
     (are_told : List Notice → Option Notice → Type 0) (old new : Option (List ℕ)) : Type 0 where
   pub told : List Notice
   pub left : List Notice
   pub parts : to_tell ≡ told ++ left
   pub takes : are_told told (refused_of end left)
   pub leaves : LeavesUntold end left
-  pub writes : WritesTold end key told old new
+  pub writes : WritesTold end door told old new

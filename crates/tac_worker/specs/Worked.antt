@@ -3,6 +3,7 @@
 use Rattle.std.specs.Prelude.{◌≡◌, ◌<◌, ◌≤◌, ℕ, List, [], ◌∷◌, ◌++◌, map, length}
 use Rattle.std.specs.Prelude.{Bool, true, false, Option, None}
 use Rattle.std.specs.Io.KnownBytes.{Appends, Consumes, IsAtEnd}
+use Rattle.tac_wire.specs.declared.door.Door.{Door}
 use Rattle.tac_conn.specs.declared.ask.Answer.{Answer}
 use Rattle.tac_conn.specs.declared.ask.Ask.{Ask}
 use Rattle.tac_audit.specs.declared.notice.Notice.{Notice}
@@ -98,16 +99,16 @@ pub record Traffic : Type 0 where
   pub new : Option (List ℕ)
 
 -- whole packets of these, from the first on, and all answers are among them
-pub record WritesSome (key : List ℕ) (sendings : List Sending) (answers : List Answer)
+pub record WritesSome (door : Door) (sendings : List Sending) (answers : List Answer)
     (old new : Option (List ℕ)) : Type 0 where
   pub first : List Sending
   pub others : List Sending
   pub parts : sendings ≡ first ++ others
   pub carries : carried first ≡ answers
-  pub written : Appends old new (bytes_sent key first)
+  pub written : Appends old new (bytes_sent door first)
 
 -- whole packets of these, from the first on. All answers are among them, or in the next one
-pub record WritesFirst (key : List ℕ) (sendings : List Sending) (answers : List Answer)
+pub record WritesFirst (door : Door) (sendings : List Sending) (answers : List Answer)
     (old new : Option (List ℕ)) : Type 0 where
   pub first : List Sending
   pub next : List Sending
@@ -115,24 +116,24 @@ pub record WritesFirst (key : List ℕ) (sendings : List Sending) (answers : Lis
   pub parts : sendings ≡ first ++ next ++ others
   pub one : length next ≤ 1
   pub carries : carried (first ++ next) ≡ answers
-  pub written : Appends old new (bytes_sent key first)
+  pub written : Appends old new (bytes_sent door first)
 
 -- a beginning of the bytes of these, and not all
-pub record WritesBeginning (key : List ℕ) (sendings : List Sending) (old new : Option (List ℕ))
+pub record WritesBeginning (door : Door) (sendings : List Sending) (old new : Option (List ℕ))
     : Type 0 where
   pub first : List ℕ
   pub others : List ℕ
-  pub parts : bytes_sent key sendings ≡ first ++ others
+  pub parts : bytes_sent door sendings ≡ first ++ others
   pub some_left : 0 < length others
   pub written : Appends old new first
 
 -- all bytes of these, unless memory ran out, the writer failed, or the witness refused a notice
-abbrev pub Writes : End → List ℕ → List Sending → List Answer → Option (List ℕ) → Option (List ℕ)
+abbrev pub Writes : End → Door → List Sending → List Answer → Option (List ℕ) → Option (List ℕ)
     → Type 0
-Writes Memory key sendings answers old new = WritesSome key sendings answers old new
-Writes WriteFault key sendings answers old new = WritesBeginning key sendings old new
-Writes Unwitnessed key sendings answers old new = WritesFirst key sendings answers old new
-Writes end key sendings answers old new = Appends old new (bytes_sent key sendings)
+Writes Memory door sendings answers old new = WritesSome door sendings answers old new
+Writes WriteFault door sendings answers old new = WritesBeginning door sendings old new
+Writes Unwitnessed door sendings answers old new = WritesFirst door sendings answers old new
+Writes end door sendings answers old new = Appends old new (bytes_sent door sendings)
 
 -- ---- how it ended
 
@@ -178,7 +179,7 @@ Closes end closing = Unit {0}
 
 -- of what was asked the first asks were called, and what is sent by their answers was written.
 -- `are_made` says which exchanges its caller made, and `refuses` which ask it was refused, and why
-pub record Ends (end : End) (key : List ℕ) (asked : List Ask) (sent_by : List Answer → List Sending)
+pub record Ends (end : End) (door : Door) (asked : List Ask) (sent_by : List Answer → List Sending)
     (are_made : List Exchange → Type 0) (refuses : Ask → HallFault → Type 0)
     (old new : Option (List ℕ)) : Type 0 where
   pub made : List Exchange
@@ -186,28 +187,28 @@ pub record Ends (end : End) (key : List ℕ) (asked : List Ask) (sent_by : List 
   pub left : List Ask
   pub asks : asked ≡ asks_of made ++ left
   pub leaves : Leaves end refuses left
-  pub writes : Writes end key (sent_by (answers_of made)) (answers_of made) old new
+  pub writes : Writes end door (sent_by (answers_of made)) (answers_of made) old new
 
 -- a connection was served, on which these bytes were read; it ended so, and its witness was told of
 -- it. `are_told` says which notices the witness took, and which one it refused then
-pub record IsServedBy (end : End) (key : List ℕ) (are_made : List Exchange → Type 0)
+pub record IsServedBy (end : End) (door : Door) (are_made : List Exchange → Type 0)
     (refuses : Ask → HallFault → Type 0) (are_told : List Notice → Option Notice → Type 0)
     (traffic : Traffic) : Type 0 where
   pub input : List ℕ
   pub read : Consumes traffic.before traffic.after input
   pub finished : end ≡ Finished → IsAtEnd traffic.after
   pub memory : end ≡ Memory → 0 < length input
-  pub closing : Closes end (closes key input)
-  pub ends : Ends end key (asks key input) (served key input) are_made refuses
+  pub closing : Closes end (closes door input)
+  pub ends : Ends end door (asks door input) (served door input) are_made refuses
       traffic.old traffic.new
-  pub told : Tells end key (notices key input (answers_of ends.made)) are_told
+  pub told : Tells end door (notices door input (answers_of ends.made)) are_told
       traffic.old traffic.new
 
 -- by calls of this seat at a hall, with their receipts. No notice was refused, so it doesn't end as
 -- Unwitnessed
-abbrev pub IsServed : End → List ℕ → Calling → Calling → Option (List ℕ) → Option (List ℕ)
+abbrev pub IsServed : End → Door → Calling → Calling → Option (List ℕ) → Option (List ℕ)
     → Option (List ℕ) → Option (List ℕ) → Type 0
-IsServed end key was now before after old new =
-    IsServedBy end key (Makes was now)
+IsServed end door was now before after old new =
+    IsServedBy end door (Makes was now)
     (λ ask fault. IsRefused now.seat (calls.Ask ask) fault) (λ told refused. refused ≡ None)
     (record { before = before; after = after; old = old; new = new })

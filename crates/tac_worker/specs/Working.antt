@@ -2,6 +2,7 @@
 use Rattle.std.specs.Prelude.{◌≡◌, ◌<◌, ℕ, suc, List, [], ◌∷◌, ◌++◌, length, take, drop}
 use Rattle.std.specs.Prelude.{Bool, true, false, Option, Some, Result, Ok, Err}
 use Rattle.std.specs.Io.KnownBytes.{Appends, Consumes, IsAtEnd}
+use Rattle.tac_wire.specs.declared.door.Door.{Door}
 use Rattle.tac_wire.specs.declared.frame.Frame.{Frame}
 use Rattle.tac_wire.specs.Stream.{Tail, cut}
 use Rattle.tac_conn.specs.Packet.{clear}
@@ -33,31 +34,31 @@ use Rattle.tac_worker.specs.Worked.{Worker, Traffic, Closes, Ends}
 
 -- these packets were served, after earlier ones: whatever comes later, what is sent for all of
 -- them is this, and then what is sent for the later ones, and so it is with what is told
-pub record Handled (key : List ℕ) (earlier : List Packet) (frames : List Frame)
+pub record Handled (door : Door) (earlier : List Packet) (frames : List Frame)
     (made : List Exchange) (sendings : List Sending) (notices : List Notice) : Type 0 where
   pub served : (more : List Frame) (later : List Answer)
-      → served_to key earlier (frames ++ more) (answers_of made ++ later)
-      ≡ sendings ++ served_to key (packets_of key frames ++ earlier) more later
-  pub asks : (more : List Frame) → asks_in key earlier (frames ++ more)
-      ≡ asks_of made ++ asks_in key (packets_of key frames ++ earlier) more
+      → served_to door earlier (frames ++ more) (answers_of made ++ later)
+      ≡ sendings ++ served_to door (packets_of door frames ++ earlier) more later
+  pub asks : (more : List Frame) → asks_in door earlier (frames ++ more)
+      ≡ asks_of made ++ asks_in door (packets_of door frames ++ earlier) more
   pub carries : carried sendings ≡ answers_of made
   pub tells : (more : List Frame) (tail : Tail) (later : List Answer)
-      → notices_to key earlier (frames ++ more) tail (answers_of made ++ later)
-      ≡ notices ++ notices_to key (packets_of key frames ++ earlier) more tail later
-  pub bytes : bytes_told key notices ≡ bytes_sent key sendings
+      → notices_to door earlier (frames ++ more) tail (answers_of made ++ later)
+      ≡ notices ++ notices_to door (packets_of door frames ++ earlier) more tail later
+  pub bytes : bytes_told door notices ≡ bytes_sent door sendings
 
 -- by a worker whose caller makes exchanges by such steps, and whose witness takes notices so
 module _ {S V : Type 0} (step : S → Exchange → S → Type 0) (takes : V → Notice → V → Type 0) where
   -- and it was told and written
-  pub record GoesOn (key : List ℕ) (earlier : List Packet) (frames : List Frame)
+  pub record GoesOn (door : Door) (earlier : List Packet) (frames : List Frame)
       (was now : Worker S V) (old new : Option (List ℕ)) : Type 0 where
     pub made : List Exchange
     pub sendings : List Sending
     pub notices : List Notice
-    pub handled : Handled key earlier frames made sendings notices
+    pub handled : Handled door earlier frames made sendings notices
     pub makes : AreMade step was.caller made now.caller
     pub told : AreTold takes was.witness notices now.witness
-    pub written : Appends old new (bytes_sent key sendings)
+    pub written : Appends old new (bytes_sent door sendings)
 
 -- ---- a reply
 
@@ -117,69 +118,69 @@ Notes (Err end) takes refuses closing = ⊥
 -- ---- one turn
 
 -- the packets of these bytes of which so many were taken, the latest first, and the others
-abbrev pub taken_of : List ℕ → List ℕ → ℕ → List Packet
-taken_of key bytes taken = packets_of key (take taken (cut bytes).packets)
+abbrev pub taken_of : Door → List ℕ → ℕ → List Packet
+taken_of door bytes taken = packets_of door (take taken (cut door bytes).packets)
 
-abbrev pub left_of : List ℕ → ℕ → List Frame
-left_of bytes taken = drop taken (cut bytes).packets
+abbrev pub left_of : Door → List ℕ → ℕ → List Frame
+left_of door bytes taken = drop taken (cut door bytes).packets
 
 -- by a worker whose caller makes exchanges by such steps, rests so, and is refused asks so, and
 -- whose witness takes notices so, and refuses them so
 module _ {S V : Type 0} (step : S → Exchange → S → Type 0) (rests : S → S → Type 0)
     (refuses : S → Ask → HallFault → Type 0) (takes refuses_notice : V → Notice → V → Type 0) where
   -- the next packet was served, and the connection stays open
-  pub record TakesOne (key : List ℕ) (bytes : List ℕ) (taken : ℕ) (was now : Worker S V)
+  pub record TakesOne (door : Door) (bytes : List ℕ) (taken : ℕ) (was now : Worker S V)
       (old new : Option (List ℕ)) (stream : Stream) : Type 0 where
     pub frame : Frame
     pub more : List Frame
-    pub left : left_of bytes taken ≡ frame ∷ more
-    pub goes : GoesOn step takes key (taken_of key bytes taken) (frame ∷ []) was now old new
-    pub stays : is_closed (taken_of key bytes taken) ≡ false
-        → is_closed (clear key frame ∷ taken_of key bytes taken) ≡ false
+    pub left : left_of door bytes taken ≡ frame ∷ more
+    pub goes : GoesOn step takes door (taken_of door bytes taken) (frame ∷ []) was now old new
+    pub stays : is_closed (taken_of door bytes taken) ≡ false
+        → is_closed (clear door frame ∷ taken_of door bytes taken) ≡ false
     pub ready : IsReady stream
-    pub stands : Stands key stream bytes (suc taken)
+    pub stands : Stands door stream bytes (suc taken)
 
   -- no packet is left, and nothing was done
-  pub record IsAtRest (key : List ℕ) (bytes : List ℕ) (taken : ℕ) (was now : Worker S V)
+  pub record IsAtRest (door : Door) (bytes : List ℕ) (taken : ℕ) (was now : Worker S V)
       (old new : Option (List ℕ)) (stream : Stream) : Type 0 where
-    pub left : left_of bytes taken ≡ []
-    pub tail : closed_by (cut bytes).tail ≡ false
+    pub left : left_of door bytes taken ≡ []
+    pub tail : closed_by (cut door bytes).tail ≡ false
     pub same : now ≡ was
     pub nothing : Appends old new []
     pub ready : IsReady stream
-    pub stands : Stands key stream bytes taken
+    pub stands : Stands door stream bytes taken
 
   -- the connection ends
-  pub record EndsAt (end : End) (key : List ℕ) (bytes : List ℕ) (taken : ℕ)
+  pub record EndsAt (end : End) (door : Door) (bytes : List ℕ) (taken : ℕ)
       (was now : Worker S V) (old new : Option (List ℕ)) : Type 0 where
     pub unfinished : end ≡ Finished → ⊥
     pub memory : end ≡ Memory → 0 < length bytes
-    pub closing : Closes end (closes key bytes)
-    pub ends : Ends end key (asks_in key (taken_of key bytes taken) (left_of bytes taken))
-        (served_to key (taken_of key bytes taken) (left_of bytes taken))
+    pub closing : Closes end (closes door bytes)
+    pub ends : Ends end door (asks_in door (taken_of door bytes taken) (left_of door bytes taken))
+        (served_to door (taken_of door bytes taken) (left_of door bytes taken))
         (λ made. AreAllMade step rests was.caller made now.caller) (refuses now.caller) old new
-    pub told : Tells end key
-        (notices_to key (taken_of key bytes taken) (left_of bytes taken) (cut bytes).tail
-        (answers_of ends.made))
+    pub told : Tells end door
+        (notices_to door (taken_of door bytes taken) (left_of door bytes taken)
+        (cut door bytes).tail (answers_of ends.made))
         (λ told refused. TakesUntil takes refuses_notice was.witness told refused now.witness)
         old new
 
-  abbrev pub Turned : Result Went End → List ℕ → List ℕ → ℕ → Worker S V → Worker S V
+  abbrev pub Turned : Result Went End → Door → List ℕ → ℕ → Worker S V → Worker S V
       → Option (List ℕ) → Option (List ℕ) → Stream → Type 0
-  Turned (Ok On) key bytes taken was now old new stream =
-      TakesOne key bytes taken was now old new stream
-  Turned (Ok Rests) key bytes taken was now old new stream =
-      IsAtRest key bytes taken was now old new stream
-  Turned (Err end) key bytes taken was now old new stream =
-      EndsAt end key bytes taken was now old new
+  Turned (Ok On) door bytes taken was now old new stream =
+      TakesOne door bytes taken was now old new stream
+  Turned (Ok Rests) door bytes taken was now old new stream =
+      IsAtRest door bytes taken was now old new stream
+  Turned (Err end) door bytes taken was now old new stream =
+      EndsAt end door bytes taken was now old new
 
 -- ---- one read
 
 -- whatever came before, more bytes leave its packets as they are
 abbrev pub Prolongs : List ℕ → Type 0
 Prolongs piece =
-    (bytes : List ℕ)
-    → (more : List Frame) × ((cut (bytes ++ piece)).packets ≡ (cut bytes).packets ++ more)
+    (door : Door) (bytes : List ℕ)
+    → (more : List Frame) × ((cut door (bytes ++ piece)).packets ≡ (cut door bytes).packets ++ more)
 
 -- a piece was read and handed on
 pub record HearsMore (before after : Option (List ℕ)) (was now : Stream) : Type 0 where
@@ -188,8 +189,8 @@ pub record HearsMore (before after : Option (List ℕ)) (was now : Stream) : Typ
   pub prolongs : Prolongs piece
   pub closed : closed_of now ≡ closed_of was
   pub pending : pending_of now ≡ pending_of was
-  pub stands : (key bytes : List ℕ) (taken : ℕ) → closed_of was ≡ false
-      → Stands key was bytes taken → Stands key now (bytes ++ piece) taken
+  pub stands : (door : Door) (bytes : List ℕ) (taken : ℕ) → closed_of was ≡ false
+      → Stands door was bytes taken → Stands door now (bytes ++ piece) taken
 
 -- a read was made; where memory runs out, a piece was read and isn't handed on
 abbrev pub Heard : Result (Unit {0}) End → Option (List ℕ) → Option (List ℕ) → Stream → Stream
@@ -212,13 +213,13 @@ Noted result before after old_bytes new_bytes was now =
 
 -- so many packets were taken of what was read, and what they are served was done
 pub record Serving {S V : Type 0} (step : S → Exchange → S → Type 0)
-    (takes : V → Notice → V → Type 0) (key : List ℕ) (was now : Worker S V) (traffic : Traffic)
+    (takes : V → Notice → V → Type 0) (door : Door) (was now : Worker S V) (traffic : Traffic)
     (stream : Stream) : Type 0 where
   pub input : List ℕ
   pub taken : ℕ
   pub read : Consumes traffic.before traffic.after input
-  pub goes : GoesOn step takes key [] (take taken (cut input).packets) was now
+  pub goes : GoesOn step takes door [] (take taken (cut door input).packets) was now
       traffic.old traffic.new
-  pub stays : is_closed (taken_of key input taken) ≡ false
+  pub stays : is_closed (taken_of door input taken) ≡ false
   pub ready : IsReady stream
-  pub stands : Stands key stream input taken
+  pub stands : Stands door stream input taken

@@ -10,7 +10,7 @@ use std::alloc::AllocError;
 use std::snapshot::Snapshot;
 use tac_conn::{Ask, Hash, Proof, Step, Typed};
 use tac_stream::{Stream, Turn};
-use tac_wire::Key;
+use tac_wire::Door;
 
 /// The turn of what stands first, and in proofs the stream before that was found.
 #[derive(Drop)]
@@ -20,27 +20,27 @@ pub(crate) struct Ahead {
 }
 
 /// Finds the turn of what stands first, unless that was done.
-pub(crate) fn look_ahead(key: &Key, stream: &mut Stream, ahead: &mut Option<Ahead>)
-    requires { IsAhead key.now ahead.old stream.old }
-    ensures ahead { IsAhead key.now ahead.new stream.new }
+pub(crate) fn look_ahead(door: &Door, stream: &mut Stream, ahead: &mut Option<Ahead>)
+    requires { IsAhead door.now ahead.old stream.old }
+    ensures ahead { IsAhead door.now ahead.new stream.new }
     ensures same { seen_by ahead.new stream.new ≡ seen_by ahead.old stream.old }
 {
     if ahead.is_some() {
         return;
     }
     let was = Snapshot::of(&*stream);
-    let turn = stream.next(key);
+    let turn = stream.next(door);
     *ahead = Some(Ahead { turn, was });
 }
 
 /// The turn of what stands first, which may have been found.
 pub(crate) fn first_turn(
-    key: &Key,
+    door: &Door,
     stream: &mut Stream,
     ahead: &mut Option<Ahead>,
 ) -> Result<Turn, AllocError>
-    requires { IsAhead key.now ahead.old stream.old }
-    ensures turn { IsTurnOf key.now (seen_by ahead.old stream.old) result stream.new }
+    requires { IsAhead door.now ahead.old stream.old }
+    ensures turn { IsTurnOf door.now (seen_by ahead.old stream.old) result stream.new }
     ensures none { ahead.new ≡ None }
 {
     match ahead.take() {
@@ -48,7 +48,7 @@ pub(crate) fn first_turn(
             let Ahead { turn, was: _ } = ahead;
             turn
         }
-        None => stream.next(key),
+        None => stream.next(door),
     }
 }
 

@@ -25,7 +25,7 @@ use std::snapshot::Snapshot;
 use tac_audit::{Notice, Witness};
 use tac_conn::{Hash, Typed};
 use tac_stream::Stream;
-use tac_wire::Key;
+use tac_wire::Door;
 
 /// What is known of the digest that the next packet's password takes.
 #[derive(Clone, Copy)]
@@ -76,7 +76,7 @@ impl Digest {
 /// What was called for it, what came and what was sent it knows in proofs alone, so its memory
 /// doesn't grow with its age: it holds one packet, or what a read gave, a reply, and its sessions.
 pub struct Link<'a, C: Caller, V: Witness<Notice>> {
-    key: &'a Key,
+    door: &'a Door,
     first: Snapshot<V>,
     witness: V,
     caller: Snapshot<C>,
@@ -97,7 +97,7 @@ pub struct Link<'a, C: Caller, V: Witness<Notice>> {
 impl<'a, C: Caller, V: Witness<Notice>> Drop for Link<'a, C, V> {
     fn drop(self) {
         let Link {
-            key: _,
+            door: _,
             first: _,
             witness: _,
             caller: _,
@@ -127,12 +127,12 @@ impl<'a, C: Caller, V: Witness<Notice>> Model for Link<'a, C, V> {
 }
 
 impl<'a, C: Caller, V: Witness<Notice>> Link<'a, C, V> {
-    /// A connection on which nothing came, whose device has the key of these terms.
+    /// A connection on which nothing came, which has the door of these terms.
     pub fn new<H, G>(terms: &Terms<'a, H, G>, witness: V, caller: &C) -> Link<'a, C, V>
-        ensures { result ≡ linked.fresh terms.now.key.now witness caller.now }
+        ensures { result ≡ linked.fresh terms.now.door.now witness caller.now }
     {
         Link {
-            key: terms.key,
+            door: terms.door,
             first: Snapshot::of(&witness),
             witness,
             caller: Snapshot::of(caller),
@@ -203,7 +203,7 @@ impl<'a, C: Caller, V: Witness<Notice>> Link<'a, C, V> {
             Digest::Unknown => {}
             _ => return,
         }
-        look_ahead(self.key, &mut self.stream, &mut self.ahead);
+        look_ahead(self.door, &mut self.stream, &mut self.ahead);
         self.digest = Digest::of(&self.ahead, caller);
     }
 
@@ -242,11 +242,10 @@ impl<'a, C: Caller, V: Witness<Notice>> Link<'a, C, V> {
     /// witness, and puts the reply there to be sent, as [`serve`](crate::serve) does. Else it does
     /// nothing.
     ///
-    /// The room for a reply is taken before the call. Where memory for it is refused, the connection
-    /// ends as Memory and nothing was called. The key is that of the terms by which the connection
-    /// was made. It may wait for the caller, the witness and the
-    /// gate, and for nobody at the other end. Linear in the packet, but for what the caller and the
-    /// witness take.
+    /// The room for a reply is taken before the call. Where memory for it is refused, the
+    /// connection ends as Memory and nothing was called. The door is that of the terms by which the
+    /// connection was made. It may wait for the caller, the witness and the gate, and for nobody at
+    /// the other end. Linear in the packet, but for what the caller and the witness take.
     pub fn turn<H, G: Gate>(&mut self, terms: &Terms<H, G>, caller: &mut C)
         ensures { linked.TurnsAt C.makes C.rests (linked.due_of self.old) self.old self.new
             caller.old caller.new }
@@ -258,11 +257,11 @@ impl<'a, C: Caller, V: Witness<Notice>> Link<'a, C, V> {
         let terms = Terms {
             rt: terms.rt,
             alloc: terms.alloc,
-            key: self.key,
+            door: self.door,
             gate: terms.gate,
         };
         self.digest = Digest::Unknown;
-        let turn = first_turn(self.key, &mut self.stream, &mut self.ahead);
+        let turn = first_turn(self.door, &mut self.stream, &mut self.ahead);
         let went = serve_turn(
             &terms,
             caller,
@@ -321,7 +320,7 @@ impl<'a, C: Caller, V: Witness<Notice>> Link<'a, C, V> {
         ensures { result ≡ self.entry.witness }
     {
         let Link {
-            key: _,
+            door: _,
             first: _,
             witness,
             caller: _,

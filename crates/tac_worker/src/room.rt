@@ -7,7 +7,7 @@ ghost use Rattle.tac_conn.specs.Reply.{packet_of};
 use std::alloc::{AllocError, Global};
 use std::marker::Model;
 use tac_conn::{Reply, SENT_MAX};
-use tac_wire::Key;
+use tac_wire::Door;
 
 /// Room for a reply, however long that is, so that none takes memory once the desk was asked.
 #[derive(Drop)]
@@ -34,11 +34,11 @@ impl Room {
     }
 
     /// The packet of a reply, as it is sent. Takes no memory.
-    pub(crate) fn sent(self, key: &Key, reply: &Reply) -> Vec<u8>
-        ensures { result.items ≡ sent key.now (packet_of reply.now) }
+    pub(crate) fn sent(self, door: &Door, reply: &Reply) -> Vec<u8>
+        ensures { result.items ≡ sent door.now (packet_of reply.now) }
     {
         let mut bytes = self.bytes;
-        reply.send_to(key, &mut bytes);
+        reply.send_to(door, &mut bytes);
         bytes
     }
 }

@@ -31,7 +31,7 @@ use std::sync::Wait;
 use tac_audit::{Notice, Witness};
 use tac_conn::{Answer, Ask, Packet, Reply, Step};
 use tac_stream::{Stream, Turn};
-use tac_wire::Key;
+use tac_wire::Door;
 
 /// How a turn went by which the connection stays open.
 #[derive(Clone, Copy, PartialEq, Eq)]
@@ -44,7 +44,7 @@ pub(crate) enum Went {
 
 // Puts a reply there, with the pad put on, after which the connection closes or not.
 fn put_reply<O: Outlet, G: Gate>(
-    key: &Key,
+    door: &Door,
     outlet: &mut O,
     gate: &G,
     seat: u32,
@@ -53,11 +53,11 @@ fn put_reply<O: Outlet, G: Gate>(
     closes: bool,
 ) -> Result<Went, End>
     requires { O.takes outlet.old }
-    ensures replies { working.Replies result (sent key.now (packet_of reply.now)) closes
+    ensures replies { working.Replies result (sent door.now (packet_of reply.now)) closes
         (O.contents outlet.old) (O.contents outlet.new) }
     ensures fault { IfErr result (λ end. end ≡ WriteFault → O.fails) }
 {
-    let packet = room.sent(key, reply);
+    let packet = room.sent(door, reply);
     outlet.put(packet)?;
     gate.replied(seat);
     if closes {
@@ -104,7 +104,7 @@ fn answer<H, G: Gate, V: Witness<Notice>, O: Outlet>(
     requires { O.takes outlet.old }
     ensures answers { let notice = replied packet given.0 in
         working.Answers result (V.takes witness.old notice witness.new)
-        (V.refuses witness.old notice witness.new) (sent terms.now.key.now (packet_of given.0))
+        (V.refuses witness.old notice witness.new) (sent terms.now.door.now (packet_of given.0))
         given.1 (O.contents outlet.old) (O.contents outlet.new) }
     ensures fault { IfErr result (λ end. end ≡ WriteFault → O.fails) }
 {
@@ -114,7 +114,7 @@ fn answer<H, G: Gate, V: Witness<Notice>, O: Outlet>(
     let Notice::Packet(_, Some(reply)) = &notice else {
         unreachable!()
     };
-    put_reply(terms.key, outlet, terms.gate, seat, room, reply, closes)
+    put_reply(terms.door, outlet, terms.gate, seat, room, reply, closes)
 }
 
 // Tells the witness of what has no reply, after which the connection closes or not.
@@ -143,10 +143,10 @@ pub(crate) fn serve_turn<H, G: Gate, C: Caller, V: Witness<Notice>, O: Outlet>(
     requires waits { IfOk turn (λ turn. Waits turn stream.old) }
     requires kind { IfOk turn HasItsSlot }
     ensures turned { (was : StreamValue) (bytes : List ℕ) (taken : ℕ) →
-        IsTurnOf terms.now.key.now was turn stream.old → IsReady was →
-        Stands terms.now.key.now was bytes taken →
+        IsTurnOf terms.now.door.now was turn stream.old → IsReady was →
+        Stands terms.now.door.now was bytes taken →
         working.Turned (NotesOne C.makes) (NotesNone C.rests) (RefusesNoted C.refuses)
-        V.takes V.refuses result terms.now.key.now bytes taken
+        V.takes V.refuses result terms.now.door.now bytes taken
         (record { caller = noting caller.old called.old; witness = witness.old })
         (record { caller = noting caller.new called.new; witness = witness.new })
         (O.contents outlet.old) (O.contents outlet.new) stream.new }
@@ -190,15 +190,15 @@ fn take_turn<H, G: Gate, C: Caller, V: Witness<Notice>, O: Outlet>(
 ) -> Result<Went, End>
     requires { O.takes outlet.old }
     ensures turned { (bytes : List ℕ) (taken : ℕ) → IsReady stream.old →
-        Stands terms.now.key.now stream.old bytes taken →
+        Stands terms.now.door.now stream.old bytes taken →
         working.Turned (NotesOne C.makes) (NotesNone C.rests) (RefusesNoted C.refuses)
-        V.takes V.refuses result terms.now.key.now bytes taken
+        V.takes V.refuses result terms.now.door.now bytes taken
         (record { caller = noting caller.old called.old; witness = witness.old })
         (record { caller = noting caller.new called.new; witness = witness.new })
         (O.contents outlet.old) (O.contents outlet.new) stream.new }
     ensures one { length called.new ≤ suc (length called.old) }
 {
-    let turn = stream.next(terms.key);
+    let turn = stream.next(terms.door);
     serve_turn(terms, caller, witness, stream, turn, outlet, called)
 }
 
@@ -220,7 +220,7 @@ pub fn serve<H: Wait, G: Gate, C: Caller, V: Witness<Notice>, R: Read, W: Write>
     reader: &mut R,
     writer: &mut W,
 ) -> End
-    ensures { IsServedBy result terms.now.key.now
+    ensures { IsServedBy result terms.now.door.now
         (λ made. AreAllMade C.makes C.rests caller.old made caller.new) (C.refuses caller.new)
         (λ told refused. TakesUntil V.takes V.refuses witness.old told refused witness.new)
         (record {
