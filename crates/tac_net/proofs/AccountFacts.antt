@@ -98,7 +98,7 @@ told_all before (notice ∷ told) = (
 -- the same connection, whose witness is what it was told
 abbrev knowing : {C V : Type 0} → List Notice → Linked C V → Linked C (List Notice)
 knowing told link = record {
-  key = link.key;
+  door = link.door;
   heard = link.heard;
   called = link.called;
   sent = link.sent;
@@ -132,7 +132,7 @@ module _ {C V : Type 0} (refuses : C → Ask → HallFault → Type 0) (takes re
       took = told_all [] o.told;
       replies = o.replies;
     };
-    logged = t.logged o.told link.witness o.took (are_answered link.key (cut link.heard).packets (cut link.heard).tail (answers_of o.made) o.told o.untold (sym o.parts));
+    logged = t.logged o.told link.witness o.took (are_answered link.door (cut link.door link.heard).packets (cut link.door link.heard).tail (answers_of o.made) o.told o.untold (sym o.parts));
   }
 
   refused_so : (who : Option Named) (told : List Notice) (first between now : V) (refused : Option Notice) → TellsLog takes refuses_notice log who first → AreTold takes first told between → RefusesOne refuses_notice between refused now
@@ -159,7 +159,7 @@ module _ {C V : Type 0} (refuses : C → Ask → HallFault → Type 0) (takes re
 module _ {V S : Type 0} (takes refuses_notice : V → Notice → V → Type 0) (opening : Opening) (callers : Callers) (log : Keeping) where
   -- what is known of it at first
   abbrev Begun : Line Seated V S → Type 0
-  Begun line = Begins takes refuses_notice callers log line.link.key line.link.first
+  Begun line = Begins takes refuses_notice callers log line.link.door line.link.first
 
   abbrev Accounted : Seated → List Call → ℕ → Line Seated V S → Type 0
   Accounted first calls next line = IsAccounted (MakesOne opening) CatchesUp (Refuses opening) takes refuses_notice first calls next line
@@ -184,7 +184,7 @@ module _ {V S : Type 0} (takes refuses_notice : V → Notice → V → Type 0) (
         record {
           number = refl;
           accounted = record { called = a.called; numbered = a.numbered; caller = a.caller; stands = k.stands };
-          is = record { who = begins.0; keyed = begins.1; first = refl; logged = k.logged };
+          is = record { who = begins.0; by_door = begins.1; first = refl; logged = k.logged };
         },
       )
 
@@ -257,7 +257,7 @@ module _ {V S : Type 0} (takes refuses_notice : V → Notice → V → Type 0) (
 -- what a board has done whose witnesses tell a log, the seat has done for connections that are
 -- known by what was told
 pub served_by : {V S : Type 0} (takes refuses_notice : V → Notice → V → Type 0) (opening : Opening) (callers : Callers) (log : Keeping) (connections : ℕ) (board : Board Seated V S)
-    → IsWorking (MakesOne opening) CatchesUp (Refuses opening) takes refuses_notice board → AreAll (λ line. Begins takes refuses_notice callers log line.link.key line.link.first) board → board.next ≤ connections
+    → IsWorking (MakesOne opening) CatchesUp (Refuses opening) takes refuses_notice board → AreAll (λ line. Begins takes refuses_notice callers log line.link.door line.link.first) board → board.next ≤ connections
     → HasServed opening callers log connections board.first board.caller
 served_by {V} {S} takes refuses_notice opening callers log connections board h begins within =
     let same = same_line takes refuses_notice opening callers log board.first h.calls board.next in

@@ -1,5 +1,6 @@
 -- Where a connection is closed.
 use Rattle.std.proofs.Common.{◌≡◌, ◌≤◌, ℕ, List, [], ◌∷◌, ◌++◌, length, Bool, true, false, not, ◌||◌, cond, refl, sym, ap, ◌∙◌, append-nil, arith}
+use Rattle.tac_wire.specs.declared.door.Door.{Door}
 use Rattle.tac_wire.specs.declared.frame.Frame.{Frame}
 use Rattle.tac_wire.specs.Stream.{Tail, cut}
 use Rattle.tac_conn.specs.declared.ask.Ask.{Ask}
@@ -58,23 +59,23 @@ module _ (asks : List Ask) (say : Meaning → List Meaning → Said) (later : Bo
 
 -- ---- packets, one after another
 
-module _ (key : List ℕ) (tail : Tail) where
-  closes_to : (frames : List Frame) (now : Meaning) (earlier : List Packet) (meanings : List Meaning) → is_closed earlier ≡ false → length (asks_in key earlier frames) ≤ length meanings
-      → (said_shared key now earlier frames tail meanings).closes ≡ (is_closed (packets_of key frames ++ earlier) || closed_by tail)
+module _ (door : Door) (tail : Tail) where
+  closes_to : (frames : List Frame) (now : Meaning) (earlier : List Packet) (meanings : List Meaning) → is_closed earlier ≡ false → length (asks_in door earlier frames) ≤ length meanings
+      → (said_shared door now earlier frames tail meanings).closes ≡ (is_closed (packets_of door frames ++ earlier) || closed_by tail)
   unfolding said_shared asks_in
   closes_to [] now earlier meanings still enough = ap (λ (b : Bool). b || closed_by tail) (sym still)
   closes_to (frame ∷ frames) now earlier meanings still enough =
-      let packet = clear key frame in
+      let packet = clear door frame in
       let comes = outcome earlier packet in
       let next : is_closed (packet ∷ earlier) ≡ outcome_closes comes = next_closed earlier packet still in
-      let later = is_closed (packets_of key frames ++ (packet ∷ earlier)) || closed_by tail in
-      close_for (asks_in key (packet ∷ earlier) frames) (λ then others. said_shared key then (packet ∷ earlier) frames tail others) later now comes meanings
+      let later = is_closed (packets_of door frames ++ (packet ∷ earlier)) || closed_by tail in
+      close_for (asks_in door (packet ∷ earlier) frames) (λ then others. said_shared door then (packet ∷ earlier) frames tail others) later now comes meanings
       (λ goes_on then others some. closes_to frames then (packet ∷ earlier) others (next ∙ goes_on) some) enough
-      ∙ absorbed (outcome_closes comes) later (λ shut. ap (λ (b : Bool). b || closed_by tail) (closed_more (packets_of key frames) (packet ∷ earlier) (next ∙ shut)))
-      ∙ ap (λ (l : List Packet). is_closed l || closed_by tail) (history key frame frames earlier)
+      ∙ absorbed (outcome_closes comes) later (λ shut. ap (λ (b : Bool). b || closed_by tail) (closed_more (packets_of door frames) (packet ∷ earlier) (next ∙ shut)))
+      ∙ ap (λ (l : List Packet). is_closed l || closed_by tail) (history door frame frames earlier)
 
 pub close_law : CloseLaw
-close_law key now bytes meanings enough =
-    let parts = cut bytes in
-    ap (λ (l : List Packet). is_closed l || closed_by parts.tail) (sym (append-nil (packets_of key parts.packets)))
-    ∙ sym (closes_to key parts.tail parts.packets now [] meanings closed_none enough)
+close_law door now bytes meanings enough =
+    let parts = cut door bytes in
+    ap (λ (l : List Packet). is_closed l || closed_by parts.tail) (sym (append-nil (packets_of door parts.packets)))
+    ∙ sym (closes_to door parts.tail parts.packets now [] meanings closed_none enough)

@@ -1,10 +1,10 @@
--- What threads share, beside the hall and the key.
+-- What threads share, beside the hall and the door.
 use mir.Syntax.{w32}
 use denote.Plain.{UInt}
 use denote.Param.Send.{IsSend, IsSync, sendable}
 use Rattle.std.proofs.Crossing.{crosses}
 use Rattle.std.specs.contracts.net.tcp.TcpListener as TcpListener
-use Rattle.tac_hall.proofs.Crossing.{Key-sync}
+use Rattle.tac_wire.proofs.door.KeyDoor.TheSendSync as key_door
 use Rattle.boxcar.proofs.slot.OnceSlot.TheSendSync as slot
 use Rattle.boxcar.proofs.tag.Tag.TheSendSync as tag
 use Rattle.tac_devices.proofs.Crossing.{Devices-sync}
@@ -30,13 +30,13 @@ pub Number-sync : IsSync (UInt w32)
 Number-sync = search sendable depth 60
 
 pub Devices-send : IsSend Devices.the_row
-Devices-send = search (crosses, sendable) depth 60
+Devices-send = search (key_door.the_send, crosses, sendable) depth 60
 
 pub Directory-sync : IsSync Directory.the_field.row
 Directory-sync = search (Devices-sync, Devices-send, slot.the_sync, slot.the_send, tag.the_sync, crosses, sendable) depth 60 fits 20000
 
 pub Callers-sync : IsSync Callers.the_field.row
-Callers-sync = search (Key-sync, Directory-sync, crosses, sendable) depth 60 fits 20000
+Callers-sync = search (key_door.the_sync, Directory-sync, crosses, sendable) depth 60 fits 20000
 
 pub Settings-sync : IsSync Settings.the_row
 Settings-sync = search (Callers-sync, crosses, sendable) depth 60

@@ -1,6 +1,7 @@
--- What is true of each connection by the key of its device and its witness at first, whatever is
+-- What is true of each connection by the door of its device and its witness at first, whatever is
 -- done on a board.
 use Rattle.std.proofs.Common.{◌≡◌, ◌+◌, ℕ, suc, ◌<◌, List, [], ◌∷◌, map, length, Option, Some, None, slice_index_or, refl, sym, ap, subst, arith}
+use Rattle.tac_wire.specs.declared.door.Door.{Door}
 use Rattle.tac_forum.specs.Seat.{Seated}
 use Rattle.tac_worker.specs.Worked.{Exchange}
 use Rattle.tac_loop.specs.declared.line.Line.{Line}
@@ -9,21 +10,21 @@ use Rattle.tac_loop.specs.Board.{Board, at, came, AreAll, Adds, removed_at, Serv
 use Rattle.tac_loop.proofs.BoardFacts.{all_added, all_removed, all_served}
 use Rattle.tac_net.specs.Connections.{HaveAllServed}
 
-module _ {C V S : Type 0} (P : List ℕ → V → Type 0) where
+module _ {C V S : Type 0} (P : Door → V → Type 0) where
   abbrev pub Fits : Board C V S → Type 0
-  Fits board = AreAll (λ (line : Line C V S). P line.link.key line.link.first) board
+  Fits board = AreAll (λ (line : Line C V S). P line.link.door line.link.first) board
 
-  pub fits_added : (key : List ℕ) (witness : V) (socket : S) (k : ℕ) (was now : Board C V S) → Adds (came key witness socket was) k was now → P key witness → Fits was → Fits now
-  fits_added key witness socket k was now added mine h = all_added (λ (line : Line C V S). P line.link.key line.link.first) (came key witness socket was) k was now added mine h
+  pub fits_added : (door : Door) (witness : V) (socket : S) (k : ℕ) (was now : Board C V S) → Adds (came door witness socket was) k was now → P door witness → Fits was → Fits now
+  fits_added door witness socket k was now added mine h = all_added (λ (line : Line C V S). P line.link.door line.link.first) (came door witness socket was) k was now added mine h
 
   pub fits_served : (makes : C → Exchange → C → Type 0) (rests : C → C → Type 0) (remaining contents : S → Option (List ℕ)) (turns k : ℕ) (stop : Stop) (was now : Board C V S)
       → ServesAt makes rests remaining contents (at was.lines k) turns k stop was now → Fits was → Fits now
   fits_served makes rests remaining contents turns k stop was now s h =
-      all_served (λ (line : Line C V S). P line.link.key line.link.first) makes rests remaining contents
-      (λ line then stays mine. subst (λ (key : List ℕ). P key then.link.first) (sym stays.key) (subst (λ (first : V). P line.link.key first) (sym stays.first) mine)) (at was.lines k) turns k stop was now refl s h
+      all_served (λ (line : Line C V S). P line.link.door line.link.first) makes rests remaining contents
+      (λ line then stays mine. subst (λ (door : Door). P door then.link.first) (sym stays.door) (subst (λ (first : V). P line.link.door first) (sym stays.first) mine)) (at was.lines k) turns k stop was now refl s h
 
   pub fits_removed : (slot : Option (Line C V S)) (k : ℕ) (was now : Board C V S) → slot ≡ at was.lines k → now ≡ removed_at slot k was → Fits was → Fits now
-  fits_removed slot k was now there is h = subst Fits (sym is) (all_removed (λ (line : Line C V S). P line.link.key line.link.first) slot k was there h)
+  fits_removed slot k was now there is h = subst Fits (sym is) (all_removed (λ (line : Line C V S). P line.link.door line.link.first) slot k was there h)
 
 -- ---- what else stays
 

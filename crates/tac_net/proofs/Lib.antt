@@ -11,3 +11,4 @@ pub mod RunFacts
 pub mod SharedFacts
 pub mod PlacesFacts
 pub mod ClosedFacts
+pub mod ClearFacts

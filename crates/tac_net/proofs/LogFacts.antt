@@ -1,6 +1,7 @@
 -- What a log took once it was told of a connection.
 use Rattle.std.proofs.Common.{◌≡◌, inr, ℕ, List, [], ◌∷◌, true, Option, None, Some, Result, All, refl, sym, subst}
 use Rattle.std.proofs.lemmas.List.Elements.{All-nil, All-cons}
+use Rattle.tac_wire.specs.declared.door.Door.{Door}
 use Rattle.tac_wire.specs.Stream.{cut}
 use Rattle.tac_conn.specs.declared.ask.Ask.{Ask}
 use Rattle.tac_audit.specs.declared.event.Named.{Named}
@@ -26,15 +27,15 @@ use Rattle.tac_net.specs.Logs.{Logs}
 -- ---- a connection
 
 -- all that was told was answered
-pub all_answered : {end : End} {key : List ℕ} {makes : List Exchange → Type 0} {refuses : Ask → HallFault → Type 0} {are_told : List Notice → Option Notice → Type 0} {traffic : Traffic}
-    → (work : IsServedBy end key makes refuses are_told traffic) → AreAnswered [] work.told.told
-all_answered {key = key} work =
+pub all_answered : {end : End} {door : Door} {makes : List Exchange → Type 0} {refuses : Ask → HallFault → Type 0} {are_told : List Notice → Option Notice → Type 0} {traffic : Traffic}
+    → (work : IsServedBy end door makes refuses are_told traffic) → AreAnswered [] work.told.told
+all_answered {door = door} work =
     let tells = work.told in
-    are_answered key (cut work.input).packets (cut work.input).tail (answers_of work.ends.made) tells.told tells.left (sym tells.parts)
+    are_answered door (cut door work.input).packets (cut door work.input).tail (answers_of work.ends.made) tells.told tells.left (sym tells.parts)
 
-module _ {end : End} {key : List ℕ} {makes : List Exchange → Type 0} {refuses : Ask → HallFault → Type 0} {are_told others : List Notice → Option Notice → Type 0} {traffic : Traffic} where
+module _ {end : End} {door : Door} {makes : List Exchange → Type 0} {refuses : Ask → HallFault → Type 0} {are_told others : List Notice → Option Notice → Type 0} {traffic : Traffic} where
   -- more is known of what was told
-  pub served_as : (work : IsServedBy end key makes refuses are_told traffic) → others work.told.told (refused_of end work.told.left) → IsServedBy end key makes refuses others traffic
+  pub served_as : (work : IsServedBy end door makes refuses are_told traffic) → others work.told.told (refused_of end work.told.left) → IsServedBy end door makes refuses others traffic
   served_as work more =
       let tells = work.told in
       record {
@@ -66,9 +67,9 @@ module _ {W : Type 0} (was now : W) where
   none_refused told None t = refl
   none_refused told (Some notice) t = absurd t.2
 
-  pub served_unlogged : {end : End} {key : List ℕ} {makes : List Exchange → Type 0} {others : Ask → HallFault → Type 0} {traffic : Traffic}
-      → IsServedBy end key makes others (λ told refused. TakesUntil (λ (was : W) (notice : Notice) (now : W). Unit {0}) (λ (was : W) (notice : Notice) (now : W). ⊥) was told refused now) traffic
-      → IsServedBy end key makes others (Logs None) traffic
+  pub served_unlogged : {end : End} {door : Door} {makes : List Exchange → Type 0} {others : Ask → HallFault → Type 0} {traffic : Traffic}
+      → IsServedBy end door makes others (λ told refused. TakesUntil (λ (was : W) (notice : Notice) (now : W). Unit {0}) (λ (was : W) (notice : Notice) (now : W). ⊥) was told refused now) traffic
+      → IsServedBy end door makes others (Logs None) traffic
   served_unlogged work = served_as work (none_refused work.told.told _ work.told.takes)
 
 -- ---- a witness

@@ -2,6 +2,7 @@
 use Rattle.std.proofs.Common.{◌≡◌, ℕ, suc, List, [], ◌∷◌, ◌++◌, map, take, length, length-append, Bool, true, false, ◌==◌, cond, Option, Some, None, refl, sym, ap, subst, ◌∙◌, append_assoc, append-nil, arith}
 use Rattle.std.specs.Prelude.{if◌then◌else◌}
 use Rattle.std.proofs.Math.Seq.{take-append_seam}
+use Rattle.tac_wire.specs.declared.door.Door.{Door}
 use Rattle.tac_conn.specs.declared.ask.Answer.{Answer}
 use Rattle.tac_conn.specs.declared.ask.Ask.{Ask}
 use Rattle.tac_desk.specs.Meaning.{Meaning}
@@ -137,16 +138,16 @@ stood_at base logs after left (exchange ∷ made) h =
       answers = ap (λ (a : Answer). a ∷ answers_of made) one.3.0 ∙ ap (λ (l : List Answer). (asked one.0 exchange.ask).answer ∷ l) others.answers;
     }
 
-said_by : (key bytes : List ℕ) (base : Meaning) (logs : List (List Entry)) (after : List Made) (made : List Exchange) (left : List Ask) → Viewed base logs (map in_view made ++ after)
-    → asks key bytes ≡ asks_of made ++ left → IsSaid key bytes base logs made
-said_by key bytes base logs after made left viewed asks_them =
+said_by : (door : Door) (bytes : List ℕ) (base : Meaning) (logs : List (List Entry)) (after : List Made) (made : List Exchange) (left : List Ask) → Viewed base logs (map in_view made ++ after)
+    → asks door bytes ≡ asks_of made ++ left → IsSaid door bytes base logs made
+said_by door bytes base logs after made left viewed asks_them =
     let s = stood_at base logs after left made viewed in
-    let answers : answers_of made ≡ answers_by s.meanings (asks key bytes) = s.answers ∙ ap (λ (l : List Ask). answers_by s.meanings l) (sym asks_them) in
+    let answers : answers_of made ≡ answers_by s.meanings (asks door bytes) = s.answers ∙ ap (λ (l : List Ask). answers_by s.meanings l) (sym asks_them) in
     record {
       meanings = s.meanings;
       stood = s.stood;
-      packets = ap (λ (l : List Answer). packets_in (served key bytes l)) answers ∙ sent_on key base bytes s.meanings;
-      sent = ap (λ (l : List Answer). bytes_sent key (served key bytes l)) answers ∙ sent_stream_law key base bytes s.meanings;
+      packets = ap (λ (l : List Answer). packets_in (served door bytes l)) answers ∙ sent_on door base bytes s.meanings;
+      sent = ap (λ (l : List Answer). bytes_sent door (served door bytes l)) answers ∙ sent_stream_law door base bytes s.meanings;
     }
 
 -- what a seat called in a legal history was answered by what the desk represented then
@@ -154,63 +155,63 @@ viewed_by : (base last : Meaning) (logs : List (List Entry)) (number : ℕ) (bef
 viewed_by base last logs number before view legal is =
     viewed_after base logs before view (subst (λ (l : List Made). Viewed base logs l) is (viewed_along base number logs logs [] 0 refl refl (answered base (joined logs) last legal)))
 
-said_at : (key bytes : List ℕ) (base last : Meaning) (logs : List (List Entry)) (number : ℕ) (before after : List Made) (made : List Exchange) (left : List Ask) → Legal base (joined logs) last
-    → view_along 0 number logs ≡ before ++ (map in_view made ++ after) → asks key bytes ≡ asks_of made ++ left → IsSaid key bytes base logs made
-said_at key bytes base last logs number before after made left legal view asks_them =
-    said_by key bytes base logs after made left (viewed_by base last logs number before (map in_view made ++ after) legal view) asks_them
+said_at : (door : Door) (bytes : List ℕ) (base last : Meaning) (logs : List (List Entry)) (number : ℕ) (before after : List Made) (made : List Exchange) (left : List Ask) → Legal base (joined logs) last
+    → view_along 0 number logs ≡ before ++ (map in_view made ++ after) → asks door bytes ≡ asks_of made ++ left → IsSaid door bytes base logs made
+said_at door bytes base last logs number before after made left legal view asks_them =
+    said_by door bytes base logs after made left (viewed_by base last logs number before (map in_view made ++ after) legal view) asks_them
 
 -- ---- what was put on a connection
 
 -- what was asked by these bytes, and the first of what is sent by the answers, which was put there
-record IsPut (key heard bytes : List ℕ) (end : Option End) (made : List Exchange) : Type 0 where
+record IsPut (door : Door) (heard bytes : List ℕ) (end : Option End) (made : List Exchange) : Type 0 where
   left : List Ask
-  asks_them : asks key heard ≡ asks_of made ++ left
+  asks_them : asks door heard ≡ asks_of made ++ left
   unput : List ℕ
-  parts : bytes_sent key (served key heard (answers_of made)) ≡ bytes ++ unput
+  parts : bytes_sent door (served door heard (answers_of made)) ≡ bytes ++ unput
   leaves : LeavesUnput end unput
 
-module _ (key : List ℕ) (sendings : List Sending) (answers : List Answer) (bytes : List ℕ) where
+module _ (door : Door) (sendings : List Sending) (answers : List Answer) (bytes : List ℕ) where
   abbrev Puts : Option End → Type 0
-  Puts end = (left : List ℕ) × (bytes_sent key sendings ≡ bytes ++ left) × LeavesUnput end left
+  Puts end = (left : List ℕ) × (bytes_sent door sendings ≡ bytes ++ left) × LeavesUnput end left
 
-  first_put : (first others : List Sending) → sendings ≡ first ++ others → bytes ≡ bytes_sent key first → bytes_sent key sendings ≡ bytes ++ bytes_sent key others
-  first_put first others parts is = ap (bytes_sent key) parts ∙ bytes_sent-append key first others ∙ ap (λ (l : List ℕ). l ++ bytes_sent key others) (sym is)
+  first_put : (first others : List Sending) → sendings ≡ first ++ others → bytes ≡ bytes_sent door first → bytes_sent door sendings ≡ bytes ++ bytes_sent door others
+  first_put first others parts is = ap (bytes_sent door) parts ∙ bytes_sent-append door first others ∙ ap (λ (l : List ℕ). l ++ bytes_sent door others) (sym is)
 
-  put_some : WritesSome key sendings answers (Some []) (Some bytes) → Puts None
-  put_some w = (bytes_sent key w.others, first_put w.first w.others w.parts w.written, tt)
+  put_some : WritesSome door sendings answers (Some []) (Some bytes) → Puts None
+  put_some w = (bytes_sent door w.others, first_put w.first w.others w.parts w.written, tt)
 
-  put_by : (end : End) → Writes end key sendings answers (Some []) (Some bytes) → Puts (Some end)
-  put_by Memory w = (bytes_sent key w.others, first_put w.first w.others w.parts w.written, tt)
+  put_by : (end : End) → Writes end door sendings answers (Some []) (Some bytes) → Puts (Some end)
+  put_by Memory w = (bytes_sent door w.others, first_put w.first w.others w.parts w.written, tt)
   put_by WriteFault w = (w.others, w.parts ∙ ap (λ (l : List ℕ). l ++ w.others) (sym w.written), w.some_left)
-  put_by Unwitnessed w = (bytes_sent key (w.next ++ w.others), first_put w.first (w.next ++ w.others) (w.parts ∙ append_assoc w.first w.next w.others) w.written, tt)
+  put_by Unwitnessed w = (bytes_sent door (w.next ++ w.others), first_put w.first (w.next ++ w.others) (w.parts ∙ append_assoc w.first w.next w.others) w.written, tt)
   put_by end w = ([], sym w ∙ sym (append-nil bytes), refl)
 
-put_over : (end : End) (key heard bytes : List ℕ) (made : List Exchange) (refuses : Ask → HallFault → Type 0) (are_told : List Notice → Option Notice → Type 0)
-    → IsServedBy end key (λ others. others ≡ made) refuses are_told (record { before = Some heard; after = Some []; old = Some []; new = Some bytes }) → IsPut key heard bytes (Some end) made
-put_over end key heard bytes made refuses are_told work =
+put_over : (end : End) (door : Door) (heard bytes : List ℕ) (made : List Exchange) (refuses : Ask → HallFault → Type 0) (are_told : List Notice → Option Notice → Type 0)
+    → IsServedBy end door (λ others. others ≡ made) refuses are_told (record { before = Some heard; after = Some []; old = Some []; new = Some bytes }) → IsPut door heard bytes (Some end) made
+put_over end door heard bytes made refuses are_told work =
     let ends = work.ends in
-    let puts = put_by key (served key work.input (answers_of ends.made)) (answers_of ends.made) bytes end ends.writes in
-    let is : IsPut key work.input bytes (Some end) ends.made = record { left = ends.left; asks_them = ends.asks; unput = puts.0; parts = puts.1; leaves = puts.2 } in
-    subst (λ (l : List Exchange). IsPut key heard bytes (Some end) l) ends.makes
-    (subst (λ (l : List ℕ). IsPut key l bytes (Some end) ends.made) (sym (work.read ∙ append-nil work.input)) is)
+    let puts = put_by door (served door work.input (answers_of ends.made)) (answers_of ends.made) bytes end ends.writes in
+    let is : IsPut door work.input bytes (Some end) ends.made = record { left = ends.left; asks_them = ends.asks; unput = puts.0; parts = puts.1; leaves = puts.2 } in
+    subst (λ (l : List Exchange). IsPut door heard bytes (Some end) l) ends.makes
+    (subst (λ (l : List ℕ). IsPut door l bytes (Some end) ends.made) (sym (work.read ∙ append-nil work.input)) is)
 
 module _ (opening : Opening) (is_kept : Bool) (first : Seated) (calls : List Call) (next : ℕ) (line : DeskLine)
     (a : IsAccounted (MakesOne opening) CatchesUp (Refuses opening) IsTold (IsRefused is_kept) first calls next line) where
-  put_on : (end : Option End) → line.link.end ≡ end → IsPut line.link.key line.link.heard (put line.link) end (calls_of line.number calls)
+  put_on : (end : Option End) → line.link.end ≡ end → IsPut line.link.door line.link.heard (put line.link) end (calls_of line.number calls)
   put_on None is =
       let both = open_by_its_own (MakesOne opening) CatchesUp (Refuses opening) IsTold (IsRefused is_kept) first calls next line a is in
       let o = both.0 in
-      let puts = put_some line.link.key (served line.link.key line.link.heard (answers_of o.made)) (answers_of o.made) (put line.link) o.writes in
-      let so : IsPut line.link.key line.link.heard (put line.link) None o.made = record { left = o.left; asks_them = o.asked; unput = puts.0; parts = puts.1; leaves = tt } in
-      subst (λ (l : List Exchange). IsPut line.link.key line.link.heard (put line.link) None l) both.1 so
+      let puts = put_some line.link.door (served line.link.door line.link.heard (answers_of o.made)) (answers_of o.made) (put line.link) o.writes in
+      let so : IsPut line.link.door line.link.heard (put line.link) None o.made = record { left = o.left; asks_them = o.asked; unput = puts.0; parts = puts.1; leaves = tt } in
+      subst (λ (l : List Exchange). IsPut line.link.door line.link.heard (put line.link) None l) both.1 so
   put_on (Some end) is =
-      put_over end line.link.key line.link.heard (put line.link) (calls_of line.number calls) (Refuses opening line.link.caller) _
+      put_over end line.link.door line.link.heard (put line.link) (calls_of line.number calls) (Refuses opening line.link.caller) _
       (served_by_its_own (MakesOne opening) CatchesUp (Refuses opening) IsTold (IsRefused is_kept) first calls next line a end is)
 
   said_on : (base : Meaning) (logs : List (List Entry)) → Viewed base logs (map in_view (calls_of line.number calls) ++ []) → IsSaidOn line base logs (calls_of line.number calls)
   said_on base logs viewed =
       let p = put_on line.link.end refl in
-      let said = said_by line.link.key line.link.heard base logs [] (calls_of line.number calls) p.left viewed p.asks_them in
+      let said = said_by line.link.door line.link.heard base logs [] (calls_of line.number calls) p.left viewed p.asks_them in
       record { said = said; left = p.unput; parts = sym said.sent ∙ p.parts; leaves = p.leaves }
 
 -- ---- the calls of one number
@@ -227,9 +228,9 @@ module _ (base : Meaning) (logs : List (List Entry)) (number : ℕ) (after : Lis
 -- ---- the laws
 
 pub receipt_places_law : ReceiptPlacesLaw
-receipt_places_law end key was now before after old new work base last logs later legal view =
+receipt_places_law end door was now before after old new work base last logs later legal view =
     let ends = work.ends in
-    said_at key work.input base last logs now.seat.number was.seat.view later ends.made ends.left legal
+    said_at door work.input base last logs now.seat.number was.seat.view later ends.made ends.left legal
     (view ∙ ap (λ (l : List Made). l ++ later) ends.makes.view ∙ append_assoc was.seat.view (map in_view ends.made) later) ends.asks
 
 pub places_law : PlacesLaw
@@ -250,7 +251,7 @@ places_law opening is_kept board working last history later legal view =
     (λ key line e. own line (working.served key line e), λ k d l. own _ (working.over k d l))
 
 pub hall_places_law : HallPlacesLaw
-hall_places_law end key was now lines traffic work base last logs later legal view =
+hall_places_law end door was now lines traffic work base last logs later legal view =
     let ends = work.ends in
-    said_at key work.input base last logs now.number was.view later ends.made ends.left legal
+    said_at door work.input base last logs now.number was.view later ends.made ends.left legal
     (view ∙ ap (λ (l : List Made). l ++ later) (hall_view_after was ends.made now ends.makes) ∙ append_assoc was.view (map in_view ends.made) later) ends.asks

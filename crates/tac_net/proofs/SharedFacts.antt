@@ -1,5 +1,6 @@
 -- What a worker sends and what a server says, packet by packet.
 use Rattle.std.proofs.Common.{◌≡◌, ℕ, List, [], ◌∷◌, ◌++◌, Bool, true, false, not, cond, refl, sym, ap, ◌∙◌, append_assoc, append-nil}
+use Rattle.tac_wire.specs.declared.door.Door.{Door}
 use Rattle.tac_wire.specs.declared.frame.Frame.{Frame}
 use Rattle.tac_wire.specs.Stream.{Tail, open_end, cut, cut_within}
 use Rattle.tac_conn.specs.declared.ask.Answer.{Answer}
@@ -57,81 +58,81 @@ module _ (asks : List Ask) (say : Meaning → List Meaning → Said) (others : L
 
 -- ---- packets, one after another
 
-module _ (key : List ℕ) where
+module _ (door : Door) where
   -- the packets of the first, and then the others
-  pub history : (frame : Frame) (frames : List Frame) (earlier : List Packet) → packets_of key frames ++ (clear key frame ∷ earlier) ≡ packets_of key (frame ∷ frames) ++ earlier
+  pub history : (frame : Frame) (frames : List Frame) (earlier : List Packet) → packets_of door frames ++ (clear door frame ∷ earlier) ≡ packets_of door (frame ∷ frames) ++ earlier
   history frame frames earlier =
-      sym (append_assoc (packets_of key frames) (clear key frame ∷ []) earlier) ∙ ap (λ (ps : List Packet). ps ++ earlier) (sym (packets_of-append key (frame ∷ []) frames))
+      sym (append_assoc (packets_of door frames) (clear door frame ∷ []) earlier) ∙ ap (λ (ps : List Packet). ps ++ earlier) (sym (packets_of-append door (frame ∷ []) frames))
 
   sent_to : (frames : List Frame) (now : Meaning) (earlier : List Packet) (tail : Tail) (meanings : List Meaning)
-      → packets_in (served_to key earlier frames (answers_by meanings (asks_in key earlier frames))) ≡ (said_shared key now earlier frames tail meanings).sent
+      → packets_in (served_to door earlier frames (answers_by meanings (asks_in door earlier frames))) ≡ (said_shared door now earlier frames tail meanings).sent
   unfolding served_to asks_in said_shared
   sent_to [] now earlier tail [] = refl
   sent_to [] now earlier tail (meaning ∷ meanings) = refl
   sent_to (frame ∷ frames) now earlier tail meanings =
-      let packet = clear key frame in
-      sent_for (asks_in key (packet ∷ earlier) frames) (λ others. served_to key (packet ∷ earlier) frames others) (λ next others. said_shared key next (packet ∷ earlier) frames tail others)
+      let packet = clear door frame in
+      sent_for (asks_in door (packet ∷ earlier) frames) (λ others. served_to door (packet ∷ earlier) frames others) (λ next others. said_shared door next (packet ∷ earlier) frames tail others)
       (λ next others. sent_to frames next (packet ∷ earlier) tail others)
       now (outcome earlier packet) meanings
 
   piece_to : (second : List Frame) (rest : List ℕ) (tail : Tail) (others : List Meaning) (first : List Frame) (meaning : Meaning) (earlier : List Packet)
-      → said_shared key meaning earlier (first ++ second) tail (along meaning (asks_in key earlier first) ++ others)
-      ≡ unless_closed (said_to key meaning earlier first (open_end rest)) (λ next. said_shared key next (packets_of key first ++ earlier) second tail others)
+      → said_shared door meaning earlier (first ++ second) tail (along meaning (asks_in door earlier first) ++ others)
+      ≡ unless_closed (said_to door meaning earlier first (open_end rest)) (λ next. said_shared door next (packets_of door first ++ earlier) second tail others)
   unfolding asks_in said_shared said_to
   piece_to second rest tail others [] meaning earlier = refl
   piece_to second rest tail others (frame ∷ first) meaning earlier =
-      let packet = clear key frame in
-      let last : Meaning → Said = λ next. said_shared key next (packets_of key (frame ∷ first) ++ earlier) second tail others in
-      let step : Meaning → Said = λ next. said_to key next (packet ∷ earlier) first (open_end rest) in
-      said_for (asks_in key (packet ∷ earlier) first) (λ next left. said_shared key next (packet ∷ earlier) (first ++ second) tail left) others (λ next. unless_closed (step next) last)
-      (λ next. piece_to second rest tail others first next (packet ∷ earlier) ∙ ap (λ (h : List Packet). unless_closed (step next) (λ next. said_shared key next h second tail others)) (history frame first earlier))
+      let packet = clear door frame in
+      let last : Meaning → Said = λ next. said_shared door next (packets_of door (frame ∷ first) ++ earlier) second tail others in
+      let step : Meaning → Said = λ next. said_to door next (packet ∷ earlier) first (open_end rest) in
+      said_for (asks_in door (packet ∷ earlier) first) (λ next left. said_shared door next (packet ∷ earlier) (first ++ second) tail left) others (λ next. unless_closed (step next) last)
+      (λ next. piece_to second rest tail others first next (packet ∷ earlier) ∙ ap (λ (h : List Packet). unless_closed (step next) (λ next. said_shared door next h second tail others)) (history frame first earlier))
       meaning (outcome earlier packet)
       ∙ unless_closed-joined (says meaning (outcome earlier packet)) step last
 
   -- no packets are now, and no meanings
-  ended : (meaning : Meaning) (earlier : List Packet) (tail : Tail) → said_shared key meaning earlier [] tail [] ≡ said_to key meaning earlier [] tail
+  ended : (meaning : Meaning) (earlier : List Packet) (tail : Tail) → said_shared door meaning earlier [] tail [] ≡ said_to door meaning earlier [] tail
   unfolding said_shared said_to
   ended meaning earlier tail = refl
 
   alone_to : (frames : List Frame) (meaning : Meaning) (earlier : List Packet) (tail : Tail)
-      → said_shared key meaning earlier frames tail (along meaning (asks_in key earlier frames)) ≡ said_to key meaning earlier frames tail
+      → said_shared door meaning earlier frames tail (along meaning (asks_in door earlier frames)) ≡ said_to door meaning earlier frames tail
   alone_to frames meaning earlier tail =
-      let said = said_to key meaning earlier frames (open_end []) in
-      let meanings = along meaning (asks_in key earlier frames) in
-      ap (λ (l : List Frame). said_shared key meaning earlier l tail meanings) (sym (append-nil frames))
-      ∙ ap (λ (l : List Meaning). said_shared key meaning earlier (frames ++ []) tail l) (sym (append-nil meanings))
+      let said = said_to door meaning earlier frames (open_end []) in
+      let meanings = along meaning (asks_in door earlier frames) in
+      ap (λ (l : List Frame). said_shared door meaning earlier l tail meanings) (sym (append-nil frames))
+      ∙ ap (λ (l : List Meaning). said_shared door meaning earlier (frames ++ []) tail l) (sym (append-nil meanings))
       ∙ piece_to [] [] tail [] frames meaning earlier
-      ∙ unless_closed-same said (λ next. said_shared key next (packets_of key frames ++ earlier) [] tail []) (λ next. said_to key next (packets_of key frames ++ earlier) [] tail)
-      (ended said.meaning (packets_of key frames ++ earlier) tail)
-      ∙ sym (said_to-append key frames [] tail [] meaning earlier)
-      ∙ ap (λ (l : List Frame). said_to key meaning earlier l tail) (append-nil frames)
+      ∙ unless_closed-same said (λ next. said_shared door next (packets_of door frames ++ earlier) [] tail []) (λ next. said_to door next (packets_of door frames ++ earlier) [] tail)
+      (ended said.meaning (packets_of door frames ++ earlier) tail)
+      ∙ sym (said_to-append door frames [] tail [] meaning earlier)
+      ∙ ap (λ (l : List Frame). said_to door meaning earlier l tail) (append-nil frames)
 
 pub piece_law : PieceLaw
-piece_law key meaning earlier first second rest tail others = piece_to key second rest tail others first meaning earlier
+piece_law door meaning earlier first second rest tail others = piece_to door second rest tail others first meaning earlier
 
 pub sent_law : SentLaw
-sent_law key now earlier frames tail meanings = sent_to key frames now earlier tail meanings
+sent_law door now earlier frames tail meanings = sent_to door frames now earlier tail meanings
 
 pub alone_law : AloneLaw
-alone_law key meaning earlier frames tail = alone_to key frames meaning earlier tail
+alone_law door meaning earlier frames tail = alone_to door frames meaning earlier tail
 
 -- ---- streams
 
-pub bytes_of : (key : List ℕ) (sendings : List Sending) → bytes_sent key sendings ≡ sent_bytes key (packets_in sendings)
-bytes_of key [] = refl
-bytes_of key (sending ∷ sendings) = ap (λ (l : List ℕ). sent key sending.packet ++ l) (bytes_of key sendings)
+pub bytes_of : (door : Door) (sendings : List Sending) → bytes_sent door sendings ≡ sent_bytes door (packets_in sendings)
+bytes_of door [] = refl
+bytes_of door (sending ∷ sendings) = ap (λ (l : List ℕ). sent door sending.packet ++ l) (bytes_of door sendings)
 
 pub sent_stream_law : SentStreamLaw
-sent_stream_law key now bytes meanings =
-    bytes_of key (served key bytes (answers_by meanings (asks key bytes)))
-    ∙ ap (sent_bytes key) (sent_law key now [] (cut bytes).packets (cut bytes).tail meanings)
+sent_stream_law door now bytes meanings =
+    bytes_of door (served door bytes (answers_by meanings (asks door bytes)))
+    ∙ ap (sent_bytes door) (sent_law door now [] (cut door bytes).packets (cut door bytes).tail meanings)
 
-from_first : (key : List ℕ) (meaning : Meaning) (bytes : List ℕ) → said_to key meaning [] (cut bytes).packets (cut bytes).tail ≡ said_on key meaning [] bytes
+from_first : (door : Door) (meaning : Meaning) (bytes : List ℕ) → said_to door meaning [] (cut door bytes).packets (cut door bytes).tail ≡ said_on door meaning [] bytes
 unfolding cut cut_within
-from_first key meaning bytes = refl
+from_first door meaning bytes = refl
 
 pub alone_stream_law : AloneStreamLaw
-alone_stream_law key meaning bytes = alone_law key meaning [] (cut bytes).packets (cut bytes).tail ∙ from_first key meaning bytes
+alone_stream_law door meaning bytes = alone_law door meaning [] (cut door bytes).packets (cut door bytes).tail ∙ from_first door meaning bytes
 
-pub sent_on : (key : List ℕ) (now : Meaning) (bytes : List ℕ) (meanings : List Meaning) → packets_in (served key bytes (answers_by meanings (asks key bytes))) ≡ (said_shared_on key now bytes meanings).sent
-sent_on key now bytes meanings = sent_law key now [] (cut bytes).packets (cut bytes).tail meanings
+pub sent_on : (door : Door) (now : Meaning) (bytes : List ℕ) (meanings : List Meaning) → packets_in (served door bytes (answers_by meanings (asks door bytes))) ≡ (said_shared_on door now bytes meanings).sent
+sent_on door now bytes meanings = sent_law door now [] (cut door bytes).packets (cut door bytes).tail meanings

@@ -1,5 +1,6 @@
 -- A worker goes on to stand, whatever it does with its connections.
 use Rattle.std.proofs.Common.{◌≡◌, ◌+◌, ℕ, List, Option, ap, ◌∙◌, arith}
+use Rattle.tac_wire.specs.declared.door.Door.{Door}
 use Rattle.tac_audit.specs.declared.notice.Notice.{Notice}
 use Rattle.tac_forum.specs.Seat.{Seated}
 use Rattle.tac_journal.specs.Log.{Keeping}
@@ -30,7 +31,7 @@ module _ {V S : Type 0} (takes refuses : V → Notice → V → Type 0) (callers
   }
 
   -- one is added
-  pub stands_added : (left more k : ℕ) (with : List ℕ) (witness : V) (socket : S) (was now : Board Seated V S) → Adds (came with witness socket was) k was now → Begins takes refuses callers log with witness
+  pub stands_added : (left more k : ℕ) (with : Door) (witness : V) (socket : S) (was now : Board Seated V S) → Adds (came with witness socket was) k was now → Begins takes refuses callers log with witness
       → left ≡ more + 1 → Stands takes refuses callers log connections was left → Stands takes refuses callers log connections now more
   stands_added left more k with witness socket was now added begins one s = record {
     each = fits_added (Begins takes refuses callers log) with witness socket k was now added begins s.each;

@@ -1,8 +1,10 @@
--- Which devices may call, by which keys, and how lines of a log name them (RFC 8907, section 10.5;
+-- Which devices may call, by which doors, and how lines of a log name them (RFC 8907, section 10.5;
 -- docs/DEVICES.md).
 use Rattle.std.specs.Prelude.{◌≡◌, ◌⊎◌, ℕ, List, Bool, true, false, Option, Some, None, Ok}
 use Rattle.std.specs.declared.net.ip_addr.IpAddr.{IpAddr}
 use Rattle.boxcar.specs.Table.{Where, Shows}
+use Rattle.tac_wire.specs.declared.door.Door.{Door}
+use Rattle.tac_wire.specs.declared.door.Door.TheVariants.{Padded}
 use Rattle.tac_audit.specs.declared.event.Named.{Named}
 use Rattle.tac_devices.specs.Devices.{IsDeviceAt}
 use Rattle.tac_devices.specs.Text.{IsText}
@@ -31,21 +33,22 @@ WasListed directory devices =
 abbrev pub named : Device → Bool → Option Named
 named device by_old_key = Some (record { name = device.name; by_old_key = by_old_key })
 
--- it is the key of this device, or its old one, and lines name the device so
-abbrev pub IsKeyOf : Device → List ℕ → Option Named → Type 0
-IsKeyOf device used who =
-    ((used ≡ device.keys.present) × (who ≡ named device false))
-    ⊎ ((device.keys.old ≡ Some used) × (who ≡ named device true))
+-- it is the door of this device's key, or of its old one, and lines name the device so
+abbrev pub IsDoorOf : Device → Door → Option Named → Type 0
+IsDoorOf device door who =
+    ((door ≡ Padded device.keys.present) × (who ≡ named device false))
+    ⊎ ((old : List ℕ) × (device.keys.old ≡ Some old) × (door ≡ Padded old)
+    × (who ≡ named device true))
 
 -- ---- who may call
 
--- a device at this address may call, under this key, and lines name it so: not at all where
--- devices aren't listed
-abbrev pub MayCall : Callers → IpAddr → List ℕ → Option Named → Type 0
-MayCall (Any key) address used who = (used ≡ key) × (who ≡ None)
-MayCall (Listed directory) address used who =
+-- a device at this address may call, by this door, and lines name it so: not at all where devices
+-- aren't listed
+abbrev pub MayCall : Callers → IpAddr → Door → Option Named → Type 0
+MayCall (Any key) address door who = (door ≡ Padded key) × (who ≡ None)
+MayCall (Listed directory) address door who =
     (devices : List Device) × WasListed directory devices
-    × (device : Device) × IsDeviceAt devices address (Some device) × IsKeyOf device used who
+    × (device : Device) × IsDeviceAt devices address (Some device) × IsDoorOf device door who
 
 -- no device is at it
 abbrev pub HasNoneAt : Directory → IpAddr → Type 0
@@ -57,9 +60,9 @@ abbrev pub IsStranger : Callers → IpAddr → Type 0
 IsStranger (Any key) address = ⊥
 IsStranger (Listed directory) address = HasNoneAt directory address
 
--- it is a key of a device that may call, one at some address, and lines name that so
-abbrev pub IsKeyOfOne : Callers → List ℕ → Option Named → Type 0
-IsKeyOfOne callers used who = (address : IpAddr) × MayCall callers address used who
+-- a device at some address may call by this door, and lines name that so
+abbrev pub IsDoorOfOne : Callers → Door → Option Named → Type 0
+IsDoorOfOne callers door who = (address : IpAddr) × MayCall callers address door who
 
 -- ---- who is found at an address
 
@@ -74,7 +77,7 @@ IsFoundAt (Any key) address (Unlisted other) = other.now ≡ key
 IsFoundAt (Any key) address (Known device) = ⊥
 IsFoundAt (Listed directory) address found = IsKnownAt directory address found
 
--- who is found so calls under this key, and lines name it so
-abbrev pub IsCallerOf : Found → List ℕ → Option Named → Type 0
-IsCallerOf (Unlisted key) used who = (used ≡ key.now) × (who ≡ None)
-IsCallerOf (Known device) used who = IsKeyOf device.now used who
+-- who is found so calls by this door, and lines name it so
+abbrev pub IsCallerOf : Found → Door → Option Named → Type 0
+IsCallerOf (Unlisted key) door who = (door ≡ Padded key.now) × (who ≡ None)
+IsCallerOf (Known device) door who = IsDoorOf device.now door who

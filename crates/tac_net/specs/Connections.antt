@@ -9,9 +9,10 @@ use Rattle.tac_forum.specs.History.{Opening}
 use Rattle.tac_forum.specs.Seat.{Seated, CatchesUp}
 use Rattle.tac_journal.specs.Log.{Keeping}
 use Rattle.tac_worker.specs.AtDesk as at_desk
+use Rattle.tac_wire.specs.declared.door.Door.{Door}
 use Rattle.tac_loop.specs.Board.{Board, AreAll, IsWorking}
 use Rattle.tac_loop.specs.declared.line.Line.{Line}
-use Rattle.tac_net.specs.Callers.{IsKeyOfOne}
+use Rattle.tac_net.specs.Callers.{IsDoorOfOne}
 use Rattle.tac_net.specs.Logs.{HasLogged}
 use Rattle.tac_net.specs.declared.callers.Callers.{Callers}
 
@@ -34,12 +35,12 @@ pub record TellsLog {V : Type 0} (takes refuses : V → Notice → V → Type 0)
   pub refused : (told : List Notice) (between now : V) (notice : Notice)
       → AreTold takes first told between → refuses between notice now → log.is_kept ≡ true
 
--- a connection begins under this key with this witness: it is the key of a device that may call,
--- and the lines of the log name that device
+-- a connection begins by this door with this witness: a device may call by that door, and the
+-- lines of the log name that device
 abbrev pub Begins : {V : Type 0} → (V → Notice → V → Type 0) → (V → Notice → V → Type 0)
-    → Callers → Keeping → List ℕ → V → Type 0
-Begins takes refuses callers log key first =
-    (who : Option Named) × IsKeyOfOne callers key who × TellsLog takes refuses log who first
+    → Callers → Keeping → Door → V → Type 0
+Begins takes refuses callers log door first =
+    (who : Option Named) × IsDoorOfOne callers door who × TellsLog takes refuses log who first
 
 -- ---- a seat
 
@@ -57,16 +58,16 @@ IsDeskBoard opening is_kept board =
     IsWorking (at_desk.MakesOne opening) CatchesUp (at_desk.Refuses opening)
     IsTold (IsRefused is_kept) board
 
--- its key is that of a device that may call, and the log, if one is kept, took the lines of all
--- that its witness was told, which name this device
+-- a device may call by its door, and the log, if one is kept, took the lines of all that its
+-- witness was told, which name this device
 pub record IsConnectionOf (callers : Callers) (log : Keeping) (line : DeskLine) : Type 0 where
   pub who : Option Named
-  pub keyed : IsKeyOfOne callers line.link.key who
+  pub by_door : IsDoorOfOne callers line.link.door who
   pub first : line.link.first ≡ []
   pub logged : HasLogged log who line.link.witness
 
--- a seat made its calls for at most so many connections, each by the key of a device that may call,
--- and no other calls
+-- a seat made its calls for at most so many connections, each by the door of a device that may
+-- call, and no other calls
 pub record HasServed (opening : Opening) (callers : Callers) (log : Keeping) (connections : ℕ)
     (was now : Seated) : Type 0 where
   pub board : DeskBoard

@@ -7,6 +7,7 @@ pub mod Ending
 pub mod Program
 pub mod Shared
 pub mod Places
+pub mod Clear
 pub mod Patience
 pub mod Pause
 pub mod Filling

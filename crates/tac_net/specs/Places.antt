@@ -1,6 +1,7 @@
 -- What a worker sends, by the places that its calls have in the history of its desk.
 use Rattle.std.specs.Prelude.{◌≡◌, ◌<◌, ℕ, zero, suc, List, [], ◌∷◌, ◌++◌, take, length}
 use Rattle.std.specs.Prelude.{Bool, Option, Some, None}
+use Rattle.tac_wire.specs.declared.door.Door.{Door}
 use Rattle.tac_desk.specs.Meaning.{Meaning}
 use Rattle.tac_hall.specs.declared.entry.Entry.{Entry}
 use Rattle.tac_hall.specs.declared.entry.Made.{Made}
@@ -40,16 +41,16 @@ StoodAt base logs made meanings = ⊥
 
 -- what is sent for these bytes by the answers of these exchanges is what a server says to them
 -- whose desk represents, at each ask, what the desk that is shared represented at its place
-pub record IsSaid (key bytes : List ℕ) (base : Meaning) (logs : List (List Entry))
+pub record IsSaid (door : Door) (bytes : List ℕ) (base : Meaning) (logs : List (List Entry))
     (made : List Exchange) : Type 0 where
   pub meanings : List Meaning
   pub stood : StoodAt base logs made meanings
   pub packets :
-      packets_in (served key bytes (answers_of made))
-      ≡ (said_shared_on key base bytes meanings).sent
+      packets_in (served door bytes (answers_of made))
+      ≡ (said_shared_on door base bytes meanings).sent
   pub sent :
-      bytes_sent key (served key bytes (answers_of made))
-      ≡ sent_bytes key (said_shared_on key base bytes meanings).sent
+      bytes_sent door (served door bytes (answers_of made))
+      ≡ sent_bytes door (said_shared_on door base bytes meanings).sent
 
 -- what is left to be put on a connection that stands so: nothing once it has ended, unless memory
 -- ran out, the writer failed, or the witness refused a notice
@@ -64,11 +65,11 @@ LeavesUnput (Some end) left = left ≡ []
 -- put on it to be sent
 pub record IsSaidOn (line : DeskLine) (base : Meaning) (logs : List (List Entry))
     (made : List Exchange) : Type 0 where
-  pub said : IsSaid line.link.key line.link.heard base logs made
+  pub said : IsSaid line.link.door line.link.heard base logs made
   pub left : List ℕ
   pub parts :
-      sent_bytes line.link.key
-      (said_shared_on line.link.key base line.link.heard said.meanings).sent
+      sent_bytes line.link.door
+      (said_shared_on line.link.door base line.link.heard said.meanings).sent
       ≡ put line.link ++ left
   pub leaves : LeavesUnput line.link.end left
 
@@ -89,20 +90,20 @@ PlacesLaw =
 -- together a legal history, and have exactly the view of the seat, with what that called later
 abbrev pub HallPlacesLaw : Type 0
 HallPlacesLaw =
-    (end : End) (key : List ℕ) (was now : Sitting)
+    (end : End) (door : Door) (was now : Sitting)
     (lines : Option (List (List ℕ))) (traffic : Traffic)
-    (work : at_hall.IsServedAt end key was now (Logs lines) traffic)
+    (work : at_hall.IsServedAt end door was now (Logs lines) traffic)
     (base last : Meaning) (logs : List (List Entry)) (later : List Made)
     → Legal base (joined logs) last
     → view_along 0 now.number logs ≡ now.view ++ later
-    → IsSaid key work.input base logs work.ends.made
+    → IsSaid door work.input base logs work.ends.made
 
 -- the same where its receipts were kept
 abbrev pub ReceiptPlacesLaw : Type 0
 ReceiptPlacesLaw =
-    (end : End) (key : List ℕ) (was now : Calling) (before after old new : Option (List ℕ))
-    (work : IsServed end key was now before after old new)
+    (end : End) (door : Door) (was now : Calling) (before after old new : Option (List ℕ))
+    (work : IsServed end door was now before after old new)
     (base last : Meaning) (logs : List (List Entry)) (later : List Made)
     → Legal base (joined logs) last
     → view_along 0 now.seat.number logs ≡ now.seat.view ++ later
-    → IsSaid key work.input base logs work.ends.made
+    → IsSaid door work.input base logs work.ends.made

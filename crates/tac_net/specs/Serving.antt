@@ -1,6 +1,7 @@
 -- What a worker of a hall has done that served connections one after another, and what several
 -- have.
 use Rattle.std.specs.Prelude.{◌≡◌, ◌≤◌, ◌+◌, ◌⊎◌, ℕ, List, [], ◌∷◌, true, None}
+use Rattle.tac_wire.specs.declared.door.Door.{Door}
 use Rattle.tac_conn.specs.declared.ask.Ask.{Ask}
 use Rattle.tac_hall.specs.declared.fault.HallFault.{HallFault}
 use Rattle.tac_hall.specs.Seat.{Sitting}
@@ -15,15 +16,15 @@ use Rattle.tac_net.specs.Logs.{Logs}
 -- whoever makes the calls, each by such a step, and then rests, served it, and it ended so; a call
 -- is refused so. No log is told. That the bytes are the client's is in no contract
 pub record IsConnection {S : Type 0} (step : S → Exchange → S → Type 0) (rests : S → S → Type 0)
-    (refuses : S → Ask → HallFault → Type 0) (key : List ℕ) (was : S) (end : End) (now : S)
+    (refuses : S → Ask → HallFault → Type 0) (door : Door) (was : S) (end : End) (now : S)
     : Type 0 where
   pub traffic : Traffic
-  pub served : IsServedBy end key (λ made. AreAllMade step rests was made now) (refuses now)
+  pub served : IsServedBy end door (λ made. AreAllMade step rests was made now) (refuses now)
       (Logs None) traffic
 
 -- a seat of a hall served it
-abbrev pub IsHallConnection : List ℕ → Sitting → End → Sitting → Type 0
-IsHallConnection key = IsConnection at_hall.MakesOne at_hall.Rests at_hall.Refuses key
+abbrev pub IsHallConnection : Door → Sitting → End → Sitting → Type 0
+IsHallConnection door = IsConnection at_hall.MakesOne at_hall.Rests at_hall.Refuses door
 
 -- how it ends where no connection could be accepted: as one that couldn't be read
 abbrev pub IsUnaccepted : End → Type 0

@@ -1,6 +1,7 @@
 -- What a server says on a connection while others use its desk too (RFC 8907, section 4), and that
 -- a worker sends the same.
 use Rattle.std.specs.Prelude.{◌≡◌, ◌≤◌, ℕ, List, [], ◌∷◌, ◌++◌, length, map, zip, false}
+use Rattle.tac_wire.specs.declared.door.Door.{Door}
 use Rattle.tac_wire.specs.declared.frame.Frame.{Frame}
 use Rattle.tac_wire.specs.Stream.{Tail, open_end, cut}
 use Rattle.tac_conn.specs.declared.ask.Answer.{Answer}
@@ -33,18 +34,18 @@ says_shared now outcome meanings later =
 -- the latest first, where the desk represents the first of these meanings at their first ask, the
 -- second at the second, and so on: others may have asked and edited in between. What it represents
 -- before the first ask changes nothing of what is sent
-unfoldable pub said_shared : List ℕ → Meaning → List Packet → List Frame → Tail → List Meaning
+unfoldable pub said_shared : Door → Meaning → List Packet → List Frame → Tail → List Meaning
     → Said
-said_shared key now earlier [] tail meanings =
+said_shared door now earlier [] tail meanings =
     record { sent = []; closes = closed_by tail; meaning = now }
-said_shared key now earlier (frame ∷ frames) tail meanings =
-    says_shared now (outcome earlier (clear key frame)) meanings
-    (λ next others. said_shared key next (clear key frame ∷ earlier) frames tail others)
+said_shared door now earlier (frame ∷ frames) tail meanings =
+    says_shared now (outcome earlier (clear door frame)) meanings
+    (λ next others. said_shared door next (clear door frame ∷ earlier) frames tail others)
 
 -- the same for a whole stream
-abbrev pub said_shared_on : List ℕ → Meaning → List ℕ → List Meaning → Said
-said_shared_on key now bytes meanings =
-    let parts = cut bytes in said_shared key now [] parts.packets parts.tail meanings
+abbrev pub said_shared_on : Door → Meaning → List ℕ → List Meaning → Said
+said_shared_on door now bytes meanings =
+    let parts = cut door bytes in said_shared door now [] parts.packets parts.tail meanings
 
 -- what a desk represents at each of these asks where nothing comes in between: at the first this,
 -- at each other what the one before left
@@ -56,26 +57,26 @@ along meaning (ask ∷ asks) = meaning ∷ along (asked meaning ask).meaning ask
 -- that closed the connection, what is said to the second, before which others may use the desk
 abbrev pub PieceLaw : Type 0
 PieceLaw =
-    (key : List ℕ) (meaning : Meaning) (earlier : List Packet) (first second : List Frame)
+    (door : Door) (meaning : Meaning) (earlier : List Packet) (first second : List Frame)
     (rest : List ℕ) (tail : Tail) (others : List Meaning)
-    → said_shared key meaning earlier (first ++ second) tail
-    (along meaning (asks_in key earlier first) ++ others)
-    ≡ unless_closed (said_to key meaning earlier first (open_end rest))
-    (λ next. said_shared key next (packets_of key first ++ earlier) second tail others)
+    → said_shared door meaning earlier (first ++ second) tail
+    (along meaning (asks_in door earlier first) ++ others)
+    ≡ unless_closed (said_to door meaning earlier first (open_end rest))
+    (λ next. said_shared door next (packets_of door first ++ earlier) second tail others)
 
 -- so where nothing comes in between at all, it is what a server says
 abbrev pub AloneLaw : Type 0
 AloneLaw =
-    (key : List ℕ) (meaning : Meaning) (earlier : List Packet) (frames : List Frame) (tail : Tail)
-    → said_shared key meaning earlier frames tail (along meaning (asks_in key earlier frames))
-    ≡ said_to key meaning earlier frames tail
+    (door : Door) (meaning : Meaning) (earlier : List Packet) (frames : List Frame) (tail : Tail)
+    → said_shared door meaning earlier frames tail (along meaning (asks_in door earlier frames))
+    ≡ said_to door meaning earlier frames tail
 
 -- and to a whole stream
 abbrev pub AloneStreamLaw : Type 0
 AloneStreamLaw =
-    (key : List ℕ) (meaning : Meaning) (bytes : List ℕ)
-    → said_shared_on key meaning bytes (along meaning (asks key bytes))
-    ≡ said_on key meaning [] bytes
+    (door : Door) (meaning : Meaning) (bytes : List ℕ)
+    → said_shared_on door meaning bytes (along meaning (asks door bytes))
+    ≡ said_on door meaning [] bytes
 
 -- ---- a worker that gets its answers
 
@@ -91,24 +92,24 @@ packets_in sendings = map (λ sending. sending.packet) sendings
 -- that a server with such a desk says
 abbrev pub SentLaw : Type 0
 SentLaw =
-    (key : List ℕ) (now : Meaning) (earlier : List Packet) (frames : List Frame) (tail : Tail)
+    (door : Door) (now : Meaning) (earlier : List Packet) (frames : List Frame) (tail : Tail)
     (meanings : List Meaning)
-    → packets_in (served_to key earlier frames (answers_by meanings (asks_in key earlier frames)))
-    ≡ (said_shared key now earlier frames tail meanings).sent
+    → packets_in (served_to door earlier frames (answers_by meanings (asks_in door earlier frames)))
+    ≡ (said_shared door now earlier frames tail meanings).sent
 
 -- so to a whole stream exactly the bytes
 abbrev pub SentStreamLaw : Type 0
 SentStreamLaw =
-    (key : List ℕ) (now : Meaning) (bytes : List ℕ) (meanings : List Meaning)
-    → bytes_sent key (served key bytes (answers_by meanings (asks key bytes)))
-    ≡ sent_bytes key (said_shared_on key now bytes meanings).sent
+    (door : Door) (now : Meaning) (bytes : List ℕ) (meanings : List Meaning)
+    → bytes_sent door (served door bytes (answers_by meanings (asks door bytes)))
+    ≡ sent_bytes door (said_shared_on door now bytes meanings).sent
 
 -- and where every ask has its meaning, the connection is closed exactly where a server closes it
 abbrev pub CloseLaw : Type 0
 CloseLaw =
-    (key : List ℕ) (now : Meaning) (bytes : List ℕ) (meanings : List Meaning)
-    → length (asks key bytes) ≤ length meanings
-    → closes key bytes ≡ (said_shared_on key now bytes meanings).closes
+    (door : Door) (now : Meaning) (bytes : List ℕ) (meanings : List Meaning)
+    → length (asks door bytes) ≤ length meanings
+    → closes door bytes ≡ (said_shared_on door now bytes meanings).closes
 
 -- ---- all of these
 

@@ -14,9 +14,9 @@ pub record Standing (L : Type 0) : Type 0 where
   pub settings : Settings
   pub log : L
 
--- each of its connections began by the key of a device that may call, with a witness that tells the
--- log; so many of the connections that it may serve are left
+-- each of its connections began by the door of a device that may call, with a witness that tells
+-- the log; so many of the connections that it may serve are left
 pub record Stands {V S : Type 0} (takes refuses : V → Notice → V → Type 0) (callers : Callers)
     (log : Keeping) (connections : ℕ) (board : Board Seated V S) (left : ℕ) : Type 0 where
-  pub each : AreAll (λ line. Begins takes refuses callers log line.link.key line.link.first) board
+  pub each : AreAll (λ line. Begins takes refuses callers log line.link.door line.link.first) board
   pub count : board.next + left ≡ connections

@@ -42,8 +42,8 @@ fn until(moment: u64, now: Option<u64>) -> u64 {
     }
 }
 
-// Finds a worker for a connection, unless its device is unknown or there are too many. It comes back
-// where that is the first one's own.
+// Finds a worker for a connection, unless its device is unknown or there are too many. It comes
+// back where that is the first one's own.
 fn receive<R, J: Run, D: Desk, L: Log>(
     premises: &Premises<'_, R, J, D, L>,
     arrival: Arrival,

@@ -2,7 +2,7 @@
 
 ghost use Rattle.std.specs.Prelude.{◌≡◌, IfOk, IfSome, IfNone};
 ghost use Rattle.tac_net.specs.Callers.{HasNoneAt, IsCallerOf, IsFoundAt};
-ghost use Rattle.tac_net.specs.Callers.{IsKeyOf, IsKnownAt, IsStranger};
+ghost use Rattle.tac_net.specs.Callers.{IsDoorOf, IsKnownAt, IsStranger};
 
 use crate::directory::Directory;
 use std::alloc::{AllocError, Global};
@@ -10,12 +10,12 @@ use std::net::IpAddr;
 use tac_audit::Named;
 use tac_devices::Device;
 use tac_first::{Shown, shown_by};
-use tac_wire::Key;
+use tac_wire::{Door, KeyDoor};
 
 /// Which devices may call a server, and by which keys (RFC 8907, section 10.5).
 pub enum Callers {
     /// Any device, wherever it is, by this key.
-    Any(Key),
+    Any(KeyDoor),
     /// Those that are listed, each by its own key, or by an old one that it still has.
     Listed(Directory),
 }
@@ -34,32 +34,32 @@ impl Drop for Callers {
 #[derive(Clone, Copy)]
 pub(crate) enum Found<'a> {
     /// Some device, which has this key as all have.
-    Unlisted(&'a Key),
+    Unlisted(&'a KeyDoor),
     /// This one.
     Known(&'a Device),
 }
 
-/// Who calls: the key of its connection, and how lines of a log name it.
+/// Who calls: the door of its connection, and how lines of a log name it.
 #[derive(Clone, Copy)]
 pub(crate) struct Caller<'a> {
-    pub(crate) key: &'a Key,
+    pub(crate) door: &'a Door,
     pub(crate) named: Option<Named>,
 }
 
 // A device that shows this of its keys. It has the present one where there is no old one.
 fn caller_by(device: &Device, shown: Shown) -> Caller<'_>
-    ensures { IsKeyOf device.now result.key.now result.named }
+    ensures { IsDoorOf device.now result.door.now result.named }
 {
     match (shown, &device.keys.old) {
         (Shown::Old, Some(old)) => Caller {
-            key: old,
+            door: old.door(),
             named: Some(Named {
                 name: device.name,
                 by_old_key: true,
             }),
         },
         _ => Caller {
-            key: &device.keys.present,
+            door: device.keys.present.door(),
             named: Some(Named {
                 name: device.name,
                 by_old_key: false,
@@ -100,10 +100,13 @@ impl<'a> Found<'a> {
 
     /// The same as one who calls, and shows this of its keys.
     pub(crate) fn caller(self, shown: Shown) -> Caller<'a>
-        ensures { IsCallerOf self.entry result.key.now result.named }
+        ensures { IsCallerOf self.entry result.door.now result.named }
     {
         match self {
-            Found::Unlisted(key) => Caller { key, named: None },
+            Found::Unlisted(key) => Caller {
+                door: key.door(),
+                named: None,
+            },
             Found::Known(device) => caller_by(device, shown),
         }
     }

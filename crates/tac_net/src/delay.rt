@@ -3,8 +3,8 @@
 use std::cell::Cell;
 
 /// How long the replies to failed logins of one connection are held back, so that whoever tries
-/// passwords there waits for each. Times are in milliseconds, by one clock; where the clock can't be
-/// read nothing is held back.
+/// passwords there waits for each. Times are in milliseconds, by one clock; where the clock can't
+/// be read nothing is held back.
 #[derive(Drop)]
 pub(crate) struct Delay {
     // for how long; 0 is not at all

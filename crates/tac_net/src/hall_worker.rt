@@ -9,7 +9,7 @@ use std::net::{TcpListener, TcpStream};
 use std::sync::Wait;
 use std::time::Clock;
 use tac_audit::Nobody;
-use tac_wire::Key;
+use tac_wire::Door;
 use tac_worker::{Caller, End, Gate, Terms, serve};
 
 /// By what a worker serves its connections.
@@ -17,7 +17,7 @@ use tac_worker::{Caller, End, Gate, Terms, serve};
 pub(crate) struct Service<'a, R, G> {
     pub(crate) rt: &'a R,
     pub(crate) listener: &'a TcpListener,
-    pub(crate) key: &'a Key,
+    pub(crate) door: &'a Door,
     pub(crate) gate: &'a G,
     /// How many connections it serves, one after another.
     pub(crate) connections: u32,
@@ -41,12 +41,12 @@ fn serve_stream<R: Wait + AllocGlobal, G: Gate, C: Caller>(
     stream: &TcpStream,
 ) -> End
     ensures { serving.Connects (serving.IsConnection C.makes C.rests C.refuses
-        service.now.key.now) caller.old result caller.new }
+        service.now.door.now) caller.old result caller.new }
 {
     let terms = Terms {
         rt: service.rt,
         alloc: service.rt.alloc(),
-        key: service.key,
+        door: service.door,
         gate: service.gate,
     };
     let mut reader = stream;
@@ -61,7 +61,7 @@ fn serve_one<R: Wait + Clock + AllocGlobal, G: Gate, C: Caller>(
     caller: &mut C,
 ) -> End
     ensures { serving.Connects (serving.IsConnection C.makes C.rests C.refuses
-        service.now.key.now) caller.old result caller.new }
+        service.now.door.now) caller.old result caller.new }
 {
     match accept(service, pause) {
         Ok(stream) => serve_stream(service, caller, &stream),
@@ -76,7 +76,7 @@ pub(crate) fn serve_all<R: Wait + Clock + AllocGlobal, G: Gate, C: Caller>(
     caller: &mut C,
 ) -> End
     ensures { serving.Serves (serving.IsConnection C.makes C.rests C.refuses
-        service.now.key.now) service.now.connections caller.old result caller.new }
+        service.now.door.now) service.now.connections caller.old result caller.new }
 {
     let mut last = End::Finished;
     let mut pause = Pause::first();

@@ -178,9 +178,9 @@ impl Intake {
         }
     }
 
-    /// Finds a worker for a connection that the first one accepted, of whose address there may be so
-    /// many, or any number where that is 0. It comes back where that is the first one's own. Else it
-    /// is that worker's, or is closed where there are too many.
+    /// Finds a worker for a connection that the first one accepted, of whose address there may be
+    /// so many, or any number where that is 0. It comes back where that is the first one's own.
+    /// Else it is that worker's, or is closed where there are too many.
     pub(crate) fn place<R: Wait>(
         &self,
         rt: &R,

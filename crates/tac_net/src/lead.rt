@@ -10,8 +10,8 @@ use tac_first::Shown;
 use tac_status::Departure;
 use tac_worker::Chunk;
 
-/// How many reads are made at once. Each that isn't the last fills its chunk, so these are more than
-/// the longest packet takes.
+/// How many reads are made at once. Each that isn't the last fills its chunk, so these are more
+/// than the longest packet takes.
 const READS: u32 = 32;
 
 /// A connection that was accepted, as a stream that never waits, and what came on it. Where its

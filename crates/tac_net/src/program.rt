@@ -241,13 +241,13 @@ where
 /// A new connection goes to the worker that has the fewest, which serves it by the key of the
 /// device at its address. It is closed before a byte is read or written where no device that may
 /// call is there, which standard error is told once a minute at most. So it is where there are as
-/// many as the settings allow, in all or of its address. A connection is given up where so many seconds as
-/// the settings say have passed since it was accepted or since its last reply was taken, whatever
-/// comes meanwhile; before its first reply after ten seconds; where a reply isn't taken for so
-/// long; and where its unanswered packets find no memory. Where there is a log, each reply is sent
-/// only once that was told of it ([`DeviceLog`](tac_journal::DeviceLog)), and each line of the
-/// console is told before its answer is printed. Of several faults the console's comes first. There
-/// may be 63 workers: a desk has 64 seats, and the console takes one.
+/// many as the settings allow, in all or of its address. A connection is given up where so many
+/// seconds as the settings say have passed since it was accepted or since its last reply was taken,
+/// whatever comes meanwhile; before its first reply after ten seconds; where a reply isn't taken
+/// for so long; and where its unanswered packets find no memory. Where there is a log, each reply
+/// is sent only once that was told of it ([`DeviceLog`](tac_journal::DeviceLog)), and each line of
+/// the console is told before its answer is printed. Of several faults the console's comes first.
+/// There may be 63 workers: a desk has 64 seats, and the console takes one.
 pub fn serve<R, D: Desk + Send, L: Log + Sync, S: Source + Typists, I: Read, O: Write>(
     rt: &R,
     port: &Port,

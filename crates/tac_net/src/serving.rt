@@ -1,6 +1,7 @@
 //! A hall on the network.
 
 ghost use Rattle.std.specs.Prelude.{IfOk};
+ghost use Rattle.tac_wire.specs.declared.door.Door.TheVariants.{Padded};
 ghost use Rattle.tac_net.specs.Serving as serving;
 
 use crate::hall_worker::{Service, serve_all};
@@ -11,7 +12,7 @@ use std::thread::{Threads, map_vec};
 use std::time::Clock;
 use tac_desk::Desk;
 use tac_hall::{Hall, Seat};
-use tac_wire::Key;
+use tac_wire::{Door, Key};
 use tac_worker::{End, Gate, HallCaller};
 
 /// Serves a hall on the network: for each seat there is a worker in a thread of its own, which
@@ -37,18 +38,19 @@ pub fn serve_on<R, D: Desk + Send, G: Gate + Sync>(
 ) -> Result<Vec<(Seat, End)>, AllocError>
 where
     R: Threads + Wait + Clock + Sync + AllocGlobal,
-    ensures { IfOk result (λ served. serving.HaveServed (serving.IsHallConnection key.now)
+    ensures { IfOk result (λ served. serving.HaveServed (serving.IsHallConnection (Padded key.now))
         connections seats.items served.items) }
 {
+    let door = Door::Padded(key.copy());
     let work = |seat: Seat| -> (Seat, End)
-        ensures { serving.Serves (serving.IsHallConnection key.entry.now) connections seat
+        ensures { serving.Serves (serving.IsHallConnection door) connections seat
             result.1 result.0 }
     {
         let mut caller = HallCaller::new(rt, hall, seat);
         let service = Service {
             rt,
             listener,
-            key,
+            door: &door,
             gate,
             connections,
         };

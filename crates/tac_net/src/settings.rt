@@ -21,8 +21,8 @@ pub struct Settings {
     /// How many connections there may be at once. One more is closed as soon as it is accepted.
     pub connections_at_once: u32,
     /// How many of them may be of one IP address, unless a devices' file says it of that address; 0
-    /// means that none is too many. The port doesn't count, and an IPv4 address inside an IPv6 one is
-    /// that address.
+    /// means that none is too many. The port doesn't count, and an IPv4 address inside an IPv6 one
+    /// is that address.
     pub per_address: u32,
     /// How many bytes packets that aren't answered yet may take, those of all connections together.
     /// The first 4 kB of each connection aren't counted. A connection that needs more is closed.

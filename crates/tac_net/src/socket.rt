@@ -10,12 +10,13 @@ use crate::visits::Visits;
 use std::io::{self, ErrorKind, Read, Write};
 use std::net::IpAddr;
 use std::time::Clock;
-use tac_wire::Key;
+use tac_wire::Door;
 
 /// The socket of a device, which never waits: a read or a write that would have to wait fails as
 /// WouldBlock. So does a write of a reply to a failed login until that was held back for long
-/// enough. It knows its device's key, and what says when that is given up. It takes packet memory for
-/// the bytes that came since the last reply; a read that finds none fails as OutOfMemory.
+/// enough. It knows the door that its packets come by, and what says when its device is given up.
+/// It takes packet memory for the bytes that came since the last reply; a read that finds none
+/// fails as OutOfMemory.
 ///
 /// A read that came short has read all that was there, so the next one of the same visit is
 /// answered WouldBlock at once, without asking the system: of what came since, a wait will tell. At
@@ -24,7 +25,7 @@ use tac_wire::Key;
 pub struct Socket<'a, S, C> {
     stream: S,
     address: IpAddr,
-    key: &'a Key,
+    door: &'a Door,
     clock: &'a C,
     patience: Patience,
     delay: Delay,
@@ -45,11 +46,11 @@ pub(crate) fn now<C: Clock>(clock: &C) -> Option<u64> {
 }
 
 impl<'a, S, C: Clock> Socket<'a, S, C> {
-    /// That of a connection whose device has this key. What came on it is read again first. Replies
+    /// That of a connection by this door. What came on it is read again first. Replies
     /// to failed logins are held back for so many milliseconds.
     pub fn new(
         lead: Lead<'a, S>,
-        key: &'a Key,
+        door: &'a Door,
         clock: &'a C,
         visits: &'a Visits,
         fail_delay: u32,
@@ -64,7 +65,7 @@ impl<'a, S, C: Clock> Socket<'a, S, C> {
         Socket {
             stream,
             address: address.ip(),
-            key,
+            door,
             clock,
             patience,
             delay: Delay::new(fail_delay),
@@ -85,9 +86,9 @@ impl<'a, S, C: Clock> Socket<'a, S, C> {
         self.address
     }
 
-    /// The key of its device.
-    pub fn key(&self) -> &'a Key {
-        self.key
+    /// The door that its packets come by.
+    pub fn door(&self) -> &'a Door {
+        self.door
     }
 
     /// Whether a read found no packet memory.

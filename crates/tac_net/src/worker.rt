@@ -1,8 +1,8 @@
 //! A worker: a seat that serves many connections in turns.
 
-ghost use Rattle.std.specs.Prelude.{◌≡◌, IfSome};
+ghost use Rattle.std.specs.Prelude.{◌≡◌, IfSome, IfNone};
 ghost use Rattle.std.specs.Net.Socket.{socket_ip};
-ghost use Rattle.tac_net.specs.Callers.{MayCall};
+ghost use Rattle.tac_net.specs.Callers.{IsStranger, MayCall};
 ghost use Rattle.tac_net.specs.Connections.{HasServed};
 
 use crate::acceptor::Acceptor;
@@ -32,7 +32,7 @@ use tac_forum::{Run, Seat};
 use tac_journal::{Log, LogFiles, Moments};
 use tac_loop::{Stop, Switchboard};
 use tac_status::Departure;
-use tac_wire::Key;
+use tac_wire::Door;
 use tac_worker::{CHUNK, Chunk, DeskCaller, OpenGate, Terms};
 
 /// How many steps of one connection are made before others have theirs: 16 packets, each with its
@@ -98,17 +98,17 @@ where
         worker.premises.now.settings.now.connections worker.board worker.left };
 }
 
-// By what a connection is served whose device has this key.
+// By what a connection is served that has this door.
 fn terms_by<'a, R: AllocGlobal, J: Run, D: Desk, L>(
     premises: &Premises<'a, R, J, D, L>,
-    key: &'a Key,
+    door: &'a Door,
 ) -> Terms<'a, R, OpenGate>
-    ensures { result.key.now ≡ key.now }
+    ensures { result.door.now ≡ door.now }
 {
     Terms {
         rt: premises.rt,
         alloc: premises.rt.alloc(),
-        key,
+        door,
         gate: &OpenGate,
     }
 }
@@ -120,14 +120,16 @@ fn terms_of<'a, R: AllocGlobal, J: Run, D: Desk, L>(
     address: SocketAddr,
     shown: Shown,
 ) -> Option<(Terms<'a, R, OpenGate>, Option<Named>)>
-    ensures { IfSome result (λ found. MayCall premises.now.settings.now.callers
-        (socket_ip address) found.0.key.now found.1) }
+    ensures some { IfSome result (λ found. MayCall premises.now.settings.now.callers
+        (socket_ip address) found.0.door.now found.1) }
+    ensures none { IfNone result
+        (IsStranger premises.now.settings.now.callers (socket_ip address)) }
 {
     let Some(found) = premises.settings.callers.find(&address.ip()) else {
         return None;
     };
-    let Caller { key, named } = found.caller(shown);
-    Some((terms_by(premises, key), named))
+    let Caller { door, named } = found.caller(shown);
+    Some((terms_by(premises, door), named))
 }
 
 // A connection from this address, which this worker had, is gone.
@@ -246,7 +248,7 @@ where
             return false;
         };
         self.visits.next(line.link().witness().has_failed());
-        let terms = terms_by(self.premises, line.socket().key());
+        let terms = terms_by(self.premises, line.socket().door());
         let stop = self.board.serve(key, &terms, &mut self.chunk, STEPS);
         match stop {
             Stop::Busy => {
@@ -267,8 +269,8 @@ where
     }
 
     // From now on a wait tells when a connection may be read, and also when it may be written where
-    // it waits for that. A lead's was registered under another key. Where the system refuses it, the
-    // connection is over.
+    // it waits for that. A lead's was registered under another key. Where the system refuses it,
+    // the connection is over.
     fn register(&mut self, poller: &Poller, key: usize, was_lead: bool, is_full: bool)
         ensures { self.new ≡ self.old }
     {
@@ -322,7 +324,7 @@ where
         let Ok(witness) = DeviceWitness::new(rt, log, told, lead.address, named) else {
             return Err(Departure::Memory);
         };
-        let socket = Socket::new(lead, terms.key, rt, self.visits, settings.fail_delay);
+        let socket = Socket::new(lead, terms.door, rt, self.visits, settings.fail_delay);
         let Ok(key) = self.board.add(&terms, witness, socket) else {
             return Err(Departure::Memory);
         };

@@ -9,7 +9,7 @@ connections-init g c = (at_first, refl)
 pub returns-then-not-goes_on : goal.returns-then-not-goes_on
 returns-then-not-goes_on g c =
     let stops = sym c.goes_on.ensures ∙ c.if-not-goes_on.true in
-    came_stops (IsConnection g.C.Caller.makes g.C.Caller.rests g.C.Caller.refuses c.args.service.now.key.now) c.args.service.now.connections c.args.caller.now c.connections.caller c.serve_one-last.new.caller c.connections.counter c.connections.last c.serve_one-last.result
+    came_stops (IsConnection g.C.Caller.makes g.C.Caller.rests g.C.Caller.refuses c.args.service.now.door.now) c.args.service.now.connections c.args.caller.now c.connections.caller c.serve_one-last.new.caller c.connections.counter c.connections.last c.serve_one-last.result
     c.connections.invariant.0 c.connections.invariant.1 c.serve_one-last.ensures stops (omega (arith, c.connections-test.true))
 
 pub connections-preserved : goal.connections-preserved

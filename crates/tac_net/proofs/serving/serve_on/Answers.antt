@@ -3,8 +3,9 @@ use denote.Param.Send.{sendable}
 use Rattle.std.proofs.Common.{arith}
 use Rattle.std.proofs.Crossing.{crosses}
 use Rattle.tac_worker.proofs.worked.End.TheSendSync as ends
-use Rattle.tac_hall.proofs.Crossing.{Seat-send, Key-sync, Hall-sync}
+use Rattle.tac_hall.proofs.Crossing.{Seat-send, Door-sync, Hall-sync}
 use Rattle.tac_net.proofs.Crossing.{Listener-sync, Number-sync}
+use Rattle.tac_wire.specs.declared.door.Door.TheVariants.{Padded}
 use Rattle.tac_net.specs.Serving.{IsHallConnection}
 use Rattle.tac_net.proofs.ServingFacts.{each_served, ok_both}
 use Rattle.tac_net.proofs.serving.serve_on.Goals as goal
@@ -31,7 +32,7 @@ map_vec-requires-sync-F g c κs within =
             (
               (λ q. tt, Listener-sync.shared d.2.now d.2.ref_ptr.0 d.2.ref_ptr.1 κ),
               (
-                (λ q. tt, Key-sync.shared d.3.now d.3.ref_ptr.0 d.3.ref_ptr.1 _),
+                (λ q. tt, Door-sync.shared d.3.now d.3.ref_ptr.0 d.3.ref_ptr.1 _),
                 (
                   (λ q. tt, gate.shared d.4.now d.4.ref_ptr.0 d.4.ref_ptr.1 _),
                   (
@@ -50,6 +51,6 @@ map_vec-requires-sync-F g c κs within =
 pub returns : goal.returns
 returns g c =
     ok_both c.map_vec.result (λ served same each.
-    each_served (IsHallConnection c.args.key.now) c.args.connections c.args.seats.items served.items (omega (arith, same, served.ok.0, c.args.seats.ok.0))
-    (λ i d h. let job = (each i d h).1 in (job.job, job.job_read, job.call.met)))
+    each_served (IsHallConnection (Padded c.args.key.now)) c.args.connections c.args.seats.items served.items (omega (arith, same, served.ok.0, c.args.seats.ok.0))
+    (λ i d h. let job = (each i d h).1 in (job.job, job.job_read, rw c.copy.ensures at job.call.met)))
     c.map_vec.ensures.len c.map_vec.ensures.each

@@ -1,3 +1,4 @@
+use Rattle.tac_net.proofs.ClearFacts.{clear_law}
 use Rattle.tac_net.proofs.SharedFacts.{piece_law, alone_law, alone_stream_law, sent_law, sent_stream_law}
 use Rattle.tac_net.proofs.ClosedFacts.{close_law}
 use Rattle.tac_net.proofs.PlacesFacts.{places_law, hall_places_law, receipt_places_law}
@@ -21,3 +22,6 @@ returns-clause-hall_places c = hall_places_law
 
 pub returns-clause-receipt_places : goal.returns-clause-receipt_places
 returns-clause-receipt_places c = receipt_places_law
+
+pub returns-clause-in_clear : goal.returns-clause-in_clear
+returns-clause-in_clear c = clear_law
