@@ -12,6 +12,8 @@ mod journal;
 #[cfg(test)]
 mod lists;
 #[cfg(test)]
+mod proxy;
+#[cfg(test)]
 mod talk;
 pub mod tally;
 #[cfg(test)]
