@@ -45,9 +45,9 @@ fn stop<H: Wait, J: Run, D: Desk, W: Write>(
 /// after that of a `commit` either. The line `rotate` ends the present segment, and `reload` puts
 /// the policy of the source in the place of the present one, in one call. A source without a text
 /// is told as `unread WHY`, a text that is refused as by its check, and one that finds no memory as
-/// `refused 12 Memory`. The line `reload devices` makes no call: it has the source read its devices'
-/// file again, and is answered as that says, or by `refused 12 Memory`. These three leave the batch
-/// as it is. Any other line is answered by `refused 1 BadEdit`.
+/// `refused 12 Memory`. The line `reload devices` makes no call: it has the source read its
+/// devices' file again, and is answered as that says, or by `refused 12 Memory`. These three leave
+/// the batch as it is. Any other line is answered by `refused 1 BadEdit`.
 ///
 /// A line `quit`, or the end of the input, makes the Stop, which is one call; so does a fault. It
 /// is refused only as Closed, or as LogFull where the log is full. Edits that are kept then are

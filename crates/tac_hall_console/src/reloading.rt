@@ -1,5 +1,5 @@
-//! What is read again where an operator says so: a policy, which takes the place of the present one,
-//! and a devices' file.
+//! What is read again where an operator says so: a policy, which takes the place of the present
+//! one, and a devices' file.
 
 ghost use Rattle.std.specs.Prelude.{◌≡◌, IfOk};
 ghost use Rattle.tac_console.specs.Faults as faults;
@@ -27,9 +27,9 @@ pub trait Source {
     fn text(&self, alloc: Global) -> Result<Vec<u8>, Unread>;
 
     /// Reads the devices' file again, if there is one. If its text is taken, its devices are served
-    /// from the next connection on; else all is as before. The result is the answer, a line with its
-    /// LF, and says which. The error means that memory ran out, and that all is as before. It may
-    /// wait for what it is read from.
+    /// from the next connection on; else all is as before. The result is the answer, a line with
+    /// its LF, and says which. The error means that memory ran out, and that all is as before. It
+    /// may wait for what it is read from.
     fn reload_devices(&self, alloc: Global) -> Result<Bytes, AllocError>
         ensures { IfOk result IsDevicesAnswer };
 }

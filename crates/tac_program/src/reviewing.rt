@@ -92,8 +92,9 @@ where
     review_files(rt, Review::Each(Table::Cases), files, Status::Refused)
 }
 
-// `USER`, or `USER LINE`: the words of a line are one blank apart, as a router joins them. A service
-// is one word. A user with a blank is none, and then the question is empty, which is no question.
+// `USER`, or `USER LINE`: the words of a line are one blank apart, as a router joins them. A
+// service is one word. A user with a blank is none, and then the question is empty, which is no
+// question.
 fn question_of(alloc: Global, user: &str, words: &[&str]) -> Result<Vec<u8>, AllocError> {
     let mut question = Vec::new(alloc);
     if user.contains(' ') {
