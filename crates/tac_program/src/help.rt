@@ -593,7 +593,7 @@ how much it has, and what is remarked on their keys. Where addresses are given, 
 which device each of them is.
 
 Of the prefixes that an address begins with the longest decides, wherever it stands. No key is ever
-printed. The server doesn't read such a file yet.",
+printed. 'tacd serve --devices' serves the devices of such a file.",
     after_help: "Examples:
   tacd devices campus.devices
   tacd devices campus.devices 192.0.2.1 2001:db8::1
@@ -604,6 +604,7 @@ printed. The server doesn't read such a file yet.",
   at ADDRESS           the device above it has this address; at least one
   at ADDRESS/N         it has all addresses that begin with the first N bits of this one
   key TEXT             the key that it shares with the server, 1 to 128 characters; exactly one
+  old-key TEXT         a key that it had before, and that the server still takes
   connections N        how many connections each of its addresses may have at once, 1 to 10000
 
 Empty lines, lines that begin with '#' and leading spaces are passed over. A NAME is 1 to 32 of the
@@ -611,7 +612,7 @@ characters A-Z a-z 0-9 _ - . @. An ADDRESS is an IPv4 or IPv6 address without a 
 IPv4 written as IPv6, as ::ffff:192.0.2.1, is looked up as IPv4. There may be 4096 devices, and
 16384 lines 'at'.
 
-What is printed without any ADDRESS, the last two for each key that they are so of:
+What is printed without any ADDRESS, the last two for each 'key' that they are so of:
   devices ok: D devices, P prefixes
   line L: the key of line M
                        two devices have one key
@@ -719,6 +720,7 @@ pub(crate) const AFTER_LONG_HELP: &str = "Examples:
   tacd given devices.policy bob junos-exec
   tacd test campus.policy campus.cases
   tacd devices campus.devices 192.0.2.1
+  tacd import tac_plus.conf
   tacd serve --port 49 --key-file tacd.key campus.policy
   tacd console /run/tacd/console why ben show vlan
   tacd replay < session.script
