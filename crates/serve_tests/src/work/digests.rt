@@ -3,7 +3,7 @@
 ghost use Rattle.std.specs.Prelude.{◌≡◌};
 
 use crate::hall::shared::{NEVER, closes};
-use crate::work::support::key;
+use crate::work::support::{door, key};
 use packet_notation::packet;
 use pol_text::Policy;
 use std::alloc::Global;
@@ -97,12 +97,12 @@ fn serves<J: Run, D: Desk, R: Wait + AllocGlobal>(
     course: Course,
 ) -> Result<(Seat<J>, String, Vec<u8>), Fail> {
     let alloc = rt.alloc();
-    let key = key()?;
-    let sent = packet(alloc, &key, course.sent)?;
+    let door = door()?;
+    let sent = packet(alloc, &key()?, course.sent)?;
     let terms = Terms {
         rt,
         alloc,
-        key: &key,
+        door: &door,
         gate: &OpenGate,
     };
     let mut caller = DeskCaller::new(rt, desk, seat);

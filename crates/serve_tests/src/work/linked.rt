@@ -2,13 +2,13 @@
 
 use crate::work::packets::{FIRST_PERMISSION, LOGINS, PASSES, PERMISSIONS, QUESTIONS};
 use crate::work::streams::{Manner, Sink, Source, WHOLE};
-use crate::work::support::{hall_of, is_seen, key, serves_in_turns};
+use crate::work::support::{door, hall_of, is_seen, serves_in_turns};
 use crate::work::witnessed::Scribe;
 use std::alloc::Global;
 use std::sync::Wait;
 use std::test::Fail;
 use tac_audit::{Notice, Witness};
-use tac_wire::Key;
+use tac_wire::Door;
 use tac_worker::{CHUNK, Caller, Chunk, Due, Gate, HallCaller, Link, OpenGate, Terms};
 
 // A worker whose witness takes so many notices, as a line
@@ -90,7 +90,7 @@ const IN_PIECES: Manner = Manner {
 
 // Two connections are served by one caller, in turns, a few bytes at a time: the first asks and the
 // second logs in. The one has this written on it, and the other that.
-fn serves_two<R: Wait + AllocGlobal>(rt: &R, key: &Key) -> Result<(Vec<u8>, Vec<u8>), Fail> {
+fn serves_two<R: Wait + AllocGlobal>(rt: &R, door: &Door) -> Result<(Vec<u8>, Vec<u8>), Fail> {
     let asks = hex::decode(rt.alloc(), QUESTIONS.as_bytes())?;
     let logins = hex::decode(rt.alloc(), LOGINS.as_bytes())?;
     let hall = hall_of(rt, 9)?;
@@ -98,7 +98,7 @@ fn serves_two<R: Wait + AllocGlobal>(rt: &R, key: &Key) -> Result<(Vec<u8>, Vec<
     let terms = Terms {
         rt,
         alloc: rt.alloc(),
-        key,
+        door,
         gate: &OpenGate,
     };
     let mut one = Link::new(&terms, Scribe::new(rt.alloc(), 9), &caller);
@@ -140,21 +140,21 @@ fn is_written(alloc: Global, written: &[u8], wanted: &str) -> Result<(), Fail> {
 
 #[test]
 fn each_has_its_own(rt: HostRuntime) -> Result<(), Fail> {
-    let (permissions, passes) = serves_two(&rt, &key()?)?;
+    let (permissions, passes) = serves_two(&rt, &door()?)?;
     is_written(rt.alloc(), permissions.as_slice(), PERMISSIONS)?;
     is_written(rt.alloc(), passes.as_slice(), PASSES)
 }
 
 // What a connection did while its first reply waited, and then: what its witness was told, how many
 // bytes waited, and what was written.
-fn waits<R: Wait + AllocGlobal>(rt: &R, key: &Key) -> Result<(String, Vec<u8>), Fail> {
+fn waits<R: Wait + AllocGlobal>(rt: &R, door: &Door) -> Result<(String, Vec<u8>), Fail> {
     let asks = hex::decode(rt.alloc(), QUESTIONS.as_bytes())?;
     let hall = hall_of(rt, 9)?;
     let mut caller = HallCaller::new(rt, &hall, hall.seat(rt)?);
     let terms = Terms {
         rt,
         alloc: rt.alloc(),
-        key,
+        door,
         gate: &OpenGate,
     };
     let mut link = Link::new(&terms, Scribe::new(rt.alloc(), 1), &caller);
@@ -195,7 +195,7 @@ fn waits<R: Wait + AllocGlobal>(rt: &R, key: &Key) -> Result<(String, Vec<u8>), 
 // The next packet waits for the reply, and isn't told.
 #[test]
 fn one_reply_at_a_time(rt: HostRuntime) -> Result<(), Fail> {
-    let (seen, written) = waits(&rt, &key()?)?;
+    let (seen, written) = waits(&rt, &door()?)?;
     is_written(rt.alloc(), written.as_slice(), FIRST_PERMISSION)?;
     if seen.as_str() == "18 true Some(Unwitnessed) pp" {
         Ok(())

@@ -11,7 +11,7 @@ use tac_audit::{Nobody, Notice, Witness};
 use tac_desk::Desk;
 use tac_desks::PlainDesk;
 use tac_hall::{Hall, Seat};
-use tac_wire::Key;
+use tac_wire::{Door, Key};
 use tac_worker::{CHUNK, Caller, Due, End, Link, Terms, Worked, serve, work};
 
 pub(crate) fn key() -> Result<Key, Fail> {
@@ -19,6 +19,10 @@ pub(crate) fn key() -> Result<Key, Fail> {
         Some(key) => Ok(key),
         None => Err(Fail::from("no key")),
     }
+}
+
+pub(crate) fn door() -> Result<Door, Fail> {
+    Ok(Door::Padded(key()?))
 }
 
 /// A policy under which bob may show things, and log in.
@@ -33,10 +37,11 @@ pub(crate) fn hall_of<R: AllocGlobal>(rt: &R, limit: usize) -> Result<Hall<Plain
     Ok(Hall::new(rt, desk, limit)?)
 }
 
-// The packets that letters represent, and the key.
+// The packets that letters represent, the key, and its door.
 #[derive(Drop)]
 struct Packets {
     key: Key,
+    door: Door,
     question: Vec<u8>,
     record: Vec<u8>,
 }
@@ -44,6 +49,7 @@ struct Packets {
 fn read_packets(alloc: Global) -> Result<Packets, Fail> {
     Ok(Packets {
         key: key()?,
+        door: door()?,
         question: hex::decode(alloc, FIRST_QUESTION.as_bytes())?,
         record: hex::decode(alloc, RECORD.as_bytes())?,
     })
@@ -136,7 +142,7 @@ fn serves_for<C: Caller, V: Witness<Notice>, R: Wait + AllocGlobal>(
     let terms = Terms {
         rt,
         alloc: rt.alloc(),
-        key: &packets.key,
+        door: &packets.door,
         gate: &gate,
     };
     let end = serve(&terms, caller, witness, &mut reader, &mut writer);
@@ -190,7 +196,7 @@ fn serves_linked<C: Caller, V: Witness<Notice>, R: Wait + AllocGlobal>(
     let terms = Terms {
         rt,
         alloc: rt.alloc(),
-        key: &packets.key,
+        door: &packets.door,
         gate: &gate,
     };
     let mut link = Link::new(&terms, witness, caller);

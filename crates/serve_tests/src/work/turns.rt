@@ -10,12 +10,12 @@ use tac_audit::{Nobody, Notice, Witness};
 use tac_desks::PlainDesk;
 use tac_hall::Hall;
 use tac_loop::{Steady, Stop, Switchboard};
-use tac_wire::Key;
+use tac_wire::{Door, Key};
 use tac_worker::{CHUNK, HallCaller, OpenGate, Terms};
 
-fn key() -> Result<Key, Fail> {
+fn door() -> Result<Door, Fail> {
     match Key::read(b"k") {
-        Some(key) => Ok(key),
+        Some(key) => Ok(Door::Padded(key)),
         None => Err(Fail::from("no key")),
     }
 }
@@ -49,7 +49,7 @@ fn written<C: Steady, V: Witness<Notice>>(
 // on each.
 fn serves_two<'x, R: Wait + AllocGlobal>(
     rt: &'x R,
-    key: &'x Key,
+    door: &'x Door,
     asks: &'x [u8],
     logins: &'x [u8],
     pace: Pace,
@@ -58,7 +58,7 @@ fn serves_two<'x, R: Wait + AllocGlobal>(
     let terms = Terms {
         rt,
         alloc: rt.alloc(),
-        key,
+        door,
         gate: &OpenGate,
     };
     let caller = HallCaller::new(rt, &hall, hall.seat(rt)?);
@@ -97,10 +97,10 @@ fn each_has_its_own(rt: HostRuntime) -> Result<(), Fail> {
         pauses: true,
         ..WHOLE
     };
-    let key = key()?;
+    let door = door()?;
     let asks = hex::decode(rt.alloc(), QUESTIONS.as_bytes())?;
     let logins = hex::decode(rt.alloc(), LOGINS.as_bytes())?;
-    let (permissions, passes) = serves_two(&rt, &key, asks.as_slice(), logins.as_slice(), pace)?;
+    let (permissions, passes) = serves_two(&rt, &door, asks.as_slice(), logins.as_slice(), pace)?;
     is_written(rt.alloc(), permissions.as_slice(), PERMISSIONS)?;
     is_written(rt.alloc(), passes.as_slice(), PASSES)
 }
@@ -109,7 +109,7 @@ fn each_has_its_own(rt: HostRuntime) -> Result<(), Fail> {
 // many bytes were written.
 fn leaves<R: Wait + AllocGlobal>(
     rt: &R,
-    key: &Key,
+    door: &Door,
     pace: Pace,
     turns: u32,
     times: u32,
@@ -119,7 +119,7 @@ fn leaves<R: Wait + AllocGlobal>(
     let terms = Terms {
         rt,
         alloc: rt.alloc(),
-        key,
+        door,
         gate: &OpenGate,
     };
     let caller = HallCaller::new(rt, &hall, hall.seat(rt)?);
@@ -147,7 +147,7 @@ fn is_left<R: Wait + AllocGlobal>(
     times: u32,
     wanted: &str,
 ) -> Result<(), Fail> {
-    let seen = leaves(rt, &key()?, pace, turns, times)?;
+    let seen = leaves(rt, &door()?, pace, turns, times)?;
     if seen.as_str() == wanted {
         Ok(())
     } else {
@@ -184,12 +184,12 @@ fn until_its_socket_fails(rt: HostRuntime) -> Result<(), Fail> {
 // The second connection is removed, and the third gets its key.
 #[test]
 fn removed(rt: HostRuntime) -> Result<(), Fail> {
-    let key = key()?;
+    let door = door()?;
     let hall = hall_of(&rt)?;
     let terms = Terms {
         rt: &rt,
         alloc: rt.alloc(),
-        key: &key,
+        door: &door,
         gate: &OpenGate,
     };
     let caller = HallCaller::new(&rt, &hall, hall.seat(&rt)?);
