@@ -10,7 +10,7 @@ use tac_authen::{AuthenStatus, read_reply};
 use tac_conn::{Answer, Arguments, AskKind, By, Name, Packet, Reply, SENT_MAX, Step, SubjectId};
 use tac_request::{AcctStatus, AuthorReply, AuthorStatus, read_acct_reply, read_author_reply};
 use tac_stream::{Stream, Turn};
-use tac_wire::Key;
+use tac_wire::{Door, Key};
 
 /// The key of all connections.
 fn key() -> Result<Key, Fail> {
@@ -18,6 +18,11 @@ fn key() -> Result<Key, Fail> {
         Some(key) => Ok(key),
         None => Err(Fail::from("no key")),
     }
+}
+
+/// The door of all connections.
+fn door() -> Result<Door, Fail> {
+    Ok(Door::Padded(key()?))
 }
 
 /// A reply that is wanted.
@@ -42,7 +47,7 @@ impl Wanted {
     // Whether this is it.
     fn is(&self, reply: &Reply) -> Result<bool, Fail> {
         let mut sent = Vec::with_capacity(self.alloc, SENT_MAX)?;
-        reply.send_to(&key()?, &mut sent);
+        reply.send_to(&door()?, &mut sent);
         Ok(sent.as_slice() == self.sent.as_slice())
     }
 }
@@ -264,7 +269,7 @@ impl Talk {
     /// Takes the next turn. A packet that has a reply is to have this one, and none where none is
     /// wanted: the desk answers as it says, and nothing is to be done after another.
     pub(crate) fn next(&mut self, wanted: Option<&Wanted>) -> Result<Turned, Fail> {
-        match self.stream.next(&key()?)? {
+        match self.stream.next(&door()?)? {
             Turn::Packet(packet, step) => match step {
                 Step::Reply(reply, _) => replied(packet, reply, wanted),
                 Step::Asks(_ask, slot) => {

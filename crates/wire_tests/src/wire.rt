@@ -4,6 +4,7 @@
 mod accounting;
 mod authentication;
 mod cases;
+mod doors;
 mod frames;
 mod requests;
 mod wire;

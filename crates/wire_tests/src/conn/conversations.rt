@@ -10,7 +10,7 @@ use std::test::Fail;
 use tac_conn::{
     Answer, Arguments, Ask, By, Conn, Name, Proof, Record, Reply, SENT_MAX, Step, SubjectId,
 };
-use tac_wire::{Frame, Header, Key, pad_in_place};
+use tac_wire::{Door, Frame, Header, Key, pad_in_place};
 
 /// The key of all conversations.
 fn key() -> Result<Key, Fail> {
@@ -18,6 +18,11 @@ fn key() -> Result<Key, Fail> {
         Some(key) => Ok(key),
         None => Err(Fail::from("no key")),
     }
+}
+
+/// The door of all conversations.
+fn door() -> Result<Door, Fail> {
+    Ok(Door::Padded(key()?))
 }
 
 // The frame of these bytes.
@@ -58,7 +63,7 @@ fn push_unpadded(text: &mut String, packet: &mut [u8]) -> Result<(), Fail> {
 // Adds a reply as it is sent, and whether the connection closes.
 fn push_sent(text: &mut String, alloc: Global, reply: &Reply, closes: bool) -> Result<(), Fail> {
     let mut packet = Vec::with_capacity(alloc, SENT_MAX)?;
-    reply.send_to(&key()?, &mut packet);
+    reply.send_to(&door()?, &mut packet);
     push_unpadded(text, packet.as_mut_slice())?;
     if closes {
         text.push_str(" closes")?;
@@ -188,7 +193,7 @@ fn push_said<R: AllocGlobal>(
     if conn.pending().is_some() {
         return Err(Fail::from("an answer is due"));
     }
-    let (_packet, step) = conn.take(&key()?, frame(rt, packet)?)?;
+    let (_packet, step) = conn.take(&door()?, frame(rt, packet)?)?;
     match step {
         Step::Reply(reply, closes) => push_sent(text, rt.alloc(), &reply, closes),
         Step::Asks(ask, slot) => {

@@ -7,16 +7,20 @@ use std::alloc::Global;
 use std::process::Abort;
 use std::test::Fail;
 use tac_first::{Keys, Shown, choose, shown_by};
-use tac_wire::{Frame, HEADER_SIZE, Header, Key};
+use tac_wire::{Door, Frame, HEADER_SIZE, Header, Key, KeyDoor};
 
 fn key(text: &str) -> Result<Key, Fail> {
     let key = Key::read(text.as_bytes()).ok_or("no key")?;
     Ok(key)
 }
 
+fn key_door(text: &str) -> Result<KeyDoor, Fail> {
+    Ok(KeyDoor::new(key(text)?))
+}
+
 fn keys() -> Result<Keys, Fail> {
-    let present = key("fjord")?;
-    let old = Some(key("tundra")?);
+    let present = key_door("fjord")?;
+    let old = Some(key_door("tundra")?);
     Ok(Keys { present, old })
 }
 
@@ -217,16 +221,24 @@ fn fields_of_records(rt: HostRuntime) -> Result<(), Fail> {
     )
 }
 
+// The key whose pad a door has.
+fn key_of(door: &Door) -> &[u8] {
+    match door {
+        Door::Padded(key) => key.as_slice(),
+        Door::Clear => b"",
+    }
+}
+
 #[test]
 fn keys_that_are_meant(rt: HostRuntime) -> Result<(), Fail> {
     let two = keys()?;
-    assert_eq!(rt; two.key_of(Shown::Present).as_slice(), b"fjord".as_slice());
-    assert_eq!(rt; two.key_of(Shown::Old).as_slice(), b"tundra".as_slice());
+    assert_eq!(rt; key_of(two.door_of(Shown::Present)), b"fjord".as_slice());
+    assert_eq!(rt; key_of(two.door_of(Shown::Old)), b"tundra".as_slice());
     let one = Keys {
-        present: key("fjord")?,
+        present: key_door("fjord")?,
         old: None,
     };
-    assert_eq!(rt; one.key_of(Shown::Old).as_slice(), b"fjord".as_slice());
+    assert_eq!(rt; key_of(one.door_of(Shown::Old)), b"fjord".as_slice());
     all_shown(
         &rt,
         &one,
@@ -277,7 +289,7 @@ fn bytes_so_far(rt: HostRuntime) -> Result<(), Fail> {
 #[test]
 fn no_bytes_without_an_old_key(rt: HostRuntime) -> Result<(), Fail> {
     let keys = Keys {
-        present: key("fjord")?,
+        present: key_door("fjord")?,
         old: None,
     };
     pieces_shown(&rt, &keys, "clear c0 = Some(Present)")

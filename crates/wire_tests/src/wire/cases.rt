@@ -2,6 +2,7 @@
 
 use crate::wire::accounting::{accounting_reply, accounting_request, kind, record, user};
 use crate::wire::authentication::{authentication_reply, continuation, start};
+use crate::wire::doors::{came, said};
 use crate::wire::requests::{argument, asked, authorisation_reply, authorisation_request, line};
 use crate::wire::wire::{key, pad};
 use basics::{Bytes, is_text};
@@ -97,6 +98,8 @@ fn answer(alloc: Global, call: &str, given: &str) -> Result<String, Fail> {
         "user" => user(alloc, given),
         "key" => key(alloc, given),
         "pad" => pad(alloc, given),
+        "came" => came(alloc, given),
+        "said" => said(alloc, given),
         _ => Err(Fail::from("no such call")),
     }
 }

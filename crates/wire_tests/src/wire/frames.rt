@@ -5,11 +5,17 @@ ghost use Rattle.std.specs.Prelude.{◌<◌};
 use std::alloc::AllocError;
 use std::process::Abort;
 use std::test::Fail;
-use tac_wire::{FrameFault, Framer, Next, chap_response};
+use tac_wire::{Door, FrameFault, Framer, Key, Next, chap_response};
 
 /// Two packets: a body of three bytes, and none.
 const STREAM: &[u8] =
     b"\xc0\x02\x01\x00\x00\x00\x00\x01\x00\x00\x00\x03abc\xc1\x01\x01\x04\x00\x00\x00\x02\x00\x00\x00\x00";
+
+// One with a pad, which a framer doesn't take off.
+fn door() -> Result<Door, Fail> {
+    let key = Key::read(b"k").ok_or("no key")?;
+    Ok(Door::Padded(key))
+}
 
 // Whether this is a packet of this session and body, or what a word stands for.
 fn is_next(next: &Next, session: u32, text: &[u8]) -> bool {
@@ -23,14 +29,14 @@ fn is_next(next: &Next, session: u32, text: &[u8]) -> bool {
 
 // What the framer tells next: a packet's session and body, or a word for all else.
 fn told<R: Abort>(rt: &R, framer: &mut Framer, session: u32, text: &[u8]) -> Result<(), Fail> {
-    let next = framer.next()?;
+    let next = framer.next(&door()?)?;
     assert!(rt; is_next(&next, session, text), "{session} {text:?}");
     Ok(())
 }
 
 // The session of the next packet, if it is whole.
 fn next_session(framer: &mut Framer) -> Result<Option<u32>, Fail> {
-    match framer.next()? {
+    match framer.next(&door()?)? {
         Next::Packet(frame) => Ok(Some(frame.header.session)),
         _ => Ok(None),
     }
@@ -104,7 +110,7 @@ fn tells_fault<R: Abort>(
     header: &[u8],
     fault: FrameFault,
 ) -> Result<(), Fail> {
-    let Next::Fault(refused) = framer.next()? else {
+    let Next::Fault(refused) = framer.next(&door()?)? else {
         return Err(Fail::from("no fault"));
     };
     assert_eq!(rt; refused.fault, fault);
@@ -185,9 +191,9 @@ fn headers_that_end_a_stream(rt: HostRuntime) -> Result<(), Fail> {
 }
 
 // How many packets are whole, of at most three.
-fn whole_packets(framer: &mut Framer) -> Result<u64, Fail> {
+fn whole_packets(framer: &mut Framer, door: &Door) -> Result<u64, Fail> {
     for count in 0..3 {
-        match framer.next()? {
+        match framer.next(door)? {
             Next::Packet(_) => {}
             _ => return Ok(count),
         }
@@ -196,11 +202,11 @@ fn whole_packets(framer: &mut Framer) -> Result<u64, Fail> {
 }
 
 // How many packets become whole by a text that comes in pieces of a hundred bytes.
-fn packets_of(framer: &mut Framer, text: &[u8]) -> Result<u64, Fail> {
+fn packets_of(framer: &mut Framer, door: &Door, text: &[u8]) -> Result<u64, Fail> {
     let mut count: u64 = 0;
     for piece in text.chunks(100) {
         framer.feed(piece)?;
-        count = count.saturating_add(whole_packets(framer)?);
+        count = count.saturating_add(whole_packets(framer, door)?);
     }
     Ok(count)
 }
@@ -215,10 +221,10 @@ fn push_small_packets(text: &mut Vec<u8>) -> Result<(), AllocError> {
 }
 
 // How many packets become whole by 62,500 such texts.
-fn many_packets_of(framer: &mut Framer, text: &[u8]) -> Result<u64, Fail> {
+fn many_packets_of(framer: &mut Framer, door: &Door, text: &[u8]) -> Result<u64, Fail> {
     let mut count: u64 = 0;
     for _ in 0..62_500 {
-        count = count.saturating_add(packets_of(framer, text)?);
+        count = count.saturating_add(packets_of(framer, door, text)?);
     }
     Ok(count)
 }
@@ -236,7 +242,7 @@ fn takes_many<R: Abort + AllocGlobal>(
     framer: &mut Framer,
     text: &[u8],
 ) -> Result<(), Fail> {
-    assert_eq!(rt; many_packets_of(framer, text)?, 1_562_500);
+    assert_eq!(rt; many_packets_of(framer, &door()?, text)?, 1_562_500);
     is_short(rt, framer)
 }
 
