@@ -20,6 +20,7 @@ use tac_hall_console::{Source, Unread, no_devices};
 use tac_journal::{Log, LogFiles, Refused, Typists};
 use tac_net::{Callers, Idle, Port, ServeFault, ServerFiles, Settings, serve};
 use tac_status::Counts;
+use tac_wire::KeyDoor;
 
 /// A source without a text and without devices, whose lines anyone types.
 pub(crate) struct Nothing;
@@ -312,7 +313,7 @@ where
     let address = port.address()?;
     let settings = Settings {
         port: address.port(),
-        callers: Callers::Any(key()?),
+        callers: Callers::Any(KeyDoor::new(key()?)),
         workers: course.workers,
         hashers: 1,
         connections: 299,

@@ -7,7 +7,7 @@ use std::io::{self, ErrorKind, Read, Write};
 use std::net::{Ipv4Addr, SocketAddr};
 use std::time::{Clock, Duration};
 use tac_net::{Idle, Lead, PacketMemory, Pause, Socket, Visits, accepted};
-use tac_wire::Key;
+use tac_wire::{Door, Key};
 use tac_worker::End;
 
 /// A clock that a test sets, and that tells how long it was to sleep.
@@ -174,8 +174,9 @@ fn is_borne(alloc: Global, idle: Idle, steps: &str) -> bool {
     let Some(key) = Key::read(b"k") else {
         return false;
     };
+    let door = Door::Padded(key);
     let lead = Lead::new(alloc, &device, address, &memory, Some(0));
-    let mut socket = Socket::new(lead, &key, &clock, &visits, FAIL_DELAY);
+    let mut socket = Socket::new(lead, &door, &clock, &visits, FAIL_DELAY);
     for step in steps.split(' ') {
         if !is_so(&clock, idle, &visits, &device, &mut socket, step) {
             return false;
