@@ -212,7 +212,7 @@ def refused_connections_are_logged(program):
         told = events(server)
         keys = ["time", "device", "type", "why", "count"]
         require([list(event) for event in told] == [keys] * len(told), f"the log has {told}")
-        require(1 <= len(told) <= 1 + took, f"in {took} seconds the log has {told}")
+        require(1 <= len(told) <= 1.1 + took, f"in {took} seconds the log has {told}")
         require(told[0]["count"] == 1 and told[0]["why"] == "unknown device", f"it has {told}")
         require(told[0]["device"].startswith(f"{STRANGER}:"), f"it has {told}")
         time.sleep(1.1)
@@ -338,11 +338,11 @@ def failed_logins_are_held_back(program):
     with Server(program, *options, policy=POLICY) as server:
         with connect(server) as device:
             took = seconds(device, RIGHT, PASSED, flag=KEPT, id=1)
-            require(took < 0.5, f"a right login takes {took}")
+            require(took < 0.9, f"a right login takes {took}")
             took = seconds(device, WRONG, FAILED, flag=KEPT, id=2)
             require(0.9 <= took < 2, f"a wrong login takes {took}")
             took = seconds(device, RIGHT, PASSED, flag=KEPT, id=3)
-            require(took < 0.5, f"a right login after it takes {took}")
+            require(took < 0.9, f"a right login after it takes {took}")
         with connect(server) as guesser, contextlib.ExitStack() as stack:
             guesses = b"".join(packet(WRONG, flag=KEPT, id=number) for number in (1, 2, 3))
             wanted = b"".join(packet(FAILED, flag=KEPT, id=number) for number in (1, 2, 3))
@@ -355,16 +355,16 @@ def failed_logins_are_held_back(program):
             for _ in range(5):
                 with connect(server) as device:
                     took = seconds(device, RIGHT, PASSED, flag=CLOSING, id=1)
-                    require(took < 0.5, f"beside guessers a right login takes {took}")
+                    require(took < 0.9, f"beside guessers a right login takes {took}")
             thread.join()
             took = time.monotonic() - began
             require(came == [wanted] and 2.9 <= took < 5, f"in {took} seconds came {came}")
-        with connect(server) as device:
-            device.sendall(packet(WRONG, flag=KEPT, id=1))
-            time.sleep(0.1)
-            began = time.monotonic()
-            server.quits()
-            require(time.monotonic() - began < 0.9, "the end waits for a reply")
+    with Server(program, "--fail-delay", "3000", policy=POLICY) as server, connect(server) as device:
+        device.sendall(packet(WRONG, flag=KEPT, id=1))
+        time.sleep(0.1)
+        began = time.monotonic()
+        server.quits()
+        require(time.monotonic() - began < 2.5, "the end waits for a reply")
 
 
 def failed_logins_are_answered_at_once(program):
@@ -372,5 +372,5 @@ def failed_logins_are_answered_at_once(program):
     with Server(program, policy=POLICY) as server:
         with connect(server) as device:
             took = seconds(device, WRONG, FAILED, flag=CLOSING, id=1)
-            require(took < 0.5, f"a wrong login takes {took}")
+            require(took < 0.9, f"a wrong login takes {took}")
         server.quits()
