@@ -18,12 +18,13 @@ class File(typing.NamedTuple):
 class Run(typing.NamedTuple):
     """The words after the program's name, and what it reads on standard input. Where there are
     files, it is run in a folder that has these alone. Where its output is full, nothing can be
-    written there."""
+    written there. What is in the file of a log, if it writes one, counts as printed at its end."""
 
     words: tuple
     input: bytes
     files: tuple | None = None
     is_full: bool = False
+    log: str | None = None
 
 
 class Play(typing.NamedTuple):
@@ -60,8 +61,12 @@ class Case(typing.NamedTuple):
     checks: list
 
 
-def replay_check(script, printed, part="the script"):
+def replay_check(script, printed, part="the script", logged=None):
     """A replay of a script has to print this, and to end as docs/SCRIPT.md says: with 1 where a
-    fault was printed, else with 0. It complains of nothing."""
+    fault was printed, else with 0. It complains of nothing. With a log it has to write that too."""
     has_fault = any(line.startswith(b"fault ") for line in printed.splitlines())
-    return Check(Run(("replay",), script), Outcome(printed, b"", int(has_fault)), part)
+    if logged is None:
+        run = Run(("replay",), script)
+    else:
+        run = Run(("replay", "--log", "log"), script, (), log="log")
+    return Check(run, Outcome(printed + (logged or b""), b"", int(has_fault)), part)

@@ -1,10 +1,12 @@
 """Cases that are too long to be written down, or too many: limits of a policy and of a devices'
-file, the longest packets and replies, a script of 6 MB, each beginning of a body, and the longest
-file of a key. Some can't be written in a file of tests: a byte that isn't UTF-8, and words with
-ends of lines."""
+file, patterns of each size, the longest packets and replies, thousands of records and connections,
+each beginning of a body, and the longest file of a key. Some can't be written in a file of tests: a
+byte that isn't UTF-8, and words with ends of lines."""
+
+import hashlib
 
 from cases import Case, Check, File, Outcome, Run, replay_check
-from notation import spelled_out
+from notation import spelled, spelled_out
 
 OPS = "group ops\npermit show .*\nuser bob in ops\n"
 BOB = OPS + "login secret\n"
@@ -23,10 +25,18 @@ def cases(name):
         longest_bodies,
         longest_packets_on_a_line,
         ten_thousand_records,
+        records_up_to_300,
+        records_of_many_users,
+        many_records_of_a_user,
         policies_at_the_limits,
         edits_at_the_limits,
         printed_policies,
+        patterns_of_each_size,
+        faults_at_each_place,
         longest_edits,
+        longest_questions,
+        bytes_cut_at_each_place,
+        as_many_connections,
         a_group_of_many_users,
         a_chain_of_many_rules,
         words_that_differ_at_their_ends,
@@ -40,6 +50,7 @@ def cases(name):
         for part, script, printed in make():
             checks = [replay_check(*(spelled_out(text).encode() for text in (script, printed)))]
             yield Case(f"{name}: {make.__name__}, {part}", checks)
+    yield Case(f"{name}: the longest line of a log", [longest_line_of_a_log()])
     for length, complained in (
         (65_536, b"tacd: nobody: No such file or directory (os error 2)\n"),
         (65_537, b"tacd: key: it is over 65536 bytes long\n"),
@@ -208,6 +219,73 @@ def ten_thousand_records():
     yield "their list and tally", script, printed
 
 
+STORED = "reply 1 c0030204.00000001.00000005.0000000001\n"
+
+
+def record(kind, user, *arguments):
+    """A record on a connection that stays open, of this kind: 2 START, 4 STOP, 8 WATCHDOG."""
+    fixed = bytes([kind, 6, 1, 1, 1, len(user), 0, 0, len(arguments)])
+    text = user + "".join(arguments)
+    return packet("c0030104.00000001", fixed + bytes(map(len, arguments)) + text.encode())
+
+
+def tally_line(subject, *counts):
+    names = ("starts", "stops", "watchdogs", "updates", "open", "elapsed", "drift")
+    counted = " ".join(f"{name} {count}" for name, count in zip(names, counts))
+    return f"tally {subject} {counted}\n"
+
+
+RELOAD = ("elapsed_time=2", "service=shell", "cmd=reload")
+SHOW = ("service=shell", "cmd=show")
+
+
+def records_up_to_300():
+    """However many there are, one more is stored and counted."""
+    script = opened("user bob\n")
+    printed = ""
+    for count in range(1, 301):
+        script += record(2, "bob", "task_id=1") + "console tally user bob\n"
+        printed += STORED + tally_line("user bob", count, 0, 0, 0, 1, 0, 0)
+    yield "of a task", script, printed
+
+
+def records_of_many_users():
+    """Each user is tallied at once, and an edit counts again what it changes."""
+    script, printed = opened("user u7\nuser u9\n"), ""
+    for user in (f"u{number}" for number in range(5_000)):
+        script += record(4, user, "task_id=1", *RELOAD) + f"console tally user {user}\n"
+        printed += STORED + tally_line(f"user {user}", 0, 1, 0, 0, 0, 2, 1)
+    script += record(4, "u7", "task_id=1", "elapsed_time=3", *SHOW)
+    script += "console tally user u7\n"
+    script += "console insert user u7 1 permit .*\nconsole insert user u9 1 permit show\n"
+    script += "".join(f"console tally user u{number}\n" for number in (7, 8, 9, 4_999))
+    printed += STORED + tally_line("user u7", 0, 2, 0, 0, 0, 5, 2)
+    printed += "ok\nuser u7 now permits: \nok\nuser u9 now permits: show\n"
+    printed += tally_line("user u7", 0, 2, 0, 0, 0, 5, 0)
+    for number in (8, 9, 4_999):
+        printed += tally_line(f"user u{number}", 0, 1, 0, 0, 0, 2, 1)
+    yield "5,000 of them", script, printed
+
+
+def many_records_of_a_user():
+    """So is a user of many tasks, alone and for the group."""
+    script, printed = opened("group all\nuser bob in all\npermit show\n"), ""
+    for task in range(1, 5_001):
+        script += record(2, "bob", f"task_id={task}") + "console tally user bob\n"
+        printed += STORED + tally_line("user bob", task, 0, 0, 0, task, 0, 0)
+    script += record(4, "bob", "task_id=17", "elapsed_time=5", *SHOW) * 2
+    script += record(4, "bob", "task_id=none", "elapsed_time=1")
+    script += record(2, "eve", "task_id=18") + record(8, "bob", "task_id=19")
+    script += "console tally user bob\nconsole drop user bob 1\n"
+    script += "console tally user bob\nconsole tally group all\nconsole tally user eve\n"
+    counts = (5_000, 3, 1, 0, 4_999, 11)
+    printed += STORED * 5 + tally_line("user bob", *counts, 0)
+    printed += "ok\nuser bob now denies: show\n"
+    printed += tally_line("user bob", *counts, 2) + tally_line("group all", *counts, 2)
+    printed += tally_line("user eve", 1, 0, 0, 0, 1, 0, 0)
+    yield "5,000 of a user", script, printed
+
+
 def policies_at_the_limits():
     """A policy may have 1,024 subjects, and each of them 256 rules."""
     users = "".join(f"user s{number}\n" for number in range(1024))
@@ -289,6 +367,86 @@ def printed_policies():
 LONG_RULES = "user bob\n" + f"deny {'x' * 200}\n" * 256
 
 
+def put_in(patterns):
+    """Each pattern becomes a rule of a group, with the least text that it holds, and goes again."""
+    script, printed = "key k\npolicy 2\ngroup g\nrun\n", ""
+    for pattern, least in patterns:
+        script += f"console insert group g 1 permit {pattern}\n"
+        script += "console reach group g\nconsole drop group g 1\n"
+        printed += f"ok\ngroup g rule 1 first reached by: {least}\nok\n"
+    return script, printed
+
+
+def read_all(patterns):
+    """All are patterns: the first line that is wrong is the one after them. No states are counted."""
+    lines = []
+    for number, pattern in enumerate(patterns):
+        if number % 256 == 0:
+            lines.append(f"group g{number}")
+        lines.append(f"permit {pattern}")
+    script = "key k\npolicy 2\n" + "".join(f"{line}\n" for line in lines)
+    return f"{script}end\nrun\n", f"fault line {len(lines) + 3} 1 BadLine\n"
+
+
+def patterns_of_each_size():
+    """Patterns of each length, of many factors and of each depth."""
+    yield "letters", *read_all("a" * length for length in range(401))
+    yield "empty alternatives", *read_all("|" * length for length in range(401))
+    # Every second factor is a group or a star.
+    repeated = "a?" * 50 + "a*" * 50
+    yield "repeated letters", *read_all(repeated[:length] for length in range(201))
+    # 127 factors, or 255, and then one more with each letter.
+    for suffixes, most in (6, 193), (7, 145):
+        plus = "a" + "+" * suffixes
+        yield f"{suffixes} suffixes", *read_all(plus + "a" * length for length in range(most + 1))
+    yield "depths", *read_all("(" * depth + ")" * depth for depth in range(33))
+    # Some of them become rules, are copied by edits, and say what they hold.
+    sizes = (*range(9), 16, 17, 32, 33, 64, 65, 100)
+    yield "rules of letters", *put_in([("a" * size, "a" * size) for size in sizes])
+    yield "rules of alternatives", *put_in([("|" * size, "") for size in (*sizes, 256, 399, 400)])
+    yield "rules of repeated letters", *put_in(
+        [("a?" * (size // 2) + "a*" * (size - size // 2), "") for size in sizes[:13]]
+    )
+    yield "rules of suffixes", *put_in([("a" + "+" * size, "a") for size in range(8)])
+    yield "rules of depths", *put_in([("(" * size + ")" * size, "") for size in range(33)])
+    # As many braces in each rule as its number says; in version 2 they are twice as many bytes.
+    lengths = (*sizes[1:], 199, 200)
+    old, new = (
+        "group g\n" + "".join(f"permit {brace * length}\n" for length in lengths)
+        for brace in ("{", "\\{")
+    )
+    yield "braces", f"key k\n{old}run\nconsole policy\n", f"policy 2\n{new}"
+
+
+def faults_at_each_place():
+    """The last symbol of a pattern is refused, after as many others as there may be; and patterns of
+    each length that is too long, too deep or too large."""
+    begin = "key k\npolicy 2\ngroup g\nrun\n"
+    for other, last, fault in (
+        ("a", "(", "3 Unclosed"),
+        ("a", ")", "4 Unopened"),
+        ("|", "*", "5 NothingToRepeat"),
+        ("|", "{", "5 NothingToRepeat"),
+        ("a", "[", "6 BadClass"),
+        ("a", "\\", "7 BadEscape"),
+        (".", "}", "11 BadRepeat"),
+        (".", "{", "11 BadRepeat"),
+    ):
+        script, printed = begin, ""
+        # Where it is the first of all, a `{` has nothing to repeat.
+        for place in range(1 if (other, last) == (".", "{") else 0, 400):
+            script += f"console insert group g 1 permit {other * place}{last}\n"
+            printed += f"refused 8 BadPattern {fault} at {place}\n"
+        yield f"{last} after {other}", script, printed
+    for fault, patterns in (
+        ("1 TooLong", ["a" * length for length in range(401, 501)]),
+        ("8 TooDeep", ["(" * length for length in range(33, 201)]),
+        ("9 TooLarge", ["a" + "+" * length for length in range(8, 400)]),
+    ):
+        script = begin + "".join(f"console insert group g 1 permit {it}\n" for it in patterns)
+        yield fault, script, f"refused 8 BadPattern {fault}\n" * len(patterns)
+
+
 def longest_edits():
     """Long lines that are edits of a full policy, or no edits: what is told of each is short."""
     begin = f"key k\n{LONG_RULES}run\n"
@@ -304,6 +462,53 @@ def longest_edits():
         for start in "x", "add user bob ", "insert user bob 1 permit", "login":
             script = f"key k\nuser bob\nrun\nconsole {start}{'x' * count}\n"
             yield f"{start!r} and {count} symbols", script, "refused 1 BadEdit\n"
+
+
+def longest_questions():
+    """Lines of 5,000 bytes that are a question, or set too long a secret; a short one comes after."""
+    for start, answer in (
+        ("why bob show ", "permitted by group ops rule 1"),
+        ("why bob x", "denied by default"),
+        ("login bob ", "refused 9 BadValue"),
+    ):
+        script = opened(OPS) + f"console {start.ljust(5_000, 'x')}\nconsole why bob ping\n"
+        yield f"{start!r}", script, f"{answer}\ndenied by default\n"
+
+
+# The same request on a connection that stays open.
+KEPT = SHOW_VERSION.replace("c0020100", "c0020104")
+STILL_OPEN = "reply 1 c0020204.00000001.00000006.010000000000\n"
+
+
+def bytes_cut_at_each_place():
+    """Two requests in one piece, in two of each size, and in many."""
+    twice = KEPT.removesuffix("\n") + KEPT.removeprefix("packet 1")
+    for size in range(1, 133):
+        yield f"pieces of {size}", opened(OPS) + f"pieces {size}\n{twice}", STILL_OPEN * 2
+
+
+def padded(packet):
+    """A packet as it is sent under the key `k` (RFC 8907, section 4.5)."""
+    head, body = packet[:12], packet[12:]
+    pad = digest = b""
+    while len(pad) < len(body):
+        digest = hashlib.md5(head[4:8] + b"k" + head[:1] + head[2:3] + digest).digest()
+        pad += digest
+    return head + bytes(one ^ other for one, other in zip(body, pad))
+
+
+def as_many_connections():
+    """On each of 65,536 connections comes the first part of a request, and then the rest on each."""
+    request = padded(bytes.fromhex(spelled(KEPT.strip()).removeprefix("packet 1 ")))
+    first, rest = request[:20].hex(), request[20:].hex()
+    numbers = range(65_536)
+    script = opened(OPS).removesuffix("open 1\n")
+    script += "".join(f"open {number}\nbytes {number} {first}\n" for number in numbers)
+    script += "".join(f"bytes {number} {rest}\nlost {number}\n" for number in numbers)
+    printed = "".join(STILL_OPEN.replace("1", str(number), 1) for number in numbers)
+    # Once they are lost, none is there.
+    printed += f"fault line {script.count(chr(10)) + 1} NoConnection\n"
+    yield "open at once", script + f"bytes 0 {first}\n", printed
 
 
 def a_group_of_many_users():
@@ -407,6 +612,20 @@ def longest_replies():
             f"{begin}{''.join(starts)}packet 1 {' '.join(requests)}\n",
             "".join(prompts + replies),
         )
+
+
+def longest_line_of_a_log():
+    """A line of the log has all that is given, in the order in which the device gets it."""
+    script = opened(given("x") + "user bob in ops\n") + f"packet 1 {asked(['service=x'])}\n"
+    listed = ",".join(f'"{it}"' for it in ATTRIBUTES)
+    logged = (
+        '{"time":null,"device":"connection 1","session":"00000001","type":"command","user":"bob",'
+        '"port":"tty0","from":"","privilege":1,"service":1,"arguments":["service=x"],"line":null,'
+        f'"status":"PASS_ADD","text":"","given":[{listed}]}}\n'
+    )
+    printed = f"reply 1 {granted(ATTRIBUTES)}\nclosed 1\n"
+    script, printed = (spelled_out(text).encode() for text in (script, printed))
+    return replay_check(script, printed, logged=logged.encode())
 
 
 def lines_about_services_at_the_limit():

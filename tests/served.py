@@ -68,6 +68,7 @@ def cases(name):
         at_an_address,
         segments_that_begin_by_themselves,
         the_latest_records,
+        what_is_forgotten_counts_nowhere,
         each_device_by_its_own_key,
         strangers_are_closed,
         a_silent_device_is_given_up,
@@ -390,6 +391,13 @@ def the_latest_records(program):
     for options, count, first in (
         (("--keep-records", "1000"), 1000, 1),
         (("--keep-records", "1000"), 1001, 501),
+        (("--keep-records", "1000"), 1500, 501),
+        (("--keep-records", "1000"), 1501, 1001),
+        # Half of an odd number is rounded up.
+        (("--keep-records", "1001"), 1001, 1),
+        (("--keep-records", "1001"), 1002, 502),
+        (("--keep-records", "1001"), 1502, 502),
+        (("--keep-records", "1001"), 1503, 1003),
         (("--keep-records", "10000000"), 1001, 1),
         ((), 1001, 1),
     ):
@@ -404,6 +412,76 @@ def the_latest_records(program):
                 f"{answers}tally user bob starts 0 stops 0 watchdogs 0 updates {len(kept)} "
                 "open 0 elapsed 0 drift 0\n",
             )
+
+
+FORGETTING = "group ops\nuser bob in ops\npermit show\nuser eve in ops\n"
+RELOAD = ("service=shell", "cmd=reload")
+
+
+def account(device, kind, user, *arguments, times=1):
+    """Records of this kind are stored: 2 START, 4 STOP, 8 WATCHDOG, 10 of an update."""
+    fixed = bytes([kind, 6, 1, 1, 1, len(user), 0, 0, len(arguments), *map(len, arguments)])
+    body = fixed + (user + "".join(arguments)).encode()
+    sent = f"c0030104.00000001.{len(body):08x}.{body.hex()}"
+    for _ in range(times):
+        require(is_answered(device, sent, STORED), f"{arguments} of {user} isn't stored")
+
+
+def types(server, line, *answers):
+    """A line at the console is answered by these."""
+    server.process.stdin.write(f"{line}\n".encode())
+    server.process.stdin.flush()
+    for wanted in answers:
+        came = server.process.stdout.readline().decode().removesuffix("\n")
+        require(came == wanted, f"after {line!r} came {came!r}, not {wanted!r}")
+
+
+def tallied(server, subject, *counts):
+    names = ("starts", "stops", "watchdogs", "updates", "open", "elapsed", "drift")
+    counted = " ".join(f"{name} {count}" for name, count in zip(names, counts))
+    types(server, f"tally {subject}", f"tally {subject} {counted}")
+
+
+def what_is_forgotten_counts_nowhere(program):
+    """A task whose start was forgotten is open no more, and its stop is a stop and ends nothing. A
+    task whose stop was forgotten, and not the start after it, is open. Stops that are denied count
+    while they are kept, and an edit counts them anew."""
+    options = ("--workers", "1", "--keep-records", "1000")
+    with Server(program, *options, policy=FORGETTING) as server, connect(server) as device:
+        listening = server.process.stdout.readline().decode()
+        require(listening == f"listening {server.address[1]}\n", f"it says {listening}")
+        account(device, 2, "bob", "task_id=1")
+        account(device, 2, "bob", "task_id=2")
+        account(device, 8, "bob", "task_id=1", "elapsed_time=50")
+        account(device, 4, "bob", "task_id=4", "elapsed_time=2", *RELOAD)
+        account(device, 4, "bob", "task_id=8", "elapsed_time=3")
+        account(device, 10, "zed", "task_id=0", times=495)
+        account(device, 2, "bob", "task_id=3")
+        account(device, 2, "bob", "task_id=8")
+        tallied(server, "user bob", 4, 2, 1, 0, 4, 5, 1)
+        account(device, 4, "bob", "task_id=1", "elapsed_time=5")
+        account(device, 4, "bob", "task_id=5", "elapsed_time=2", *RELOAD)
+        account(device, 10, "zed", "task_id=0", times=496)
+        tallied(server, "user bob", 4, 4, 1, 0, 3, 12, 2)
+        # The first 500 go.
+        account(device, 10, "eve", "task_id=9")
+        tallied(server, "user bob", 2, 2, 0, 0, 2, 7, 1)
+        tallied(server, "user eve", 0, 0, 0, 1, 0, 0, 0)
+        tallied(server, "user zed", 0, 0, 0, 496, 0, 0, 0)
+        tallied(server, "group ops", 2, 2, 0, 1, 2, 7, 1)
+        account(device, 4, "bob", "task_id=2", "elapsed_time=7")
+        tallied(server, "user bob", 2, 3, 0, 0, 2, 14, 1)
+        types(server, "insert user bob 1 permit .*", "ok", "user bob now permits: ")
+        tallied(server, "user bob", 2, 3, 0, 0, 2, 14, 0)
+        types(server, "drop user bob 1", "ok", "user bob now denies: ")
+        tallied(server, "user bob", 2, 3, 0, 0, 2, 14, 1)
+        account(device, 10, "zed", "task_id=0", times=498)
+        tallied(server, "user bob", 2, 3, 0, 0, 2, 14, 1)
+        # And the next 500.
+        account(device, 10, "zed", "task_id=0")
+        tallied(server, "user bob", 0, 1, 0, 0, 0, 7, 0)
+        tallied(server, "group ops", 0, 1, 0, 1, 0, 7, 0)
+        server.ends("quit\n", is_listening=False)
 
 
 def each_device_by_its_own_key(program):

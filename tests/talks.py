@@ -11,21 +11,27 @@ from paragraphs import Line, bare, paragraphs, plain
 PRINTED = ("reply ", "closed ", "fault ")
 EVENTS = ("open", "packet", "bytes", "pieces", "lost")
 LIST = re.compile("each ([A-Z]+) of")
+# A line of the log: the number of the connection, the session, and the members after these.
+LOGGED = re.compile("log ([0-9]+) ([0-9a-f]{8}) (.+)")
 
 
 class Step(typing.NamedTuple):
-    """A line of a script, with its end where it has one, and the lines that it prints."""
+    """A line of a script, with its end where it has one, the lines that it prints, and those that
+    the log takes."""
 
     line: Line
     script: str
     printed: list
+    logged: list
 
 
 def read_talks(path, name):
     """The cases of a file, one for each conversation from each of its beginnings."""
     beginnings, lists = [[]], {}
     has_begun, is_used, used = False, True, set()
-    for paragraph in paragraphs(path, name):
+    all_paragraphs = list(paragraphs(path, name))
+    has_log = any(LOGGED.fullmatch(line.text) for line in itertools.chain(*all_paragraphs))
+    for paragraph in all_paragraphs:
         head = paragraph[0]
         listed = LIST.fullmatch(head.text)
         if listed:
@@ -43,7 +49,7 @@ def read_talks(path, name):
                 if len(beginnings) > 1:
                     where += f" from line {begun[0].number}"
                 for lines in variants(begun + paragraph, lists):
-                    yield conversation(where, lines, name)
+                    yield conversation(where, lines, name, has_log)
     if not is_used:
         raise Mistake(f"{name}: nothing goes on from the last beginning")
     for unused in lists.keys() - used:
@@ -56,18 +62,20 @@ def variants(lines, lists):
     return map(list, itertools.product(*choices))
 
 
-def conversation(where, lines, name):
+def conversation(where, lines, name, has_log):
     """A case that replays each beginning of the conversation which ends after an event."""
     told = steps(lines, name)
-    script = printed = ""
+    script = printed = logged = ""
     checks = []
     for at, step in enumerate(told):
         script += step.script
         printed += "".join(step.printed)
+        logged += "".join(step.logged)
         is_last = at + 1 == len(told)
         if is_last or "\nrun\n" in f"\n{script}":
             after = f"line {step.line.number}, {step.line.text}"
-            checks.append(replay_check(script.encode(), printed.encode(), after))
+            log = logged.encode() if has_log else None
+            checks.append(replay_check(script.encode(), printed.encode(), after, log))
     return Case(where, checks)
 
 
@@ -76,6 +84,10 @@ def steps(lines, name):
     is_answer = False
     for line in lines:
         text = bare(line, name)
+        noted = LOGGED.fullmatch(text)
+        if noted and told:
+            told[-1].logged.append(log_line(*noted.groups()))
+            continue
         if text.startswith(PRINTED):
             is_printed = True
         elif text.startswith("> "):
@@ -88,9 +100,14 @@ def steps(lines, name):
             raise Mistake(f"{name}:{line.number}: a quote is missing")
         text = plain(spelled(text))
         if not is_printed:
-            told.append(Step(line, text, []))
+            told.append(Step(line, text, [], []))
         elif told:
             told[-1].printed.append(text)
         else:
             raise Mistake(f"{name}:{line.number}: nothing comes before what is printed")
     return told
+
+
+def log_line(connection, session, members):
+    """The line of a log, by docs/AUDIT.md, "Lines of a script"."""
+    return f'{{"time":null,"device":"connection {connection}","session":"{session}",{members}}}\n'

@@ -118,3 +118,53 @@ connections 10000␃
 
 $ tacd devices blanks.devices
 devices ok: 1 devices, 1 prefixes
+
+# An empty file, and others of a few lines.
+file devices
+
+$ tacd devices devices
+devices ok: 0 devices, 0 prefixes
+
+file devices
+|# nobody may call|
+||
+|  # yet|
+
+$ tacd devices devices
+devices ok: 0 devices, 0 prefixes
+
+file devices
+device a
+at 1.2.3.4
+key k
+
+$ tacd devices devices
+devices ok: 1 devices, 1 prefixes
+line 3: a key of 1 characters
+
+file devices
+device a
+key k
+at ::/0
+at 0.0.0.0/0
+connections 10000
+
+$ tacd devices devices
+devices ok: 1 devices, 2 prefixes
+line 2: a key of 1 characters
+
+file devices
+device a
+at 10.0.0.0/8
+|key  a b |
+device b
+at 10.0.0.0/9
+at 10.0.0.0
+at ::1
+key k
+connections 1
+
+$ tacd devices devices
+devices ok: 2 devices, 4 prefixes
+line 3: a key of 5 characters
+line 8: a key of 1 characters

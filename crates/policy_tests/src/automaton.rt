@@ -2,7 +2,6 @@
 //! worked out by hand.
 
 mod deciders;
-mod differences;
 mod large;
 mod lists;
 mod meters;

@@ -1,13 +1,8 @@
-//! Tests of policies, of hashed passwords, of patterns, of the automata that stand for them,
-//! and of files of devices.
+//! Tests of patterns, of the automata that stand for them, and of policies that decide by these.
 #![tactic(auto)]
 
 #[cfg(test)]
 mod automaton;
-#[cfg(test)]
-mod crypt;
-#[cfg(test)]
-mod devices;
 #[cfg(test)]
 mod policy;
 pub mod scan;

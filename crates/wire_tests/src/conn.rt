@@ -1,5 +1,3 @@
-//! Tests of connections, packet by packet, against bytes that were worked out by hand from RFC
-//! 8907.
+//! Tests of what is worked out of a password.
 
-mod conversations;
 mod typed;

@@ -1,4 +1,4 @@
-//! Tests of what devices send, of what is sent back, and of what is kept of it.
+//! Tests of what devices send, of what is sent back, and of the file of a log.
 #![tactic(auto)]
 
 #[cfg(test)]
@@ -15,8 +15,5 @@ mod lists;
 mod proxy;
 #[cfg(test)]
 mod talk;
-pub mod tally;
-#[cfg(test)]
-mod trail;
 #[cfg(test)]
 mod wire;
