@@ -25,7 +25,7 @@ use tac_keep::Tray;
 use tac_net::{Callers, Idle, Settings};
 use tac_status::Counts;
 use tac_tally::RecordLimit;
-use tac_wire::Key;
+use tac_wire::{Key, KeyDoor};
 
 const BAD_KEY: &str =
     "error: invalid value for '--key <K>': it is not 1 to 128 printable ASCII characters
@@ -155,7 +155,7 @@ where
         Some(path) => Ok(Callers::Listed(directory_of_file(rt, path)?)),
         None => {
             let key = key_of(rt, matches)?;
-            Ok(Callers::Any(key))
+            Ok(Callers::Any(KeyDoor::new(key)))
         }
     }
 }

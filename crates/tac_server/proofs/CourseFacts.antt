@@ -3,6 +3,8 @@ use Rattle.std.proofs.Common.{◌≡◌, ℕ, List, [], ◌∷◌, ◌++◌, Boo
 use Rattle.std.specs.Prelude.{◌==◌, OnOk}
 use Rattle.std.specs.BTreeMap.{get}
 use Rattle.std.proofs.lemmas.List.{append_cancel_left}
+use Rattle.tac_wire.specs.declared.door.Door.{Door}
+use Rattle.tac_wire.specs.declared.door.Door.TheVariants.{Padded}
 use Rattle.tac_wire.specs.Stream.{open_end, cut}
 use Rattle.tac_stream.specs.declared.stream.Stream.{Stream}
 use Rattle.tac_desk.specs.Meaning.{Meaning}
@@ -21,11 +23,11 @@ same_bytes bytes one two a b = let h : Some two ≡ Some one = sym b ∙ a in cc
 
 -- one thing is said to bytes that come on an open connection
 pub only_hears : (state : State) (number : ℕ) (bytes before : List ℕ) → state.connections number ≡ Some before → (other : Given) (later : State) → Hears state number bytes other later
-    → (other ≡ Packets number (said_on state.key state.meaning before bytes)) × (later ≡ heard number (before ++ bytes) (said_on state.key state.meaning before bytes) state)
+    → (other ≡ Packets number (said_on (Padded state.key) state.meaning before bytes)) × (later ≡ heard number (before ++ bytes) (said_on (Padded state.key) state.meaning before bytes) state)
 only_hears state number bytes before e other later d =
     let same = same_bytes (state.connections number) before d.before e d.is_open in (
-      d.says ∙ ap (λ (b : List ℕ). Packets number (said_on state.key state.meaning b bytes)) same,
-      d.leaves ∙ ap (λ (b : List ℕ). heard number (b ++ bytes) (said_on state.key state.meaning b bytes) state) same,
+      d.says ∙ ap (λ (b : List ℕ). Packets number (said_on (Padded state.key) state.meaning b bytes)) same,
+      d.leaves ∙ ap (λ (b : List ℕ). heard number (b ++ bytes) (said_on (Padded state.key) state.meaning b bytes) state) same,
     )
 
 -- ---- the key stays
@@ -96,17 +98,17 @@ alone_more start events outs state event given after earlier only = λ others ot
 -- ---- a piece that memory breaks off
 
 -- what is held of an open connection is no packet yet
-open_tail : (key : List ℕ) (o : Option Stream) (bytes : Option (List ℕ)) (before : List ℕ) → bytes ≡ Some before → Ties key o bytes → (rest : List ℕ) × ((cut before).tail ≡ open_end rest)
-open_tail key (Some stream) (Some other) before e t =
+open_tail : (door : Door) (o : Option Stream) (bytes : Option (List ℕ)) (before : List ℕ) → bytes ≡ Some before → Ties door o bytes → (rest : List ℕ) × ((cut door before).tail ≡ open_end rest)
+open_tail door (Some stream) (Some other) before e t =
     let same : other ≡ before = cc in
-    let serves : Serves key stream before = subst (λ (b : List ℕ). Serves key stream b) same t in
+    let serves : Serves door stream before = subst (λ (b : List ℕ). Serves door stream b) same t in
     (serves.rest, serves.tail)
-open_tail key None (Some other) before e t = absurd t
-open_tail key o None before e t = absurd cc
+open_tail door None (Some other) before e t = absurd t
+open_tail door o None before e t = absurd cc
 
-removed_last : (key : List ℕ) (b : Bool) (g : Option Stream) (x y c : Option (List ℕ)) → Ties key g (cond b x c) → Ties key g (cond b x (cond b y c))
-removed_last key true g x y c t = t
-removed_last key false g x y c t = t
+removed_last : (door : Door) (b : Bool) (g : Option Stream) (x y c : Option (List ℕ)) → Ties door g (cond b x c) → Ties door g (cond b x (cond b y c))
+removed_last door true g x y c t = t
+removed_last door false g x y c t = t
 
 module _ {D : Type 0} (meaning : D → Meaning) where
   -- nothing has happened
@@ -143,9 +145,9 @@ module _ {D : Type 0} (meaning : D → Meaning) where
   run_heard old new was now number piece (Ok closes) step start events outs h =
       let s = step h.state h.has in
       let before = s.0 in
-      let said = said_on h.state.key h.state.meaning before piece in (
+      let said = said_on (Padded h.state.key) h.state.meaning before piece in (
         Packets number said,
-        s.2.sends.0 ∙ ap (λ (k : List ℕ). was ++ sent_bytes k said.sent) (course_key start events outs h.state h.course),
+        s.2.sends.0 ∙ ap (λ (k : List ℕ). was ++ sent_bytes (Padded k) said.sent) (course_key start events outs h.state h.course),
         run_more old new start events outs (Brings number piece) h (Packets number said) (heard number (before ++ piece) said h.state)
             (record { before = before; is_open = s.1; says = refl; leaves = refl }) (only_hears h.state number piece before s.1) s.2.has,
       )
@@ -154,9 +156,10 @@ module _ {D : Type 0} (meaning : D → Meaning) where
   breaks_off : (old new : Server D) (was now : List ℕ) (number : ℕ) (piece : List ℕ) (start : State) (events : List Happening) (outs : List Given) (h : HasRun meaning old start events outs)
       (before : List ℕ) → h.state.connections number ≡ Some before → IsCutShort meaning was now new number before piece h.state → BreaksOff meaning was now new start number piece events outs
   breaks_off old new was now number piece start events outs h before is_open short =
-      let held = open_tail old.key (get nat_cmp old.connections number) (h.state.connections number) before is_open (h.has.connections number) in
-      let begun = begun_by h.state.key h.state.meaning before piece held.0 short.count held.1 in
-      let said : Said = said_on h.state.key h.state.meaning before begun.front in
+      let tie = subst (λ (k : List ℕ). Ties (Padded k) (get nat_cmp old.connections number) (h.state.connections number)) h.has.key (h.has.connections number) in
+      let held = open_tail (Padded h.state.key) (get nat_cmp old.connections number) (h.state.connections number) before is_open tie in
+      let begun = begun_by (Padded h.state.key) h.state.meaning before piece held.0 short.count held.1 in
+      let said : Said = said_on (Padded h.state.key) h.state.meaning before begun.front in
       let middle : State = heard number (before ++ begun.front) said h.state in
       let gives : Gives h.state (Brings number begun.front) (Packets number said) middle = record { before = before; is_open = is_open; says = refl; leaves = refl } in
       record {
@@ -164,14 +167,14 @@ module _ {D : Type 0} (meaning : D → Meaning) where
         rest = begun.rest;
         given = Packets number said;
         split = begun.split;
-        added = short.sends.0 ∙ ap (λ (s : Said). was ++ sent_bytes h.state.key s.sent) (sym begun.said)
-            ∙ ap (λ (k : List ℕ). was ++ sent_bytes k said.sent) (course_key start events outs h.state h.course);
+        added = short.sends.0 ∙ ap (λ (s : Said). was ++ sent_bytes (Padded h.state.key) s.sent) (sym begun.said)
+            ∙ ap (λ (k : List ℕ). was ++ sent_bytes (Padded k) said.sent) (course_key start events outs h.state h.course);
         run = record {
           state = lost number middle;
           has = record {
             key = short.has.key;
             desk = short.has.desk ∙ sym (ap (λ (s : Said). s.meaning) begun.said);
-            connections = λ q. removed_last new.key (q == number) _ _ _ (h.state.connections q) (short.has.connections q);
+            connections = λ q. removed_last (Padded new.key) (q == number) _ _ _ (h.state.connections q) (short.has.connections q);
             batch = short.has.batch;
           };
           course = record {

@@ -6,6 +6,7 @@ use Rattle.pol_live.specs.Judging.{Judges, IsOnlyJudged}
 use Rattle.pol_live.specs.declared.judging.TextRefusal.{TextRefusal}
 use Rattle.std.proofs.lemmas.List.{append_cancel_left}
 use Rattle.pol_text.specs.declared.subject.Subject.{Subject}
+use Rattle.tac_wire.specs.declared.door.Door.TheVariants.{Padded}
 use Rattle.tac_desk.specs.Meaning.{Meaning}
 use Rattle.tac_server.specs.declared.server.Server.{Server}
 use Rattle.tac_server.specs.declared.server.ServerFault.{ServerFault}
@@ -83,10 +84,10 @@ keeps_line meaning line size server state text h = record {
 
 pub hands_line : {D : Type 0} (meaning : D → Meaning) (key : List ℕ) (line number : ℕ) (bytes : List ℕ) (server : Server D) (state : State) (sent : List ℕ) (closes : Bool) (old new : List ℕ) → key ≡ server.key
     → IsHeardUnlessMemory meaning [] sent server number bytes state (Ok closes)
-    → ((said : Said) → Sends key [] sent said.sent → closes ≡ said.closes → new ≡ old ++ shown key number said)
+    → ((said : Said) → Sends (Padded key) [] sent said.sent → closes ≡ said.closes → new ≡ old ++ shown key number said)
     → IsDoneUnless meaning line old new server state (Hand number bytes) (Ok tt)
 hands_line meaning key line number bytes server state sent closes old new same (before, e, said) show =
-    let whole = said_on state.key state.meaning before bytes in
+    let whole = said_on (Padded state.key) state.meaning before bytes in
     let keys : key ≡ state.key = same ∙ said.has.key in
     record {
       text = shown state.key number whole;
@@ -96,7 +97,7 @@ hands_line meaning key line number bytes server state sent closes old new same (
       only = λ other later d.
           let one = only_hears state number bytes before e d.given later d.gives in
           (d.prints ∙ ap (printed state.key) one.0, one.1);
-      added = show whole (subst (λ (k : List ℕ). Sends k [] sent whole.sent) (sym keys) said.sends) said.closing ∙ ap (λ (k : List ℕ). old ++ shown k number whole) keys;
+      added = show whole (subst (λ (k : List ℕ). Sends (Padded k) [] sent whole.sent) (sym keys) said.sends) said.closing ∙ ap (λ (k : List ℕ). old ++ shown k number whole) keys;
       has = said.has;
     }
 

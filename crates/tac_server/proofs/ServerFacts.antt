@@ -5,6 +5,8 @@ use Rattle.std.specs.BTreeMap.{BTreeMap, get, is_at}
 use Rattle.std.proofs.lemmas.Bool.{eq-eqb, eqb-true}
 use Rattle.std.proofs.lemmas.List.{take-append-drop}
 use Rattle.std.specs.declared.alloc.AllocError.{AllocError}
+use Rattle.tac_wire.specs.declared.door.Door.{Door}
+use Rattle.tac_wire.specs.declared.door.Door.TheVariants.{Padded}
 use Rattle.tac_wire.specs.Stream.{Parts, open_end, cut, cut_within, only}
 use Rattle.tac_conn.specs.declared.packet.Packet.{Packet}
 use Rattle.tac_stream.specs.declared.stream.Stream.{Stream}
@@ -25,15 +27,15 @@ use Rattle.tac_server.proofs.SentFacts.{sends-append}
 at_number : (number other : ℕ) → is_at (nat_cmp number) other ≡ (other == number)
 at_number number other = Prim.grind (arith)
 
-chosen : (key : List ℕ) (b : Bool) (w g : Option Stream) (bytes c : Option (List ℕ)) → Ties key w bytes → Ties key g c → Ties key (cond b w g) (cond b bytes c)
-chosen key true w g bytes c t r = t
-chosen key false w g bytes c t r = r
+chosen : (door : Door) (b : Bool) (w g : Option Stream) (bytes c : Option (List ℕ)) → Ties door w bytes → Ties door g c → Ties door (cond b w g) (cond b bytes c)
+chosen door true w g bytes c t r = t
+chosen door false w g bytes c t r = r
 
 -- one connection has changed
-pub has_updated : (key : List ℕ) (old new : BTreeMap ℕ Stream) (number : ℕ) (w : Option Stream) (bytes : Option (List ℕ)) (connections : Connections)
-    → ((q : ℕ) → get nat_cmp new q ≡ cond (is_at (nat_cmp number) q) w (get nat_cmp old q)) → Has key old connections → Ties key w bytes → Has key new (with_connection number bytes connections)
-has_updated key old new number w bytes connections h has tie =
-    λ q. rw (h q, at_number number q) (chosen key (q == number) w (get nat_cmp old q) bytes (connections q) tie (has q))
+pub has_updated : (door : Door) (old new : BTreeMap ℕ Stream) (number : ℕ) (w : Option Stream) (bytes : Option (List ℕ)) (connections : Connections)
+    → ((q : ℕ) → get nat_cmp new q ≡ cond (is_at (nat_cmp number) q) w (get nat_cmp old q)) → Has door old connections → Ties door w bytes → Has door new (with_connection number bytes connections)
+has_updated door old new number w bytes connections h has tie =
+    λ q. rw (h q, at_number number q) (chosen door (q == number) w (get nat_cmp old q) bytes (connections q) tie (has q))
 
 twice_there : (b : Bool) (w v g : Option Stream) → cond b w (cond b v g) ≡ cond b w g
 twice_there true w v g = refl
@@ -46,80 +48,80 @@ pub removed : (old mid new : BTreeMap ℕ Stream) (number : ℕ) (w : Option Str
     → (q : ℕ) → get nat_cmp new q ≡ cond (is_at (nat_cmp number) q) None (get nat_cmp old q)
 removed old mid new number w first second q = second q ∙ ap (λ (g : Option Stream). cond (is_at (nat_cmp number) q) None g) (first q) ∙ twice_there (is_at (nat_cmp number) q) None w (get nat_cmp old q)
 
-pub found_bytes : (key : List ℕ) (o : Option Stream) (bytes : Option (List ℕ)) (stream : Stream) → o ≡ Some stream → Ties key o bytes
-    → (before : List ℕ) × (bytes ≡ Some before) × Serves key stream before
-found_bytes key (Some other) (Some before) stream e t =
+pub found_bytes : (door : Door) (o : Option Stream) (bytes : Option (List ℕ)) (stream : Stream) → o ≡ Some stream → Ties door o bytes
+    → (before : List ℕ) × (bytes ≡ Some before) × Serves door stream before
+found_bytes door (Some other) (Some before) stream e t =
     let same : other ≡ stream = cc in
-    (before, refl, subst (λ (c : Stream). Serves key c before) same t)
-found_bytes key (Some other) None stream e t = absurd t
-found_bytes key None bytes stream e t = cc
+    (before, refl, subst (λ (c : Stream). Serves door c before) same t)
+found_bytes door (Some other) None stream e t = absurd t
+found_bytes door None bytes stream e t = cc
 
 pub some_found : (o : Option Stream) (stream : Stream) → Some stream ≡ o → IsSome o
 some_found o stream e = rw (sym e) refl
 
 -- ---- opening
 
-none_there : (key : List ℕ) (o : Option Stream) (bytes : Option (List ℕ)) → is_some o ≡ false → Ties key o bytes → bytes ≡ None
-none_there key None None e t = refl
-none_there key None (Some bytes) e t = absurd t
-none_there key (Some stream) bytes e t = cc
+none_there : (door : Door) (o : Option Stream) (bytes : Option (List ℕ)) → is_some o ≡ false → Ties door o bytes → bytes ≡ None
+none_there door None None e t = refl
+none_there door None (Some bytes) e t = absurd t
+none_there door (Some stream) bytes e t = cc
 
-cut_none : cut [] ≡ only (open_end [])
+cut_none : (door : Door) → cut door [] ≡ only (open_end [])
 unfolding cut cut_within
-cut_none = refl
+cut_none door = refl
 
-serves_none : (key : List ℕ) (stream : Stream) → Stands key stream [] 0 → IsReady stream → Serves key stream []
-serves_none key stream stands ready = record {
+serves_none : (door : Door) (stream : Stream) → Stands door stream [] 0 → IsReady stream → Serves door stream []
+serves_none door stream stands ready = record {
   rest = [];
-  tail = ap (λ (p : Parts). p.tail) cut_none;
+  tail = ap (λ (p : Parts). p.tail) (cut_none door);
   ready = ready;
-  stands = subst (λ (n : ℕ). Stands key stream [] n) (sym (ap (λ (p : Parts). length p.packets) cut_none)) stands;
+  stands = subst (λ (n : ℕ). Stands door stream [] n) (sym (ap (λ (p : Parts). length p.packets) (cut_none door))) stands;
 }
 
 pub opens : {D : Type 0} (meaning : D → Meaning) (old server : Server D) (number : ℕ) (stream : Stream) (state : State)
     → HasState meaning old state → server.key ≡ old.key → stands_for meaning server ≡ stands_for meaning old → server.batch ≡ old.batch
     → ((q : ℕ) → get nat_cmp server.connections q ≡ cond (is_at (nat_cmp number) q) (Some stream) (get nat_cmp old.connections q))
-    → is_some (get nat_cmp old.connections number) ≡ false → ((key : List ℕ) → Stands key stream [] 0) → IsReady stream
+    → is_some (get nat_cmp old.connections number) ≡ false → ((door : Door) → Stands door stream [] 0) → IsReady stream
     → IsOpened meaning server number state (Ok tt)
 opens meaning old server number stream state has key desk batch updates absent stands ready = (
-  none_there old.key (get nat_cmp old.connections number) (state.connections number) absent (has.connections number),
+  none_there (Padded old.key) (get nat_cmp old.connections number) (state.connections number) absent (has.connections number),
   record {
     key = key ∙ has.key;
     desk = desk ∙ has.desk;
-    connections = subst (λ (k : List ℕ). Has k server.connections (with_connection number (Some []) state.connections)) (sym key)
-        (has_updated old.key old.connections server.connections number (Some stream) (Some []) state.connections updates has.connections (serves_none old.key stream (stands old.key) ready));
+    connections = subst (λ (k : List ℕ). Has (Padded k) server.connections (with_connection number (Some []) state.connections)) (sym key)
+        (has_updated (Padded old.key) old.connections server.connections number (Some stream) (Some []) state.connections updates has.connections (serves_none (Padded old.key) stream (stands (Padded old.key)) ready));
     batch = batch ∙ has.batch;
   },
 )
 
 -- ---- hearing a piece
 
-stays_open : (b : Bool) (key : List ℕ) (stream : Stream) (bytes : List ℕ) → b ≡ false → ServesUnless b key stream bytes → Serves key stream bytes
-stays_open true key stream bytes e s = cc
-stays_open false key stream bytes e s = s
+stays_open : (b : Bool) (door : Door) (stream : Stream) (bytes : List ℕ) → b ≡ false → ServesUnless b door stream bytes → Serves door stream bytes
+stays_open true door stream bytes e s = cc
+stays_open false door stream bytes e s = s
 
 module _ {D : Type 0} (meaning : D → Meaning) (old server : Server D) (number : ℕ) (stream after : Stream) (was now : List ℕ) (piece : List ℕ)
     (found : get nat_cmp old.connections number ≡ Some stream) (key : server.key ≡ old.key) (same_batch : server.batch ≡ old.batch) (state : State) (has : HasState meaning old state) where
-  here : (before : List ℕ) × (state.connections number ≡ Some before) × Serves old.key stream before
-  here = found_bytes old.key (get nat_cmp old.connections number) (state.connections number) stream found (has.connections number)
+  here : (before : List ℕ) × (state.connections number ≡ Some before) × Serves (Padded old.key) stream before
+  here = found_bytes (Padded old.key) (get nat_cmp old.connections number) (state.connections number) stream found (has.connections number)
 
   said_here : (result : Result Bool AllocError)
-      → ((before : List ℕ) → Serves old.key stream before → SaysPiece result old.key (meaning old.desk) (meaning server.desk) was now after before piece)
-      → SaysPiece result state.key state.meaning (meaning server.desk) was now after here.0 piece
+      → ((before : List ℕ) → Serves (Padded old.key) stream before → SaysPiece result (Padded old.key) (meaning old.desk) (meaning server.desk) was now after before piece)
+      → SaysPiece result (Padded state.key) state.meaning (meaning server.desk) was now after here.0 piece
   said_here result said =
-      subst (λ (m : Meaning). SaysPiece result state.key m (meaning server.desk) was now after here.0 piece) has.desk
-      (subst (λ (k : List ℕ). SaysPiece result k (meaning old.desk) (meaning server.desk) was now after here.0 piece) has.key (said here.0 here.2))
+      subst (λ (m : Meaning). SaysPiece result (Padded state.key) m (meaning server.desk) was now after here.0 piece) has.desk
+      (subst (λ (k : List ℕ). SaysPiece result (Padded k) (meaning old.desk) (meaning server.desk) was now after here.0 piece) has.key (said here.0 here.2))
 
   -- the connection stays open
-  pub heard_open : ((before : List ℕ) → Serves old.key stream before → SaysPiece (Ok false) old.key (meaning old.desk) (meaning server.desk) was now after before piece)
+  pub heard_open : ((before : List ℕ) → Serves (Padded old.key) stream before → SaysPiece (Ok false) (Padded old.key) (meaning old.desk) (meaning server.desk) was now after before piece)
       → ((q : ℕ) → get nat_cmp server.connections q ≡ cond (is_at (nat_cmp number) q) (Some after) (get nat_cmp old.connections q))
       → IsHeard meaning was now server number piece state (Ok false)
   unfolding said_here
   heard_open said updates =
       let told = said_here (Ok false) said in
       let bytes : List ℕ = here.0 ++ piece in
-      let whole = said_on state.key state.meaning here.0 piece in
-      let serves : Serves old.key after bytes = subst (λ (k : List ℕ). Serves k after bytes) (sym has.key) told.serves in (
+      let whole = said_on (Padded state.key) state.meaning here.0 piece in
+      let serves : Serves (Padded old.key) after bytes = subst (λ (k : List ℕ). Serves (Padded k) after bytes) (sym has.key) told.serves in (
         here.0,
         here.1,
         record {
@@ -128,23 +130,23 @@ module _ {D : Type 0} (meaning : D → Meaning) (old server : Server D) (number 
           has = record {
             key = key ∙ has.key;
             desk = told.meaning;
-            connections = subst (λ (k : List ℕ). Has k server.connections (with_connection number (cond whole.closes None (Some bytes)) state.connections)) (sym key)
-                (subst (λ (b : Bool). Has old.key server.connections (with_connection number (cond b None (Some bytes)) state.connections)) told.closing
-                (has_updated old.key old.connections server.connections number (Some after) (Some bytes) state.connections updates has.connections serves));
+            connections = subst (λ (k : List ℕ). Has (Padded k) server.connections (with_connection number (cond whole.closes None (Some bytes)) state.connections)) (sym key)
+                (subst (λ (b : Bool). Has (Padded old.key) server.connections (with_connection number (cond b None (Some bytes)) state.connections)) told.closing
+                (has_updated (Padded old.key) old.connections server.connections number (Some after) (Some bytes) state.connections updates has.connections serves));
             batch = same_batch ∙ has.batch;
           };
         },
       )
 
   -- the connection is closed
-  pub heard_closing : ((before : List ℕ) → Serves old.key stream before → SaysPiece (Ok true) old.key (meaning old.desk) (meaning server.desk) was now after before piece)
+  pub heard_closing : ((before : List ℕ) → Serves (Padded old.key) stream before → SaysPiece (Ok true) (Padded old.key) (meaning old.desk) (meaning server.desk) was now after before piece)
       → ((q : ℕ) → get nat_cmp server.connections q ≡ cond (is_at (nat_cmp number) q) None (get nat_cmp old.connections q))
       → IsHeard meaning was now server number piece state (Ok true)
   unfolding said_here
   heard_closing said updates =
       let told = said_here (Ok true) said in
       let bytes : List ℕ = here.0 ++ piece in
-      let whole = said_on state.key state.meaning here.0 piece in (
+      let whole = said_on (Padded state.key) state.meaning here.0 piece in (
         here.0,
         here.1,
         record {
@@ -153,16 +155,16 @@ module _ {D : Type 0} (meaning : D → Meaning) (old server : Server D) (number 
           has = record {
             key = key ∙ has.key;
             desk = told.meaning;
-            connections = subst (λ (k : List ℕ). Has k server.connections (with_connection number (cond whole.closes None (Some bytes)) state.connections)) (sym key)
-                (subst (λ (b : Bool). Has old.key server.connections (with_connection number (cond b None (Some bytes)) state.connections)) told.closing
-                (has_updated old.key old.connections server.connections number None None state.connections updates has.connections tt));
+            connections = subst (λ (k : List ℕ). Has (Padded k) server.connections (with_connection number (cond whole.closes None (Some bytes)) state.connections)) (sym key)
+                (subst (λ (b : Bool). Has (Padded old.key) server.connections (with_connection number (cond b None (Some bytes)) state.connections)) told.closing
+                (has_updated (Padded old.key) old.connections server.connections number None None state.connections updates has.connections tt));
             batch = same_batch ∙ has.batch;
           };
         },
       )
 
   -- memory ran out
-  pub heard_short : (error : AllocError) → ((before : List ℕ) → Serves old.key stream before → SaysPiece (Err error) old.key (meaning old.desk) (meaning server.desk) was now after before piece)
+  pub heard_short : (error : AllocError) → ((before : List ℕ) → Serves (Padded old.key) stream before → SaysPiece (Err error) (Padded old.key) (meaning old.desk) (meaning server.desk) was now after before piece)
       → ((q : ℕ) → get nat_cmp server.connections q ≡ cond (is_at (nat_cmp number) q) None (get nat_cmp old.connections q))
       → IsHeard meaning was now server number piece state (Err (faults.Memory false))
   unfolding said_here
@@ -175,12 +177,12 @@ module _ {D : Type 0} (meaning : D → Meaning) (old server : Server D) (number 
           record {
             count = told.count;
             stays = ap (λ (s : Said). s.closes) told.said;
-            sends = subst (λ (l : List Packet). Sends state.key was now l) (sym (ap (λ (s : Said). s.sent) told.said)) told.sends;
+            sends = subst (λ (l : List Packet). Sends (Padded state.key) was now l) (sym (ap (λ (s : Said). s.sent) told.said)) told.sends;
             has = record {
               key = key ∙ has.key;
               desk = sym (ap (λ (s : Said). s.meaning) told.said);
-              connections = subst (λ (k : List ℕ). Has k server.connections (with_connection number None state.connections)) (sym key)
-                  (has_updated old.key old.connections server.connections number None None state.connections updates has.connections tt);
+              connections = subst (λ (k : List ℕ). Has (Padded k) server.connections (with_connection number None state.connections)) (sym key)
+                  (has_updated (Padded old.key) old.connections server.connections number None None state.connections updates has.connections tt);
               batch = same_batch ∙ has.batch;
             };
           },
@@ -199,27 +201,27 @@ unless_memory meaning was now server number bytes state (Err (faults.Memory acce
 with_same : (number : ℕ) (bytes : Option (List ℕ)) (connections : Connections) → with_connection number bytes connections number ≡ bytes
 with_same number bytes connections = rw (eq-eqb number number refl) refl
 
-twice : (key : List ℕ) (b : Bool) (g : Option Stream) (x y c : Option (List ℕ)) → Ties key g (cond b x (cond b y c)) → Ties key g (cond b x c)
-twice key true g x y c t = t
-twice key false g x y c t = t
+twice : (door : Door) (b : Bool) (g : Option Stream) (x y c : Option (List ℕ)) → Ties door g (cond b x (cond b y c)) → Ties door g (cond b x c)
+twice door true g x y c t = t
+twice door false g x y c t = t
 
 abbrev pub Law : List ℕ → Type 0
-Law key = (meaning : Meaning) (before first second : List ℕ) → said_on key meaning before (first ++ second) ≡ unless_closed (said_on key meaning before first) (λ next. said_on key next (before ++ first) second)
+Law key = (meaning : Meaning) (before first second : List ℕ) → said_on (Padded key) meaning before (first ++ second) ≡ unless_closed (said_on (Padded key) meaning before first) (λ next. said_on (Padded key) next (before ++ first) second)
 
 module _ {D : Type 0} (meaning : D → Meaning) (was now last : List ℕ) (middle server : Server D) (number : ℕ) (first second : List ℕ) (state : State) (pieces : Law state.key) where
   after_first : List ℕ → State
-  after_first before = heard number (before ++ first) (said_on state.key state.meaning before first) state
+  after_first before = heard number (before ++ first) (said_on (Padded state.key) state.meaning before first) state
 
   -- the connection is open after the first piece
-  still_open : (before : List ℕ) → (said_on state.key state.meaning before first).closes ≡ false → (after_first before).connections number ≡ Some (before ++ first)
+  still_open : (before : List ℕ) → (said_on (Padded state.key) state.meaning before first).closes ≡ false → (after_first before).connections number ≡ Some (before ++ first)
   unfolding after_first
   still_open before e = with_same number _ state.connections ∙ rw e refl
 
-  joined_said : (before : List ℕ) → (said_on state.key state.meaning before first).closes ≡ false
-      → said_on state.key state.meaning before (first ++ second) ≡ sent_before (said_on state.key state.meaning before first).sent (said_on state.key (said_on state.key state.meaning before first).meaning (before ++ first) second)
-  joined_said before e = pieces state.meaning before first second ∙ unless_closed-false (said_on state.key state.meaning before first) (λ next. said_on state.key next (before ++ first) second) e
+  joined_said : (before : List ℕ) → (said_on (Padded state.key) state.meaning before first).closes ≡ false
+      → said_on (Padded state.key) state.meaning before (first ++ second) ≡ sent_before (said_on (Padded state.key) state.meaning before first).sent (said_on (Padded state.key) (said_on (Padded state.key) state.meaning before first).meaning (before ++ first) second)
+  joined_said before e = pieces state.meaning before first second ∙ unless_closed-false (said_on (Padded state.key) state.meaning before first) (λ next. said_on (Padded state.key) next (before ++ first) second) e
 
-  both : (result : Result Bool ServerFault) (before : List ℕ) → state.connections number ≡ Some before → IsSaid meaning was now false middle number (before ++ first) state (said_on state.key state.meaning before first)
+  both : (result : Result Bool ServerFault) (before : List ℕ) → state.connections number ≡ Some before → IsSaid meaning was now false middle number (before ++ first) state (said_on (Padded state.key) state.meaning before first)
       → IsHeardUnlessMemory meaning now last server number second (after_first before) result → IsHeardUnlessMemory meaning was last server number (first ++ second) state result
   unfolding after_first
   both (Err (faults.Memory accepted)) before e said h = tt
@@ -228,21 +230,21 @@ module _ {D : Type 0} (meaning : D → Meaning) (was now last : List ℕ) (middl
       let open_still = still_open before (sym said.closing) in
       let impossible : None ≡ Some (before ++ first) = sym h.0 ∙ open_still in cc
   both (Ok closes) before e said (again, f, more) =
-      let stays : (said_on state.key state.meaning before first).closes ≡ false = sym said.closing in
+      let stays : (said_on (Padded state.key) state.meaning before first).closes ≡ false = sym said.closing in
       let same : again ≡ before ++ first = (let h : Some again ≡ Some (before ++ first) = sym f ∙ still_open before stays in cc) in
-      let one = said_on state.key state.meaning before first in
-      let two = said_on state.key one.meaning (before ++ first) second in
-      let told = subst (λ (b : List ℕ). IsSaid meaning now last closes server number (b ++ second) (after_first before) (said_on state.key one.meaning b second)) same more in
+      let one = said_on (Padded state.key) state.meaning before first in
+      let two = said_on (Padded state.key) one.meaning (before ++ first) second in
+      let told = subst (λ (b : List ℕ). IsSaid meaning now last closes server number (b ++ second) (after_first before) (said_on (Padded state.key) one.meaning b second)) same more in
       let all = joined_said before stays in (
         before,
         e,
         record {
           closing = told.closing ∙ sym (ap (λ (s : Said). s.closes) all);
-          sends = subst (λ (l : List Packet). Sends state.key was last l) (sym (ap (λ (s : Said). s.sent) all)) (sends-append state.key was now last one.sent two.sent said.sends told.sends);
+          sends = subst (λ (l : List Packet). Sends (Padded state.key) was last l) (sym (ap (λ (s : Said). s.sent) all)) (sends-append (Padded state.key) was now last one.sent two.sent said.sends told.sends);
           has = record {
             key = told.has.key;
             desk = told.has.desk ∙ sym (ap (λ (s : Said). s.meaning) all);
-            connections = λ q. rw (all, ← append_assoc before first second) (twice server.key (q == number) _ _ _ (state.connections q) (told.has.connections q));
+            connections = λ q. rw (all, ← append_assoc before first second) (twice (Padded server.key) (q == number) _ _ _ (state.connections q) (told.has.connections q));
             batch = told.has.batch;
           };
         },
@@ -258,10 +260,10 @@ module _ {D : Type 0} (meaning : D → Meaning) (was now last : List ℕ) (middl
   -- the first piece has closed the connection
   heard_all : IsHeard meaning was now server number first state (Ok true) → IsHeard meaning was now server number (first ++ second) state (Ok true)
   heard_all (before, e, said) =
-      let one = said_on state.key state.meaning before first in
+      let one = said_on (Padded state.key) state.meaning before first in
       let closed : one.closes ≡ true = sym said.closing in
-      let all : said_on state.key state.meaning before (first ++ second) ≡ one = pieces state.meaning before first second ∙ unless_closed-true one (λ next. said_on state.key next (before ++ first) second) closed in
-      let has : Has server.key server.connections (with_connection number None state.connections) = subst (λ (b : Bool). Has server.key server.connections (with_connection number (cond b None (Some (before ++ first))) state.connections)) closed said.has.connections in (
+      let all : said_on (Padded state.key) state.meaning before (first ++ second) ≡ one = pieces state.meaning before first second ∙ unless_closed-true one (λ next. said_on (Padded state.key) next (before ++ first) second) closed in
+      let has : Has (Padded server.key) server.connections (with_connection number None state.connections) = subst (λ (b : Bool). Has (Padded server.key) server.connections (with_connection number (cond b None (Some (before ++ first))) state.connections)) closed said.has.connections in (
         before,
         e,
         rw all (record {

@@ -4,6 +4,7 @@ use Rattle.std.specs.Prelude.{is_some, Option, Some, None, if◌then◌else◌}
 use Rattle.std.specs.List.{flat_map}
 use Rattle.std.specs.Fmt.{decimal}
 use Rattle.hex.specs.Hex.{encode_lower}
+use Rattle.tac_wire.specs.declared.door.Door.TheVariants.{Padded}
 use Rattle.tac_wire.specs.Header.{header_of}
 use Rattle.tac_wire.specs.Pad.{padded}
 use Rattle.tac_conn.specs.declared.packet.Packet.{Packet}
@@ -44,7 +45,7 @@ closed_line number true = codes "closed " ++ decimal number ++ 10 ∷ []
 -- a line for each packet
 abbrev pub reply_lines : List ℕ → ℕ → List Packet → List ℕ
 reply_lines key number packets =
-    flat_map (λ packet. reply_line key number (sent key packet)) packets
+    flat_map (λ packet. reply_line key number (sent (Padded key) packet)) packets
 
 abbrev pub shown : List ℕ → ℕ → Said → List ℕ
 shown key number said = reply_lines key number said.sent ++ closed_line number said.closes

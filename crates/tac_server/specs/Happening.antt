@@ -1,5 +1,6 @@
 -- What happens at a server, and what it gives out then.
 use Rattle.std.specs.Prelude.{◌≡◌, ℕ, List, [], ◌++◌, Some, None}
+use Rattle.tac_wire.specs.declared.door.Door.TheVariants.{Padded}
 use Rattle.tac_desk.specs.Meaning.{Meaning}
 use Rattle.tac_desk.specs.Serving.{Said, said_on, sent_bytes}
 use Rattle.tac_server.specs.Server.{State, opened, lost, heard, typed}
@@ -22,7 +23,7 @@ pub data Given : Type 0 where
 -- the bytes of it, under the key
 abbrev pub bytes_given : List ℕ → Given → List ℕ
 bytes_given key Nothing = []
-bytes_given key (Packets number said) = sent_bytes key said.sent
+bytes_given key (Packets number said) = sent_bytes (Padded key) said.sent
 bytes_given key (Text text) = text
 
 -- bytes come on an open connection
@@ -30,9 +31,9 @@ pub record Hears (state : State) (number : ℕ) (bytes : List ℕ) (given : Give
     : Type 0 where
   pub before : List ℕ
   pub is_open : state.connections number ≡ Some before
-  pub says : given ≡ Packets number (said_on state.key state.meaning before bytes)
+  pub says : given ≡ Packets number (said_on (Padded state.key) state.meaning before bytes)
   pub leaves : after
-      ≡ heard number (before ++ bytes) (said_on state.key state.meaning before bytes) state
+      ≡ heard number (before ++ bytes) (said_on (Padded state.key) state.meaning before bytes) state
 
 -- a line is typed at the console
 pub record Tells (state : State) (line : List ℕ) (given : Given) (after : State) : Type 0 where

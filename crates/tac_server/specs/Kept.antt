@@ -3,6 +3,8 @@ use Rattle.std.specs.Prelude.{◌≡◌, ℕ, List, [], ◌∷◌, ◌++◌, Boo
 use Rattle.std.specs.Prelude.{IsTrue, is_some, Option, Some, None, Result, Ok, Err}
 use Rattle.std.specs.BTreeMap.{BTreeMap, get}
 use Rattle.std.specs.Ordering.{nat_cmp}
+use Rattle.tac_wire.specs.declared.door.Door.{Door}
+use Rattle.tac_wire.specs.declared.door.Door.TheVariants.{Padded}
 use Rattle.tac_wire.specs.Stream.{open_end, cut}
 use Rattle.tac_conn.specs.declared.packet.Packet.{Packet}
 use Rattle.tac_conn.specs.Packet.{sent, IsWhole}
@@ -26,33 +28,33 @@ use Rattle.tac_server.specs.declared.server.ServerFault.TheVariants as faults
 
 -- ---- what is sent
 
-abbrev pub AreWhole : List ℕ → List Packet → Type 0
-AreWhole key [] = Unit {0}
-AreWhole key (packet ∷ packets) = IsWhole (sent key packet) × AreWhole key packets
+abbrev pub AreWhole : Door → List Packet → Type 0
+AreWhole door [] = Unit {0}
+AreWhole door (packet ∷ packets) = IsWhole (sent door packet) × AreWhole door packets
 
--- these packets were sent after what was sent before
-abbrev pub Sends : List ℕ → List ℕ → List ℕ → List Packet → Type 0
-Sends key old new packets = (new ≡ old ++ sent_bytes key packets) × AreWhole key packets
+-- these packets were sent by the door, after what was sent before
+abbrev pub Sends : Door → List ℕ → List ℕ → List Packet → Type 0
+Sends door old new packets = (new ≡ old ++ sent_bytes door packets) × AreWhole door packets
 
 -- ---- connections
 
 -- what is kept represents an open connection on which these bytes came: all their whole packets
 -- were taken
-pub record Serves (key : List ℕ) (stream : Stream) (bytes : List ℕ) : Type 0 where
+pub record Serves (door : Door) (stream : Stream) (bytes : List ℕ) : Type 0 where
   pub rest : List ℕ
-  pub tail : (cut bytes).tail ≡ open_end rest
+  pub tail : (cut door bytes).tail ≡ open_end rest
   pub ready : IsReady stream
-  pub stands : Stands key stream bytes (whole_packets bytes)
+  pub stands : Stands door stream bytes (whole_packets door bytes)
 
-abbrev pub Ties : List ℕ → Option Stream → Option (List ℕ) → Type 0
-Ties key None None = Unit {0}
-Ties key None (Some bytes) = ⊥
-Ties key (Some stream) None = ⊥
-Ties key (Some stream) (Some bytes) = Serves key stream bytes
+abbrev pub Ties : Door → Option Stream → Option (List ℕ) → Type 0
+Ties door None None = Unit {0}
+Ties door None (Some bytes) = ⊥
+Ties door (Some stream) None = ⊥
+Ties door (Some stream) (Some bytes) = Serves door stream bytes
 
 -- the map has what is known of each open connection
-abbrev pub Has : List ℕ → BTreeMap ℕ Stream → Connections → Type 0
-Has key map connections = (number : ℕ) → Ties key (get nat_cmp map number) (connections number)
+abbrev pub Has : Door → BTreeMap ℕ Stream → Connections → Type 0
+Has door map connections = (number : ℕ) → Ties door (get nat_cmp map number) (connections number)
 
 -- ---- a server
 
@@ -65,7 +67,7 @@ pub record HasState {D : Type 0} (meaning : D → Meaning) (server : Server D) (
     : Type 0 where
   pub key : server.key ≡ state.key
   pub desk : stands_for meaning server ≡ state.meaning
-  pub connections : Has server.key server.connections state.connections
+  pub connections : Has (Padded server.key) server.connections state.connections
   pub batch : server.batch ≡ state.batch
 
 -- a connection was opened at a number
@@ -84,7 +86,7 @@ IsOpened meaning server number state (Err (faults.Memory accepted)) =
 pub record IsSaid {D : Type 0} (meaning : D → Meaning) (old new : List ℕ) (closes : Bool)
     (server : Server D) (number : ℕ) (bytes : List ℕ) (state : State) (said : Said) : Type 0 where
   pub closing : closes ≡ said.closes
-  pub sends : Sends state.key old new said.sent
+  pub sends : Sends (Padded state.key) old new said.sent
   pub has : HasState meaning server (heard number bytes said state)
 
 -- memory ran out while more bytes were heard: some of the packets that they complete, from the
@@ -92,10 +94,11 @@ pub record IsSaid {D : Type 0} (meaning : D → Meaning) (old new : List ℕ) (c
 pub record IsCutShort {D : Type 0} (meaning : D → Meaning) (old new : List ℕ) (server : Server D)
     (number : ℕ) (before more : List ℕ) (state : State) : Type 0 where
   pub count : ℕ
-  pub stays : (said_first state.key state.meaning before more count).closes ≡ false
-  pub sends : Sends state.key old new (said_first state.key state.meaning before more count).sent
+  pub stays : (said_first (Padded state.key) state.meaning before more count).closes ≡ false
+  pub sends : Sends (Padded state.key) old new
+      (said_first (Padded state.key) state.meaning before more count).sent
   pub has : HasState meaning server (lost number
-      (with_meaning (said_first state.key state.meaning before more count).meaning state))
+      (with_meaning (said_first (Padded state.key) state.meaning before more count).meaning state))
 
 -- bytes were handed in at a number
 abbrev pub IsHeard : {D : Type 0} → (D → Meaning) → List ℕ → List ℕ → Server D → ℕ → List ℕ → State
@@ -103,7 +106,7 @@ abbrev pub IsHeard : {D : Type 0} → (D → Meaning) → List ℕ → List ℕ 
 IsHeard meaning old new server number more state (Ok closes) =
     (before : List ℕ) × (state.connections number ≡ Some before)
     × IsSaid meaning old new closes server number (before ++ more) state
-    (said_on state.key state.meaning before more)
+    (said_on (Padded state.key) state.meaning before more)
 IsHeard meaning old new server number more state (Err faults.NoConnection) =
     (state.connections number ≡ None) × (new ≡ old) × HasState meaning server state
 IsHeard meaning old new server number more state (Err faults.AlreadyOpen) = ⊥

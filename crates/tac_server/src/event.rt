@@ -10,7 +10,7 @@ use crate::number::connection_number;
 use basics::{Bytes, read_number, split_once};
 use hex::FromHexError;
 use std::alloc::{AllocError, Global};
-use tac_wire::{HEADER_SIZE, Header, Key, pad_in_place};
+use tac_wire::{HEADER_SIZE, Header, KeyDoor};
 
 /// What a line asks for.
 #[derive(Drop)]
@@ -43,19 +43,19 @@ fn hexadecimal(alloc: Global, text: &[u8]) -> Result<Option<Bytes>, AllocError>
 
 // A clear packet as a client sends it: the pad is put on the body. Nothing where the bytes are too
 // few for a header.
-fn wire_packet(key: &Key, bytes: Bytes) -> Option<Bytes>
+fn wire_packet(key: &KeyDoor, bytes: Bytes) -> Option<Bytes>
     ensures { result ≡ packet_of key.now bytes }
 {
     let mut packet = bytes.into_vec();
     let (header, _) = packet.as_slice().split_first_chunk::<HEADER_SIZE>()?;
     let header = Header::read(header);
     let (_, body) = packet.as_mut_slice().split_at_mut(HEADER_SIZE);
-    pad_in_place(&header, key, body);
+    key.door().close(&header, body);
     Some(Bytes::from(packet))
 }
 
 // The packet that a field spells, as a client sends it.
-fn spelled_packet(alloc: Global, key: &Key, field: &[u8]) -> Result<Option<Bytes>, AllocError>
+fn spelled_packet(alloc: Global, key: &KeyDoor, field: &[u8]) -> Result<Option<Bytes>, AllocError>
     ensures { IfOk result (λ packet.
         packet ≡ option_and_then (packet_of key.now) (bytes_of field.now)) }
 {
@@ -78,7 +78,7 @@ fn first_field(text: &[u8]) -> (&[u8], Option<&[u8]>)
 }
 
 // The packets that the fields of a text spell, joined. Linear.
-fn wire_packets(alloc: Global, key: &Key, text: &[u8]) -> Result<Option<Bytes>, AllocError>
+fn wire_packets(alloc: Global, key: &KeyDoor, text: &[u8]) -> Result<Option<Bytes>, AllocError>
     ensures { IfOk result (λ packets. packets ≡ packets_of key.now (fields_of text.now)) }
 {
     let mut packets = Bytes::new(alloc);
@@ -104,7 +104,7 @@ fn numbered(text: &[u8]) -> Option<(u16, &[u8])>
 }
 
 // `packet N HEX HEX ..`, after its first word.
-fn hand_packets(alloc: Global, key: &Key, rest: &[u8]) -> Result<Option<Event>, AllocError>
+fn hand_packets(alloc: Global, key: &KeyDoor, rest: &[u8]) -> Result<Option<Event>, AllocError>
     ensures { IfOk result (λ event.
         event ≡ hand_of (λ text. packets_of key.now (fields_of text)) rest.now) }
 {
@@ -143,7 +143,12 @@ fn piece_size(text: &[u8]) -> Option<usize>
 
 // A line of this first word, which a space follows.
 #[tactic(auto, unfolding(crate::specs::Command::event_by))]
-fn worded(alloc: Global, key: &Key, word: &[u8], rest: &[u8]) -> Result<Option<Event>, AllocError>
+fn worded(
+    alloc: Global,
+    key: &KeyDoor,
+    word: &[u8],
+    rest: &[u8],
+) -> Result<Option<Event>, AllocError>
     ensures { IfOk result (λ event. event ≡ event_by key.now word.now rest.now) }
 {
     if word == b"open".as_slice() {
@@ -170,7 +175,11 @@ fn worded(alloc: Global, key: &Key, word: &[u8], rest: &[u8]) -> Result<Option<E
 
 /// What the line asks for; nothing where it is no command. The key pads clear packets. Linear.
 #[tactic(auto, unfolding(crate::specs::Command::event_of))]
-pub(crate) fn read_event(alloc: Global, key: &Key, line: &[u8]) -> Result<Option<Event>, AllocError>
+pub(crate) fn read_event(
+    alloc: Global,
+    key: &KeyDoor,
+    line: &[u8],
+) -> Result<Option<Event>, AllocError>
     ensures { IfOk result (λ event. event ≡ event_of key.now line.now) }
 {
     let Some((word, rest)) = split_once(line, b' ') else {

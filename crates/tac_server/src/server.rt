@@ -1,6 +1,7 @@
 //! A server over a desk: its connections, by number.
 
 ghost use Rattle.std.specs.Prelude.{◌≡◌, ◌++◌, [], ◌∷◌, List, ℕ, false, IfOk, OnOk};
+ghost use Rattle.tac_wire.specs.declared.door.Door.TheVariants.{Padded};
 ghost use Rattle.tac_desk.specs.Meaning.{Meaning as MeaningValue};
 ghost use Rattle.tac_desk.specs.Serving.{said_on, unless_closed};
 ghost use Rattle.tac_console.specs.Batching.{action_of, batch_after};
@@ -25,7 +26,7 @@ use tac_console::{
 };
 use tac_desk::{Desk, Query, QueryFault};
 use tac_stream::Stream;
-use tac_wire::Key;
+use tac_wire::{Key, KeyDoor};
 
 /// Why a server didn't do what was asked.
 #[derive(Clone, Copy, Debug, PartialEq, Eq)]
@@ -61,7 +62,7 @@ impl<T: Drop> From<AllocFailed<T>> for ServerFault {
 /// A server of connections, which share its key and its desk.
 pub struct Server<D> {
     alloc: Global,
-    key: Key,
+    key: KeyDoor,
     desk: D,
     connections: BTreeMap<u32, Stream>,
     batch: Batch,
@@ -92,14 +93,14 @@ impl<D: Desk> Server<D> {
     {
         Server {
             alloc,
-            key,
+            key: KeyDoor::new(key),
             desk,
             connections: BTreeMap::new(alloc),
             batch: Batch::closed(),
         }
     }
 
-    pub(crate) fn key(&self) -> &Key
+    pub(crate) fn key(&self) -> &KeyDoor
         ensures { result.now ≡ self.now.key }
     {
         &self.key
@@ -148,9 +149,9 @@ impl<D: Desk> Server<D> {
 
         // However bytes are cut into pieces, the same is said.
         ensures pieces { (meaning : MeaningValue) (before first second : List ℕ) →
-            said_on self.old.key meaning before (first ++ second)
-            ≡ unless_closed (said_on self.old.key meaning before first)
-            (λ next. said_on self.old.key next (before ++ first) second) }
+            said_on (Padded self.old.key) meaning before (first ++ second)
+            ≡ unless_closed (said_on (Padded self.old.key) meaning before first)
+            (λ next. said_on (Padded self.old.key) next (before ++ first) second) }
     {
         self.feed_told(conn, piece, out, &mut Nobody)
     }
@@ -184,14 +185,15 @@ impl<D: Desk> Server<D> {
 
         // However bytes are cut into pieces, the same is said.
         ensures pieces { (meaning : MeaningValue) (before first second : List ℕ) →
-            said_on self.old.key meaning before (first ++ second)
-            ≡ unless_closed (said_on self.old.key meaning before first)
-            (λ next. said_on self.old.key next (before ++ first) second) }
+            said_on (Padded self.old.key) meaning before (first ++ second)
+            ≡ unless_closed (said_on (Padded self.old.key) meaning before first)
+            (λ next. said_on (Padded self.old.key) next (before ++ first) second) }
     {
         let Some(stream) = self.connections.get_mut(&conn) else {
             return Err(ServerFault::NoConnection);
         };
-        match serve_piece(&self.key, &mut self.desk, stream, conn, piece, out, witness) {
+        let door = self.key.door();
+        match serve_piece(door, &mut self.desk, stream, conn, piece, out, witness) {
             Ok(false) => Ok(false),
             Ok(true) => {
                 self.connections.remove(&conn);

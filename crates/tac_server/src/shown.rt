@@ -2,6 +2,7 @@
 
 ghost use Rattle.std.specs.Prelude.{◌≡◌, ◌<◌, ◌++◌, ℕ, List, [], length};
 ghost use Rattle.std.specs.Prelude.{MatchOption, IfOk, IfSome, OnOk};
+ghost use Rattle.tac_wire.specs.declared.door.Door.TheVariants.{Padded};
 ghost use Rattle.tac_conn.specs.declared.packet.Packet.{Packet};
 ghost use Rattle.tac_desk.specs.Serving.{Said};
 ghost use Rattle.tac_conn.specs.Packet.{IsWhole};
@@ -11,7 +12,7 @@ ghost use Rattle.tac_server.specs.Events as events;
 use std::alloc::{AllocError, Global};
 use std::io;
 use std::io::Write;
-use tac_wire::{HEADER_SIZE, Header, Key, pad_in_place};
+use tac_wire::{HEADER_SIZE, Header, KeyDoor};
 
 // The first packet of what was sent, and what follows it; nothing where no packet is whole.
 fn split_packet(bytes: &[u8]) -> Option<(&[u8], &[u8])>
@@ -28,16 +29,16 @@ fn split_packet(bytes: &[u8]) -> Option<(&[u8], &[u8])>
 }
 
 // A packet as it was sent, with the pad taken off.
-fn unpadded(alloc: Global, key: &Key, sent: &[u8]) -> Result<Vec<u8>, AllocError>
+fn unpadded(alloc: Global, key: &KeyDoor, sent: &[u8]) -> Result<Vec<u8>, AllocError>
     ensures { IfOk result (λ bytes. bytes.items ≡ events.unpadded key.now sent.now) }
 {
     let mut bytes = Vec::from_slice(alloc, sent)?;
     let Some((head, _)) = sent.split_first_chunk::<HEADER_SIZE>() else {
         return Ok(bytes);
     };
-    pad_in_place(
+    // putting the pad on again takes it off
+    key.door().close(
         &Header::read(head),
-        key,
         &mut bytes.as_mut_slice()[HEADER_SIZE..],
     );
     Ok(bytes)
@@ -46,7 +47,7 @@ fn unpadded(alloc: Global, key: &Key, sent: &[u8]) -> Result<Vec<u8>, AllocError
 // `reply N HEX`.
 fn show_reply(
     alloc: Global,
-    key: &Key,
+    key: &KeyDoor,
     number: u16,
     sent: &[u8],
     out: &mut Vec<u8>,
@@ -62,12 +63,12 @@ fn show_reply(
 // A line for each packet.
 fn show_replies(
     alloc: Global,
-    key: &Key,
+    key: &KeyDoor,
     number: u16,
     sent: &[u8],
     out: &mut Vec<u8>,
 ) -> io::Result<()>
-    ensures { (packets : List Packet) → Sends key.now [] sent.now packets → OnOk result
+    ensures { (packets : List Packet) → Sends (Padded key.now) [] sent.now packets → OnOk result
         (out.new.items ≡ out.old.items ++ events.reply_lines key.now number packets) }
 {
     let mut rest = sent;
@@ -82,13 +83,13 @@ fn show_replies(
 /// out.
 pub(crate) fn show(
     alloc: Global,
-    key: &Key,
+    key: &KeyDoor,
     number: u16,
     sent: &[u8],
     closes: bool,
     out: &mut Vec<u8>,
 ) -> io::Result<()>
-    ensures { (said : Said) → Sends key.now [] sent.now said.sent → closes ≡ said.closes →
+    ensures { (said : Said) → Sends (Padded key.now) [] sent.now said.sent → closes ≡ said.closes →
         OnOk result (out.new.items ≡ out.old.items ++ events.shown key.now number said) }
 {
     show_replies(alloc, key, number, sent, out)?;

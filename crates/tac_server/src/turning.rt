@@ -2,6 +2,7 @@
 
 ghost use Rattle.std.specs.Prelude.{◌≡◌, ◌+◌, ◌≤◌, ◌++◌, List, ℕ, false, not};
 ghost use Rattle.std.specs.Prelude.{Some, None, IfOk, OnOk, OnErr, vec_len, vec_capacity};
+ghost use Rattle.tac_wire.specs.declared.door.Door.{Door as DoorValue};
 ghost use Rattle.tac_conn.specs.Ask.{kind_asked, kind_of_ask};
 ghost use Rattle.tac_conn.specs.Packet.{sent, IsWhole};
 ghost use Rattle.tac_conn.specs.Reply.{packet_of, answer_body};
@@ -20,7 +21,7 @@ use tac_audit::{Notice, Witness};
 use tac_conn::{Ask, Packet, Reply, SENT_MAX, Slot, Step};
 use tac_desk::Desk;
 use tac_stream::{Stream, Turn};
-use tac_wire::Key;
+use tac_wire::Door;
 
 // After a packet was served: the next turn, or the connection closes.
 fn after_reply(closes: bool) -> ControlFlow<bool>
@@ -42,7 +43,7 @@ fn tell<W: Witness<Noticed>>(witness: &mut W, conn: u32, notice: Notice) {
 
 // Adds the reply to a packet as it is sent, for which there is room, once the witness was told.
 fn add<W: Witness<Noticed>>(
-    key: &Key,
+    door: &Door,
     conn: u32,
     packet: Packet,
     reply: Reply,
@@ -50,15 +51,15 @@ fn add<W: Witness<Noticed>>(
     witness: &mut W,
 )
     requires { vec_len out.old + SENT_MAX ≤ vec_capacity out.old }
-    ensures bytes { out.new.items ≡ out.old.items ++ sent key.now (packet_of reply) }
-    ensures whole { IsWhole (sent key.now (packet_of reply)) }
+    ensures bytes { out.new.items ≡ out.old.items ++ sent door.now (packet_of reply) }
+    ensures whole { IsWhole (sent door.now (packet_of reply)) }
 {
     let noticed = Noticed::On(conn, Notice::Packet(packet, Some(reply)));
     let _ = witness.tell(&noticed);
     let Noticed::On(_, Notice::Packet(_, Some(reply))) = &noticed else {
         unreachable!()
     };
-    reply.send_to(key, out);
+    reply.send_to(door, out);
 }
 
 // The reply that carries the desk's answer, and whether the connection closes.
@@ -76,8 +77,8 @@ fn answer_to<D: Desk>(
     ensures pending { OnOk result (pending_of stream.new ≡ None) }
     ensures closed { closed_of stream.old ≡ false →
         IfOk result (λ reply. closed_of stream.new ≡ reply.1) }
-    ensures stands { (key bytes : List ℕ) (taken : ℕ) → Stands key stream.old bytes taken →
-        OnOk result (Stands key stream.new bytes taken) }
+    ensures stands { (door : DoorValue) (bytes : List ℕ) (taken : ℕ) →
+        Stands door stream.old bytes taken → OnOk result (Stands door stream.new bytes taken) }
     ensures unread { OnOk result (unread_of stream.new ≡ unread_of stream.old) }
     ensures err { OnErr result (D.meaning desk.new ≡ D.meaning desk.old) }
 {
@@ -92,7 +93,7 @@ fn answer_to<D: Desk>(
 // runs out only where nothing was done for the packet. The witness is told of the packet just
 // before its reply is added, if it has one.
 fn take_turn<D: Desk, W: Witness<Noticed>>(
-    key: &Key,
+    door: &Door,
     desk: &mut D,
     stream: &mut Stream,
     conn: u32,
@@ -100,7 +101,7 @@ fn take_turn<D: Desk, W: Witness<Noticed>>(
     witness: &mut W,
 ) -> Result<ControlFlow<bool>, AllocError>
     ensures goes { (bytes : List ℕ) (taken : ℕ) → IsReady stream.old →
-        Stands key.now stream.old bytes taken → IfOk result (λ flow. turning.Goes flow key.now
+        Stands door.now stream.old bytes taken → IfOk result (λ flow. turning.Goes flow door.now
         (D.meaning desk.old) (D.meaning desk.new) out.old.items out.new.items stream.new
         bytes taken) }
     ensures shorter { IfOk result (λ flow. turning.Shortens flow stream.old stream.new) }
@@ -108,15 +109,15 @@ fn take_turn<D: Desk, W: Witness<Noticed>>(
     ensures out { OnErr result (out.new.items ≡ out.old.items) }
 {
     out.reserve(SENT_MAX)?;
-    match stream.next(key)? {
+    match stream.next(door)? {
         Turn::Packet(packet, step) => match step {
             Step::Reply(reply, closes) => {
-                add(key, conn, packet, reply, out, witness);
+                add(door, conn, packet, reply, out, witness);
                 Ok(after_reply(closes))
             }
             Step::Asks(ask, slot) => {
                 let (reply, closes) = answer_to(desk, stream, &ask, slot)?;
-                add(key, conn, packet, reply, out, witness);
+                add(door, conn, packet, reply, out, witness);
                 Ok(after_reply(closes))
             }
             Step::Silent => {
@@ -144,7 +145,7 @@ fn take_turn<D: Desk, W: Witness<Noticed>>(
 /// The error means that memory ran out: the packets before some packet were served, and their
 /// replies are added; the others had no effect, and the connection is to be closed.
 pub(crate) fn serve_piece<D: Desk, W: Witness<Noticed>>(
-    key: &Key,
+    door: &Door,
     desk: &mut D,
     stream: &mut Stream,
     conn: u32,
@@ -152,19 +153,19 @@ pub(crate) fn serve_piece<D: Desk, W: Witness<Noticed>>(
     out: &mut Vec<u8>,
     witness: &mut W,
 ) -> Result<bool, AllocError>
-    ensures said { (before : List ℕ) → Serves key.now stream.old before →
-        turning.SaysPiece result key.now (D.meaning desk.old) (D.meaning desk.new)
+    ensures said { (before : List ℕ) → Serves door.now stream.old before →
+        turning.SaysPiece result door.now (D.meaning desk.old) (D.meaning desk.new)
         out.old.items out.new.items stream.new before piece.now }
 
     // However bytes are cut into pieces, the same is said.
     ensures pieces { (meaning : MeaningValue) (before first second : List ℕ) →
-        said_on key.now meaning before (first ++ second)
-        ≡ unless_closed (said_on key.now meaning before first)
-        (λ next. said_on key.now next (before ++ first) second) }
+        said_on door.now meaning before (first ++ second)
+        ≡ unless_closed (said_on door.now meaning before first)
+        (λ next. said_on door.now next (before ++ first) second) }
 {
     stream.feed(piece)?;
     'turns: loop {
-        if let ControlFlow::Break(closes) = take_turn(key, desk, stream, conn, out, witness)? {
+        if let ControlFlow::Break(closes) = take_turn(door, desk, stream, conn, out, witness)? {
             return Ok(closes);
         }
     }

@@ -7,8 +7,8 @@ use Rattle.tac_server.proofs.turning.serve_piece.Given as goal
 
 abbrev pub invariant-turns : goal.invariant-turns
 invariant-turns g l =
-    (before : List ℕ) → Serves l.fn.key l.fn.stream before
-    → Progress l.fn.key (g.D.Desk.meaning l.fn.desk) (g.D.Desk.meaning l.desk) l.fn.out.items l.out.items l.stream (before ++ l.piece) (whole_packets before)
+    (before : List ℕ) → Serves l.fn.door l.fn.stream before
+    → Progress l.fn.door (g.D.Desk.meaning l.fn.desk) (g.D.Desk.meaning l.desk) l.fn.out.items l.out.items l.stream (before ++ l.piece) (whole_packets l.fn.door before)
 
 abbrev pub decreases-turns : goal.decreases-turns
 decreases-turns g l = unread_of l.stream

@@ -1,4 +1,5 @@
 use Rattle.std.proofs.Common.{ℕ, List, [], Ok, Err, sym, subst}
+use Rattle.tac_wire.specs.declared.door.Door.TheVariants.{Padded}
 use Rattle.tac_server.specs.Kept.{Sends, IsHeardUnlessMemory}
 use Rattle.tac_server.proofs.RunFacts.{hands_line, not_handed}
 use Rattle.tac_server.proofs.events.Driver.hand_and_show.Goals as goal
@@ -10,7 +11,7 @@ returns-in-Ok-show g c = λ state has.
     (subst (λ (n : ℕ). IsHeardUnlessMemory g.D.Desk.meaning [] c.hand_in.new.out.items c.hand_in.new.self.server n c.args.bytes.now state (Ok c.in-Ok.closes)) c.from.ensures
     (subst (λ (l : List ℕ). IsHeardUnlessMemory g.D.Desk.meaning l c.hand_in.new.out.items c.hand_in.new.self.server c.from.result c.args.bytes.now state (Ok c.in-Ok.closes)) c.new-sent.ensures.items
     (c.in-Ok.ensures state has)))
-    (λ said s e. c.in-Ok-show.ensures said (subst (λ (l : List ℕ). Sends c.key.result.now [] l said.sent) (sym c.as_slice.ensures.value) s) e)
+    (λ said s e. c.in-Ok-show.ensures said (subst (λ (l : List ℕ). Sends (Padded c.key.result.now) [] l said.sent) (sym c.as_slice.ensures.value) s) e)
 
 pub returns : goal.returns
 returns g c = λ state has.
