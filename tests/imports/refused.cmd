@@ -101,6 +101,24 @@ $ tacd import two-groups
 ! two-groups line 5: this is there already, at line 4
 status 1
 
+file two-hosts
+host = 192.0.2.1 { key = one }
+host = 192.0.2.1 { key = two }
+
+$ tacd import two-hosts
+! two-hosts line 2: this is there already, at line 1
+status 1
+
+file two-keys
+host = 192.0.2.1 {
+|  key = one|
+|  key = two|
+}
+
+$ tacd import two-keys
+! two-keys line 3: this is there already, at line 2
+status 1
+
 $ tacd import nowhere
 ! tacd: nowhere: No such file or directory (os error 2)
 status 4

@@ -89,3 +89,56 @@ permit ()
 ! decided.conf line 5: 'exec' is a second 'service' of this name, and the first decides
 ! decided.conf line 9: 'pap' is the login here, by whichever way
 ! decided.conf line 10: 'exec' has no 'priv-lvl' and its groups have one: 'priv 1' is written
+
+# A name that is made up is another for each group, and none that stands in the file.
+file one-line.conf
+group = "a b" { } group = "c d" { } group = line-1-2 { }
+user = bob { member = "c d" login = cleartext x }
+
+$ tacd import one-line.conf
+policy 2
+group line-1
+group line-1-3
+group line-1-2
+user bob in line-1-3
+login x
+! one-line.conf line 1: 'a b' is no name of a group here, so it is called by its line
+! one-line.conf line 1: 'c d' is no name of a group here, so it is called by its line
+
+# The first secret to enable with is the one that counts.
+file two-enables.conf
+user = bob {
+|  login = cleartext x|
+|  enable = cleartext one|
+|  enable = cleartext one|
+|  enable = cleartext two|
+}
+
+$ tacd import two-enables.conf
+policy 2
+user bob
+login x
+enable one
+! two-enables.conf line 5: 'enable' is a second one, and the first counts: left out
+status 5
+
+# An address may be spelled in several ways.
+file spellings.conf
+host = 2001:db8::1 { key = one }
+host = 2001:DB8:0::1 { key = two }
+
+$ tacd import --devices-to devices spellings.conf
+policy 2
+! spellings.conf line 2: '2001:DB8:0::1' is the address of an earlier host: left out
+status 5
+
+# A log that goes to syslog is sent there by something else.
+file syslog.conf
+accounting syslog
+logging = local6
+
+$ tacd import syslog.conf
+policy 2
+! syslog.conf line 1: 'accounting syslog' isn't set here, rsyslog can send on what 'serve --log PATH' writes: left out
+! syslog.conf line 2: 'logging' isn't set here, rsyslog can send on what 'serve --log PATH' writes: left out
+status 5

@@ -173,11 +173,7 @@ fn read_host_setting(
 ) -> Result<(), FileFault> {
     let line = reader.line();
     let setting = match word {
-        b"key" => {
-            let key = reader.take_word()?;
-            host.key = Some(key);
-            return Ok(());
-        }
+        b"key" => return reader.take_once(&mut host.key),
         b"prompt" => {
             reader.take_value()?;
             Setting::HostPrompt
@@ -196,13 +192,13 @@ fn read_host_setting(
     Ok(())
 }
 
-/// A device's settings, whose keyword has been taken.
+/// A device of this name, which has been taken.
 pub(crate) fn read_host(
     reader: &mut Reader<'_>,
+    line: usize,
+    name: Bytes,
     extras: &mut Vec<Extra>,
 ) -> Result<Host, FileFault> {
-    let line = reader.line();
-    let name = reader.take_value()?;
     reader.take_open()?;
     let mut host = Host {
         line,

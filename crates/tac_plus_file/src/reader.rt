@@ -223,6 +223,16 @@ impl<'a> Reader<'a> {
         })
     }
 
+    /// Takes `= WORD` into this place, or refuses a second one.
+    pub(crate) fn take_once(&mut self, place: &mut Option<Word>) -> Result<(), FileFault> {
+        if let Some(first) = place {
+            return Err(self.wrong(Mistake::Repeated(first.line)));
+        }
+        let word = self.take_word()?;
+        *place = Some(word);
+        Ok(())
+    }
+
     /// Takes a word without quotes.
     pub(crate) fn take_plain(&mut self, mistake: Mistake) -> Result<Bytes, FileFault> {
         match self.take()? {

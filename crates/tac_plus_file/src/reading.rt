@@ -9,7 +9,7 @@ use pol_names::Kind;
 use std::alloc::Global;
 use std::collections::BTreeMap;
 
-// Names, and the lines at which their subjects begin.
+// Names, and the lines at which what they name begins.
 type Names = BTreeMap<Vec<u8>, usize>;
 
 // What is read of a file, and who is there by now.
@@ -18,6 +18,7 @@ struct Draft {
     read: Configuration,
     users: Names,
     groups: Names,
+    hosts: Names,
 }
 
 impl Draft {
@@ -31,11 +32,12 @@ impl Draft {
             },
             users: BTreeMap::new(alloc),
             groups: BTreeMap::new(alloc),
+            hosts: BTreeMap::new(alloc),
         }
     }
 }
 
-// Notes that a subject of this name begins here, or refuses a second one.
+// Notes that this name's subject or device begins here, or refuses a second one.
 fn add_name(reader: &Reader<'_>, names: &mut Names, name: &[u8]) -> Result<(), FileFault> {
     let first = names.get(name).copied();
     if let Some(first) = first {
@@ -59,12 +61,12 @@ fn take_subject(reader: &mut Reader<'_>, draft: &mut Draft, kind: Kind) -> Resul
     Ok(())
 }
 
-fn take_key(reader: &mut Reader<'_>, read: &mut Configuration) -> Result<(), FileFault> {
-    if let Some(first) = &read.key {
-        return Err(reader.wrong(Mistake::Repeated(first.line)));
-    }
-    let key = reader.take_word()?;
-    read.key = Some(key);
+fn take_host(reader: &mut Reader<'_>, draft: &mut Draft) -> Result<(), FileFault> {
+    let line = reader.line();
+    let name = reader.take_value()?;
+    add_name(reader, &mut draft.hosts, name.as_slice())?;
+    let host = read_host(reader, line, name, &mut draft.read.extras)?;
+    draft.read.hosts.push(host)?;
     Ok(())
 }
 
@@ -122,12 +124,8 @@ fn take_item(reader: &mut Reader<'_>, draft: &mut Draft, word: &[u8]) -> Result<
     match word {
         b"user" => take_subject(reader, draft, Kind::User),
         b"group" => take_subject(reader, draft, Kind::Group),
-        b"key" => take_key(reader, &mut draft.read),
-        b"host" => {
-            let host = read_host(reader, &mut draft.read.extras)?;
-            draft.read.hosts.push(host)?;
-            Ok(())
-        }
+        b"key" => reader.take_once(&mut draft.read.key),
+        b"host" => take_host(reader, draft),
         _ => {
             let line = reader.line();
             let setting = take_extra(reader, word)?;
@@ -160,6 +158,7 @@ pub fn read_configuration(alloc: Global, text: &[u8]) -> Result<Configuration, F
         read,
         users: _,
         groups: _,
+        hosts: _,
     } = draft;
     Ok(read)
 }

@@ -56,15 +56,6 @@ fn read_default(reader: &mut Reader<'_>, subject: &mut Subject) -> Result<(), Fi
     Ok(())
 }
 
-fn read_member(reader: &mut Reader<'_>, subject: &mut Subject) -> Result<(), FileFault> {
-    if let Some(parent) = &subject.parent {
-        return Err(reader.wrong(Mistake::Repeated(parent.line)));
-    }
-    let parent = reader.take_word()?;
-    subject.parent = Some(parent);
-    Ok(())
-}
-
 // What a word begins.
 fn read_setting(
     reader: &mut Reader<'_>,
@@ -79,7 +70,7 @@ fn read_setting(
     }
     match word {
         b"default" => read_default(reader, subject),
-        b"member" => read_member(reader, subject),
+        b"member" => reader.take_once(&mut subject.parent),
         b"service" => {
             let service = read_service(reader)?;
             subject.services.push(service)?;

@@ -1,5 +1,6 @@
 //! Who is a member of which group, and what is said along a chain of them.
 
+use crate::names::LineNames;
 use basics::Bytes;
 use pol_names::{Kind, Name, Verdict};
 use std::alloc::{AllocError, Global};
@@ -12,27 +13,95 @@ const MOST_SUBJECTS: usize = 8;
 /// How many blocks about commands of a subject are looked at: it has no more rules than these.
 pub(crate) const MOST_COMMANDS: usize = 256;
 
+/// How many users and groups a policy has at most.
+pub(crate) const MOST_IN_POLICY: usize = 1024;
+
+// Where groups stand in the file, by their names.
+type Places = BTreeMap<Vec<u8>, usize>;
+
 /// Groups by their names.
 #[derive(Drop)]
 pub(crate) struct Groups<'a> {
     subjects: &'a [Subject],
-    places: BTreeMap<Vec<u8>, usize>,
+    places: Places,
+    // what the first groups are called in the policy, which has no more
+    names: BTreeMap<Vec<u8>, Bytes>,
 }
 
 /// A subject, its group, that one's group, and so on.
 pub(crate) type Chain<'a> = Vec<&'a Subject>;
 
+// Where each group stands.
+fn places_of(alloc: Global, subjects: &[Subject]) -> Result<Places, AllocError> {
+    let mut places = BTreeMap::new(alloc);
+    'subjects: for (place, subject) in subjects.iter().enumerate() {
+        if subject.kind == Kind::Group {
+            let name = Vec::from_slice(alloc, subject.name.as_slice())?;
+            places.insert(name, place)?;
+        }
+    }
+    Ok(places)
+}
+
+// A name that no group of the file has, made of this line.
+fn free_name(
+    alloc: Global,
+    places: &Places,
+    made: &mut LineNames,
+    line: usize,
+) -> Result<Bytes, AllocError> {
+    'names: for _ in 0..places.len() {
+        let name = made.next(alloc, line)?;
+        if !places.contains_key(name.as_slice()) {
+            return Ok(name);
+        }
+    }
+    made.next(alloc, line)
+}
+
+// What each of the first groups is called in the policy.
+fn names_of(
+    alloc: Global,
+    subjects: &[Subject],
+    places: &Places,
+) -> Result<BTreeMap<Vec<u8>, Bytes>, AllocError> {
+    let mut names = BTreeMap::new(alloc);
+    let mut made = LineNames::new();
+    let groups = subjects
+        .iter()
+        .filter(|subject| subject.kind == Kind::Group);
+    'groups: for group in groups.take(MOST_IN_POLICY) {
+        let name = group.name.as_slice();
+        let called = if Name::read(name).is_some() {
+            Bytes::from_slice(alloc, name)?
+        } else {
+            free_name(alloc, places, &mut made, group.line)?
+        };
+        names.insert(Vec::from_slice(alloc, name)?, called)?;
+    }
+    Ok(names)
+}
+
 impl<'a> Groups<'a> {
     pub(crate) fn new(alloc: Global, read: &'a Configuration) -> Result<Groups<'a>, AllocError> {
         let subjects = read.subjects.as_slice();
-        let mut places = BTreeMap::new(alloc);
-        'subjects: for (place, subject) in subjects.iter().enumerate() {
-            if subject.kind == Kind::Group {
-                let name = Vec::from_slice(alloc, subject.name.as_slice())?;
-                places.insert(name, place)?;
-            }
-        }
-        Ok(Groups { subjects, places })
+        let places = places_of(alloc, subjects)?;
+        let names = names_of(alloc, subjects, &places)?;
+        Ok(Groups {
+            subjects,
+            places,
+            names,
+        })
+    }
+
+    /// How many of them the policy may have.
+    pub(crate) fn count(&self) -> usize {
+        self.names.len()
+    }
+
+    /// Whether the policy may have a group.
+    pub(crate) fn has_room_for(&self, group: &Subject) -> bool {
+        self.names.contains_key(group.name.as_slice())
     }
 
     /// The group of this name.
@@ -67,18 +136,14 @@ impl<'a> Groups<'a> {
         Ok(if next.is_none() { Some(chain) } else { None })
     }
 
-    /// What a group is called in the policy: by its line where a policy has no such name.
-    pub(crate) fn name(&self, alloc: Global, group: &Subject) -> Result<Bytes, AllocError> {
-        if Name::read(group.name.as_slice()).is_some() {
-            return Bytes::from_slice(alloc, group.name.as_slice());
+    /// What a subject is called in the policy: a group by its line where a policy has no such
+    /// name.
+    pub(crate) fn name<'n>(&'n self, subject: &'n Subject) -> &'n [u8] {
+        let name = subject.name.as_slice();
+        match self.names.get(name) {
+            Some(called) if subject.kind == Kind::Group => called.as_slice(),
+            _ => name,
         }
-        let line = group.line;
-        let name = format!(in alloc; "line-{line}")?;
-        if self.find(name.as_bytes()).is_none() {
-            return Bytes::from_slice(alloc, name.as_bytes());
-        }
-        let name = format!(in alloc; "line-{line}@tac_plus")?;
-        Bytes::from_slice(alloc, name.as_bytes())
     }
 }
 

@@ -1,6 +1,6 @@
 //! A whole file, as a policy.
 
-use crate::chain::Groups;
+use crate::chain::{Groups, MOST_IN_POLICY};
 use crate::hosts::{devices_of, tell_hosts};
 use crate::remark::{Remark, What, tell};
 use crate::secrets::is_secret;
@@ -8,9 +8,6 @@ use crate::subjects::write_subject;
 use pol_names::{Kind, Name};
 use std::alloc::{AllocError, Global};
 use tac_plus_file::{Configuration, FileFault, Subject, read_configuration};
-
-/// How many users and groups a policy has at most.
-const MOST_SUBJECTS: usize = 1024;
 
 /// What is wanted beside the policy.
 #[derive(Clone, Copy, Debug)]
@@ -63,6 +60,20 @@ fn user_finding(name: &[u8]) -> Option<What> {
     }
 }
 
+// Why a group isn't in the policy. What it takes over from a group above it can't be left out, so
+// it goes with that one.
+fn group_finding(groups: &Groups<'_>, group: &Subject, chain: &[&Subject]) -> Option<What> {
+    if !groups.has_room_for(group) {
+        return Some(What::TooManySubjects);
+    }
+    let are_kept = chain.iter().all(|above| groups.has_room_for(above));
+    if are_kept {
+        None
+    } else {
+        Some(What::GroupLeftOut)
+    }
+}
+
 // What is told of a subject's own name and of its group's.
 fn tell_names(
     alloc: Global,
@@ -89,9 +100,8 @@ struct Draft {
     body: Vec<u8>,
     // whether only version 3 has what is written
     is_third: bool,
-    // how many more users and groups there may be
-    users: usize,
-    groups: usize,
+    // how many more users there may be
+    room: usize,
     remarks: Vec<Remark>,
 }
 
@@ -102,26 +112,20 @@ impl Drop for Draft {
             alloc: _,
             body: _,
             is_third: _,
-            users: _,
-            groups: _,
+            room: _,
             remarks: _,
         } = self;
     }
 }
 
 impl Draft {
-    // A policy of these, where there is room for every group, and then for users.
-    fn new(alloc: Global, subjects: &[Subject]) -> Draft {
-        let groups = subjects
-            .iter()
-            .filter(|subject| subject.kind == Kind::Group)
-            .count();
+    // A policy, where there is room for each of these groups, and then for users.
+    fn new(alloc: Global, groups: &Groups<'_>) -> Draft {
         Draft {
             alloc,
             body: Vec::new(alloc),
             is_third: false,
-            users: MOST_SUBJECTS.saturating_sub(groups),
-            groups: MOST_SUBJECTS,
+            room: MOST_IN_POLICY.saturating_sub(groups.count()),
             remarks: Vec::new(alloc),
         }
     }
@@ -130,23 +134,19 @@ impl Draft {
         tell(&mut self.remarks, self.alloc, line, what, word)
     }
 
-    // Takes room for one more.
-    fn take_room(&mut self, kind: Kind) -> bool {
-        let room = match kind {
-            Kind::User => &mut self.users,
-            Kind::Group => &mut self.groups,
-        };
-        match room.checked_sub(1) {
+    // Takes room for one more user, or answers what is told where there is none.
+    fn take_room(&mut self) -> Option<What> {
+        match self.room.checked_sub(1) {
             Some(left) => {
-                *room = left;
-                true
+                self.room = left;
+                None
             }
-            None => false,
+            None => Some(What::TooManySubjects),
         }
     }
 
     // Writes a subject, or tells why it isn't in the policy.
-    fn add(&mut self, groups: &Groups<'_>, subject: &Subject) -> Result<(), AllocError> {
+    fn add<'a>(&mut self, groups: &Groups<'a>, subject: &'a Subject) -> Result<(), AllocError> {
         let name = subject.name.as_slice();
         if subject.kind == Kind::User {
             if let Some(what) = user_finding(name) {
@@ -156,8 +156,12 @@ impl Draft {
         let Some(chain) = groups.chain(self.alloc, subject)? else {
             return self.tell(subject.line, What::TooDeep, name);
         };
-        if !self.take_room(subject.kind) {
-            return self.tell(subject.line, What::TooManySubjects, name);
+        let cut = match subject.kind {
+            Kind::User => self.take_room(),
+            Kind::Group => group_finding(groups, subject, chain.as_slice()),
+        };
+        if let Some(what) = cut {
+            return self.tell(subject.line, what, name);
         }
         tell_names(self.alloc, groups, subject, &mut self.remarks)?;
         let is_third = write_subject(
@@ -171,7 +175,11 @@ impl Draft {
         Ok(())
     }
 
-    fn add_all(&mut self, groups: &Groups<'_>, subjects: &[Subject]) -> Result<(), AllocError> {
+    fn add_all<'a>(
+        &mut self,
+        groups: &Groups<'a>,
+        subjects: &'a [Subject],
+    ) -> Result<(), AllocError> {
         'subjects: for subject in subjects {
             self.add(groups, subject)?;
         }
@@ -197,8 +205,7 @@ impl Draft {
             alloc: _,
             body: _,
             is_third: _,
-            users: _,
-            groups: _,
+            room: _,
             remarks,
         } = self;
         let mut remarks = remarks;
@@ -270,7 +277,7 @@ fn tell_extras(
 fn import_read(alloc: Global, read: &Configuration, wanted: Wanted) -> Result<Import, AllocError> {
     let subjects = read.subjects.as_slice();
     let groups = Groups::new(alloc, read)?;
-    let mut draft = Draft::new(alloc, subjects);
+    let mut draft = Draft::new(alloc, &groups);
     draft.add_all(&groups, subjects)?;
     tell_extras(alloc, read, &mut draft.remarks)?;
     let key = key_text(alloc, read, wanted, &mut draft.remarks)?;

@@ -5,6 +5,7 @@ mod chain;
 mod commands;
 mod hosts;
 mod importing;
+mod names;
 mod remark;
 mod rules;
 mod secrets;

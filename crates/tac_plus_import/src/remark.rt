@@ -25,6 +25,8 @@ pub enum What {
     Secret(Purpose),
     /// It isn't the password that the user logs in with.
     OtherPassword(Purpose),
+    /// Another was there before it.
+    SecondEnable,
     /// It is the password that the user logs in with here.
     IsLogin(Purpose),
     UserName,
@@ -34,6 +36,7 @@ pub enum What {
     NoGroup,
     TooDeep,
     TooManySubjects,
+    GroupLeftOut,
     TooManyRules,
     TooManyLines,
     ServiceName,
@@ -48,6 +51,7 @@ pub enum What {
     HostUnasked,
     KeyText,
     HostAddress,
+    SameAddress,
     HostKey,
     TooManyHosts,
 }
@@ -96,7 +100,9 @@ fn instead_of(setting: Setting) -> &'static str {
             " has no equal here, '--devices' says which devices may call"
         }
         Setting::AccountingFile => " isn't set here, 'serve --log PATH' writes each record",
-        Setting::AccountingSyslog => " isn't set here, docs/FLEET.md sends the log to a place",
+        Setting::AccountingSyslog | Setting::Logging => {
+            " isn't set here, rsyslog can send on what 'serve --log PATH' writes"
+        }
         Setting::DefaultAuthentication => " has no equal here, each user has a login of its own",
         Setting::DefaultAuthorization => " has no equal here, each user is listed",
         Setting::HostEnable => " has no equal here, each user has an 'enable' of its own",
@@ -152,6 +158,7 @@ fn fixed_text(what: What) -> &'static str {
         What::CommandName => " is no command of one word: left out",
         What::SecondCommand => " is a second 'cmd' of this name, and the first decides",
         What::SecondService => " is a second 'service' of this name, and the first decides",
+        What::SecondEnable => " is a second one, and the first counts: left out",
         What::UserName => " is no name of a user here: left out",
         What::DefaultUser => " stands for all who aren't listed, and here each user is: left out",
         What::EnableUser => " is a secret for all, and here each user has an 'enable': left out",
@@ -159,6 +166,7 @@ fn fixed_text(what: What) -> &'static str {
         What::NoGroup => " is no group of the file: left out",
         What::TooDeep => " is in over 7 groups above one another, or in a circle: left out",
         What::TooManySubjects => " is beyond the 1024th of users and groups: left out",
+        What::GroupLeftOut => " is in a group that is left out: left out",
         What::TooManyRules => " has over 255 rules: the rest is left out and denied",
         What::TooManyLines => " is beyond the 64th line about services: left out",
         What::ServiceName => " is no service here: left out",
@@ -174,6 +182,7 @@ fn fixed_text(what: What) -> &'static str {
         What::HostUnasked => " is written by '--devices-to': left out",
         What::KeyText => " isn't 1 to 128 printable characters: left out",
         What::HostAddress => " is no IP address: left out",
+        What::SameAddress => " is the address of an earlier host: left out",
         What::HostKey => " has no key: left out",
         What::TooManyHosts => " is beyond the 4095th device: left out",
         _ => "",

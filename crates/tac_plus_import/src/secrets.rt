@@ -41,16 +41,32 @@ fn other_finding(password: &Password, login: Option<&Password>) -> Option<What> 
             _ => Some(What::IsLogin(purpose)),
         };
     }
-    let is_same = login.method == password.method && login.text == password.text;
-    if is_same && purpose != Purpose::Arap && purpose != Purpose::OutboundPap {
+    if are_same(login, password) && purpose != Purpose::Arap && purpose != Purpose::OutboundPap {
         None
     } else {
         Some(What::OtherPassword(purpose))
     }
 }
 
+// Whether both are the same secret.
+fn are_same(one: &Password, other: &Password) -> bool {
+    one.method == other.method && one.text == other.text
+}
+
+// What is told of a secret to enable with beside the one that counts.
+fn second_finding(password: &Password, enable: Option<&Password>) -> Option<What> {
+    match enable {
+        Some(first) if !are_same(first, password) => Some(What::SecondEnable),
+        _ => None,
+    }
+}
+
 // What is told of a password.
-fn finding(password: &Password, login: Option<&Password>) -> Option<What> {
+fn finding(
+    password: &Password,
+    login: Option<&Password>,
+    enable: Option<&Password>,
+) -> Option<What> {
     let purpose = password.purpose;
     if !is_said(password) {
         return Some(match password.method {
@@ -59,7 +75,7 @@ fn finding(password: &Password, login: Option<&Password>) -> Option<What> {
         });
     }
     match purpose {
-        Purpose::Enable => None,
+        Purpose::Enable => second_finding(password, enable),
         _ => other_finding(password, login),
     }
 }
@@ -72,9 +88,10 @@ pub(crate) fn tell_passwords(
     remarks: &mut Vec<Remark>,
 ) -> Result<(), AllocError> {
     let login = nearest_password(chain, &LOGINS);
+    let enable = nearest_password(chain, &ENABLES);
     'passwords: for password in &subject.passwords {
-        if let Some(what) = finding(password, login) {
-            tell(remarks, alloc, password.line, what, b"")?;
+        if let Some(what) = finding(password, login, enable) {
+            tell(remarks, alloc, password.line, what, b"enable")?;
         }
     }
     Ok(())

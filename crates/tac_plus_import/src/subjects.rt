@@ -9,7 +9,7 @@ use crate::rules::Rules;
 use crate::secrets::{tell_passwords, write_secrets};
 use crate::services::{Services, write_level};
 use crate::text::add_line;
-use basics::{Bytes, is_text};
+use basics::is_text;
 use pol_names::{Kind, Verdict};
 use std::alloc::{AllocError, Global};
 use tac_plus_file::{Command, Subject};
@@ -203,29 +203,17 @@ fn kind_word(kind: Kind) -> &'static [u8] {
     }
 }
 
-// What a subject is called in the policy.
-fn name_of(alloc: Global, groups: &Groups<'_>, subject: &Subject) -> Result<Bytes, AllocError> {
-    match subject.kind {
-        Kind::Group => groups.name(alloc, subject),
-        Kind::User => subject.name.copy(alloc),
-    }
-}
-
 // The line that begins a subject.
 fn write_heading(
     out: &mut Vec<u8>,
-    alloc: Global,
     groups: &Groups<'_>,
     member: &Member<'_, '_>,
 ) -> Result<(), AllocError> {
-    let subject = member.subject;
-    let name = name_of(alloc, groups, subject)?;
-    out.extend_from_slice(kind_word(subject.kind))?;
-    out.extend_from_slice(name.as_slice())?;
+    out.extend_from_slice(kind_word(member.subject.kind))?;
+    out.extend_from_slice(groups.name(member.subject))?;
     if let Some(group) = member.groups.first() {
-        let parent = groups.name(alloc, group)?;
         out.extend_from_slice(b" in ")?;
-        out.extend_from_slice(parent.as_slice())?;
+        out.extend_from_slice(groups.name(group))?;
     }
     add_line(out, &[])
 }
@@ -261,7 +249,7 @@ pub(crate) fn write_subject(
         return Ok(false);
     };
     let subject = member.subject;
-    write_heading(out, alloc, groups, &member)?;
+    write_heading(out, groups, &member)?;
     tell_passwords(alloc, chain, subject, remarks)?;
     let has_hash = write_secrets(out, chain, subject.kind)?;
     write_level(out, alloc, subject, member.groups, remarks)?;
