@@ -1,3 +1,4 @@
+pub mod NameFacts
 pub mod FrontFacts
 pub mod VectorFacts
 pub mod SpaceFacts

@@ -10,6 +10,7 @@ use Rattle.std.specs.declared.net.ip_addr.IpAddr.{IpAddr}
 use Rattle.std.specs.declared.net.ip_addr.IpAddr.TheVariants as Ip
 use Rattle.std.specs.declared.net.socket_addr.SocketAddr.{SocketAddr}
 use Rattle.tac_proxy.specs.Line.{socket_of}
+use Rattle.tac_proxy.specs.Name.{kept_name}
 use Rattle.tac_proxy.specs.Vectors.{first_value}
 use Rattle.tac_proxy.specs.declared.told.Proxy.{Proxy}
 use Rattle.tac_proxy.specs.declared.told.Proxy.TheVariants.{Need, Fault, Found}
@@ -47,22 +48,15 @@ subtype_ssl_cn = 0x22
 abbrev pub client_cert : ℕ
 client_cert = 0x06
 
--- how many bytes may follow the first sixteen, and how many a name may have
+-- how many bytes may follow the first sixteen
 abbrev pub most_bytes : ℕ
 most_bytes = 520
-
-abbrev pub most_name : ℕ
-most_name = 64
 
 -- ---- the name of the certificate
 
 -- whether the client showed a certificate, and the proxy verified it
 abbrev pub is_verified : ℕ → ℕ → Bool
 is_verified client verify = not (bit_and client client_cert == 0) && verify == 0
-
--- a name that is too long is none
-abbrev pub kept_name : List ℕ → Option (List ℕ)
-kept_name name = if nat_le (length name) most_name then Some name else None
 
 abbrev pub shown_name : ℕ → ℕ → Option (List ℕ) → Option (List ℕ)
 shown_name client verify name =

@@ -1,3 +1,4 @@
+pub mod Name
 pub mod Front
 pub mod Line
 pub mod Words

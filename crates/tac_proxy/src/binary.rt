@@ -3,6 +3,7 @@
 ghost use Rattle.std.specs.Prelude.{◌≡◌, ◌≤◌, ◌+◌, ◌*◌, ◌||◌, nat_lt, length, Some};
 ghost use Rattle.std.specs.Option.{option_copied};
 ghost use Rattle.tac_proxy.specs.Binary as binary;
+ghost use Rattle.tac_proxy.specs.Name as names;
 ghost use Rattle.tac_proxy.specs.declared.binary.Transport.TheVariants.{Tcp4, Tcp6};
 
 use crate::name::CommonName;
@@ -91,7 +92,7 @@ fn number(high: u8, low: u8) -> u16
 }
 
 fn kept_name(name: &[u8]) -> Option<CommonName>
-    ensures { result ≡ binary.kept_name name.now }
+    ensures { result ≡ names.kept_name name.now }
 {
     if name.len() > CommonName::MAX {
         return None;

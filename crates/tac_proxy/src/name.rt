@@ -1,22 +1,41 @@
 //! The common name of a certificate.
 
 ghost use Rattle.std.specs.Prelude.{◌≡◌, ◌≤◌, length};
+ghost use Rattle.std.specs.Str.{bytes_eq};
+ghost use Rattle.tac_proxy.specs.Name as names;
 
-use arrayvec::ArrayVec;
 use std::marker::Model;
 
-/// The common name of a certificate, of at most 64 bytes. A contract sees its bytes.
-#[derive(Debug, Drop)]
+/// The common name of a certificate, of at most 64 bytes. A contract sees them as a list.
+#[derive(Clone, Copy, Debug)]
 pub struct CommonName {
-    bytes: ArrayVec<u8, 64>,
+    // zeros follow the name's bytes
+    bytes: [u8; 64],
+    size: u8,
 }
 
 impl Model for CommonName {
-    ghost use Rattle.std.specs.Prelude.{List, ℕ};
+    ghost use Rattle.std.specs.Prelude.{◌≡◌, ◌≤◌, List, ℕ, take, length};
+    ghost use Rattle.tac_proxy.specs.Name.{filled};
 
     ghost Value = { List ℕ };
 
-    ghost view = { λ name. name.bytes.items };
+    ghost view = { λ name. take name.size name.bytes };
+
+    ghost invariant = { λ name. let text = take name.size name.bytes in
+        (name.bytes ≡ filled text) × (name.size ≡ length text) × (length text ≤ 64) };
+
+    ghost inverse = { λ text. record { bytes = filled text; size = length text } };
+}
+
+// The text, followed by zeros.
+fn padded(text: &[u8]) -> [u8; 64]
+    requires { length text.now ≤ 64 }
+    ensures { result ≡ names.filled text.now }
+{
+    let mut bytes = [0; 64];
+    bytes[..text.len()].copy_from_slice(text);
+    bytes
 }
 
 impl CommonName {
@@ -29,9 +48,20 @@ impl CommonName {
         requires { length bytes.now ≤ 64 }
         ensures { result ≡ bytes.now }
     {
-        let mut name = ArrayVec::new();
-        name.try_extend_from_slice(bytes).unwrap();
-        CommonName { bytes: name }
+        CommonName {
+            bytes: padded(bytes),
+            size: bytes.len() as u8,
+        }
+    }
+
+    /// The name that a text spells: 1 to 64 bytes. `None` for any other text. Takes no memory.
+    pub fn read(text: &[u8]) -> Option<CommonName>
+        ensures { result ≡ names.name_of text.now }
+    {
+        if text.is_empty() || text.len() > CommonName::MAX {
+            return None;
+        }
+        Some(CommonName::new(text))
     }
 
     /// The bytes of the name, in ASCII or UTF-8.
@@ -39,6 +69,13 @@ impl CommonName {
         ensures value { result.now ≡ self.now }
         ensures fits { length result.now ≤ 64 }
     {
-        self.bytes.as_slice()
+        &self.bytes[..self.size as usize]
+    }
+
+    /// Whether it is the other name, to the byte.
+    pub fn is(&self, other: &CommonName) -> bool
+        ensures { result ≡ bytes_eq self.now other.now }
+    {
+        self.as_slice() == other.as_slice()
     }
 }
