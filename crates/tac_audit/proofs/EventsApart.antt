@@ -25,7 +25,7 @@ use Rattle.tac_audit.specs.declared.event.Typed.{Typed}
 use Rattle.tac_audit.specs.Json.{text_json, optional_json, texts_json, member}
 use Rattle.tac_audit.specs.Event.{status_word, why_word, kind_word, session_digits, asker_json, given_json, said_json, type_json, told_json, origin_json, begun, ended, line_of, typist_json, size_json, typed_line}
 use Rattle.tac_audit.specs.Apart.{are_bytes, are_texts, is_asker, is_said, is_told, is_origin, is_typist, is_size, AreApart, AreTypedApart}
-use Rattle.tac_audit.proofs.JsonApart.{optional_apart, texts_apart, IsNext, next_member, unlike, number_apart, member_apart, text_member, hexes_are_bytes, hexes_apart}
+use Rattle.tac_audit.proofs.JsonApart.{optional_apart, texts_apart, IsNext, next_member, unlike, number_apart, member_apart, text_member, optional_member, hexes_are_bytes, hexes_apart}
 use Rattle.tac_audit.proofs.OriginsApart.{IsAfterOrigin, origins_apart}
 
 -- ---- words
@@ -140,10 +140,6 @@ nest6 a b c d e f x = simp append_assoc
 
 texts_member : (name : List ℕ) (a b : List (List ℕ)) (x y : List ℕ) → are_texts a ≡ true → are_texts b ≡ true → member name (texts_json a) ++ x ≡ member name (texts_json b) ++ y → (a ≡ b) × (x ≡ y)
 texts_member name a b x y h k same = texts_apart a b x y h k (member_apart name (texts_json a) (texts_json b) x y same)
-
-optional_member : (name : List ℕ) (a b : Option (List ℕ)) (x y : List ℕ) → option_map_or are_bytes a true ≡ true → option_map_or are_bytes b true ≡ true
-    → member name (optional_json a) ++ x ≡ member name (optional_json b) ++ y → (a ≡ b) × (x ≡ y)
-optional_member name a b x y h k same = optional_apart a b x y h k (member_apart name (optional_json a) (optional_json b) x y same)
 
 small_byte : (n : ℕ) → nat_lt n 256 ≡ true → n < 256
 small_byte n h = grind (arith, nat_tests)
@@ -415,7 +411,7 @@ line_is e = nest4 (begun e.time) (origin_json e.origin) (member (codes "session"
 -- after where an event comes from, its session follows
 pub before_session : (value x : List ℕ) → IsAfterOrigin (member (codes "session") value ++ x)
 unfolding member IsAfterOrigin
-before_session value x = (refl, refl)
+before_session value x = (refl, refl, refl)
 
 pub events_apart : (a b : Event) → AreApart a b
 events_apart a b h k same =

@@ -268,6 +268,11 @@ member_apart name v w x y same =
 pub text_member : (name a b x y : List ℕ) → are_bytes a ≡ true → are_bytes b ≡ true → member name (text_json a) ++ x ≡ member name (text_json b) ++ y → (a ≡ b) × (x ≡ y)
 text_member name a b x y h k same = text_apart a b x y h k (member_apart name (text_json a) (text_json b) x y same)
 
+-- members of the same name with a text or null, and what follows
+pub optional_member : (name : List ℕ) (a b : Option (List ℕ)) (x y : List ℕ) → option_map_or are_bytes a true ≡ true → option_map_or are_bytes b true ≡ true
+    → member name (optional_json a) ++ x ≡ member name (optional_json b) ++ y → (a ≡ b) × (x ≡ y)
+optional_member name a b x y h k same = optional_apart a b x y h k (member_apart name (optional_json a) (optional_json b) x y same)
+
 -- ---- hexadecimal digits
 
 glyphs_apart : (d e : ℕ) → d < 16 → e < 16 → digit_glyph false d ≡ digit_glyph false e → d ≡ e

@@ -1,6 +1,6 @@
 -- The lines of refused connections are told apart, and from those of events.
 use Rattle.std.specs.Prelude.{slice_index}
-use Rattle.std.proofs.Common.{◌≡◌, ℕ, ◌^◌, ◌<◌, ◌&&◌, true, if◌then◌else◌, eqb, length, List, ◌++◌, Some, codes, nat_lt, refl, sym, ap, ◌∙◌, arith}
+use Rattle.std.proofs.Common.{◌≡◌, ℕ, ◌^◌, ◌<◌, ◌&&◌, true, if◌then◌else◌, eqb, List, ◌++◌, Some, codes, nat_lt, refl, sym, ap, ◌∙◌, arith}
 use Rattle.std.specs.Fmt.{decimal}
 use Rattle.std.specs.Option.{option_map_or}
 use Rattle.std.proofs.lemmas.Bool.Decides.{nat_tests}
@@ -10,7 +10,7 @@ use Rattle.std.proofs.lemmas.List.{append_cancel_right}
 use Rattle.tac_audit.specs.declared.event.Origin.{Origin}
 use Rattle.tac_audit.specs.declared.event.Event.{Event}
 use Rattle.tac_audit.specs.declared.event.WhyTurnedAway.{WhyTurnedAway}
-use Rattle.tac_audit.specs.declared.event.WhyTurnedAway.TheVariants.{UnknownDevice, TooManyConnections}
+use Rattle.tac_audit.specs.declared.event.WhyTurnedAway.TheVariants.{UnknownDevice, NoKey, NoTls, OtherCertificate, BadProxyHeader, TooManyConnections}
 use Rattle.tac_audit.specs.declared.event.TurnedAway.{TurnedAway}
 use Rattle.tac_audit.specs.Json.{text_json, member}
 use Rattle.tac_audit.specs.Event.{turned_away_word, session_digits, origin_json, type_json, begun, ended, turned_away_line}
@@ -21,15 +21,33 @@ use Rattle.tac_audit.proofs.EventsApart.{nest5, begun_apart, line_is, before_ses
 
 word_bytes : (a : WhyTurnedAway) → are_bytes (turned_away_word a) ≡ true
 word_bytes UnknownDevice = refl
+word_bytes NoKey = refl
+word_bytes NoTls = refl
+word_bytes OtherCertificate = refl
+word_bytes BadProxyHeader = refl
 word_bytes TooManyConnections = refl
+
+-- which it is whose word has this fifth byte
+why_at : ℕ → WhyTurnedAway
+why_at byte =
+    if eqb byte 0x6F then UnknownDevice
+    else if eqb byte 0x65 then NoKey
+    else if eqb byte 0x6C then NoTls
+    else if eqb byte 0x72 then OtherCertificate
+    else if eqb byte 0x70 then BadProxyHeader
+    else TooManyConnections
 
 -- which it is that has this word
 word_at : List ℕ → WhyTurnedAway
-word_at word = if eqb (length word) 14 then UnknownDevice else TooManyConnections
+word_at word = why_at (slice_index word 4)
 
 word_read : (a : WhyTurnedAway) → word_at (turned_away_word a) ≡ a
-unfolding word_at
+unfolding word_at why_at
 word_read UnknownDevice = refl
+word_read NoKey = refl
+word_read NoTls = refl
+word_read OtherCertificate = refl
+word_read BadProxyHeader = refl
 word_read TooManyConnections = refl
 
 words_apart : (a b : WhyTurnedAway) → turned_away_word a ≡ turned_away_word b → a ≡ b
@@ -58,7 +76,7 @@ turned_is t = nest5 (begun (Some t.time)) (origin_json t.origin) (type_json (cod
 -- after where they come from, the type follows
 before_type : (word x : List ℕ) → IsAfterOrigin (type_json word ++ x)
 unfolding type_json member IsAfterOrigin
-before_type word x = (refl, refl)
+before_type word x = (refl, refl, refl)
 
 pub turned_away_apart : (a b : TurnedAway) → AreTurnedAwayApart a b
 unfolding type_json

@@ -6,6 +6,9 @@ use Rattle.tac_audit.specs.declared.event.Asker.{Asker}
 use Rattle.tac_audit.specs.declared.event.Said.{Said}
 use Rattle.tac_audit.specs.declared.event.Told.{Told}
 use Rattle.tac_audit.specs.declared.event.Told.TheVariants.{Login, Command, Account, Refused}
+use Rattle.tac_audit.specs.declared.event.CameBy.{CameBy}
+use Rattle.tac_audit.specs.declared.event.CameBy.TheVariants.{Key, OldKey, Tls}
+use Rattle.tac_audit.specs.declared.event.Named.{Named}
 use Rattle.tac_audit.specs.declared.event.Origin.{Origin}
 use Rattle.tac_audit.specs.declared.event.Event.{Event}
 use Rattle.tac_audit.specs.declared.event.TurnedAway.{TurnedAway}
@@ -37,9 +40,16 @@ is_told (Account asker kind task arguments said) =
     is_asker asker && are_bytes task && are_texts arguments && is_said said
 is_told (Refused why) = true
 
+abbrev pub is_came_by : CameBy → Bool
+is_came_by Key = true
+is_came_by OldKey = true
+is_came_by (Tls name) = option_map_or are_bytes name true
+
+abbrev pub is_named : Named → Bool
+is_named named = are_bytes named.name && is_came_by named.came_by
+
 abbrev pub is_origin : Origin → Bool
-is_origin origin =
-    are_bytes origin.device && option_map_or (λ named. are_bytes named.name) origin.named true
+is_origin origin = are_bytes origin.device && option_map_or is_named origin.named true
 
 -- an event as there can be one: bytes, and 32 bits of session
 abbrev pub is_event : Event → Bool

@@ -1,5 +1,5 @@
 -- The line that is written of an event (docs/AUDIT.md).
-use Rattle.std.specs.Prelude.{ℕ, List, [], ◌∷◌, ◌++◌, codes, Bool, true, false, Option, Some, None}
+use Rattle.std.specs.Prelude.{ℕ, List, [], ◌∷◌, ◌++◌, codes, Option, Some, None}
 use Rattle.std.specs.Int.{to_be_bytes, w32}
 use Rattle.std.specs.List.{flat_map}
 use Rattle.std.specs.Option.{option_map}
@@ -14,12 +14,13 @@ use Rattle.tac_audit.specs.declared.event.Why.{Why}
 use Rattle.tac_audit.specs.declared.event.Why.TheVariants as reasons
 use Rattle.tac_audit.specs.declared.event.Told.{Told}
 use Rattle.tac_audit.specs.declared.event.Told.TheVariants.{Login, Command, Account, Refused}
+use Rattle.tac_audit.specs.declared.event.CameBy.{CameBy}
+use Rattle.tac_audit.specs.declared.event.CameBy.TheVariants.{Key, OldKey, Tls}
 use Rattle.tac_audit.specs.declared.event.Named.{Named}
 use Rattle.tac_audit.specs.declared.event.Origin.{Origin}
 use Rattle.tac_audit.specs.declared.event.Event.{Event}
 use Rattle.tac_audit.specs.declared.event.WhyTurnedAway.{WhyTurnedAway}
-use Rattle.tac_audit.specs.declared.event.WhyTurnedAway.TheVariants.{UnknownDevice}
-use Rattle.tac_audit.specs.declared.event.WhyTurnedAway.TheVariants.{TooManyConnections}
+use Rattle.tac_audit.specs.declared.event.WhyTurnedAway.TheVariants as refusals
 use Rattle.tac_audit.specs.declared.event.TurnedAway.{TurnedAway}
 use Rattle.tac_audit.specs.declared.event.Typist.{Typist}
 use Rattle.tac_audit.specs.declared.event.Typist.TheVariants.{Anyone, Operator}
@@ -45,8 +46,12 @@ why_word reasons.BadHeader = codes "bad header"
 
 -- why connections were refused
 abbrev pub turned_away_word : WhyTurnedAway → List ℕ
-turned_away_word UnknownDevice = codes "unknown device"
-turned_away_word TooManyConnections = codes "too many connections"
+turned_away_word refusals.UnknownDevice = codes "unknown device"
+turned_away_word refusals.NoKey = codes "no key"
+turned_away_word refusals.NoTls = codes "no tls"
+turned_away_word refusals.OtherCertificate = codes "other certificate"
+turned_away_word refusals.BadProxyHeader = codes "bad proxy header"
+turned_away_word refusals.TooManyConnections = codes "too many connections"
 
 abbrev pub kind_word : AcctKind → List ℕ
 kind_word Begin = codes "start"
@@ -60,16 +65,18 @@ session_digits session = flat_map hex_byte (to_be_bytes w32 session)
 
 -- ---- members
 
--- that a device came by its old key, where it did
-abbrev pub key_json : Bool → List ℕ
-key_json false = []
-key_json true = member (codes "key") (text_json (codes "old"))
+-- how a device came, where it isn't by its key: by its old key, or inside TLS with a certificate of
+-- this name, null where the proxy told none
+abbrev pub came_by_json : CameBy → List ℕ
+came_by_json Key = []
+came_by_json OldKey = member (codes "key") (text_json (codes "old"))
+came_by_json (Tls name) = member (codes "tls") (optional_json name)
 
 -- what a devices' file says of a device
 abbrev pub named_json : Option Named → List ℕ
 named_json None = []
 named_json (Some named) =
-    member (codes "name") (text_json named.name) ++ key_json named.by_old_key
+    member (codes "name") (text_json named.name) ++ came_by_json named.came_by
 
 -- where a line comes from
 unfoldable pub origin_json : Origin → List ℕ

@@ -6,6 +6,7 @@ ghost use Rattle.std.specs.Prelude.{◌≡◌, IfOk};
 use basics::{Bytes, Sequence};
 use pol_names::Name;
 use std::alloc::{AllocError, Global};
+use tac_proxy::CommonName;
 use tac_request::AcctKind;
 
 /// Who asks, and from where: what a request says of itself.
@@ -107,12 +108,22 @@ impl Drop for Told {
     }
 }
 
+/// How a device came.
+#[derive(Clone, Copy, Debug)]
+pub enum CameBy {
+    /// By its key.
+    Key,
+    /// By its old key.
+    OldKey,
+    /// Inside TLS, by a proxy, with a certificate of this name, if the proxy told one.
+    Tls(Option<CommonName>),
+}
+
 /// A device of a devices' file, as it came.
 #[derive(Clone, Copy, Debug)]
 pub struct Named {
     pub name: Name,
-    /// Whether its connection is under its old key.
-    pub by_old_key: bool,
+    pub came_by: CameBy,
 }
 
 /// Where a line comes from: the address of a device, and which one of a devices' file that is.
@@ -146,11 +157,19 @@ pub struct Event {
     pub told: Told,
 }
 
-/// Why a connection is refused: it is closed before a byte of it is read.
+/// Why a connection is refused: it is closed before a packet of it is read.
 #[derive(Clone, Copy, Debug, PartialEq, Eq)]
 pub enum WhyTurnedAway {
     /// No device that may call is at its address.
     UnknownDevice,
+    /// Its device has no key: it may come by a proxy alone.
+    NoKey,
+    /// Its device may not come by a proxy.
+    NoTls,
+    /// Its device may come by a proxy, with a certificate of another name.
+    OtherCertificate,
+    /// What the proxy told isn't a header.
+    BadProxyHeader,
     /// Its address has as many connections as it may have at once.
     TooManyConnections,
 }

@@ -13,7 +13,8 @@ mod typing;
 mod witness;
 
 pub use event::{
-    Asker, Event, Named, Origin, Said, Status, Told, TurnedAway, Typed, Typist, Why, WhyTurnedAway,
+    Asker, CameBy, Event, Named, Origin, Said, Status, Told, TurnedAway, Typed, Typist, Why,
+    WhyTurnedAway,
 };
 pub use line::{push_event, turned_away_line, typed_line};
 pub use logins::{Logins, Noted};

@@ -11,7 +11,8 @@ ghost use Rattle.tac_audit.specs.declared.event.Typed.{Typed as TypedValue};
 ghost use Rattle.tac_audit.specs.declared.event.TurnedAway.{TurnedAway as TurnedAwayValue};
 
 use crate::event::{
-    Asker, Event, Named, Origin, Said, Status, Told, TurnedAway, Typed, Typist, Why, WhyTurnedAway,
+    Asker, CameBy, Event, Named, Origin, Said, Status, Told, TurnedAway, Typed, Typist, Why,
+    WhyTurnedAway,
 };
 use crate::json::{hex_digit, write_list, write_member, write_number, write_optional, write_text};
 use basics::Bytes;
@@ -50,6 +51,10 @@ fn turned_away_word(why: WhyTurnedAway) -> &'static [u8]
 {
     match why {
         WhyTurnedAway::UnknownDevice => b"unknown device",
+        WhyTurnedAway::NoKey => b"no key",
+        WhyTurnedAway::NoTls => b"no tls",
+        WhyTurnedAway::OtherCertificate => b"other certificate",
+        WhyTurnedAway::BadProxyHeader => b"bad proxy header",
         WhyTurnedAway::TooManyConnections => b"too many connections",
     }
 }
@@ -84,14 +89,17 @@ fn session_digits(session: u32) -> [u8; 8]
 
 // ---- members
 
-// That a device came by its old key, where it did.
-fn write_key(out: &mut Vec<u8>, by_old_key: bool) -> Result<(), AllocError>
-    ensures { OnOk result (out.new.items ≡ out.old.items ++ lines.key_json by_old_key) }
+const TLS: &[u8] = b"tls";
+
+// How a device came, where it isn't by its key.
+fn write_came_by(out: &mut Vec<u8>, came_by: CameBy) -> Result<(), AllocError>
+    ensures { OnOk result (out.new.items ≡ out.old.items ++ lines.came_by_json came_by) }
 {
-    if by_old_key {
-        write_member(out, b"key", b"old")
-    } else {
-        Ok(())
+    match came_by {
+        CameBy::Key => Ok(()),
+        CameBy::OldKey => write_member(out, b"key", b"old"),
+        CameBy::Tls(Some(name)) => write_optional(out, TLS, Some(name.as_slice())),
+        CameBy::Tls(None) => write_optional(out, TLS, None),
     }
 }
 
@@ -102,7 +110,7 @@ fn write_named(out: &mut Vec<u8>, named: Option<Named>) -> Result<(), AllocError
     match named {
         Some(named) => {
             write_member(out, b"name", named.name.as_slice())?;
-            write_key(out, named.by_old_key)
+            write_came_by(out, named.came_by)
         }
         None => Ok(()),
     }
