@@ -7,6 +7,14 @@ use crate::counts::Count;
 pub enum Rejection {
     /// No device that may call is at its address.
     UnknownDevice,
+    /// Its device has no key: it may come by a proxy alone.
+    NoKey,
+    /// Its device may not come by a proxy.
+    NoTls,
+    /// Its device may come by a proxy, with a certificate of another name.
+    OtherCertificate,
+    /// What the proxy told isn't a header.
+    BadProxyHeader,
     /// There are as many as may be at once.
     AtOnce,
     /// There are as many of its address as may be.
@@ -50,8 +58,12 @@ pub enum Departure {
 
 impl Rejection {
     /// All of them, in the order in which they are told.
-    pub const ALL: [Rejection; 5] = [
+    pub const ALL: [Rejection; 9] = [
         Rejection::UnknownDevice,
+        Rejection::NoKey,
+        Rejection::NoTls,
+        Rejection::OtherCertificate,
+        Rejection::BadProxyHeader,
         Rejection::AtOnce,
         Rejection::PerAddress,
         Rejection::Served,
@@ -62,10 +74,30 @@ impl Rejection {
     pub fn name(self) -> &'static str {
         match self {
             Rejection::UnknownDevice => "unknown_device",
+            Rejection::NoKey => "no_key",
+            Rejection::NoTls => "no_tls",
+            Rejection::OtherCertificate => "other_certificate",
+            Rejection::BadProxyHeader => "bad_proxy_header",
             Rejection::AtOnce => "at_once",
             Rejection::PerAddress => "per_address",
             Rejection::Served => "served",
             Rejection::Memory => "memory",
+        }
+    }
+
+    /// Whether it is told only of a server that knows of proxies: one that has a socket for them, or
+    /// has closed a connection for such a reason.
+    pub fn is_of_proxies(self) -> bool {
+        match self {
+            Rejection::NoKey
+            | Rejection::NoTls
+            | Rejection::OtherCertificate
+            | Rejection::BadProxyHeader => true,
+            Rejection::UnknownDevice
+            | Rejection::AtOnce
+            | Rejection::PerAddress
+            | Rejection::Served
+            | Rejection::Memory => false,
         }
     }
 }
@@ -111,6 +143,10 @@ impl Departure {
 #[derive(Drop)]
 struct Rejected {
     unknown_device: Count,
+    no_key: Count,
+    no_tls: Count,
+    other_certificate: Count,
+    bad_proxy_header: Count,
     at_once: Count,
     per_address: Count,
     served: Count,
@@ -138,6 +174,10 @@ impl Rejected {
     fn new() -> Rejected {
         Rejected {
             unknown_device: Count::new(),
+            no_key: Count::new(),
+            no_tls: Count::new(),
+            other_certificate: Count::new(),
+            bad_proxy_header: Count::new(),
             at_once: Count::new(),
             per_address: Count::new(),
             served: Count::new(),
@@ -148,6 +188,10 @@ impl Rejected {
     fn count(&self, why: Rejection) -> &Count {
         match why {
             Rejection::UnknownDevice => &self.unknown_device,
+            Rejection::NoKey => &self.no_key,
+            Rejection::NoTls => &self.no_tls,
+            Rejection::OtherCertificate => &self.other_certificate,
+            Rejection::BadProxyHeader => &self.bad_proxy_header,
             Rejection::AtOnce => &self.at_once,
             Rejection::PerAddress => &self.per_address,
             Rejection::Served => &self.served,

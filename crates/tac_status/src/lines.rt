@@ -72,7 +72,21 @@ fn write_server(out: &mut Vec<u8>, present: &Present) -> io::Result<()> {
     )
 }
 
-fn write_rejected(out: &mut Vec<u8>, counts: &ConnectionCounts) -> io::Result<()> {
+// Whether one was closed for a reason that is told only of a server that knows of proxies.
+fn has_met_proxies(counts: &ConnectionCounts) -> bool {
+    for rejection in Rejection::ALL {
+        if rejection.is_of_proxies() && counts.rejected(rejection) > 0 {
+            return true;
+        }
+    }
+    false
+}
+
+fn write_rejected(
+    out: &mut Vec<u8>,
+    counts: &ConnectionCounts,
+    present: &Present,
+) -> io::Result<()> {
     let name = "tacd_connections_refused_total";
     write_head(
         out,
@@ -80,9 +94,12 @@ fn write_rejected(out: &mut Vec<u8>, counts: &ConnectionCounts) -> io::Result<()
         name,
         "Connections closed as soon as they came.",
     )?;
+    let knows_of_proxies = present.has_proxy || has_met_proxies(counts);
     for rejection in Rejection::ALL {
-        let (why, number) = (rejection.name(), counts.rejected(rejection));
-        writeln!(out, "{name}{{why=\"{why}\"}} {number}")?;
+        if knows_of_proxies || !rejection.is_of_proxies() {
+            let (why, number) = (rejection.name(), counts.rejected(rejection));
+            writeln!(out, "{name}{{why=\"{why}\"}} {number}")?;
+        }
     }
     Ok(())
 }
@@ -102,7 +119,11 @@ fn write_ended(out: &mut Vec<u8>, counts: &ConnectionCounts) -> io::Result<()> {
     Ok(())
 }
 
-fn write_connections(out: &mut Vec<u8>, counts: &ConnectionCounts, limit: u32) -> io::Result<()> {
+fn write_connections(
+    out: &mut Vec<u8>,
+    counts: &ConnectionCounts,
+    present: &Present,
+) -> io::Result<()> {
     write_number(
         out,
         Kind::Gauge,
@@ -115,7 +136,7 @@ fn write_connections(out: &mut Vec<u8>, counts: &ConnectionCounts, limit: u32) -
         Kind::Gauge,
         "tacd_connections_limit",
         "How many there may be at once.",
-        u64::from(limit),
+        u64::from(present.connections_limit),
     )?;
     write_number(
         out,
@@ -125,7 +146,7 @@ fn write_connections(out: &mut Vec<u8>, counts: &ConnectionCounts, limit: u32) -
         counts.accepted(),
     )?;
     write_ended(out, counts)?;
-    write_rejected(out, counts)
+    write_rejected(out, counts, present)
 }
 
 fn write_answered(out: &mut Vec<u8>, counts: &RequestCounts) -> io::Result<()> {
@@ -217,7 +238,7 @@ fn write_log(out: &mut Vec<u8>, present: &Present) -> io::Result<()> {
 
 fn write_status(out: &mut Vec<u8>, counts: &Counts, present: &Present) -> io::Result<()> {
     write_server(out, present)?;
-    write_connections(out, &counts.connections, present.connections_limit)?;
+    write_connections(out, &counts.connections, present)?;
     write_number(
         out,
         Kind::Gauge,
@@ -238,8 +259,9 @@ fn write_status(out: &mut Vec<u8>, counts: &Counts, present: &Present) -> io::Re
     )
 }
 
-/// The lines that tell how a server is. All are there, in this order, whatever their numbers are.
-/// The error means that memory ran out.
+/// The lines that tell how a server is. All are there, in this order, whatever their numbers are,
+/// but for the refusals of `Rejection::is_of_proxies`: these are there where the server has a
+/// socket for a proxy, or one of their numbers isn't 0. The error means that memory ran out.
 pub fn status_text(alloc: Global, counts: &Counts, present: &Present) -> io::Result<Vec<u8>> {
     let mut text = Vec::new(alloc);
     write_status(&mut text, counts, present)?;

@@ -15,6 +15,8 @@ pub struct Present {
     pub connections_limit: u32,
     /// How many devices are listed, or 0 where one key is for all.
     pub devices: u64,
+    /// Whether it has a socket for a proxy.
+    pub has_proxy: bool,
     /// How many records are kept at most.
     pub records_limit: u64,
     /// Whether a log is kept.
