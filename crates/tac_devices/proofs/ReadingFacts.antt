@@ -41,16 +41,16 @@ words_once word rest a b h k = by (bytes_eq word (codes_at) && is_field rest) h 
     by true h k = h.2 ∙ ap At (reads_once rest h.0 k.0 h.1 k.1) ∙ sym k.2
     by false h k = h ∙ sym k
 
-parts_once : (parts : Option (List ℕ × List ℕ)) (a b : Said) → SaysParts parts a → SaysParts parts b → a ≡ b
-parts_once None a b h k = h ∙ sym k
-parts_once (Some parts) a b h k = words_once parts.0 parts.1 a b h k
+parts_once : (line : List ℕ) (parts : Option (List ℕ × List ℕ)) (a b : Said) → SaysParts line parts a → SaysParts line parts b → a ≡ b
+parts_once line None a b h k = h ∙ sym k
+parts_once line (Some parts) a b h k = words_once parts.0 parts.1 a b h k
 
 pub says_once : (line : List ℕ) (a b : Said) → Says line a → Says line b → a ≡ b
 says_once line a b h k = by (is_text line) h k
   where
-    trimmed : (line : List ℕ) (t : Bool) → Where t (a ≡ Nothing) (SaysParts (split_at_first 32 line) a) → Where t (b ≡ Nothing) (SaysParts (split_at_first 32 line) b) → a ≡ b
+    trimmed : (line : List ℕ) (t : Bool) → Where t (a ≡ Nothing) (SaysParts line (split_at_first 32 line) a) → Where t (b ≡ Nothing) (SaysParts line (split_at_first 32 line) b) → a ≡ b
     trimmed line true h k = h ∙ sym k
-    trimmed line false h k = parts_once (split_at_first 32 line) a b h k
+    trimmed line false h k = parts_once line (split_at_first 32 line) a b h k
 
     by : (t : Bool) → Where t (SaysTrimmed (without_leading_spaces line) a) (a ≡ Bad) → Where t (SaysTrimmed (without_leading_spaces line) b) (b ≡ Bad) → a ≡ b
     by true h k = trimmed (without_leading_spaces line) (is_blank (without_leading_spaces line)) h k

@@ -1,9 +1,9 @@
 -- In the devices of a text no prefix stands twice, and no bit is set after one.
-use Rattle.std.proofs.Common.{◌≡◌, ◌≤◌, ◌<◌, arith, ℕ, ◌+◌, Bool, true, false, cond, not, ◌||◌, ◌&&◌, is_some, codes, IfOk, List, [], ◌∷◌, ◌++◌, length, map, nat_le, find, Option, Some, None, Result, Ok, Err, All, refl, subst, sym, ap, ◌∙◌, append_assoc, append-nil}
+use Rattle.std.proofs.Common.{◌≡◌, ◌≤◌, ◌<◌, arith, ℕ, ◌+◌, Bool, true, false, cond, not, ◌||◌, ◌&&◌, codes, IfOk, List, [], ◌∷◌, ◌++◌, length, map, nat_le, find, Option, Some, None, Result, Ok, Err, All, refl, subst, sym, ap, ◌∙◌, append_assoc, append-nil}
 use Rattle.std.proofs.lemmas.Bool.Decides.{nat_tests}
 use Rattle.std.proofs.lemmas.List.{map-append, length-append}
 use Rattle.std.proofs.lemmas.List.Elements.{All-nil, All-cons, All-head, All-tail, All-push}
-use Rattle.std.specs.Option.{option_to_list, option_map, option_map_or}
+use Rattle.std.specs.Option.{option_map_or}
 use Rattle.std.specs.List.{list_any}
 use Rattle.basics.specs.Lines.{lines_of, split_at_first, without_leading_spaces}
 use Rattle.basics.specs.Symbol.{is_text}
@@ -20,11 +20,14 @@ use Rattle.tac_devices.specs.declared.fault.DevicesRefusal.TheVariants.{Repeated
 use Rattle.tac_devices.specs.declared.fault.DevicesFault.{DevicesFault}
 use Rattle.tac_devices.specs.declared.fault.DevicesFault.TheVariants.{Refused}
 use Rattle.tac_devices.specs.Prefix.{Range, same_prefix, IsBare, Reads}
-use Rattle.tac_devices.specs.Line.{Where, SaysTrimmed, SaysParts, is_blank, is_field, said_by, connections_of}
+use Rattle.tac_devices.specs.Line.{Where, SaysTrimmed, SaysParts, is_blank, is_field, said_by, said_alone, connections_of}
+use Rattle.tac_devices.specs.Tls.{tls_of}
+use Rattle.tac_devices.specs.declared.device.Tls.{Tls}
+use Rattle.tac_devices.specs.declared.device.Tls.TheVariants.{Any}
 use Rattle.pol_names.specs.Name.{name_of}
 use Rattle.tac_wire.specs.Key.{key_of}
-use Rattle.tac_devices.specs.Text.{◌>>=◌, whole, empty, with_device, for_present, with_present, place_given, with_prefix, set_once, same_keys, keys_apart, with_key, with_old_key, with_connections, with_said}
-use Rattle.tac_devices.specs.Text.{Follows, Makes, device_of, devices_of, has_key, has_place, checked, finished, IsText, UnlessMemory, max_devices, max_prefixes}
+use Rattle.tac_devices.specs.Text.{◌>>=◌, whole, empty, with_device, for_present, with_present, place_given, with_prefix, set_once, same_keys, keys_apart, with_key, with_old_key, with_tls, with_connections, with_said}
+use Rattle.tac_devices.specs.Text.{Follows, Makes, device_of, devices_of, has_way, has_place, checked, finished, IsText, UnlessMemory, max_devices, max_prefixes}
 use Rattle.tac_devices.specs.Devices.{Spot, spots, spots_of, Apart, prefixes_of, IsTable}
 
 -- ---- the prefixes of devices of which more may be said
@@ -109,7 +112,7 @@ right_device line name draft next right e = by (list_any (bytes_eq name) draft.n
     made =
         record draft {
           done = whole draft;
-          present = Some (record { name = name; line = line; places = []; key = None; old_key = None; connections = None });
+          present = Some (record { name = name; line = line; places = []; key = None; old_key = None; tls = None; connections = None });
           names = draft.names ++ name ∷ [];
         }
 
@@ -118,7 +121,7 @@ right_device line name draft next right e = by (list_any (bytes_eq name) draft.n
     by false true h = absurd (cc)
     by false false h =
         subst Right (ok_same made next h) (record {
-          all = in_push (whole draft) (record { name = name; line = line; places = []; key = None; old_key = None; connections = None }) ∙ append-nil (prefixes_in (whole draft)) ∙ right.all;
+          all = in_push (whole draft) (record { name = name; line = line; places = []; key = None; old_key = None; tls = None; connections = None }) ∙ append-nil (prefixes_in (whole draft)) ∙ right.all;
           apart = right.apart;
           bare = right.bare;
           few = right.few;
@@ -158,6 +161,14 @@ connections_keep None entry next e = absurd (cc)
 connections_keep (Some n) entry next e = by entry.connections e
   where
     by : (old : Option ℕ) → set_once (Some n) old (λ n. record entry { connections = Some n }) ≡ Ok next → next.places ≡ entry.places
+    by (Some old) h = absurd (cc)
+    by None h = sym (ap places_if h)
+
+tls_keeps : (tls : Option Tls) (entry next : Entry) → with_tls tls entry ≡ Ok next → next.places ≡ entry.places
+tls_keeps None entry next e = absurd (cc)
+tls_keeps (Some tls) entry next e = by entry.tls e
+  where
+    by : (old : Option Tls) → set_once (Some tls) old (λ tls. record entry { tls = Some tls }) ≡ Ok next → next.places ≡ entry.places
     by (Some old) h = absurd (cc)
     by None h = sym (ap places_if h)
 
@@ -214,6 +225,8 @@ right_said line (said.Key key) bare draft next right e =
     right_present (with_key line key) (key_keeps line key) draft.done draft.present draft.names draft.prefixes next right e
 right_said line (said.OldKey old_key) bare draft next right e =
     right_present (with_old_key old_key) (old_key_keeps old_key) draft.done draft.present draft.names draft.prefixes next right e
+right_said line (said.Tls tls) bare draft next right e =
+    right_present (with_tls tls) (tls_keeps tls) draft.done draft.present draft.names draft.prefixes next right e
 right_said line (said.Connections n) bare draft next right e =
     right_present (with_connections n) (connections_keep n) draft.done draft.present draft.names draft.prefixes next right e
 
@@ -225,30 +238,41 @@ reads_bare text (Some prefix) h = h.1
 
 by_bare : (word rest : List ℕ) → BareSaid (said_by word rest)
 unfolding said_by
-by_bare word rest = by (bytes_eq word (codes "device")) (bytes_eq word (codes "key")) (bytes_eq word (codes "old-key")) (bytes_eq word (codes "connections")) (is_field rest)
+by_bare word rest =
+    by (bytes_eq word (codes "device")) (bytes_eq word (codes "key")) (bytes_eq word (codes "old-key")) (bytes_eq word (codes "tls")) (bytes_eq word (codes "connections"))
+    (is_field rest)
   where
-    by : (a b o c d : Bool)
+    by : (a b o t c d : Bool)
         → BareSaid (cond a (cond d (said.Device (name_of rest)) said.Bad)
-        (cond b (said.Key (key_of rest)) (cond o (said.OldKey (key_of rest)) (cond c (cond d (said.Connections (connections_of rest)) said.Bad) said.Bad))))
-    by true b o c true = tt
-    by true b o c false = tt
-    by false true o c d = tt
-    by false false true c d = tt
-    by false false false true true = tt
-    by false false false true false = tt
-    by false false false false d = tt
+        (cond b (said.Key (key_of rest))
+        (cond o (said.OldKey (key_of rest)) (cond t (said.Tls (tls_of rest)) (cond c (cond d (said.Connections (connections_of rest)) said.Bad) said.Bad)))))
+    by true b o t c true = tt
+    by true b o t c false = tt
+    by false true o t c d = tt
+    by false false true t c d = tt
+    by false false false true c d = tt
+    by false false false false true true = tt
+    by false false false false true false = tt
+    by false false false false false d = tt
+
+alone_bare : (word : List ℕ) → BareSaid (said_alone word)
+alone_bare word = by (bytes_eq word (codes "tls"))
+  where
+    by : (t : Bool) → BareSaid (cond t (said.Tls (Some Any)) said.Bad)
+    by true = tt
+    by false = tt
 
 words_bare : (word rest : List ℕ) (t : Bool) (what : Said) → Where t ((prefix : Option Range) × Reads rest prefix × (what ≡ said.At prefix)) (what ≡ said_by word rest) → BareSaid what
 words_bare word rest true what h = subst BareSaid (sym h.2) (reads_bare rest h.0 h.1)
 words_bare word rest false what h = subst BareSaid (sym h) (by_bare word rest)
 
-parts_bare : (parts : Option (List ℕ × List ℕ)) (what : Said) → SaysParts parts what → BareSaid what
-parts_bare None what h = subst BareSaid (sym h) tt
-parts_bare (Some parts) what h = words_bare parts.0 parts.1 (bytes_eq parts.0 (codes "at") && is_field parts.1) what h
+parts_bare : (line : List ℕ) (parts : Option (List ℕ × List ℕ)) (what : Said) → SaysParts line parts what → BareSaid what
+parts_bare line None what h = subst BareSaid (sym h) (alone_bare line)
+parts_bare line (Some parts) what h = words_bare parts.0 parts.1 (bytes_eq parts.0 (codes "at") && is_field parts.1) what h
 
-trimmed_bare : (line : List ℕ) (t : Bool) (what : Said) → Where t (what ≡ said.Nothing) (SaysParts (split_at_first 32 line) what) → BareSaid what
+trimmed_bare : (line : List ℕ) (t : Bool) (what : Said) → Where t (what ≡ said.Nothing) (SaysParts line (split_at_first 32 line) what) → BareSaid what
 trimmed_bare line true what h = subst BareSaid (sym h) tt
-trimmed_bare line false what h = parts_bare (split_at_first 32 line) what h
+trimmed_bare line false what h = parts_bare line (split_at_first 32 line) what h
 
 says_bare : (line : List ℕ) (t : Bool) (what : Said) → Where t (SaysTrimmed (without_leading_spaces line) what) (what ≡ said.Bad) → BareSaid what
 says_bare line true what h = trimmed_bare (without_leading_spaces line) (is_blank (without_leading_spaces line)) what h
@@ -278,26 +302,12 @@ device_ranges : (device : Device) (places : List Place) → map (λ (s : Spot). 
 device_ranges device [] = refl
 device_ranges device (place ∷ places) = ap (λ (l : List Range). place.prefix ∷ l) (device_ranges device places)
 
-find_rest : (test : Entry → Bool) (entry : Entry) (entries : List Entry) → find (λ e. not (test e)) (entry ∷ entries) ≡ None → (test entry ≡ true) × (find (λ e. not (test e)) entries ≡ None)
-find_rest test entry entries h = by (test entry) refl h
-  where
-    by : (t : Bool) → test entry ≡ t → cond (not t) (Some entry) (find (λ e. not (test e)) entries) ≡ None → (test entry ≡ true) × (find (λ e. not (test e)) entries ≡ None)
-    by true e h = (e, h)
-    by false e h = absurd (cc)
-
-ranges_of : (entries : List Entry) → find (λ e. not (has_key e)) entries ≡ None → prefixes_of (devices_of entries) ≡ prefixes_in entries
-ranges_of [] h = refl
-ranges_of (entry ∷ entries) h =
-    let parts = find_rest has_key entry entries h in
-    by entry.key parts.0 (ranges_of entries parts.1)
-  where
-    by : (key : Option KeyLine) → is_some key ≡ true → prefixes_of (devices_of entries) ≡ prefixes_in entries
-        → prefixes_of (option_to_list (option_map (device_of entry) key) ++ devices_of entries) ≡ ranges entry.places ++ prefixes_in entries
-    by None e rest = absurd (cc)
-    by (Some key) e rest =
-        map-append (λ (s : Spot). s.1.prefix) (spots_of (device_of entry key)) (spots (devices_of entries))
-        ∙ ap (λ (l : List Range). l ++ prefixes_of (devices_of entries)) (device_ranges (device_of entry key) entry.places)
-        ∙ ap (λ (l : List Range). ranges entry.places ++ l) rest
+ranges_of : (entries : List Entry) → prefixes_of (devices_of entries) ≡ prefixes_in entries
+ranges_of [] = refl
+ranges_of (entry ∷ entries) =
+    map-append (λ (s : Spot). s.1.prefix) (spots_of (device_of entry)) (spots (devices_of entries))
+    ∙ ap (λ (l : List Range). l ++ prefixes_of (devices_of entries)) (device_ranges (device_of entry) entry.places)
+    ∙ ap (λ (l : List Range). ranges entry.places ++ l) (ranges_of entries)
 
 abbrev fine_list : List Device → Result (List Device) DevicesFault
 fine_list devices = Ok devices
@@ -310,22 +320,21 @@ placed_is : (entries : List Entry) (devices : List Device) (two : Option Entry)
 placed_is entries devices (Some entry) h = absurd (cc)
 placed_is entries devices None h = list_same (devices_of entries) devices h
 
-finished_is : (entries : List Entry) (devices : List Device) → finished entries ≡ Ok devices → (find (λ e. not (has_key e)) entries ≡ None) × (devices_of entries ≡ devices)
-finished_is entries devices h = by (find (λ e. not (has_key e)) entries) refl h
+finished_is : (entries : List Entry) (devices : List Device) → finished entries ≡ Ok devices → devices_of entries ≡ devices
+finished_is entries devices h = by (find (λ e. not (has_way e)) entries) h
   where
-    by : (one : Option Entry) → find (λ e. not (has_key e)) entries ≡ one
+    by : (one : Option Entry)
         → ((option_map_or (λ (entry : Entry). Err (Refused entry.line NoKey)) one (Ok entries) >>= checked has_place NoAddress) >>= λ entries. fine_list (devices_of entries)) ≡ Ok devices
-        → (find (λ e. not (has_key e)) entries ≡ None) × (devices_of entries ≡ devices)
-    by (Some entry) e h = absurd (cc)
-    by None e h = (e, placed_is entries devices (find (λ e. not (has_place e)) entries) h)
+        → devices_of entries ≡ devices
+    by (Some entry) h = absurd (cc)
+    by None h = placed_is entries devices (find (λ e. not (has_place e)) entries) h
 
 abbrev IsFewTable : List Device → Type 0
 IsFewTable devices = IsTable devices × (length (prefixes_of devices) ≤ max_prefixes)
 
 table_of : (draft : Draft) (devices : List Device) → Right draft → finished (whole draft) ≡ Ok devices → IsFewTable devices
 table_of draft devices right h =
-    let is = finished_is (whole draft) devices h in
-    let same : prefixes_of devices ≡ draft.prefixes = ap prefixes_of (sym is.1) ∙ ranges_of (whole draft) is.0 ∙ right.all in
+    let same : prefixes_of devices ≡ draft.prefixes = ap prefixes_of (sym (finished_is (whole draft) devices h)) ∙ ranges_of (whole draft) ∙ right.all in
     (record { apart = subst Apart (sym same) right.apart; bare = subst (All Bare) (sym same) right.bare }, rw same right.few)
 
 text_table : (draft : Result Draft DevicesFault) (lines : List (List ℕ)) (devices : List Device) → Makes 1 lines empty draft → (draft >>= λ draft. finished (whole draft)) ≡ Ok devices → IsFewTable devices

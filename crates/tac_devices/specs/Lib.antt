@@ -1,4 +1,5 @@
 pub mod Prefix
+pub mod Tls
 pub mod Line
 pub mod Text
 pub mod Reading

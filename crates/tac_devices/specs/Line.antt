@@ -9,9 +9,11 @@ use Rattle.basics.specs.Number.{number_of}
 use Rattle.pol_names.specs.Name.{name_of}
 use Rattle.tac_wire.specs.Key.{key_of}
 use Rattle.tac_devices.specs.Prefix.{Range, Reads}
+use Rattle.tac_devices.specs.Tls.{tls_of}
 use Rattle.tac_devices.specs.declared.said.Said.{Said}
 use Rattle.tac_devices.specs.declared.said.Said.TheVariants.{Nothing, Bad, Device, At, Key}
-use Rattle.tac_devices.specs.declared.said.Said.TheVariants.{OldKey, Connections}
+use Rattle.tac_devices.specs.declared.said.Said.TheVariants.{OldKey, Tls, Connections}
+use Rattle.tac_devices.specs.declared.device.Tls.TheVariants.{Any}
 
 -- the text is one field: it has no space
 abbrev pub is_field : List ℕ → Bool
@@ -32,6 +34,7 @@ said_by word rest =
     if bytes_eq word (codes "device") then (if is_field rest then Device (name_of rest) else Bad)
     else if bytes_eq word (codes "key") then Key (key_of rest)
     else if bytes_eq word (codes "old-key") then OldKey (key_of rest)
+    else if bytes_eq word (codes "tls") then Tls (tls_of rest)
     else if bytes_eq word (codes "connections")
     then (if is_field rest then Connections (connections_of rest) else Bad)
     else Bad
@@ -48,9 +51,13 @@ SaysWords word rest said =
     ((prefix : Option Range) × Reads rest prefix × (said ≡ At prefix))
     (said ≡ said_by word rest)
 
-abbrev pub SaysParts : Option (List ℕ × List ℕ) → Said → Type 0
-SaysParts None said = said ≡ Bad
-SaysParts (Some parts) said = SaysWords parts.0 parts.1 said
+-- what a line says that is one word
+abbrev pub said_alone : List ℕ → Said
+said_alone word = if bytes_eq word (codes "tls") then Tls (Some Any) else Bad
+
+abbrev pub SaysParts : List ℕ → Option (List ℕ × List ℕ) → Said → Type 0
+SaysParts line None said = said ≡ said_alone line
+SaysParts line (Some parts) said = SaysWords parts.0 parts.1 said
 
 -- an empty line, or one that begins with `#`
 abbrev pub is_blank : List ℕ → Bool
@@ -59,7 +66,7 @@ is_blank (byte ∷ bytes) = nat_eq byte 35
 
 abbrev pub SaysTrimmed : List ℕ → Said → Type 0
 SaysTrimmed line said =
-    Where (is_blank line) (said ≡ Nothing) (SaysParts (split_at_first 32 line) said)
+    Where (is_blank line) (said ≡ Nothing) (SaysParts line (split_at_first 32 line) said)
 
 -- a line has symbols alone, and its leading spaces are dropped
 abbrev pub Says : List ℕ → Said → Type 0

@@ -3,9 +3,11 @@
 use Rattle.std.specs.Prelude.{ℕ, List, [], ◌∷◌, ◌++◌, length, find, codes, nat_lt, Option, Some, None}
 use Rattle.std.specs.Prelude.{if◌then◌else◌}
 use Rattle.std.specs.Option.{option_map, option_to_list}
+use Rattle.std.specs.List.{filter_map}
 use Rattle.std.specs.Str.{bytes_eq}
 use Rattle.std.specs.Fmt.{decimal}
 use Rattle.tac_devices.specs.declared.device.Device.{Device}
+use Rattle.tac_devices.specs.declared.device.Secret.{Secret}
 use Rattle.tac_devices.specs.declared.remark.Remark.{Remark}
 use Rattle.tac_devices.specs.declared.remark.Remark.TheVariants.{SameKey, ShortKey}
 
@@ -13,27 +15,31 @@ use Rattle.tac_devices.specs.declared.remark.Remark.TheVariants.{SameKey, ShortK
 abbrev pub least_key : ℕ
 least_key = 16
 
--- a device has the key of an earlier one, of which the first is named
-abbrev pub same_key : List Device → Device → Option Remark
-same_key earlier device =
-    option_map (λ first. SameKey device.key_line first.key_line)
-    (find (λ other. bytes_eq other.keys.present device.keys.present) earlier)
+-- the secrets of the devices that have one
+abbrev pub secrets_of : List Device → List Secret
+secrets_of devices = filter_map (λ device. device.secret) devices
 
--- its key is short
-abbrev pub short_key : Device → Option Remark
-short_key device =
-    if nat_lt (length device.keys.present) least_key
-    then Some (ShortKey device.key_line (length device.keys.present)) else None
+-- the key is that of an earlier secret, of which the first is named
+abbrev pub same_key : List Secret → Secret → Option Remark
+same_key earlier secret =
+    option_map (λ first. SameKey secret.line first.line)
+    (find (λ other. bytes_eq other.keys.present secret.keys.present) earlier)
 
--- both, of each device in order
-abbrev pub remarks_after : List Device → List Device → List Remark
+-- the key is short
+abbrev pub short_key : Secret → Option Remark
+short_key secret =
+    if nat_lt (length secret.keys.present) least_key
+    then Some (ShortKey secret.line (length secret.keys.present)) else None
+
+-- both, of each secret in order
+abbrev pub remarks_after : List Secret → List Secret → List Remark
 remarks_after earlier [] = []
-remarks_after earlier (device ∷ devices) =
-    option_to_list (same_key earlier device) ++ option_to_list (short_key device)
-    ++ remarks_after (earlier ++ device ∷ []) devices
+remarks_after earlier (secret ∷ secrets) =
+    option_to_list (same_key earlier secret) ++ option_to_list (short_key secret)
+    ++ remarks_after (earlier ++ secret ∷ []) secrets
 
 abbrev pub remarks_of : List Device → List Remark
-remarks_of devices = remarks_after [] devices
+remarks_of devices = remarks_after [] (secrets_of devices)
 
 -- ---- how they are printed
 

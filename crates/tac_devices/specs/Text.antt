@@ -1,7 +1,7 @@
 -- The text of a devices' file: which devices its lines make, or the first refusal and its line
 -- (docs/DEVICES.md).
-use Rattle.std.specs.Prelude.{◌≡◌, ℕ, ◌+◌, List, [], ◌∷◌, ◌++◌, length, find, Bool, false, not}
-use Rattle.std.specs.Prelude.{nat_eq, nat_le, is_some, Option, Some, None, Result, Ok, Err}
+use Rattle.std.specs.Prelude.{◌≡◌, ℕ, ◌+◌, List, [], ◌∷◌, ◌++◌, length, map, find, Bool, false, not}
+use Rattle.std.specs.Prelude.{◌&&◌, ◌||◌, nat_eq, nat_le, is_some, Option, Some, None, Result, Ok, Err}
 use Rattle.std.specs.Prelude.{if◌then◌else◌}
 use Rattle.std.specs.Option.{option_to_list, option_map, option_map_or}
 use Rattle.std.specs.List.{list_any}
@@ -12,6 +12,8 @@ use Rattle.tac_devices.specs.Line.{Says}
 use Rattle.tac_devices.specs.declared.said.Said.{Said}
 use Rattle.tac_devices.specs.declared.said.Said.TheVariants as said
 use Rattle.tac_devices.specs.declared.device.Device.{Device}
+use Rattle.tac_devices.specs.declared.device.Secret.{Secret}
+use Rattle.tac_devices.specs.declared.device.Tls.{Tls}
 use Rattle.tac_devices.specs.declared.draft.Entry.{Entry}
 use Rattle.tac_devices.specs.declared.draft.KeyLine.{KeyLine}
 use Rattle.tac_devices.specs.declared.draft.Draft.{Draft}
@@ -56,6 +58,7 @@ with_device line name draft =
         places = [];
         key = None;
         old_key = None;
+        tls = None;
         connections = None;
       });
       names = draft.names ++ name ∷ [];
@@ -125,6 +128,9 @@ with_old_key old_key entry =
     set_once old_key entry.old_key (λ old_key. record entry { old_key = Some old_key })
     >>= keys_apart
 
+abbrev pub with_tls : Option Tls → Entry → Result Entry DevicesRefusal
+with_tls tls entry = set_once tls entry.tls (λ tls. record entry { tls = Some tls })
+
 abbrev pub with_connections : Option ℕ → Entry → Result Entry DevicesRefusal
 with_connections connections entry =
     set_once connections entry.connections (λ n. record entry { connections = Some n })
@@ -138,6 +144,7 @@ with_said line (said.Device (Some name)) draft = with_device line name draft
 with_said line (said.At prefix) draft = with_prefix line prefix draft
 with_said line (said.Key key) draft = with_present (with_key line key) draft
 with_said line (said.OldKey old_key) draft = with_present (with_old_key old_key) draft
+with_said line (said.Tls tls) draft = with_present (with_tls tls) draft
 with_said line (said.Connections n) draft = with_present (with_connections n) draft
 
 -- ---- lines
@@ -159,23 +166,26 @@ Makes number (line ∷ lines) draft result =
 
 -- ---- whole texts
 
-abbrev pub device_of : Entry → KeyLine → Device
-device_of entry key =
+abbrev pub secret_of : Entry → KeyLine → Secret
+secret_of entry key =
+    record { keys = record { present = key.key; old = entry.old_key }; line = key.line }
+
+abbrev pub device_of : Entry → Device
+device_of entry =
     record {
       name = entry.name;
       places = entry.places;
-      keys = record { present = key.key; old = entry.old_key };
-      key_line = key.line;
+      secret = option_map (secret_of entry) entry.key;
+      tls = entry.tls;
       connections = entry.connections;
     }
 
 abbrev pub devices_of : List Entry → List Device
-devices_of [] = []
-devices_of (entry ∷ entries) =
-    option_to_list (option_map (device_of entry) entry.key) ++ devices_of entries
+devices_of entries = map device_of entries
 
-abbrev pub has_key : Entry → Bool
-has_key entry = is_some entry.key
+-- it has a key; or it may come inside TLS, and has no old key
+abbrev pub has_way : Entry → Bool
+has_way entry = is_some entry.key || is_some entry.tls && not (is_some entry.old_key)
 
 abbrev pub has_place : Entry → Bool
 has_place entry = not (nat_eq (length entry.places) 0)
@@ -187,9 +197,9 @@ checked test refusal entries =
     option_map_or (λ entry. Err (Refused entry.line refusal))
     (find (λ entry. not (test entry)) entries) (Ok entries)
 
--- each over all devices in order: it has a key; it has an address
+-- each over all devices in order: it has a way in; it has an address
 abbrev pub all_checked : List Entry → Result (List Entry) DevicesFault
-all_checked entries = checked has_key NoKey entries >>= checked has_place NoAddress
+all_checked entries = checked has_way NoKey entries >>= checked has_place NoAddress
 
 abbrev pub finished : List Entry → Result (List Device) DevicesFault
 finished entries = all_checked entries >>= λ entries. Ok (devices_of entries)

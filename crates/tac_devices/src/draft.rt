@@ -1,13 +1,13 @@
 //! Devices while their text is read.
 
-ghost use Rattle.std.specs.Prelude.{◌≡◌, ◌++◌, ◌∷◌, [], None, OnOk, IfOk, find, not, false};
-ghost use Rattle.std.specs.Option.{option_copied, option_map};
+ghost use Rattle.std.specs.Prelude.{◌≡◌, [], None, OnOk, IfOk, find, not, false};
+ghost use Rattle.std.specs.Option.{option_copied};
 ghost use Rattle.std.specs.List.{list_any};
 ghost use Rattle.tac_devices.specs.Prefix.{same_prefix};
 ghost use Rattle.tac_devices.specs.Reading.{LineMakes, Passes};
 ghost use Rattle.tac_devices.specs.Text as texts;
 
-use crate::device::{Device, Place};
+use crate::device::{Device, Place, Secret, Tls};
 use crate::devices::Devices;
 use crate::fault::{DevicesFault, DevicesRefusal, LineFault};
 use crate::known::Known;
@@ -39,6 +39,7 @@ pub(crate) struct Entry {
     pub(crate) places: Sequence<Place>,
     pub(crate) key: Option<KeyLine>,
     pub(crate) old_key: Option<KeyDoor>,
+    pub(crate) tls: Option<Tls>,
     pub(crate) connections: Option<u32>,
 }
 
@@ -51,6 +52,7 @@ impl Drop for Entry {
             places: _,
             key: _,
             old_key: _,
+            tls: _,
             connections: _,
         } = self;
     }
@@ -121,6 +123,7 @@ impl Entry {
           places = [];
           key = None;
           old_key = None;
+          tls = None;
           connections = None;
         } }
     {
@@ -130,6 +133,7 @@ impl Entry {
             places: Sequence::new(alloc),
             key: None,
             old_key: None,
+            tls: None,
             connections: None,
         }
     }
@@ -171,6 +175,19 @@ impl Entry {
         }
         self.old_key = Some(KeyDoor::new(old_key));
         self.check_keys()
+    }
+
+    fn set_tls(&mut self, tls: Option<Tls>) -> Result<(), LineFault>
+        ensures { LineMakes result self.new (texts.with_tls tls self.old) }
+    {
+        let Some(tls) = tls else {
+            return Err(LineFault::Refused(DevicesRefusal::BadValue));
+        };
+        if self.tls.is_some() {
+            return Err(LineFault::Refused(DevicesRefusal::Repeated));
+        }
+        self.tls = Some(tls);
+        Ok(())
     }
 
     fn set_connections(&mut self, connections: Option<u32>) -> Result<(), LineFault>
@@ -259,6 +276,16 @@ impl Draft {
         }
     }
 
+    fn set_tls(&mut self, tls: Option<Tls>) -> Result<(), LineFault>
+        ensures { LineMakes result self.new
+            (texts.with_present (texts.with_tls tls) self.old) }
+    {
+        match &mut self.present {
+            Some(entry) => entry.set_tls(tls),
+            None => Err(LineFault::Refused(DevicesRefusal::NoDevice)),
+        }
+    }
+
     fn set_connections(&mut self, connections: Option<u32>) -> Result<(), LineFault>
         ensures { LineMakes result self.new
             (texts.with_present (texts.with_connections connections) self.old) }
@@ -281,15 +308,22 @@ impl Draft {
             Said::At(prefix) => self.place(line, prefix),
             Said::Key(key) => self.set_key(line, key),
             Said::OldKey(old_key) => self.set_old_key(old_key),
+            Said::Tls(tls) => self.set_tls(tls),
             Said::Connections(connections) => self.set_connections(connections),
         }
     }
 }
 
-fn without_key(entries: &[Entry]) -> Option<&Entry>
-    ensures { option_copied result ≡ find (λ entry. not (texts.has_key entry)) entries.now }
+fn has_way(entry: &Entry) -> bool
+    ensures { result ≡ texts.has_way entry.now }
 {
-    entries.iter().find(|entry| entry.key.is_none())
+    entry.key.is_some() || entry.tls.is_some() && entry.old_key.is_none()
+}
+
+fn without_way(entries: &[Entry]) -> Option<&Entry>
+    ensures { option_copied result ≡ find (λ entry. not (texts.has_way entry)) entries.now }
+{
+    entries.iter().find(|entry| !has_way(entry))
 }
 
 fn has_place(entry: &Entry) -> bool
@@ -304,11 +338,11 @@ fn without_place(entries: &[Entry]) -> Option<&Entry>
     entries.iter().find(|entry| !has_place(entry))
 }
 
-// Refuses the first device that has no key, and then the first that has no address.
+// Refuses the first device that has no way in, and then the first that has no address.
 fn check(entries: &[Entry]) -> Result<(), DevicesFault>
     ensures { Passes result entries.now (texts.all_checked entries.now) }
 {
-    if let Some(entry) = without_key(entries) {
+    if let Some(entry) = without_way(entries) {
         return Err(DevicesFault::Refused {
             line: entry.line,
             refusal: DevicesRefusal::NoKey,
@@ -324,18 +358,25 @@ fn check(entries: &[Entry]) -> Result<(), DevicesFault>
 }
 
 impl KeyLine {
-    fn into_parts(self) -> (KeyDoor, usize)
-        ensures { result ≡ (self.key, self.line) }
+    // The secret of this key, and of the old one beside it.
+    fn into_secret(self, old: Option<KeyDoor>) -> Secret
+        ensures { result ≡ record {
+          keys = record { present = self.key; old = old };
+          line = self.line;
+        } }
     {
         let KeyLine { key, line } = self;
-        (key, line)
+        Secret {
+            keys: Keys { present: key, old },
+            line,
+        }
     }
 }
 
 impl Entry {
-    // The device that it is, if it has a key.
-    fn into_device(self) -> Option<Device>
-        ensures { result ≡ option_map (texts.device_of self) self.key }
+    // The device that it is.
+    fn into_device(self) -> Device
+        ensures { result ≡ texts.device_of self }
     {
         let Entry {
             name,
@@ -343,33 +384,21 @@ impl Entry {
             places,
             key,
             old_key,
+            tls,
             connections,
         } = self;
-        let Some(key) = key else {
-            return None;
+        let secret = match key {
+            Some(key) => Some(key.into_secret(old_key)),
+            None => None,
         };
-        let (key, key_line) = key.into_parts();
-        Some(Device {
+        Device {
             name,
             places,
-            keys: Keys {
-                present: key,
-                old: old_key,
-            },
-            key_line,
+            secret,
+            tls,
             connections,
-        })
+        }
     }
-}
-
-// Adds the device that an entry is.
-fn add_device(devices: &mut Sequence<Device>, entry: Entry) -> Result<(), AllocError>
-    ensures { OnOk result (devices.new ≡ devices.old ++ texts.devices_of (entry ∷ [])) }
-{
-    if let Some(device) = entry.into_device() {
-        devices.push(device)?;
-    }
-    Ok(())
 }
 
 fn devices_of(alloc: Global, entries: Vec<Entry>) -> Result<Sequence<Device>, AllocError>
@@ -377,7 +406,7 @@ fn devices_of(alloc: Global, entries: Vec<Entry>) -> Result<Sequence<Device>, Al
 {
     let mut devices = Sequence::new(alloc);
     'entries: for entry in entries {
-        add_device(&mut devices, entry)?;
+        devices.push(entry.into_device())?;
     }
     Ok(devices)
 }

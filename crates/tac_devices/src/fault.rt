@@ -21,15 +21,15 @@ pub enum DevicesRefusal {
     /// The field isn't an address or a prefix, bits are set after the prefix, or it is an IPv4
     /// address that is written as IPv6.
     BadPrefix,
-    /// The key, or the old one, is empty or has more than 128 symbols, or the number isn't one of
-    /// 1 to 10,000.
+    /// The key, or the old one, is empty or has more than 128 symbols, the common name is empty or
+    /// has more than 64, or the number isn't one of 1 to 10,000.
     BadValue,
     /// The device is there already, or has this setting already, or this key as its other one; or
     /// the prefix is there already, in whichever device.
     Repeated,
     /// There are more than 4,096 devices, or more than 16,384 prefixes.
     Limit,
-    /// The device has no key.
+    /// The device has neither a key nor `tls`, or it has an old key and no key.
     NoKey,
     /// The device has no address.
     NoAddress,

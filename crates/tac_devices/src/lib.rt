@@ -1,4 +1,4 @@
-//! Which devices may call, and by which keys.
+//! Which devices may call, by which keys and with which certificates.
 #![tactic(auto)]
 
 mod device;
@@ -13,7 +13,7 @@ mod remark;
 mod renewal;
 mod said;
 
-pub use device::{Device, Place};
+pub use device::{Device, Place, Secret, Tls};
 pub use devices::{Devices, Spot};
 pub use fault::{DevicesFault, DevicesRefusal};
 pub use listing::{Asked, ListingEnd, fault_line, list_devices, sizes_line};

@@ -1,10 +1,10 @@
 //! What is remarked on keys that may stand.
 
-ghost use Rattle.std.specs.Prelude.{◌≡◌, ◌++◌, Some, IfOk, OnOk, find, bytes_eq};
-ghost use Rattle.std.specs.Option.{option_to_list, option_copied};
+ghost use Rattle.std.specs.Prelude.{◌≡◌, ◌++◌, Some, IfOk, OnOk, find, bytes_eq, false};
+ghost use Rattle.std.specs.Option.{option_to_list, option_copied, option_map_or};
 ghost use Rattle.tac_devices.specs.Remarks as remarks;
 
-use crate::device::Device;
+use crate::device::{Device, Secret};
 use crate::devices::Devices;
 use basics::Sequence;
 use std::alloc::{AllocError, Global};
@@ -33,34 +33,53 @@ impl fmt::Display for Remark {
     }
 }
 
-fn with_key<'a>(devices: &'a [Device], key: &[u8]) -> Option<&'a Device>
-    ensures { option_copied result
-        ≡ find (λ other. bytes_eq other.keys.present key.now) devices.now }
+fn has_key(device: &Device, key: &[u8]) -> bool
+    ensures { result ≡ option_map_or (λ secret. bytes_eq secret.keys.present key.now)
+        device.now.secret false }
 {
-    devices
-        .iter()
-        .find(|other| other.keys.present.as_slice() == key)
+    match &device.secret {
+        Some(secret) => secret.keys.present.as_slice() == key,
+        None => false,
+    }
 }
 
-fn same_key(earlier: &[Device], device: &Device) -> Option<Remark>
-    ensures { result ≡ remarks.same_key earlier.now device.now }
+fn device_with<'a>(devices: &'a [Device], key: &[u8]) -> Option<&'a Device>
+    ensures { option_copied result ≡ find (λ device. option_map_or
+        (λ secret. bytes_eq secret.keys.present key.now) device.secret false) devices.now }
 {
-    match with_key(earlier, device.keys.present.as_slice()) {
+    devices.iter().find(|device| has_key(device, key))
+}
+
+// The secret of the first device with this key.
+fn with_key<'a>(devices: &'a [Device], key: &[u8]) -> Option<&'a Secret>
+    ensures { option_copied result ≡ find (λ other. bytes_eq other.keys.present key.now)
+        (remarks.secrets_of devices.now) }
+{
+    match device_with(devices, key) {
+        Some(device) => device.secret.as_ref(),
+        None => None,
+    }
+}
+
+fn same_key(earlier: &[Device], secret: &Secret) -> Option<Remark>
+    ensures { result ≡ remarks.same_key (remarks.secrets_of earlier.now) secret.now }
+{
+    match with_key(earlier, secret.keys.present.as_slice()) {
         Some(first) => Some(Remark::SameKey {
-            line: device.key_line,
-            first: first.key_line,
+            line: secret.line,
+            first: first.line,
         }),
         None => None,
     }
 }
 
-fn short_key(device: &Device) -> Option<Remark>
-    ensures { result ≡ remarks.short_key device.now }
+fn short_key(secret: &Secret) -> Option<Remark>
+    ensures { result ≡ remarks.short_key secret.now }
 {
-    let size = device.keys.present.as_slice().len();
+    let size = secret.keys.present.as_slice().len();
     if size < LEAST_KEY {
         return Some(Remark::ShortKey {
-            line: device.key_line,
+            line: secret.line,
             size,
         });
     }
@@ -76,6 +95,22 @@ fn add(found: &mut Sequence<Remark>, remark: Option<Remark>) -> Result<(), Alloc
     Ok(())
 }
 
+// Adds what is remarked on the key of a device, if it has one.
+fn remark_on(
+    found: &mut Sequence<Remark>,
+    earlier: &[Device],
+    device: &Device,
+) -> Result<(), AllocError>
+    ensures { OnOk result (found.new ≡ found.old ++ remarks.remarks_after
+        (remarks.secrets_of earlier.now) (option_to_list device.now.secret)) }
+{
+    if let Some(secret) = &device.secret {
+        add(found, same_key(earlier, secret))?;
+        add(found, short_key(secret))?;
+    }
+    Ok(())
+}
+
 impl Devices {
     /// What is remarked on the keys of the devices, in their order: that one stands twice, and that
     /// one is short. Quadratic in the devices. The error means that memory ran out.
@@ -85,9 +120,7 @@ impl Devices {
         let devices = self.as_slice();
         let mut found = Sequence::new(alloc);
         'devices: for place in 0..devices.len() {
-            let device = &devices[place];
-            add(&mut found, same_key(&devices[..place], device))?;
-            add(&mut found, short_key(device))?;
+            remark_on(&mut found, &devices[..place], &devices[place])?;
         }
         Ok(found)
     }

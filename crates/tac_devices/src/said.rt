@@ -2,10 +2,13 @@
 
 ghost use Rattle.std.specs.Prelude.{◌≡◌, ◌&&◌, codes, false, bytes_eq};
 ghost use Rattle.tac_devices.specs.Line as lines;
+ghost use Rattle.tac_devices.specs.Tls as certificates;
 
+use crate::device::Tls;
 use crate::prefix::Prefix;
 use basics::{is_text, read_number, split_once, without_leading_spaces};
 use pol_names::Name;
+use tac_proxy::CommonName;
 use tac_wire::Key;
 
 /// The most connections of an address that a line may allow.
@@ -26,6 +29,8 @@ pub(crate) enum Said {
     Key(Option<Key>),
     /// The present device had this key before, and may still come by it.
     OldKey(Option<Key>),
+    /// The present device may come inside TLS, with these certificates.
+    Tls(Option<Tls>),
     /// Each address of the present device may have so many connections.
     Connections(Option<u32>),
 }
@@ -45,6 +50,13 @@ fn connections_of(text: &[u8]) -> Option<u32>
     }
 }
 
+// The certificates of the common name that a text spells.
+fn tls_of(text: &[u8]) -> Option<Tls>
+    ensures { result ≡ certificates.tls_of text.now }
+{
+    CommonName::read(text).map(Tls::Named)
+}
+
 // What a line says that begins with another word than `at`.
 #[tactic(auto, unfolding(crate::specs::Line::said_by))]
 fn said_by(word: &[u8], rest: &[u8]) -> Said
@@ -62,6 +74,9 @@ fn said_by(word: &[u8], rest: &[u8]) -> Said
     }
     if word == b"old-key".as_slice() {
         return Said::OldKey(Key::read(rest));
+    }
+    if word == b"tls".as_slice() {
+        return Said::Tls(tls_of(rest));
     }
     if word == b"connections".as_slice() {
         return if is_field(rest) {
@@ -83,6 +98,16 @@ fn say(word: &[u8], rest: &[u8]) -> Said
     said_by(word, rest)
 }
 
+// What a line says that is one word.
+fn say_alone(word: &[u8]) -> Said
+    ensures { result ≡ lines.said_alone word.now }
+{
+    if word == b"tls".as_slice() {
+        return Said::Tls(Some(Tls::Any));
+    }
+    Said::Bad
+}
+
 // What a line without leading spaces says.
 fn say_trimmed(line: &[u8]) -> Said
     ensures { lines.SaysTrimmed line.now result }
@@ -92,7 +117,7 @@ fn say_trimmed(line: &[u8]) -> Said
     }
     match split_once(line, b' ') {
         Some((word, rest)) => say(word, rest),
-        None => Said::Bad,
+        None => say_alone(line),
     }
 }
 
