@@ -523,10 +523,10 @@ WRONG_BODIES = [
     WrongBody(
         "a device without an address comes before one without a key",
         "devices.py",
-        """        if device.key is None:
+        """        if not has_way(device):
             raise Refused(f"{device.line} 8 NoKey")
 """,
-        """        if device.key is None:
+        """        if not has_way(device):
             raise Refused(f"{device.line} 8 NoKey")
         if not device.prefixes:
             raise Refused(f"{device.line} 9 NoAddress")
@@ -537,6 +537,44 @@ WRONG_BODIES = [
         "devices.py",
         "    if device.key is not None and device.key.text == text:\n",
         "    if False:\n",
+    ),
+    WrongBody(
+        "a device with tls may have an old key without a key",
+        "devices.py",
+        "return device.tls is not None and device.old_key is None",
+        "return device.tls is not None",
+    ),
+    WrongBody(
+        "a device with tls needs a key",
+        "devices.py",
+        "return device.tls is not None and device.old_key is None",
+        "return False",
+    ),
+    WrongBody(
+        "a second tls takes the place of the first",
+        "devices.py",
+        """    if device.tls is not None:
+        raise Refused("6 Repeated")
+""",
+        "",
+    ),
+    WrongBody(
+        "a common name may have one symbol more",
+        "devices.py",
+        "len(name) <= MOST_COMMON_NAME",
+        "len(name) <= MOST_COMMON_NAME + 1",
+    ),
+    WrongBody(
+        "tls with an empty name is tls",
+        "devices.py",
+        "set_tls(devices[-1], rest if blank else None)",
+        "set_tls(devices[-1], rest or None)",
+    ),
+    WrongBody(
+        "a common name is one field",
+        "devices.py",
+        'if word in ("device", "at", "connections") and " " in rest:',
+        'if word in ("device", "at", "tls", "connections") and " " in rest:',
     ),
     WrongBody(
         "a key that stands three times is told of the second",

@@ -7,6 +7,8 @@ NAMES = ["core-1", "access", "a", "B.example", "x" * 32, "edge@2"]
 BAD_NAMES = ["", "x" * 33, "a/b", "a b"]
 KEYS = ["k", "tundra", "wintry-tundra-41", "wide kelp ", "x" * 128, "0123456789abcde", "#"]
 BAD_KEYS = ["", "x" * 129, "k\xf6y"]
+COMMON_NAMES = ["core-1.example.net", "Access Switches", " a", "x" * 64, "#", "tls"]
+BAD_COMMON_NAMES = ["", "x" * 65, "\xe9tage"]
 BAD_CONNECTIONS = ["0", "10001", "000001", "four", "-1", "1 2", ""]
 LENGTHS = [0, 1, 8, 15, 16, 24, 31, 32, 48, 64, 95, 96, 97, 127, 128, 128, 128]
 PLACES = [0, 1, 7, 8, 9, 15, 16, 24, 31]
@@ -47,10 +49,8 @@ def names(choices):
 
 
 def block(choices, name, prefixes):
-    """A device that is right, unless its prefixes are there already."""
-    settings = [f"key {choices.choice(KEYS)}"]
-    if choices.chance(0.3):
-        settings.append(f"old-key {choices.choice(KEYS)}")
+    """A device that is mostly right, unless its prefixes are there already."""
+    settings = ways(choices)
     for _ in range(choices.count(1, 6)):
         text, prefix = drawn_prefix(choices)
         if choices.chance(0.02) or prefix not in prefixes:
@@ -60,6 +60,19 @@ def block(choices, name, prefixes):
         settings.append(f"connections {choices.choice(['1', '4', '10000', '00009'])}")
     choices.shuffle(settings)
     return [f"device {name}", *(indented(choices, line) for line in settings)]
+
+
+def ways(choices):
+    """A key, tls or both, and perhaps an old key; rarely one without a key."""
+    keys = [f"key {choices.choice(KEYS)}"]
+    if choices.chance(0.3):
+        keys.append(f"old-key {choices.choice(KEYS)}")
+    if choices.chance(0.6):
+        return keys
+    tls = "tls" if choices.chance(0.5) else f"tls {choices.choice(COMMON_NAMES)}"
+    if choices.chance(0.5):
+        return [*keys, tls]
+    return [tls, *keys[1:]] if choices.chance(0.1) else [tls]
 
 
 def indented(choices, line):
@@ -82,7 +95,7 @@ def spoiled(choices, lines):
             again = choices.choice(lines) if lines else "at ::1"
             return lines[:at] + [again] + lines[at:]
         case 5:
-            kinds = choices.choice([("key",), ("at",), ("key", "at"), ("key", "old-key")])
+            kinds = choices.choice([("key",), ("at",), ("key", "at"), ("key", "old-key"), ("tls",)])
             return [
                 line for line in lines if not line.lstrip().startswith(kinds) or choices.chance(0.6)
             ]
@@ -96,8 +109,10 @@ def bad_line(choices):
             f"at {choices.choice(BAD_PREFIXES)}",
             f"key {choices.choice(BAD_KEYS)}",
             f"old-key {choices.choice(BAD_KEYS)}",
+            f"tls {choices.choice(BAD_COMMON_NAMES)}",
             f"connections {choices.choice(BAD_CONNECTIONS)}",
             choices.choice(["device", "at", "key", "at ::1 ", "Key k", "keys k", "old-keys k", "x"]),
+            choices.choice(["tls", "TLS", "tls-name a", "tlsa", "tls\ta"]),
         ]
     )
 

@@ -7,6 +7,7 @@ from typing import NamedTuple
 from .texts import is_name, is_secret, is_text, lines_of, number_of, text_of
 
 MOST_DEVICES, MOST_PREFIXES, MOST_CONNECTIONS = 4_096, 16_384, 10_000
+MOST_COMMON_NAME = 64
 LEAST_KEY = 16
 MAPPED = ipaddress.ip_network("::ffff:0:0/96")
 
@@ -26,6 +27,8 @@ class Device:
         self.line = line
         self.key = None
         self.old_key = None
+        # the common name, or an empty text for any
+        self.tls = None
         self.connections = None
         # each with the line that says it
         self.prefixes = {}
@@ -53,6 +56,8 @@ def told(devices):
     yield f"devices ok: {len(devices)} devices, {prefixes} prefixes"
     first = {}
     for device in devices:
+        if device.key is None:
+            continue
         text, line = device.key
         if first.setdefault(text, line) != line:
             yield f"line {line}: the key of line {first[text]}"
@@ -91,12 +96,18 @@ def read_devices(lines):
         except Refused as refusal:
             raise Refused(f"{number} {refusal}") from refusal
     for device in devices:
-        if device.key is None:
+        if not has_way(device):
             raise Refused(f"{device.line} 8 NoKey")
     for device in devices:
         if not device.prefixes:
             raise Refused(f"{device.line} 9 NoAddress")
     return devices
+
+
+def has_way(device):
+    if device.key is None:
+        return device.tls is not None and device.old_key is None
+    return True
 
 
 def take(devices, number, line):
@@ -106,9 +117,11 @@ def take(devices, number, line):
     if line == "" or line.startswith("#"):
         return
     word, blank, rest = line.partition(" ")
-    if blank == "" or word not in ("device", "at", "key", "old-key", "connections"):
+    if word not in ("device", "at", "key", "old-key", "tls", "connections"):
         raise Refused("1 BadLine")
-    if word not in ("key", "old-key") and " " in rest:
+    if blank == "" and word != "tls":
+        raise Refused("1 BadLine")
+    if word in ("device", "at", "connections") and " " in rest:
         raise Refused("1 BadLine")
     if word == "device":
         begin(devices, number, rest)
@@ -120,6 +133,8 @@ def take(devices, number, line):
         set_key(devices[-1], number, rest)
     elif word == "old-key":
         set_old_key(devices[-1], rest)
+    elif word == "tls":
+        set_tls(devices[-1], rest if blank else None)
     else:
         set_connections(devices[-1], rest)
 
@@ -163,6 +178,15 @@ def set_old_key(device, text):
     if device.key is not None and device.key.text == text:
         raise Refused("6 Repeated")
     device.old_key = text
+
+
+def set_tls(device, name):
+    """With certificates of this common name, or with any where the line has none."""
+    if name is not None and not 1 <= len(name) <= MOST_COMMON_NAME:
+        raise Refused("5 BadValue")
+    if device.tls is not None:
+        raise Refused("6 Repeated")
+    device.tls = "" if name is None else name
 
 
 def set_connections(device, text):
