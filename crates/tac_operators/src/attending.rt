@@ -1,6 +1,6 @@
 //! Operators, each in a thread, and the console that answers them.
 
-use crate::door::{ConsoleHost, Door};
+use crate::console_socket::{ConsoleHost, ConsoleSocket};
 use crate::exchange::Exchange;
 use crate::patience::Patience;
 use crate::session::{Session, turn_away, wait_briefly};
@@ -75,7 +75,7 @@ fn receive<R: Wait + Clock + AllocGlobal, S: Status>(
 // Serves one operator after another, until the console ends. The stream of who stopped it.
 fn receive_all<R: Wait + Clock + AllocGlobal, S: Status>(
     rt: &R,
-    door: &Door<'_>,
+    socket: &ConsoleSocket<'_>,
     exchange: &Exchange,
     status: &S,
     present: &AtomicU64,
@@ -84,7 +84,7 @@ fn receive_all<R: Wait + Clock + AllocGlobal, S: Status>(
 ) -> Option<UnixStream> {
     exchange.begin();
     'operators: for _ in rt.forever() {
-        let came = door.accept();
+        let came = socket.accept();
         if exchange.has_ended() {
             return None;
         }
@@ -100,15 +100,15 @@ fn receive_all<R: Wait + Clock + AllocGlobal, S: Status>(
     unreachable!()
 }
 
-/// Lets operators in at a door, and runs the console that answers them in this thread: it reads the
+/// Lets operators in at a socket, and runs the console that answers them in this thread: it reads the
 /// exchange's input and writes to its output. They come and go while it runs, eight at a time, and
 /// their lines are its input in the order in which they are taken, but for those that a session
 /// answers by itself: of these `status` is answered by what is handed in. Once it has ended the
-/// door is closed, and nobody waits for an operator. No console is run, and its end is none, where
+/// socket is closed, and nobody waits for an operator. No console is run, and its end is none, where
 /// a thread can't be made.
 pub fn attend<R, S: Status + Sync, F: FnMut() -> T, T>(
     rt: &R,
-    door: &Door<'_>,
+    socket: &ConsoleSocket<'_>,
     exchange: &Exchange,
     status: &S,
     patience: Patience,
@@ -122,7 +122,7 @@ where
     let present = &present;
     let mut receiving = || -> Result<Vec<Option<UnixStream>>, AllocError> {
         let receive = |number: usize| -> Option<UnixStream> {
-            receive_all(rt, door, exchange, status, present, patience, number)
+            receive_all(rt, socket, exchange, status, present, patience, number)
         };
         map_indices(rt, rt.alloc(), THREADS, &receive)
     };
@@ -135,7 +135,7 @@ where
             None
         };
         let answer = exchange.end(rt);
-        door.close(rt);
+        socket.close(rt);
         (end, answer)
     };
     let (received, (end, answer)) = join_mut(rt, &mut receiving, &mut operating);

@@ -1,6 +1,6 @@
 //! A FIFO at the place of a socket, as servers had one for their console before.
 
-use crate::door::ConsoleHost;
+use crate::console_socket::ConsoleHost;
 use std::fs::File;
 use std::io;
 use std::sync::atomic::{AtomicU64, Ordering};

@@ -4,7 +4,7 @@
 
 mod attending;
 mod board;
-mod door;
+mod console_socket;
 mod exchange;
 mod fifo;
 mod lines;
@@ -14,7 +14,7 @@ mod session;
 mod status;
 
 pub use attending::{Parting, attend};
-pub use door::{ConsoleHost, Door};
+pub use console_socket::{ConsoleHost, ConsoleSocket};
 pub use exchange::{Exchange, ExchangeInput, ExchangeOutput};
 pub use patience::Patience;
 pub use status::Status;

@@ -11,7 +11,7 @@ use std::test::Fail;
 use std::thread::{Threads, join_mut};
 use std::time::{Clock, Duration};
 use std::{fs, io, process};
-use tac_operators::{ConsoleHost, Door, Exchange, Patience, Status, attend};
+use tac_operators::{ConsoleHost, ConsoleSocket, Exchange, Patience, Status, attend};
 
 /// How long an operator may be silent in these tests, in milliseconds: with a batch, and without.
 const HOLDING: u64 = 400;
@@ -106,13 +106,13 @@ where
     has_ended(&third)
 }
 
-// Operators at a door, and the console beside them.
+// Operators at a socket, and the console beside them.
 fn served<R>(rt: &R, path: &str) -> Result<(), Fail>
 where
     R: Threads + Wait + Clock + Sync + AllocGlobal + ConsoleHost,
     R: Net<Listener = TcpListener, Stream = TcpStream>,
 {
-    let door = Door::open(rt, path)?;
+    let socket = ConsoleSocket::open(rt, path)?;
     let exchange = Exchange::new(rt.alloc());
     let patience = Patience {
         holding: Duration::from_millis(HOLDING),
@@ -121,7 +121,7 @@ where
     let mut talking = || -> Result<(), Fail> { talk(rt, path) };
     let mut attending = || -> bool {
         let mut console = || -> io::Result<()> { echo(rt, &exchange) };
-        let (end, parting) = attend(rt, &door, &exchange, &Silent, patience, &mut console);
+        let (end, parting) = attend(rt, &socket, &exchange, &Silent, patience, &mut console);
         let ended_well = matches!(end, Some(Ok(())));
         parting.tell(ended_well);
         ended_well

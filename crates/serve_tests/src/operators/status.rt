@@ -13,7 +13,7 @@ use std::test::Fail;
 use std::thread::{Threads, join_mut, sleep};
 use std::time::{Clock, Duration};
 use std::{io, process};
-use tac_operators::{ConsoleHost, Door, Exchange, Patience, Status, attend};
+use tac_operators::{ConsoleHost, ConsoleSocket, Exchange, Patience, Status, attend};
 
 /// For how many milliseconds the console is busy, unless it is asked how the server is.
 const MOST: u64 = 10_000;
@@ -98,13 +98,13 @@ where
     hears(&first, "quit\n", "ok\n\n")
 }
 
-// Operators at a door, and the console beside them.
+// Operators at a socket, and the console beside them.
 fn served<R>(rt: &R, path: &str) -> Result<(), Fail>
 where
     R: Threads + Wait + Clock + Sync + AllocGlobal + ConsoleHost,
     R: Net<Listener = TcpListener, Stream = TcpStream>,
 {
-    let door = Door::open(rt, path)?;
+    let socket = ConsoleSocket::open(rt, path)?;
     let exchange = Exchange::new(rt.alloc());
     let teller = Teller {
         told: AtomicU64::new(0),
@@ -113,7 +113,7 @@ where
     let mut attending = || -> bool {
         let mut console = || -> io::Result<()> { answer(rt, &exchange, &teller) };
         let patience = Patience::usual();
-        let (end, parting) = attend(rt, &door, &exchange, &teller, patience, &mut console);
+        let (end, parting) = attend(rt, &socket, &exchange, &teller, patience, &mut console);
         let ended_well = matches!(end, Some(Ok(())));
         parting.tell(ended_well);
         ended_well

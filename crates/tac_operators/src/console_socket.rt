@@ -1,4 +1,4 @@
-//! The socket's file, at which operators come in.
+//! The file of a socket, and the one at which operators come in.
 
 use crate::fifo::is_unread;
 use std::fs::{DirBuilder, File, OpenOptions, Permissions};
@@ -15,18 +15,18 @@ use std::{fs, io};
 /// The rights of the folder in which the socket is made: its owner's alone.
 const FOLDER_MODE: u32 = 0o700;
 
-/// The rights of the socket: its owner's alone.
+/// The rights of a console's socket: its owner's alone.
 const MODE: u32 = 0o600;
 
-/// What the system does for consoles.
+/// What the system does for consoles, and for a proxy's socket.
 pub trait ConsoleHost {
-    /// Listens at a path, which nobody but its owner can open at any moment. What a server left
-    /// there that was killed is replaced. The error is the system's, or says that something else is
-    /// there or that a server listens there.
-    fn open_door(&self, path: &str) -> io::Result<UnixListener>;
+    /// Listens at a path, at a socket of these rights, as in `chmod`: nobody has more at any
+    /// moment. What a server left there that has ended is replaced. The error is the system's, or
+    /// says that something else is there or that a server listens there.
+    fn open_socket(&self, path: &str, mode: u32) -> io::Result<UnixListener>;
 
     /// Removes the file of such a socket.
-    fn remove_door(&self, path: &str) -> io::Result<()>;
+    fn remove_socket(&self, path: &str) -> io::Result<()>;
 
     /// Whether there is a FIFO at a path.
     fn is_fifo(&self, path: &str) -> bool;
@@ -46,11 +46,11 @@ pub trait ConsoleHost {
 }
 
 impl ConsoleHost for HostRuntime {
-    fn open_door(&self, path: &str) -> io::Result<UnixListener> {
-        open_door(self, path)
+    fn open_socket(&self, path: &str, mode: u32) -> io::Result<UnixListener> {
+        open_socket(self, path, mode)
     }
 
-    fn remove_door(&self, path: &str) -> io::Result<()> {
+    fn remove_socket(&self, path: &str) -> io::Result<()> {
         fs::remove_file(self, path)
     }
 
@@ -95,14 +95,23 @@ fn see_that_it_is_free<R: Files + Net>(rt: &R, path: &str) -> io::Result<()> {
 }
 
 // Listens at a path, and moves that to another one once its rights are set.
-fn listen_at<R: Files + Net>(rt: &R, within: &str, path: &str) -> io::Result<UnixListener> {
+fn listen_at<R: Files + Net>(
+    rt: &R,
+    within: &str,
+    path: &str,
+    mode: u32,
+) -> io::Result<UnixListener> {
     let listener = UnixListener::bind(rt, within)?;
-    fs::set_permissions(rt, within, Permissions::from_mode(MODE))?;
+    fs::set_permissions(rt, within, Permissions::from_mode(mode))?;
     fs::rename(rt, within, path)?;
     Ok(listener)
 }
 
-fn open_door<R: Files + Net + AllocGlobal>(rt: &R, path: &str) -> io::Result<UnixListener> {
+fn open_socket<R: Files + Net + AllocGlobal>(
+    rt: &R,
+    path: &str,
+    mode: u32,
+) -> io::Result<UnixListener> {
     see_that_it_is_free(rt, path)?;
     let folder = format!(in rt.alloc(); "{path}.new")?;
     let within = format!(in rt.alloc(); "{path}.new/s")?;
@@ -112,7 +121,7 @@ fn open_door<R: Files + Net + AllocGlobal>(rt: &R, path: &str) -> io::Result<Uni
     DirBuilder::new()
         .mode(FOLDER_MODE)
         .create(rt, folder.as_str())?;
-    let listening = listen_at(rt, within.as_str(), path);
+    let listening = listen_at(rt, within.as_str(), path, mode);
     let _ = fs::remove_file(rt, within.as_str());
     let _ = fs::remove_dir(rt, folder.as_str());
     listening
@@ -120,26 +129,26 @@ fn open_door<R: Files + Net + AllocGlobal>(rt: &R, path: &str) -> io::Result<Uni
 
 /// A socket at which operators come in, and which can be closed while threads wait there.
 #[derive(Drop)]
-pub struct Door<'a> {
+pub struct ConsoleSocket<'a> {
     path: &'a str,
     listener: UnixListener,
     // the same socket as a stream, which can be shut down
     shutter: UnixStream,
 }
 
-impl<'a> Door<'a> {
-    /// Listens at a path ([`ConsoleHost::open_door`]). A FIFO that nobody reads is taken away
+impl<'a> ConsoleSocket<'a> {
+    /// Listens at a path ([`ConsoleHost::open_socket`]). A FIFO that nobody reads is taken away
     /// first.
-    pub fn open<R>(rt: &R, path: &'a str) -> io::Result<Door<'a>>
+    pub fn open<R>(rt: &R, path: &'a str) -> io::Result<ConsoleSocket<'a>>
     where
         R: ConsoleHost + Threads + Clock + Sync,
     {
         if rt.is_fifo(path) && is_unread(rt, path)? {
-            rt.remove_door(path)?;
+            rt.remove_socket(path)?;
         }
-        let listener = rt.open_door(path)?;
+        let listener = rt.open_socket(path, MODE)?;
         let shutter = UnixStream::from(OwnedFd::from(listener.try_clone()?));
-        Ok(Door {
+        Ok(ConsoleSocket {
             path,
             listener,
             shutter,
@@ -157,7 +166,7 @@ impl<'a> Door<'a> {
     pub(crate) fn close<R: ConsoleHost>(&self, rt: &R) {
         // Before it is closed, since another server may put its own there from then on. To remove
         // what is gone, or to shut down what is closed, fails and does no harm.
-        let _ = rt.remove_door(self.path);
+        let _ = rt.remove_socket(self.path);
         let _ = self.shutter.shutdown(Shutdown::Both);
     }
 }
