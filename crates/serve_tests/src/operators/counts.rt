@@ -1,5 +1,6 @@
 //! What is counted of connections, and the lines that tell how a server is.
 
+use std::alloc::Global;
 use std::process::Abort;
 use std::test::Fail;
 use tac_status::{
@@ -14,6 +15,7 @@ fn present() -> Present {
         workers: 6,
         connections_limit: 7,
         devices: 8,
+        has_proxy: false,
         records_limit: 9,
         has_log: true,
         log_takes_lines: false,
@@ -166,5 +168,34 @@ fn the_memory_of_a_process(rt: HostRuntime) -> Result<(), Fail> {
     assert_eq!(rt; resident_bytes(b"VmRSS:\t1 kB\n"), 1_024);
     assert_eq!(rt; resident_bytes(b"VmSize:\t1 kB\nVmRSS: 1"), 0);
     assert_eq!(rt; resident_bytes(b""), 0);
+    Ok(())
+}
+
+// The lines of a server that knows of proxies, and closed so many connections of a device without
+// a key.
+fn told_of_proxies(alloc: Global, no_key: u64) -> Result<String, Fail> {
+    let next = "tacd_connections_refused_total{why=\"at_once\"}";
+    let (before, after) = TOLD.split_once(next).ok_or("no such line")?;
+    Ok(format!(in alloc;
+        "{before}\
+tacd_connections_refused_total{{why=\"no_key\"}} {no_key}
+tacd_connections_refused_total{{why=\"no_tls\"}} 0
+tacd_connections_refused_total{{why=\"other_certificate\"}} 0
+tacd_connections_refused_total{{why=\"bad_proxy_header\"}} 0
+{next}{after}"
+    )?)
+}
+
+// They are told where there is a socket for a proxy, or where one of them isn't 0.
+#[test]
+fn refusals_of_proxies(rt: HostRuntime) -> Result<(), Fail> {
+    let (alloc, counts, mut present) = (rt.alloc(), Counts::new(), present());
+    present.has_proxy = true;
+    let text = status_text(alloc, &counts, &present)?;
+    assert!(rt; text.as_slice() == told_of_proxies(alloc, 0)?.as_bytes());
+    present.has_proxy = false;
+    counts.connections.reject(Rejection::NoKey);
+    let text = status_text(alloc, &counts, &present)?;
+    assert!(rt; text.as_slice() == told_of_proxies(alloc, 1)?.as_bytes());
     Ok(())
 }

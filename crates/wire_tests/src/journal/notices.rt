@@ -15,8 +15,9 @@ use std::process::Abort;
 use std::sync::Wait;
 use std::test::Fail;
 use std::time::{Clock, Duration};
-use tac_audit::{Named, Notice, Origin, Witness};
+use tac_audit::{CameBy, Named, Notice, Origin, Witness};
 use tac_journal::{DeviceLog, Log, LogFiles, LogWriter, Moments, Refused};
+use tac_proxy::CommonName;
 
 // A log that takes so many appends, and no more.
 #[derive(Drop)]
@@ -46,18 +47,18 @@ impl Few {
     }
 }
 
-// A line from its session on, or none.
+const HEAD: &str = "{\"time\":\"1970-01-01T00:00:00.000Z\",\"device\":\"d\",\"name\":\"core-1\",";
+
+const UNDER_OLD_KEY: &str = "\"key\":\"old\",\"session\":";
+
+// A line from its session on where it is under an old key, else from the member that says how its
+// device came; or that there is none.
 fn without_head(line: &str) -> Result<&str, Fail> {
     if line.is_empty() {
         return Ok("nothing\n");
     }
-    match line.strip_prefix(
-        "{\"time\":\"1970-01-01T00:00:00.000Z\",\"device\":\"d\",\"name\":\"core-1\",\"key\":\"old\",\
-         \"session\":",
-    ) {
-        Some(rest) => Ok(rest),
-        None => Err(Fail::from("no such line")),
-    }
+    let rest = line.strip_prefix(HEAD).ok_or("no such line")?;
+    Ok(rest.strip_prefix(UNDER_OLD_KEY).unwrap_or(rest))
 }
 
 impl Log for Few {
@@ -165,22 +166,20 @@ fn comes_each<W: Witness<Notice>>(
     Ok(())
 }
 
-// A device that came by its old key.
-fn origin(alloc: Global) -> Result<Origin, Fail> {
+// A device that came so.
+fn origin(alloc: Global, came_by: CameBy) -> Result<Origin, Fail> {
     let name = Name::read(b"core-1").ok_or("no name")?;
     Ok(Origin {
         device: Bytes::from_slice(alloc, b"d")?,
-        named: Some(Named {
-            name,
-            by_old_key: true,
-        }),
+        named: Some(Named { name, came_by }),
     })
 }
 
-// The same at a log that takes so many lines, by this clock.
+// The same of a device that came so, at a log that takes so many lines, by this clock.
 fn told_by<R, C: Clock>(
     rt: &R,
     clock: &C,
+    came_by: CameBy,
     lines: u64,
     told: &mut String,
     packets: &str,
@@ -193,7 +192,7 @@ where
     let few = Few::of(alloc, lines);
     let moments = Moments::new();
     let writer = LogWriter::new(&host, &few);
-    let mut log = DeviceLog::new(alloc, clock, &moments, writer, origin(alloc)?);
+    let mut log = DeviceLog::new(alloc, clock, &moments, writer, origin(alloc, came_by)?);
     comes_each(alloc, &mut log, &few, told, packets)
 }
 
@@ -203,7 +202,8 @@ where
     R: Abort + Wait + AllocGlobal + LogFiles,
 {
     let mut told = String::new(rt.alloc());
-    told_by(rt, &Host::at(rt, 0), lines, &mut told, packets)?;
+    let host = Host::at(rt, 0);
+    told_by(rt, &host, CameBy::OldKey, lines, &mut told, packets)?;
     assert_eq!(rt; told.as_str(), joined(rt.alloc(), wanted)?.as_str());
     Ok(())
 }
@@ -268,7 +268,7 @@ fn questions_write_nothing(rt: HostRuntime) -> Result<(), Fail> {
 #[test]
 fn questions_ask_for_no_time(rt: HostRuntime) -> Result<(), Fail> {
     let mut told = String::new(rt.alloc());
-    told_by(&rt, &Stopped, 1, &mut told, QUESTIONS)?;
+    told_by(&rt, &Stopped, CameBy::OldKey, 1, &mut told, QUESTIONS)?;
     assert_eq!(&rt; told.as_str(), "nothing\nnothing\nrefused\n");
     Ok(())
 }
@@ -299,4 +299,25 @@ fn a_refused_header_after_packets(rt: HostRuntime) -> Result<(), Fail> {
     is_told(&rt, 3, GIVEN_UP, &all)?;
     let cut = ["nothing", ABORTED, "nothing", NAMELESS, "refused"];
     is_told(&rt, 2, GIVEN_UP, &cut)
+}
+
+// A header of another major version.
+const OTHER_VERSION: &str = "d0010104.fedcba98.00000000 < none";
+
+const CAME_SO: &str = "\
+\"tls\":\"core-2\",\"session\":\"fedcba98\",\"type\":\"refused\",\"why\":\"bad header\"}
+\"tls\":null,\"session\":\"fedcba98\",\"type\":\"refused\",\"why\":\"bad header\"}
+\"session\":\"fedcba98\",\"type\":\"refused\",\"why\":\"bad header\"}
+";
+
+#[test]
+fn how_a_device_came(rt: HostRuntime) -> Result<(), Fail> {
+    let name = CommonName::read(b"core-2").ok_or("no name")?;
+    let host = Host::at(&rt, 0);
+    let mut told = String::new(rt.alloc());
+    for came_by in [CameBy::Tls(Some(name)), CameBy::Tls(None), CameBy::Key] {
+        told_by(&rt, &host, came_by, 1, &mut told, OTHER_VERSION)?;
+    }
+    assert_eq!(&rt; told.as_str(), CAME_SO);
+    Ok(())
 }

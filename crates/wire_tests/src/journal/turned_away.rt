@@ -8,8 +8,9 @@ use std::alloc::Global;
 use std::process::Abort;
 use std::test::Fail;
 use std::time::Clock;
-use tac_audit::{Named, Origin, WhyTurnedAway};
+use tac_audit::{CameBy, Named, Origin, WhyTurnedAway};
 use tac_journal::{Append, Refused, log_turned_away};
+use tac_proxy::CommonName;
 
 // What takes so many appends, and no more.
 #[derive(Drop)]
@@ -40,15 +41,12 @@ fn stranger(alloc: Global) -> Result<Origin, Fail> {
     })
 }
 
-// A device whose key isn't its old one.
-fn device(alloc: Global) -> Result<Origin, Fail> {
+// A device that came so.
+fn device(alloc: Global, came_by: CameBy) -> Result<Origin, Fail> {
     let name = Name::read(b"access").ok_or("no name")?;
     Ok(Origin {
         device: Bytes::from_slice(alloc, b"192.0.2.130:40000")?,
-        named: Some(Named {
-            name,
-            by_old_key: false,
-        }),
+        named: Some(Named { name, came_by }),
     })
 }
 
@@ -59,7 +57,8 @@ fn are_logged<C: Clock>(alloc: Global, clock: &C, log: &mut Few) -> Result<bool,
         return Ok(false);
     }
     let why = WhyTurnedAway::TooManyConnections;
-    Ok(log_turned_away(alloc, clock, log, device(alloc)?, why, 3).is_ok())
+    let crowd = device(alloc, CameBy::Key)?;
+    Ok(log_turned_away(alloc, clock, log, crowd, why, 3).is_ok())
 }
 
 // A log that takes so many lines has these then. It took all where they are both.
@@ -93,4 +92,54 @@ fn refused_connections(rt: HostRuntime) -> Result<(), Fail> {
     has(&rt, &host, 2, &[STRANGERS, CROWD])?;
     has(&rt, &host, 1, &[STRANGERS])?;
     has(&rt, &Stopped, 2, &[])
+}
+
+// What came at a proxy's socket, of which no address is known.
+fn proxy(alloc: Global) -> Result<Origin, Fail> {
+    Ok(Origin {
+        device: Bytes::from_slice(alloc, b"proxy")?,
+        named: None,
+    })
+}
+
+// Adds the line of one connection of this origin that was refused for this reason.
+fn logs_one<R>(rt: &R, log: &mut Few, origin: Origin, why: WhyTurnedAway) -> Result<(), Fail>
+where
+    R: AllocGlobal,
+{
+    match log_turned_away(rt.alloc(), &Host::at(rt, 1500), log, origin, why, 1) {
+        Ok(()) => Ok(()),
+        Err(Refused) => Err(Fail::from("refused")),
+    }
+}
+
+const BY_A_PROXY: &str = "\
+{\"time\":\"1970-01-01T00:00:01.500Z\",\"device\":\"192.0.2.130:40000\",\"name\":\"access\",\
+\"type\":\"refused\",\"why\":\"no key\",\"count\":1}
+{\"time\":\"1970-01-01T00:00:01.500Z\",\"device\":\"192.0.2.130:40000\",\"name\":\"access\",\
+\"tls\":null,\"type\":\"refused\",\"why\":\"no tls\",\"count\":1}
+{\"time\":\"1970-01-01T00:00:01.500Z\",\"device\":\"192.0.2.130:40000\",\"name\":\"access\",\
+\"tls\":\"core-1\",\"type\":\"refused\",\"why\":\"other certificate\",\"count\":1}
+{\"time\":\"1970-01-01T00:00:01.500Z\",\"device\":\"proxy\",\
+\"type\":\"refused\",\"why\":\"bad proxy header\",\"count\":1}
+";
+
+#[test]
+fn refusals_where_there_is_a_proxy(rt: HostRuntime) -> Result<(), Fail> {
+    let alloc = rt.alloc();
+    let name = CommonName::read(b"core-1").ok_or("no name")?;
+    let mut log = Few {
+        left: 4,
+        taken: Vec::new(alloc),
+    };
+    for (came_by, why) in [
+        (CameBy::Key, WhyTurnedAway::NoKey),
+        (CameBy::Tls(None), WhyTurnedAway::NoTls),
+        (CameBy::Tls(Some(name)), WhyTurnedAway::OtherCertificate),
+    ] {
+        logs_one(&rt, &mut log, device(alloc, came_by)?, why)?;
+    }
+    logs_one(&rt, &mut log, proxy(alloc)?, WhyTurnedAway::BadProxyHeader)?;
+    assert_eq!(&rt; str::from_utf8(log.taken.as_slice())?, BY_A_PROXY);
+    Ok(())
 }
