@@ -19,7 +19,9 @@ use Rattle.tac_net.specs.contracts.hashing.Hashing as Hashing
 use Rattle.tac_net.specs.contracts.intake.Arrival as Arrival
 use Rattle.tac_net.specs.contracts.intake.Inbox as Inbox
 use Rattle.tac_net.specs.contracts.intake.Intake as Intake
+use Rattle.tac_net.specs.contracts.listeners.Listeners as Listeners
 use Rattle.tac_net.specs.contracts.port.Port as Port
+use Rattle.tac_net.specs.contracts.proxy_socket.ProxySocket as ProxySocket
 use Rattle.tac_net.specs.contracts.settings.Settings as Settings
 use Rattle.tac_net.specs.contracts.vigil.Vigil as Vigil
 
@@ -46,6 +48,12 @@ Vigil-sync = search (crosses, sendable) depth 60
 
 pub Port-sync : IsSync Port.the_row
 Port-sync = search (crosses, sendable) depth 60
+
+pub ProxySocket-sync : IsSync ProxySocket.the_row
+ProxySocket-sync = search (crosses, sendable) depth 60
+
+pub Listeners-sync : IsSync Listeners.the_row
+Listeners-sync = search (Port-sync, ProxySocket-sync, crosses, sendable) depth 60
 
 pub Arrival-send : IsSend Arrival.the_row
 Arrival-send = search (crosses, sendable) depth 60

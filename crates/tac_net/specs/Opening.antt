@@ -1,21 +1,36 @@
 -- What a server prints at first, and the seats that it makes.
 use Rattle.std.specs.Prelude.{◌≡◌, ◌⊎◌, ℕ, List, [], ◌∷◌, ◌++◌, codes}
-use Rattle.std.specs.Prelude.{Option, Result, Ok, Err}
+use Rattle.std.specs.Prelude.{Option, Some, None, Result, Ok, Err}
 use Rattle.std.specs.Fmt.{decimal}
 use Rattle.std.specs.Io.KnownBytes.{Appends}
 use Rattle.tac_hall_console.specs.Operated.{WritesBeginning}
+use Rattle.tac_net.specs.declared.settings.Settings.{Settings}
 use Rattle.tac_net.specs.declared.fault.ServeFault.{ServeFault}
 use Rattle.tac_net.specs.declared.fault.ServeFault.TheVariants.{WriteFault, Memory, Descriptors}
 
-abbrev pub listening_line : ℕ → List ℕ
-listening_line port = codes "listening " ++ decimal port ++ 10 ∷ []
+-- a line for a place that is listened at
+abbrev pub listening_line : List ℕ → List ℕ
+listening_line place = codes "listening " ++ place ++ 10 ∷ []
 
--- the first line was written, or a beginning of it; or nothing, where memory ran out
-abbrev pub Announces : Result (Unit {0}) ServeFault → ℕ → Option (List ℕ) → Option (List ℕ) → Type 0
-Announces (Ok _) port old new = Appends old new (listening_line port)
-Announces (Err WriteFault) port old new = WritesBeginning (listening_line port) old new
-Announces (Err Memory) port old new = new ≡ old
-Announces (Err fault) port old new = ⊥
+abbrev pub port_line : Option ℕ → List ℕ
+port_line None = []
+port_line (Some port) = listening_line (decimal port)
+
+abbrev pub proxy_line : Option (List ℕ) → List ℕ
+proxy_line None = []
+proxy_line (Some path) = listening_line path
+
+-- where a server listens: the number of its port, and the path of its proxy's socket
+unfoldable pub listening : Settings → List ℕ
+listening settings = port_line settings.port ++ proxy_line settings.proxy
+
+-- the first lines were written, or a beginning of them; or nothing, where memory ran out
+abbrev pub Announces : Result (Unit {0}) ServeFault → List ℕ → Option (List ℕ)
+    → Option (List ℕ) → Type 0
+Announces (Ok _) lines old new = Appends old new lines
+Announces (Err WriteFault) lines old new = WritesBeginning lines old new
+Announces (Err Memory) lines old new = new ≡ old
+Announces (Err fault) lines old new = ⊥
 
 -- why workers have nothing to wait with
 abbrev pub IsUnready : ServeFault → Type 0

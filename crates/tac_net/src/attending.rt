@@ -2,6 +2,7 @@
 
 ghost use Rattle.std.specs.Prelude.{IfSome, IsSome};
 ghost use Rattle.tac_hall_console.specs.Operated.{IsOperated};
+ghost use Rattle.tac_net.specs.Opening.{listening};
 ghost use Rattle.tac_net.specs.Program as program;
 
 use crate::fault::ServeFault;
@@ -54,7 +55,7 @@ fn open_console<R, J: Run, D: Desk, L: Log, S: Source + Typists, I: Read, O: Wri
 ) -> Result<(Seat<J>, Result<(), OperatorFault>), ServeFault>
 where
     R: Wait + Clock + AllocGlobal + Eprint + LogFiles,
-    ensures { program.Attends result premises.now.settings.now.port J.opening console
+    ensures { program.Attends result (listening premises.now.settings.now) J.opening console
         (I.remaining input.old) (I.remaining input.new)
         (O.contents output.old) (O.contents output.new) }
 {
@@ -62,7 +63,7 @@ where
     if !premises.vigil.have_begun(rt, premises.settings.threads()) {
         return Err(ServeFault::Threads);
     }
-    announce(rt.alloc(), output, premises.settings.port)?;
+    announce(rt.alloc(), output, premises.settings)?;
     Ok(operate_logged(premises, source, console, input, output))
 }
 
@@ -77,7 +78,7 @@ fn attend_alone<R, J: Run, D: Desk, L: Log, S: Source + Typists, I: Read, O: Wri
 ) -> Result<(Seat<J>, Result<(), OperatorFault>), ServeFault>
 where
     R: Wait + Clock + AllocGlobal + Eprint + LogFiles,
-    ensures { program.Attends result premises.now.settings.now.port J.opening console
+    ensures { program.Attends result (listening premises.now.settings.now) J.opening console
         (I.remaining input.old) (I.remaining input.new)
         (O.contents output.old) (O.contents output.new) }
 {
@@ -85,7 +86,7 @@ where
     premises.vigil.stop();
     premises.hashing.end(premises.rt);
     premises.intake.wake_all();
-    premises.port.close();
+    premises.listeners.close();
     attended
 }
 
@@ -103,7 +104,7 @@ where
     C: Lent<Item = Seat<J>>,
     requires { IsSome (C.item console.old) }
     ensures { IfSome (C.item console.old) (λ seat.
-        program.Attends result premises.now.settings.now.port J.opening seat
+        program.Attends result (listening premises.now.settings.now) J.opening seat
         (I.remaining input.old) (I.remaining input.new)
         (O.contents output.old) (O.contents output.new)) }
 {
@@ -120,7 +121,7 @@ where
     let mut attending = || -> Result<(Seat<J>, Result<(), OperatorFault>), ServeFault>
         requires { IsSome (C.item console.now) }
         ensures { IfSome (C.item console.entry.now) (λ seat.
-            program.Attends result premises.entry.now.settings.now.port J.opening seat
+            program.Attends result (listening premises.entry.now.settings.now) J.opening seat
             (I.remaining input.entry.now) (I.remaining input.exit.now)
             (O.contents output.entry.now) (O.contents output.exit.now)) }
     {

@@ -1,23 +1,32 @@
 //! Which devices may call.
 
-ghost use Rattle.std.specs.Prelude.{◌≡◌, IfOk, IfSome, IfNone};
-ghost use Rattle.tac_net.specs.Callers.{HasNoneAt, IsCallerOf, IsFoundAt};
-ghost use Rattle.tac_net.specs.Callers.{IsDoorOf, IsKnownAt, IsStranger};
+ghost use Rattle.std.specs.Prelude.{◌≡◌, None, Some, is_some, IfOk, IfErr};
+ghost use Rattle.tac_net.specs.Callers as callers;
+ghost use Rattle.tac_net.specs.declared.callers.Callers.TheVariants.{Listed};
+ghost use Rattle.tac_net.specs.declared.peer.Way.TheVariants.{Proxy};
 
+use crate::clear_door::ClearDoor;
 use crate::directory::Directory;
+use crate::peer::Way;
 use std::alloc::{AllocError, Global};
 use std::net::IpAddr;
-use tac_audit::Named;
+use tac_audit::{CameBy, Named, WhyTurnedAway};
 use tac_devices::Device;
-use tac_first::{Shown, shown_by};
+use tac_first::{Keys, Shown, shown_by};
+use tac_proxy::CommonName;
 use tac_wire::{Door, KeyDoor};
 
-/// Which devices may call a server, and by which keys (RFC 8907, section 10.5).
+/// Which devices may call a server, and by which keys (RFC 8907, section 10.5) or certificates (RFC
+/// 9887, section 3).
 pub enum Callers {
-    /// Any device, wherever it is, by this key.
+    /// Any device at the port, wherever it is, by this key.
     Any(KeyDoor),
-    /// Those that are listed, each by its own key, or by an old one that it still has.
-    Listed(Directory),
+    /// Those that are listed: at the port each by its own key, or by an old one that it still has;
+    /// and by a proxy, where there is one, those with a certificate that is listed.
+    Listed {
+        directory: Directory,
+        proxy: Option<ClearDoor>,
+    },
 }
 
 // By hand, so that a proof of an owner has one call at each exit, not a drop of each field.
@@ -25,7 +34,10 @@ impl Drop for Callers {
     fn drop(self) {
         match self {
             Callers::Any(_) => {}
-            Callers::Listed(_) => {}
+            Callers::Listed {
+                directory: _,
+                proxy: _,
+            } => {}
         }
     }
 }
@@ -35,8 +47,17 @@ impl Drop for Callers {
 pub(crate) enum Found<'a> {
     /// Some device, which has this key as all have.
     Unlisted(&'a KeyDoor),
-    /// This one.
-    Known(&'a Device),
+    /// This one, by its keys.
+    Keyed(&'a Device, &'a Keys),
+    /// This one, inside TLS.
+    Certified(&'a Device, &'a ClearDoor),
+}
+
+/// Why a call is refused, and how lines name its device, if it is known.
+#[derive(Clone, Copy)]
+pub(crate) struct TurnedDown {
+    pub(crate) why: WhyTurnedAway,
+    pub(crate) named: Option<Named>,
 }
 
 /// Who calls: the door of its connection, and how lines of a log name it.
@@ -46,46 +67,103 @@ pub(crate) struct Caller<'a> {
     pub(crate) named: Option<Named>,
 }
 
-// A device that shows this of its keys. It has the present one where there is no old one.
-fn caller_by(device: &Device, shown: Shown) -> Caller<'_>
-    ensures { IsDoorOf device.now result.door.now result.named }
+fn named(device: &Device, came_by: CameBy) -> Option<Named>
+    ensures { result ≡ callers.named device.now came_by }
 {
-    match (shown, &device.keys.old) {
+    Some(Named {
+        name: device.name,
+        came_by,
+    })
+}
+
+fn named_by(device: &Device, way: &Way) -> Option<Named>
+    ensures { result ≡ callers.named_by device.now way.now }
+{
+    match way {
+        Way::Port => named(device, CameBy::Key),
+        Way::Proxy(name) => named(device, CameBy::Tls(*name)),
+    }
+}
+
+// A device that shows this of its keys. It has the present one where there is no old one.
+fn caller_by<'a>(device: &'a Device, keys: &'a Keys, shown: Shown) -> Caller<'a>
+    ensures { callers.IsDoorOfKeys device.now keys.now result.door.now result.named }
+{
+    match (shown, &keys.old) {
         (Shown::Old, Some(old)) => Caller {
             door: old.door(),
-            named: Some(Named {
-                name: device.name,
-                by_old_key: true,
-            }),
+            named: named(device, CameBy::OldKey),
         },
         _ => Caller {
-            door: device.keys.present.door(),
-            named: Some(Named {
-                name: device.name,
-                by_old_key: false,
-            }),
+            door: keys.present.door(),
+            named: named(device, CameBy::Key),
         },
     }
 }
 
+// How a device is found that comes by a proxy with such a certificate, or why it is refused.
+fn found_inside<'a>(
+    proxy: &'a Option<ClearDoor>,
+    device: &'a Device,
+    name: &Option<CommonName>,
+) -> Result<Found<'a>, WhyTurnedAway>
+    ensures found { IfOk result (λ found.
+        callers.IsFoundAs device.now (Proxy name.now) found) }
+    ensures may { IfOk result (λ _.
+        callers.refused_by_proxy (is_some proxy.now) device.now.tls name.now ≡ None) }
+    ensures refused { IfErr result (λ why.
+        callers.refused_by_proxy (is_some proxy.now) device.now.tls name.now ≡ Some why) }
+{
+    let Some(proxy) = proxy else {
+        return Err(WhyTurnedAway::NoTls);
+    };
+    let Some(tls) = &device.tls else {
+        return Err(WhyTurnedAway::NoTls);
+    };
+    if !tls.admits(name.as_ref()) {
+        return Err(WhyTurnedAway::OtherCertificate);
+    }
+    Ok(Found::Certified(device, proxy))
+}
+
+// How a device is found that comes this way, or why it is refused.
+fn found_as<'a>(
+    proxy: &'a Option<ClearDoor>,
+    device: &'a Device,
+    way: &Way,
+) -> Result<Found<'a>, WhyTurnedAway>
+    ensures found { IfOk result (λ found. callers.IsFoundAs device.now way.now found) }
+    ensures may { IfOk result (λ _.
+        callers.refusal_of (is_some proxy.now) device.now way.now ≡ None) }
+    ensures refused { IfErr result (λ why.
+        callers.refusal_of (is_some proxy.now) device.now way.now ≡ Some why) }
+{
+    match way {
+        Way::Port => match &device.secret {
+            Some(secret) => Ok(Found::Keyed(device, &secret.keys)),
+            None => Err(WhyTurnedAway::NoKey),
+        },
+        Way::Proxy(name) => found_inside(proxy, device, name),
+    }
+}
+
 impl<'a> Found<'a> {
-    /// How many connections its address may have at once, where that is listed.
-    pub(crate) fn connections(self) -> Option<u32> {
+    // The device, where it is listed.
+    fn device(self) -> Option<&'a Device> {
         match self {
             Found::Unlisted(_) => None,
-            Found::Known(device) => device.connections,
+            Found::Keyed(device, _) | Found::Certified(device, _) => Some(device),
         }
     }
 
-    /// How lines name it of which no connection is served.
-    pub(crate) fn named(self) -> Option<Named> {
-        match self {
-            Found::Unlisted(_) => None,
-            Found::Known(device) => Some(Named {
-                name: device.name,
-                by_old_key: false,
-            }),
-        }
+    /// How many connections its address may have at once, where that is listed.
+    pub(crate) fn connections(self) -> Option<u32> {
+        self.device()?.connections
+    }
+
+    /// How lines name it that comes this way, and of which no connection is served.
+    pub(crate) fn named(self, way: &Way) -> Option<Named> {
+        named_by(self.device()?, way)
     }
 
     /// Which of its keys is shown by what came on its connection so far. There is none while that
@@ -93,42 +171,62 @@ impl<'a> Found<'a> {
     /// out.
     pub(crate) fn shown_by(self, alloc: Global, bytes: &[u8]) -> Result<Option<Shown>, AllocError> {
         match self {
-            Found::Unlisted(_) => Ok(Some(Shown::Present)),
-            Found::Known(device) => shown_by(alloc, &device.keys, bytes),
+            Found::Unlisted(_) | Found::Certified(_, _) => Ok(Some(Shown::Present)),
+            Found::Keyed(_, keys) => shown_by(alloc, keys, bytes),
         }
     }
 
-    /// The same as one who calls, and shows this of its keys.
-    pub(crate) fn caller(self, shown: Shown) -> Caller<'a>
-        ensures { IsCallerOf self.entry result.door.now result.named }
+    /// The same as one who calls this way, and shows this of its keys.
+    pub(crate) fn caller(self, way: &Way, shown: Shown) -> Caller<'a>
+        ensures { callers.IsCallerOf self.entry way.now result.door.now result.named }
     {
         match self {
             Found::Unlisted(key) => Caller {
                 door: key.door(),
                 named: None,
             },
-            Found::Known(device) => caller_by(device, shown),
+            Found::Keyed(device, keys) => caller_by(device, keys, shown),
+            Found::Certified(device, proxy) => Caller {
+                door: proxy.door(),
+                named: named_by(device, way),
+            },
         }
     }
 }
 
-// The device at this address.
-fn find_listed<'a>(directory: &'a Directory, address: &IpAddr) -> Option<Found<'a>>
-    ensures found { IfSome result (IsKnownAt directory.now address.now) }
-    ensures none { IfNone result (HasNoneAt directory.now address.now) }
+// The device at this address, which comes this way, or why it is refused.
+fn find_listed<'a>(
+    directory: &'a Directory,
+    proxy: &'a Option<ClearDoor>,
+    address: &IpAddr,
+    way: &Way,
+) -> Result<Found<'a>, TurnedDown>
+    ensures found { IfOk result (λ found.
+        callers.IsFoundAt (Listed directory.now proxy.now) address.now way.now found) }
+    ensures refused { IfErr result (λ refused. callers.IsRefused (Listed directory.now proxy.now)
+        address.now way.now refused.why refused.named) }
 {
-    match directory.devices().find(address) {
-        Some(device) => Some(Found::Known(device)),
-        None => None,
+    let Some(device) = directory.devices().find(address) else {
+        return Err(TurnedDown {
+            why: WhyTurnedAway::UnknownDevice,
+            named: None,
+        });
+    };
+    match found_as(proxy, device, way) {
+        Ok(found) => Ok(found),
+        Err(why) => Err(TurnedDown {
+            why,
+            named: named_by(device, way),
+        }),
     }
 }
 
 impl Callers {
     /// How many devices are listed: none, where any may call.
     pub fn count(&self) -> usize {
-        match self {
-            Callers::Any(_) => 0,
-            Callers::Listed(directory) => directory.devices().as_slice().len(),
+        match self.directory() {
+            None => 0,
+            Some(directory) => directory.devices().as_slice().len(),
         }
     }
 
@@ -136,19 +234,28 @@ impl Callers {
     pub fn directory(&self) -> Option<&Directory> {
         match self {
             Callers::Any(_) => None,
-            Callers::Listed(directory) => Some(directory),
+            Callers::Listed { directory, .. } => Some(directory),
         }
     }
 
-    /// Who is found at this address, if a device may call from there. An IPv4 address that came as
-    /// IPv6 is looked up as IPv4. Linear in the prefixes that are listed; no memory.
-    pub(crate) fn find(&self, address: &IpAddr) -> Option<Found<'_>>
-        ensures found { IfSome result (IsFoundAt self.now address.now) }
-        ensures none { IfNone result (IsStranger self.now address.now) }
+    /// Who is found at this address that comes this way, if a device may call so; else why not. An
+    /// IPv4 address that came as IPv6 is looked up as IPv4. Linear in the prefixes that are listed;
+    /// no memory.
+    pub(crate) fn find(&self, address: &IpAddr, way: &Way) -> Result<Found<'_>, TurnedDown>
+        ensures found { IfOk result (λ found.
+            callers.IsFoundAt self.now address.now way.now found) }
+        ensures refused { IfErr result (λ refused.
+            callers.IsRefused self.now address.now way.now refused.why refused.named) }
     {
         match self {
-            Callers::Any(key) => Some(Found::Unlisted(key)),
-            Callers::Listed(directory) => find_listed(directory, address),
+            Callers::Any(key) => match way {
+                Way::Port => Ok(Found::Unlisted(key)),
+                Way::Proxy(_) => Err(TurnedDown {
+                    why: WhyTurnedAway::NoTls,
+                    named: None,
+                }),
+            },
+            Callers::Listed { directory, proxy } => find_listed(directory, proxy, address, way),
         }
     }
 }

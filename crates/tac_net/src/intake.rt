@@ -1,6 +1,7 @@
 //! Where new connections go.
 
 use crate::packet_memory::PacketMemory;
+use crate::peer::Peer;
 use crate::poller::{Poller, WOKEN};
 use crate::settings::Settings;
 use crate::turned_away::TurnedAway;
@@ -10,17 +11,19 @@ use mio::net::TcpStream;
 use std::alloc::Global;
 use std::io;
 use std::mem::swap;
-use std::net::{IpAddr, SocketAddr};
+use std::net::IpAddr;
 use std::sync::atomic::{AtomicU32, AtomicU64, Ordering};
 use std::sync::{Mutex, Wait};
 use tac_census::{Census, Refusal};
 use tac_status::{ConnectionCounts, Departure, Rejection};
 
-/// A connection that was accepted: its stream, and the address of its device.
+/// A connection that was accepted: its stream, who is at its other end, and what was read of it
+/// already, after what a proxy told.
 #[derive(Drop)]
 pub(crate) struct Arrival {
     pub(crate) stream: TcpStream,
-    pub(crate) address: SocketAddr,
+    pub(crate) peer: Peer,
+    pub(crate) begun: Vec<u8>,
 }
 
 /// What one worker is handed, and what wakes it.
@@ -139,7 +142,7 @@ impl Intake {
         if at == 0 {
             return Some(arrival);
         }
-        let address = arrival.address.ip();
+        let address = arrival.peer.address.ip();
         let is_handed = match self.inboxes.get(at) {
             Some(inbox) => inbox.hand(rt, arrival),
             None => false,
@@ -188,7 +191,7 @@ impl Intake {
         arrival: Arrival,
         most: u32,
     ) -> Result<Option<Arrival>, Rejection> {
-        let (at, inbox) = self.admit(rt, arrival.address.ip(), most)?;
+        let (at, inbox) = self.admit(rt, arrival.peer.address.ip(), most)?;
         counts.accept();
         inbox.count();
         let own = self.hand(rt, counts, at, arrival);

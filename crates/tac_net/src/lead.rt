@@ -3,9 +3,9 @@
 use crate::callers::Callers;
 use crate::packet_memory::{PacketMemory, PacketShare};
 use crate::patience::{Idle, Patience};
+use crate::peer::Peer;
 use std::alloc::{AllocError, Global};
 use std::io::{ErrorKind, Read};
-use std::net::SocketAddr;
 use tac_first::Shown;
 use tac_status::Departure;
 use tac_worker::Chunk;
@@ -20,8 +20,7 @@ const READS: u32 = 32;
 #[derive(Drop)]
 pub struct Lead<'a, S> {
     pub(crate) stream: S,
-    /// The address and the port of its device.
-    pub(crate) address: SocketAddr,
+    pub(crate) peer: Peer,
     pub(crate) patience: Patience,
     pub(crate) share: PacketShare<'a>,
     pub(crate) begun: Vec<u8>,
@@ -32,21 +31,23 @@ fn by_memory(_error: AllocError) -> Departure {
 }
 
 impl<'a, S> Lead<'a, S> {
-    /// One that was accepted now from this address, on which nothing came. It takes no memory until
-    /// something does.
+    /// One that was accepted now, on which this came: no more than a share of the memory has for
+    /// nothing.
     pub fn new(
-        alloc: Global,
         stream: S,
-        address: SocketAddr,
+        peer: Peer,
+        begun: Vec<u8>,
         memory: &'a PacketMemory,
         now: Option<u64>,
     ) -> Lead<'a, S> {
+        let mut share = PacketShare::new(memory);
+        let _ = share.grow(begun.len());
         Lead {
             stream,
-            address,
+            peer,
             patience: Patience::accepted(now),
-            share: PacketShare::new(memory),
-            begun: Vec::new(alloc),
+            share,
+            begun,
         }
     }
 
@@ -57,7 +58,7 @@ impl<'a, S> Lead<'a, S> {
 
     // Which of its device's keys it has, as far as what came shows it.
     fn shown(&self, alloc: Global, callers: &Callers) -> Result<Option<Shown>, Departure> {
-        let Some(found) = callers.find(&self.address.ip()) else {
+        let Ok(found) = callers.find(&self.peer.address.ip(), &self.peer.way) else {
             return Err(Departure::Unlisted);
         };
         found

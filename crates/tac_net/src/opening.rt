@@ -1,18 +1,21 @@
-//! The opening of a server: its seats, and its first line.
+//! The opening of a server: its seats, and its first lines.
 
-ghost use Rattle.std.specs.Prelude.{◌≡◌, length, All, IfOk, IfErr};
+ghost use Rattle.std.specs.Prelude.{◌≡◌, ◌++◌, length, All, IfOk, IfErr, OnOk};
 ghost use Rattle.tac_forum.specs.Seat.{IsFresh};
 ghost use Rattle.tac_net.specs.Opening as opening;
 
-use crate::acceptor::Acceptor;
+use crate::acceptor::{Acceptor, Entrance};
 use crate::fault::ServeFault;
 use crate::intake::Intake;
-use crate::poller::Poller;
+use crate::listeners::Listeners;
+use crate::poller::{CALLED, CALLED_BY_PROXY, Poller};
 use crate::port::Port;
+use crate::proxy_socket::ProxySocket;
 use crate::settings::Settings;
 use crate::worker::{Place, Waits};
-use basics::send;
-use std::alloc::Global;
+use basics::{Bytes, send};
+use mio::net::{TcpListener, UnixListener};
+use std::alloc::{AllocError, Global};
 use std::io::{self, Write};
 use std::net::Net;
 use std::sync::Wait;
@@ -20,8 +23,31 @@ use tac_desk::Desk;
 use tac_forum::{Run, SharedDesk};
 use tac_hall::HallFault;
 
-// What a worker waits with, the first one also for calls at the port.
-fn wait_of<R: Net>(rt: &R, alloc: Global, port: &Port, at: u32) -> io::Result<Waits> {
+// The port, if there is one, as the worker has it that waits with this for calls there.
+fn port_of(poller: &Poller, port: &Option<Port>) -> io::Result<Option<Entrance<TcpListener>>> {
+    let Some(port) = port else {
+        return Ok(None);
+    };
+    let mut listener = port.listener()?;
+    poller.register_listener(&mut listener, CALLED)?;
+    Ok(Some(Entrance::new(listener)))
+}
+
+// The same of the proxy's socket.
+fn proxy_of(
+    poller: &Poller,
+    proxy: &Option<ProxySocket>,
+) -> io::Result<Option<Entrance<UnixListener>>> {
+    let Some(proxy) = proxy else {
+        return Ok(None);
+    };
+    let mut listener = proxy.listener()?;
+    poller.register_listener(&mut listener, CALLED_BY_PROXY)?;
+    Ok(Some(Entrance::new(listener)))
+}
+
+// What a worker waits with, the first one also for calls.
+fn wait_of<R: Net>(rt: &R, alloc: Global, listeners: &Listeners, at: u32) -> io::Result<Waits> {
     let poller = Poller::new(rt, alloc)?;
     if at > 0 {
         return Ok(Waits {
@@ -29,11 +55,11 @@ fn wait_of<R: Net>(rt: &R, alloc: Global, port: &Port, at: u32) -> io::Result<Wa
             acceptor: None,
         });
     }
-    let mut listener = port.listener()?;
-    poller.register_listener(&mut listener)?;
+    let port = port_of(&poller, &listeners.port)?;
+    let proxy = proxy_of(&poller, &listeners.proxy)?;
     Ok(Waits {
         poller,
-        acceptor: Some(Acceptor::new(listener)),
+        acceptor: Some(Acceptor::new(alloc, port, proxy)),
     })
 }
 
@@ -42,7 +68,7 @@ fn wait_of<R: Net>(rt: &R, alloc: Global, port: &Port, at: u32) -> io::Result<Wa
 pub(crate) fn waits_of<R: Net>(
     rt: &R,
     alloc: Global,
-    port: &Port,
+    listeners: &Listeners,
     settings: &Settings,
 ) -> Result<(Intake, Vec<Waits>), ServeFault>
     ensures count { IfOk result (λ made. length made.1.items ≡ settings.now.workers) }
@@ -51,7 +77,7 @@ pub(crate) fn waits_of<R: Net>(
     let mut intake = Intake::new(alloc, settings);
     let mut waits = Vec::new(alloc);
     'workers: for at in 0..settings.workers {
-        let wait = wait_of(rt, alloc, port, at)?;
+        let wait = wait_of(rt, alloc, listeners, at)?;
         intake.add(alloc, &wait.poller, settings.connections)?;
         waits.push(wait)?;
     }
@@ -77,15 +103,53 @@ pub(crate) fn places_of<R: Wait, J: Run, D: Desk>(
     Ok(places)
 }
 
-/// Prints which port is listened on.
-pub(crate) fn announce<W: Write>(alloc: Global, output: &mut W, port: u16) -> Result<(), ServeFault>
-    ensures { opening.Announces result port (W.contents output.old) (W.contents output.new) }
+// The line of a port that is listened on, if there is one.
+fn push_port(lines: &mut Vec<u8>, port: Option<u16>) -> io::Result<()>
+    ensures { OnOk result (lines.new.items ≡ lines.old.items ++ opening.port_line port) }
 {
-    let mut line = Vec::new(alloc);
-    if let Err(_) = writeln!(line, "listening {port}") {
-        return Err(ServeFault::Memory);
+    if let Some(port) = port {
+        writeln!(lines, "listening {port}")?;
     }
-    let (_, sent) = send(output, line.as_slice());
+    Ok(())
+}
+
+// The line of a proxy's socket, if there is one.
+fn push_proxy(lines: &mut Vec<u8>, proxy: &Option<Bytes>) -> Result<(), AllocError>
+    ensures { OnOk result (lines.new.items ≡ lines.old.items ++ opening.proxy_line proxy.now) }
+{
+    if let Some(path) = proxy {
+        lines.extend_from_slice(b"listening ")?;
+        lines.extend_from_slice(path.as_slice())?;
+        lines.push(b'\n')?;
+    }
+    Ok(())
+}
+
+// A line for each place that is listened at. Where a vector is written to, an error means that
+// memory ran out.
+#[tactic(auto, unfolding(crate::specs::Opening::listening))]
+fn lines_of(alloc: Global, settings: &Settings) -> Result<Vec<u8>, AllocError>
+    ensures { IfOk result (λ lines. lines.items ≡ opening.listening settings.now) }
+{
+    let mut lines = Vec::new(alloc);
+    if push_port(&mut lines, settings.port).is_err() {
+        return Err(AllocError);
+    }
+    push_proxy(&mut lines, &settings.proxy)?;
+    Ok(lines)
+}
+
+/// Prints where the server listens.
+pub(crate) fn announce<W: Write>(
+    alloc: Global,
+    output: &mut W,
+    settings: &Settings,
+) -> Result<(), ServeFault>
+    ensures { opening.Announces result (opening.listening settings.now)
+        (W.contents output.old) (W.contents output.new) }
+{
+    let lines = lines_of(alloc, settings)?;
+    let (_, sent) = send(output, lines.as_slice());
     match sent {
         Ok(()) => Ok(()),
         Err(_) => Err(ServeFault::WriteFault),

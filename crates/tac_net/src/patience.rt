@@ -4,7 +4,7 @@ ghost use Rattle.std.specs.Prelude.{◌≡◌, is_some};
 ghost use Rattle.tac_net.specs.Patience as patience;
 
 /// How long a device is borne with before its first reply, in milliseconds.
-const FIRST_IDLE: u64 = 10_000;
+pub(crate) const FIRST_IDLE: u64 = 10_000;
 
 /// Milliseconds of a second.
 const SECOND: u64 = 1_000;

@@ -1,6 +1,6 @@
 //! Waiting until something is to be done.
 
-use mio::net::TcpListener;
+use mio::event::Source;
 use mio::unix::SourceFd;
 use mio::{Events, Interest, Poll, Registry, Token};
 use std::alloc::Global;
@@ -13,12 +13,18 @@ use std::time::{Clock, Duration};
 /// What an event of a wake has for a key.
 pub(crate) const WOKEN: Token = Token(usize::MAX);
 
-/// What an event of the listener has for a key.
+/// What an event of the port has for a key.
 pub(crate) const CALLED: Token = Token(usize::MAX - 1);
 
+/// What an event of the proxy's socket has for a key.
+pub(crate) const CALLED_BY_PROXY: Token = Token(usize::MAX - 2);
+
 /// What the keys of connections have in common of which the first packet is awaited, and no others
-/// but the two above.
+/// but the three above.
 const LEAD: usize = usize::MAX / 2 + 1;
+
+/// The same of those of which a proxy's header is awaited.
+const GREETING: usize = usize::MAX / 4 + 1;
 
 /// How many events one wait tells at most.
 const MOST_EVENTS: usize = 256;
@@ -44,6 +50,20 @@ pub(crate) fn lead_of(key: usize) -> Option<usize> {
     Some(key & !LEAD)
 }
 
+/// The key for a wait of the connection under this key among those of which a proxy's header is
+/// awaited.
+pub(crate) fn greeting_key(key: usize) -> usize {
+    GREETING | key
+}
+
+/// The key among these of what an event has for a key, if it is of one of them.
+pub(crate) fn greeting_of(key: usize) -> Option<usize> {
+    if key & LEAD != 0 || key & GREETING == 0 {
+        return None;
+    }
+    Some(key & !GREETING)
+}
+
 // What a wait is to tell of a socket, which waits for room to write or not.
 fn interests(is_full: bool) -> Interest {
     if is_full {
@@ -66,10 +86,13 @@ impl Poller {
         self.poll.registry()
     }
 
-    /// From now on a wait tells when connections wait at this listener.
-    pub(crate) fn register_listener(&self, listener: &mut TcpListener) -> io::Result<()> {
-        self.registry()
-            .register(listener, CALLED, Interest::READABLE)
+    /// From now on a wait tells, by this key, when connections wait at this listener.
+    pub(crate) fn register_listener<S: Source>(
+        &self,
+        listener: &mut S,
+        key: Token,
+    ) -> io::Result<()> {
+        self.registry().register(listener, key, Interest::READABLE)
     }
 
     /// From now on a wait tells, by this key, when this socket may be read, and when it may be
@@ -95,6 +118,12 @@ impl Poller {
         let descriptor = socket.as_raw_fd();
         self.registry()
             .reregister(&mut SourceFd(&descriptor), Token(key), interests(is_full))
+    }
+
+    /// From now on a wait tells nothing of this socket.
+    pub(crate) fn deregister<S: AsRawFd>(&self, socket: &S) -> io::Result<()> {
+        let descriptor = socket.as_raw_fd();
+        self.registry().deregister(&mut SourceFd(&descriptor))
     }
 
     /// Waits so long at most.

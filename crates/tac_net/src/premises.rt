@@ -2,7 +2,7 @@
 
 use crate::hashing::Hashing;
 use crate::intake::Intake;
-use crate::port::Port;
+use crate::listeners::Listeners;
 use crate::settings::Settings;
 use crate::vigil::Vigil;
 use tac_desk::Desk;
@@ -13,7 +13,7 @@ use tac_status::Counts;
 #[derive(Clone, Copy)]
 pub(crate) struct Premises<'a, R, J: Run, D: Desk, L> {
     pub(crate) rt: &'a R,
-    pub(crate) port: &'a Port,
+    pub(crate) listeners: &'a Listeners,
     pub(crate) desk: &'a SharedDesk<J, D>,
     pub(crate) settings: &'a Settings,
     pub(crate) vigil: &'a Vigil,

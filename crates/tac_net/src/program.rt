@@ -3,6 +3,7 @@
 ghost use Rattle.std.specs.Prelude.{◌≡◌, map, IfOk, IfSome, IsSome};
 ghost use Rattle.pol_pattern.specs.Matching.{MatchLaw};
 ghost use Rattle.tac_net.specs.Connections.{HasServed, HaveAllServed};
+ghost use Rattle.tac_net.specs.Opening.{listening};
 ghost use Rattle.tac_net.specs.Program as program;
 
 use crate::attending::attend;
@@ -11,8 +12,8 @@ use crate::fault::ServeFault;
 use crate::files::ServerFiles;
 use crate::hashing::Hashing;
 use crate::lent::Lent;
+use crate::listeners::Listeners;
 use crate::opening::{places_of, waits_of};
-use crate::port::Port;
 use crate::premises::Premises;
 use crate::settings::Settings;
 use crate::vigil::Vigil;
@@ -44,7 +45,7 @@ where
 {
     let Premises {
         rt,
-        port,
+        listeners,
         desk,
         settings,
         vigil,
@@ -59,7 +60,7 @@ where
     {
         let premises = Premises {
             rt,
-            port,
+            listeners,
             desk,
             settings,
             vigil,
@@ -98,13 +99,13 @@ where
         premises.now.settings.now.connections)
         (map (λ place. place.seat) waiting.items) served.items)) }
     ensures attended { IfSome (C.item console.old) (λ seat.
-        program.Attends result.1 premises.now.settings.now.port J.opening seat
+        program.Attends result.1 (listening premises.now.settings.now) J.opening seat
         (I.remaining input.old) (I.remaining input.new)
         (O.contents output.old) (O.contents output.new)) }
 {
     let Premises {
         rt,
-        port,
+        listeners,
         desk,
         settings,
         vigil,
@@ -124,7 +125,7 @@ where
             Some(places) => {
                 let premises = Premises {
                     rt,
-                    port,
+                    listeners,
                     desk,
                     settings,
                     vigil,
@@ -134,7 +135,7 @@ where
                     counts,
                 };
                 let served = serve_places(&premises, places);
-                port.leave();
+                listeners.leave();
                 served
             }
             None => unreachable!(),
@@ -143,7 +144,7 @@ where
     let mut attending = || -> Result<(Seat<J>, Result<(), OperatorFault>), ServeFault>
         requires { IsSome (C.item console.now) }
         ensures { IfSome (C.item console.entry.now) (λ seat.
-            program.Attends result premises.entry.now.settings.now.port J.opening seat
+            program.Attends result (listening premises.entry.now.settings.now) J.opening seat
             (I.remaining input.entry.now) (I.remaining input.exit.now)
             (O.contents output.entry.now) (O.contents output.exit.now)) }
     { attend(premises, source, console, input, output) };
@@ -159,7 +160,7 @@ struct NewDesk<D: Desk> {
 // Serves a desk of this run.
 fn serve_run<J, R, D: Desk + Send, L: Log + Sync, S: Source + Typists, I: Read, O: Write>(
     rt: &R,
-    port: &Port,
+    listeners: &Listeners,
     desk: NewDesk<D>,
     settings: &Settings,
     files: &ServerFiles<'_, L, S>,
@@ -179,7 +180,7 @@ where
     let NewDesk { history, desk } = desk;
     let room = Vec::with_capacity(rt.alloc(), settings.workers as usize + 1)?;
     let vigil = Vigil::new();
-    let (intake, waits) = waits_of(rt, rt.alloc(), port, settings)?;
+    let (intake, waits) = waits_of(rt, rt.alloc(), listeners, settings)?;
     let hashing = Hashing::new(rt.alloc())?;
     let desk = SharedDesk::<J, D>::new(history, desk, settings.limits);
     let Ok(console) = desk.seat(rt) else {
@@ -194,7 +195,7 @@ where
     let mut console = Some(console);
     let premises = Premises {
         rt,
-        port,
+        listeners,
         desk: &desk,
         settings,
         vigil: &vigil,
@@ -250,7 +251,7 @@ where
 /// There may be 63 workers: a desk has 64 seats, and the console takes one.
 pub fn serve<R, D: Desk + Send, L: Log + Sync, S: Source + Typists, I: Read, O: Write>(
     rt: &R,
-    port: &Port,
+    listeners: &Listeners,
     desk: D,
     settings: &Settings,
     files: &ServerFiles<'_, L, S>,
@@ -269,5 +270,5 @@ where
 {
     let history = EmptyHistory::new(rt.alloc())?;
     let desk = NewDesk { history, desk };
-    serve_run::<Brand, R, D, L, S, I, O>(rt, port, desk, settings, files, input, output)
+    serve_run::<Brand, R, D, L, S, I, O>(rt, listeners, desk, settings, files, input, output)
 }

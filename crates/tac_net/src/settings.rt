@@ -2,14 +2,17 @@
 
 use crate::callers::Callers;
 use crate::patience::Idle;
+use basics::Bytes;
 use tac_forum::Limits;
 
 /// Whom a server serves, and how much.
 #[derive(Drop)]
 pub struct Settings {
-    /// The number of the port that is listened on, which is printed.
-    pub port: u16,
-    /// Which devices may call, each by the key that it shares with the server.
+    /// The number of the port that is listened on, if there is one, which is printed.
+    pub port: Option<u16>,
+    /// The path of the socket at which a proxy calls, if there is one, which is printed.
+    pub proxy: Option<Bytes>,
+    /// Which devices may call, each by the key that it shares with the server, or by a proxy.
     pub callers: Callers,
     /// How many workers it has, each with a seat and a thread of its own. Each serves many
     /// connections at once.

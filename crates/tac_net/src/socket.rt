@@ -57,14 +57,14 @@ impl<'a, S, C: Clock> Socket<'a, S, C> {
     ) -> Socket<'a, S, C> {
         let Lead {
             stream,
-            address,
+            peer,
             patience,
             share,
             begun,
         } = lead;
         Socket {
             stream,
-            address: address.ip(),
+            address: peer.address.ip(),
             door,
             clock,
             patience,

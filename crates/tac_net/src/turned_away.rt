@@ -1,17 +1,20 @@
 //! Connections that are closed as soon as they come.
 
-use crate::callers::Found;
+use crate::callers::TurnedDown;
 use crate::hush::{COMPLAINT_PAUSE, Hush};
 use crate::premises::Premises;
 use crate::witness::origin_of;
-use std::net::{IpAddr, SocketAddr};
+use basics::Bytes;
+use std::alloc::{AllocError, Global};
+use std::net::SocketAddr;
 use std::sync::Wait;
 use std::sync::atomic::{AtomicU64, Ordering};
 use std::time::Clock;
-use tac_audit::{Named, WhyTurnedAway};
+use tac_audit::{Named, Origin, WhyTurnedAway};
 use tac_desk::Desk;
 use tac_forum::Run;
 use tac_journal::{Log, LogFiles, LogWriter, log_turned_away};
+use tac_status::Rejection;
 
 /// How long the log isn't told again, in milliseconds.
 const LINE_PAUSE: u64 = 1_000;
@@ -45,17 +48,36 @@ impl Untold {
 /// it alone adds to this.
 #[derive(Drop)]
 pub(crate) struct TurnedAway {
-    unknown: Untold,
+    unknown_device: Untold,
+    no_key: Untold,
+    no_tls: Untold,
+    other_certificate: Untold,
+    bad_header: Untold,
     crowded: Untold,
     complaints: Hush,
+}
+
+// Where a refused connection came from: a device's address, or a proxy that told none.
+fn origin(
+    alloc: Global,
+    address: Option<SocketAddr>,
+    named: Option<Named>,
+) -> Result<Origin, AllocError> {
+    match address {
+        Some(address) => origin_of(alloc, address, named),
+        None => Ok(Origin {
+            device: Bytes::from_slice(alloc, b"proxy")?,
+            named,
+        }),
+    }
 }
 
 // Adds a line to the log, if one is kept. It doesn't matter whether that took it: its device is
 // sent nothing.
 fn log<R, J: Run, D: Desk, L: Log>(
     premises: &Premises<'_, R, J, D, L>,
-    (address, named): (SocketAddr, Option<Named>),
-    why: WhyTurnedAway,
+    address: Option<SocketAddr>,
+    refused: TurnedDown,
     count: u64,
 )
 where
@@ -65,9 +87,33 @@ where
     if !premises.log.is_kept() {
         return;
     }
-    if let Ok(origin) = origin_of(rt.alloc(), address, named) {
+    if let Ok(origin) = origin(rt.alloc(), address, refused.named) {
         let mut log = LogWriter::new(rt, premises.log);
-        let _ = log_turned_away(rt.alloc(), rt, &mut log, origin, why, count);
+        let _ = log_turned_away(rt.alloc(), rt, &mut log, origin, refused.why, count);
+    }
+}
+
+// What is counted of connections that are refused for this reason.
+fn rejection(why: WhyTurnedAway) -> Rejection {
+    match why {
+        WhyTurnedAway::UnknownDevice => Rejection::UnknownDevice,
+        WhyTurnedAway::NoKey => Rejection::NoKey,
+        WhyTurnedAway::NoTls => Rejection::NoTls,
+        WhyTurnedAway::OtherCertificate => Rejection::OtherCertificate,
+        WhyTurnedAway::BadProxyHeader => Rejection::BadProxyHeader,
+        WhyTurnedAway::TooManyConnections => Rejection::PerAddress,
+    }
+}
+
+// What standard error is told of it.
+fn complaint(why: WhyTurnedAway) -> &'static str {
+    match why {
+        WhyTurnedAway::UnknownDevice => "unknown device",
+        WhyTurnedAway::NoKey => "the device has no key",
+        WhyTurnedAway::NoTls => "the device may not come by a proxy",
+        WhyTurnedAway::OtherCertificate => "the device has a certificate of another name",
+        WhyTurnedAway::BadProxyHeader => "bad proxy header",
+        WhyTurnedAway::TooManyConnections => "too many connections",
     }
 }
 
@@ -75,58 +121,102 @@ impl TurnedAway {
     /// Nothing was to be said yet.
     pub(crate) fn new() -> TurnedAway {
         TurnedAway {
-            unknown: Untold::new(),
+            unknown_device: Untold::new(),
+            no_key: Untold::new(),
+            no_tls: Untold::new(),
+            other_certificate: Untold::new(),
+            bad_header: Untold::new(),
             crowded: Untold::new(),
             complaints: Hush::new(COMPLAINT_PAUSE),
         }
     }
 
-    // Says that a device is unknown that called from this address, once a minute at most.
-    fn complain<R: Clock + Eprint>(&self, rt: &R, address: IpAddr) {
-        if self.complaints.breaks(rt) {
-            // as a devices' file has it
-            let address = address.to_canonical();
-            let _ = eprintln!(rt; "tacd: {address}: unknown device, its connection is closed");
+    fn untold(&self, why: WhyTurnedAway) -> &Untold {
+        match why {
+            WhyTurnedAway::UnknownDevice => &self.unknown_device,
+            WhyTurnedAway::NoKey => &self.no_key,
+            WhyTurnedAway::NoTls => &self.no_tls,
+            WhyTurnedAway::OtherCertificate => &self.other_certificate,
+            WhyTurnedAway::BadProxyHeader => &self.bad_header,
+            WhyTurnedAway::TooManyConnections => &self.crowded,
         }
     }
 
-    /// A device is unknown that called from this address.
-    pub(crate) fn unknown<R, J: Run, D: Desk, L: Log>(
+    // Says why a connection is closed, once a minute at most.
+    fn complain<R: Clock + Eprint>(&self, rt: &R, address: Option<SocketAddr>, why: WhyTurnedAway) {
+        if !self.complaints.breaks(rt) {
+            return;
+        }
+        let why = complaint(why);
+        let _ = match address {
+            Some(address) => {
+                // as a devices' file has it
+                let address = address.ip().to_canonical();
+                eprintln!(rt; "tacd: {address}: {why}, its connection is closed")
+            }
+            None => eprintln!(rt; "tacd: proxy: {why}, its connection is closed"),
+        };
+    }
+
+    // Tells the log, once a second at most for each reason.
+    fn tell<R, J: Run, D: Desk, L: Log>(
         &self,
         premises: &Premises<'_, R, J, D, L>,
-        address: SocketAddr,
+        address: Option<SocketAddr>,
+        refused: TurnedDown,
     )
     where
         R: Wait + Clock + AllocGlobal + Eprint + LogFiles,
     {
-        self.complain(premises.rt, address.ip());
-        if let Some(count) = self.unknown.add(premises.rt) {
-            log(
-                premises,
-                (address, None),
-                WhyTurnedAway::UnknownDevice,
-                count,
-            );
+        premises.counts.connections.reject(rejection(refused.why));
+        if let Some(count) = self.untold(refused.why).add(premises.rt) {
+            log(premises, address, refused, count);
         }
+    }
+
+    /// A device may not call so from this address.
+    pub(crate) fn refuse<R, J: Run, D: Desk, L: Log>(
+        &self,
+        premises: &Premises<'_, R, J, D, L>,
+        address: SocketAddr,
+        refused: TurnedDown,
+    )
+    where
+        R: Wait + Clock + AllocGlobal + Eprint + LogFiles,
+    {
+        self.complain(premises.rt, Some(address), refused.why);
+        self.tell(premises, Some(address), refused);
+    }
+
+    /// What a proxy told first is no header.
+    pub(crate) fn refuse_header<R, J: Run, D: Desk, L: Log>(
+        &self,
+        premises: &Premises<'_, R, J, D, L>,
+    )
+    where
+        R: Wait + Clock + AllocGlobal + Eprint + LogFiles,
+    {
+        let why = WhyTurnedAway::BadProxyHeader;
+        self.complain(premises.rt, None, why);
+        self.tell(premises, None, TurnedDown { why, named: None });
     }
 
     /// There are as many connections of this address as may be of one. The log is told only of a
-    /// device that is listed.
-    pub(crate) fn crowded<R, J: Run, D: Desk, L: Log>(
+    /// device that is listed, and so named.
+    pub(crate) fn crowd_out<R, J: Run, D: Desk, L: Log>(
         &self,
         premises: &Premises<'_, R, J, D, L>,
         address: SocketAddr,
-        found: Found<'_>,
+        named: Option<Named>,
     )
     where
         R: Wait + Clock + AllocGlobal + Eprint + LogFiles,
     {
-        let Some(named) = found.named() else {
+        if named.is_none() {
+            premises.counts.connections.reject(Rejection::PerAddress);
             return;
-        };
-        if let Some(count) = self.crowded.add(premises.rt) {
-            let why = WhyTurnedAway::TooManyConnections;
-            log(premises, (address, Some(named)), why, count);
         }
+        let why = WhyTurnedAway::TooManyConnections;
+        self.tell(premises, Some(address), TurnedDown { why, named });
     }
 }

@@ -2,7 +2,7 @@
 
 ghost use Rattle.std.specs.Prelude.{◌≡◌, IfSome, IfNone};
 ghost use Rattle.std.specs.Net.Socket.{socket_ip};
-ghost use Rattle.tac_net.specs.Callers.{IsStranger, MayCall};
+ghost use Rattle.tac_net.specs.Callers.{MayCall, MayNotCall};
 ghost use Rattle.tac_net.specs.Connections.{HasServed};
 
 use crate::acceptor::Acceptor;
@@ -10,7 +10,8 @@ use crate::callers::Caller;
 use crate::departing::{Parting, departure};
 use crate::intake::Arrival;
 use crate::lead::Lead;
-use crate::poller::{CALLED, Poller, WOKEN, lead_key, lead_of};
+use crate::peer::Peer;
+use crate::poller::{CALLED, CALLED_BY_PROXY, Poller, WOKEN, greeting_of, lead_key, lead_of};
 use crate::premises::Premises;
 use crate::socket::{Socket, now};
 use crate::visits::Visits;
@@ -21,7 +22,7 @@ use slab::Slab;
 use std::collections::VecDeque;
 use std::marker::Model;
 use std::mem::replace;
-use std::net::{IpAddr, SocketAddr};
+use std::net::IpAddr;
 use std::sync::Wait;
 use std::time::{Clock, Duration};
 use tac_audit::Named;
@@ -113,22 +114,26 @@ fn terms_by<'a, R: AllocGlobal, J: Run, D: Desk, L>(
     }
 }
 
-// By what a connection from this address is served that shows this of its device's keys, and how
-// lines name it, if a device may call from there.
+// By what a connection of this peer is served that shows this of its device's keys, and how lines
+// name it, if a device may call so from there.
 fn terms_of<'a, R: AllocGlobal, J: Run, D: Desk, L>(
     premises: &Premises<'a, R, J, D, L>,
-    address: SocketAddr,
+    peer: Peer,
     shown: Shown,
 ) -> Option<(Terms<'a, R, OpenGate>, Option<Named>)>
     ensures some { IfSome result (λ found. MayCall premises.now.settings.now.callers
-        (socket_ip address) found.0.door.now found.1) }
-    ensures none { IfNone result
-        (IsStranger premises.now.settings.now.callers (socket_ip address)) }
+        (socket_ip peer.address) peer.way found.0.door.now found.1) }
+    ensures none { IfNone result (MayNotCall premises.now.settings.now.callers
+        (socket_ip peer.address) peer.way) }
 {
-    let Some(found) = premises.settings.callers.find(&address.ip()) else {
+    let Ok(found) = premises
+        .settings
+        .callers
+        .find(&peer.address.ip(), &peer.way)
+    else {
         return None;
     };
-    let Caller { door, named } = found.caller(shown);
+    let Caller { door, named } = found.caller(&peer.way, shown);
     Some((terms_by(premises, door), named))
 }
 
@@ -313,7 +318,7 @@ where
             counts,
             ..
         } = *self.premises;
-        let Some((terms, named)) = terms_of(self.premises, lead.address, shown) else {
+        let Some((terms, named)) = terms_of(self.premises, lead.peer, shown) else {
             return Err(Departure::Unlisted);
         };
         let told = Told {
@@ -321,7 +326,7 @@ where
             moments: self.moments,
             visits: self.visits,
         };
-        let Ok(witness) = DeviceWitness::new(rt, log, told, lead.address, named) else {
+        let Ok(witness) = DeviceWitness::new(rt, log, told, lead.peer.address, named) else {
             return Err(Departure::Memory);
         };
         let socket = Socket::new(lead, terms.door, rt, self.visits, settings.fail_delay);
@@ -337,7 +342,7 @@ where
     fn begin(&mut self, poller: &Poller, lead: Lead<'a, TcpStream>, shown: Shown, was_lead: bool)
         ensures { self.new ≡ self.old }
     {
-        let address = lead.address.ip();
+        let address = lead.peer.address.ip();
         match self.admit(lead, shown) {
             Ok(key) => {
                 let is_full = self.go(key);
@@ -357,7 +362,7 @@ where
         } else {
             poller.register(&lead.stream, lead_key(key), false)
         };
-        let address = lead.address.ip();
+        let address = lead.peer.address.ip();
         if let Err(_) = registered {
             leave(self.premises, self.at, address, Departure::Server);
         } else if let Err(_) = self.leads.insert(lead) {
@@ -369,7 +374,8 @@ where
     fn add(&mut self, poller: &Poller, arrival: Arrival)
         ensures { self.new ≡ self.old }
     {
-        // a connection on which replies are held back for a while is served all the same
+        // a connection on which replies are held back for a while is served all the same, as one of
+        // a proxy is, which is at a Unix socket
         let _ = arrival.stream.set_nodelay(true);
         let Premises {
             rt,
@@ -377,12 +383,16 @@ where
             intake,
             ..
         } = *self.premises;
-        let Arrival { stream, address } = arrival;
-        let mut lead = Lead::new(rt.alloc(), stream, address, intake.packet_memory(), now(rt));
+        let Arrival {
+            stream,
+            peer,
+            begun,
+        } = arrival;
+        let mut lead = Lead::new(stream, peer, begun, intake.packet_memory(), now(rt));
         match lead.look(rt.alloc(), &settings.callers, &mut self.chunk) {
             Ok(Some(shown)) => self.begin(poller, lead, shown, false),
             Ok(None) => self.await_packet(poller, lead, false),
-            Err(why) => leave(self.premises, self.at, address.ip(), why),
+            Err(why) => leave(self.premises, self.at, peer.address.ip(), why),
         }
     }
 
@@ -426,7 +436,19 @@ where
         match lead.look(rt.alloc(), &settings.callers, &mut self.chunk) {
             Ok(Some(shown)) => self.begin(poller, lead, shown, true),
             Ok(None) => self.await_packet(poller, lead, true),
-            Err(why) => leave(self.premises, self.at, lead.address.ip(), why),
+            Err(why) => leave(self.premises, self.at, lead.peer.address.ip(), why),
+        }
+    }
+
+    // Goes on with a connection of which a proxy's header is awaited.
+    fn greet(&mut self, poller: &Poller, key: usize)
+        ensures { self.new ≡ self.old }
+    {
+        let Some(acceptor) = &mut self.acceptor else {
+            return;
+        };
+        if let Some(arrival) = acceptor.follow(self.premises, poller, key) {
+            self.add(poller, arrival);
         }
     }
 
@@ -442,8 +464,14 @@ where
             if let Some(acceptor) = &mut self.acceptor {
                 acceptor.called();
             }
+        } else if token == CALLED_BY_PROXY {
+            if let Some(acceptor) = &mut self.acceptor {
+                acceptor.called_by_proxy();
+            }
         } else if let Some(key) = lead_of(token.0) {
             self.follow(poller, key);
+        } else if let Some(key) = greeting_of(token.0) {
+            self.greet(poller, key);
         } else {
             self.serve(poller, token.0);
             if event.is_read_closed() {
@@ -502,11 +530,11 @@ where
     }
 
     // The next connection of its own, if it accepts for all and one waits.
-    fn accepted(&mut self, now: Option<u64>) -> Option<Arrival>
+    fn accepted(&mut self, poller: &Poller, now: Option<u64>, turn: usize) -> Option<Arrival>
         ensures { self.new ≡ self.old }
     {
         match &mut self.acceptor {
-            Some(acceptor) => acceptor.next(self.premises, now),
+            Some(acceptor) => acceptor.next(self.premises, poller, now, turn),
             None => None,
         }
     }
@@ -515,8 +543,8 @@ where
     fn accept(&mut self, poller: &Poller, now: Option<u64>)
         ensures { self.new ≡ self.old }
     {
-        'calls: for _ in 0..MOST_ACCEPTED {
-            let Some(arrival) = self.accepted(now) else {
+        'calls: for turn in 0..MOST_ACCEPTED {
+            let Some(arrival) = self.accepted(poller, now, turn) else {
                 return;
             };
             self.add(poller, arrival);
@@ -556,7 +584,12 @@ where
         ensures { self.new ≡ self.old }
     {
         if let Some(lead) = self.leads.try_remove(key) {
-            leave(self.premises, self.at, lead.address.ip(), Departure::Idle);
+            leave(
+                self.premises,
+                self.at,
+                lead.peer.address.ip(),
+                Departure::Idle,
+            );
         }
     }
 
@@ -582,6 +615,9 @@ where
             self.remove(key, Parting::GivenUp { asks });
         }
         self.sweep_leads(now);
+        if let Some(acceptor) = &mut self.acceptor {
+            acceptor.sweep(self.premises, now);
+        }
     }
 
     // How long it is until a reply that is held back may be sent, in milliseconds.

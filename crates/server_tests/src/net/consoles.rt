@@ -18,7 +18,7 @@ use tac_desks::PlainDesk;
 use tac_forum::Limits;
 use tac_hall_console::{Source, Unread, no_devices};
 use tac_journal::{Log, LogFiles, Refused, Typists};
-use tac_net::{Callers, Idle, Port, ServeFault, ServerFiles, Settings, serve};
+use tac_net::{Callers, Idle, Listeners, Port, ServeFault, ServerFiles, Settings, serve};
 use tac_status::Counts;
 use tac_wire::KeyDoor;
 
@@ -270,7 +270,7 @@ fn printed_first(alloc: Global, course: &Course, port: u16) -> Result<String, Al
 // port, if it has its seats, and then this.
 fn serves<R>(
     rt: &R,
-    port: &Port,
+    listeners: &Listeners,
     desk: PlainDesk,
     settings: &Settings,
     operator: &mut Operator<'_, R>,
@@ -280,7 +280,7 @@ where
     R: Threads + Wait + Clock + Sync + AllocGlobal + Eprint + LogFiles,
     R: Net<Listener = TcpListener, Stream = TcpStream>,
 {
-    let first = printed_first(rt.alloc(), &operator.course, settings.port)?;
+    let first = printed_first(rt.alloc(), &operator.course, operator.address.port())?;
     let wanted = format!(in rt.alloc(); "{first}{printed}")?;
     let mut screen = Screen::new(rt.alloc(), first.len().saturating_add(operator.course.room));
     let log = Refusing {
@@ -293,7 +293,7 @@ where
         source: &Nothing,
         counts: &counts,
     };
-    let ended = serve(rt, port, desk, settings, &files, operator, &mut screen);
+    let ended = serve(rt, listeners, desk, settings, &files, operator, &mut screen);
     Ok((ended, screen.taken.as_slice() == wanted.as_bytes()))
 }
 
@@ -311,8 +311,10 @@ where
 {
     let port = Port::bind(rt, SocketAddr::from((Ipv4Addr::LOCALHOST, 0)))?;
     let address = port.address()?;
+    let listeners = Listeners::new(Some(port), None);
     let settings = Settings {
-        port: address.port(),
+        port: Some(address.port()),
+        proxy: None,
         callers: Callers::Any(KeyDoor::new(key()?)),
         workers: course.workers,
         hashers: 1,
@@ -332,7 +334,7 @@ where
         silent: Vec::new(rt.alloc()),
         is_done: false,
     };
-    let (ended, is_printed) = serves(rt, &port, desk, &settings, &mut operator, printed)?;
+    let (ended, is_printed) = serves(rt, &listeners, desk, &settings, &mut operator, printed)?;
     if ended == wanted && is_printed {
         return Ok(());
     }

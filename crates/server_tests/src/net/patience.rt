@@ -6,7 +6,7 @@ use std::cell::{Cell, RefCell};
 use std::io::{self, ErrorKind, Read, Write};
 use std::net::{Ipv4Addr, SocketAddr};
 use std::time::{Clock, Duration};
-use tac_net::{Idle, Lead, PacketMemory, Pause, Socket, Visits, accepted};
+use tac_net::{Idle, Lead, PacketMemory, Pause, Peer, Socket, Visits, Way, accepted};
 use tac_wire::{Door, Key};
 use tac_worker::End;
 
@@ -170,12 +170,15 @@ fn is_borne(alloc: Global, idle: Idle, steps: &str) -> bool {
     let device = Device {
         letter: Cell::new(b's'),
     };
-    let address = SocketAddr::from((Ipv4Addr::LOCALHOST, 1));
+    let peer = Peer {
+        address: SocketAddr::from((Ipv4Addr::LOCALHOST, 1)),
+        way: Way::Port,
+    };
     let Some(key) = Key::read(b"k") else {
         return false;
     };
     let door = Door::Padded(key);
-    let lead = Lead::new(alloc, &device, address, &memory, Some(0));
+    let lead = Lead::new(&device, peer, Vec::new(alloc), &memory, Some(0));
     let mut socket = Socket::new(lead, &door, &clock, &visits, FAIL_DELAY);
     for step in steps.split(' ') {
         if !is_so(&clock, idle, &visits, &device, &mut socket, step) {

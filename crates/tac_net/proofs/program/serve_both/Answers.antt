@@ -5,7 +5,7 @@ use denote.Param.Send.{IsSync, sendable, part_keyless, Quiet-if}
 use Rattle.std.proofs.Crossing.{crosses}
 use Rattle.tac_forum.specs.contracts.shared_desk.SharedDesk as SharedDesk
 use Rattle.tac_forum.proofs.shared_desk.SharedDesk.TheSendSync as shared
-use Rattle.tac_net.proofs.Crossing.{Counts-sync, Hashing-sync, Intake-sync, Port-sync, Settings-sync, Vigil-sync}
+use Rattle.tac_net.proofs.Crossing.{Counts-sync, Hashing-sync, Intake-sync, Listeners-sync, Settings-sync, Vigil-sync}
 use Rattle.tac_net.proofs.program.serve_both.Goals as goal
 
 pub join_mut-requires-send-F : goal.join_mut-requires-send-F
@@ -22,7 +22,7 @@ join_mut-requires-send-F g c κs within =
           (
             (tt, runtime.shared d.1.now d.1.ref_ptr.0 d.1.ref_ptr.1 _),
             (
-              (tt, Port-sync.shared d.2.now d.2.ref_ptr.0 d.2.ref_ptr.1 _),
+              (tt, Listeners-sync.shared d.2.now d.2.ref_ptr.0 d.2.ref_ptr.1 _),
               (
                 (tt, desk.shared d.3.now d.3.ref_ptr.0 d.3.ref_ptr.1 _),
                 (

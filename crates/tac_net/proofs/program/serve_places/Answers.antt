@@ -5,7 +5,7 @@ use Rattle.std.proofs.Crossing.{crosses}
 use Rattle.tac_forum.specs.contracts.shared_desk.SharedDesk as SharedDesk
 use Rattle.tac_forum.proofs.shared_desk.SharedDesk.TheSendSync as shared
 use Rattle.tac_net.specs.Connections.{HasServed}
-use Rattle.tac_net.proofs.Crossing.{Counts-sync, Hashing-sync, Intake-sync, Port-sync, Settings-sync, Vigil-sync}
+use Rattle.tac_net.proofs.Crossing.{Counts-sync, Hashing-sync, Intake-sync, Listeners-sync, Settings-sync, Vigil-sync}
 use Rattle.tac_net.proofs.FitFacts.{each_served_so}
 use Rattle.tac_net.proofs.ServingFacts.{ok_both}
 use Rattle.tac_net.proofs.program.serve_places.Goals as goal
@@ -22,7 +22,7 @@ map_vec-requires-sync-F g c κs within =
         (
           (λ q. tt, runtime.shared d.0.now d.0.ref_ptr.0 d.0.ref_ptr.1 _),
           (
-            (λ q. tt, Port-sync.shared d.1.now d.1.ref_ptr.0 d.1.ref_ptr.1 _),
+            (λ q. tt, Listeners-sync.shared d.1.now d.1.ref_ptr.0 d.1.ref_ptr.1 _),
             (
               (λ q. tt, desk.shared d.2.now d.2.ref_ptr.0 d.2.ref_ptr.1 _),
               (
